@@ -1,4 +1,4 @@
--- What it means that no argument is an error, and that one is.
+-- Arguments none of which is an error, and arguments of which one is.
 use Rattle.std.proofs.Common.{◌≡◌, ℤ, [], ◌∷◌, Option, Some, None, ap, refl, sym, ◌∙◌}
 use Rattle.ag_value.specs.declared.value.ErrorCode.{ErrorCode}
 use Rattle.ag_value.specs.declared.value.Value.{Value}
@@ -28,7 +28,7 @@ fault_is code = ap fault_at (outs-Fault code)
 number_is_none : (n : ℤ) → fault_of (value.Num n) ≡ None
 number_is_none n = ap fault_at (outs-Num n)
 
--- An operator gives its left argument's error,
+-- The value of an operator is its left argument's error,
 pub left_is_fault : (o : Operator) (left right : Value) (code : ErrorCode) → left ≡ value.Fault code → value.Fault code ≡ applied o left right
 unfolding leftmost
 left_is_fault o left right code h =

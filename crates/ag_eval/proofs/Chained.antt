@@ -1,4 +1,4 @@
--- One operand more of a chain of values.
+-- One more operand of a chain of values.
 use Rattle.std.proofs.Common.{ℕ, ◌≡◌, ◌+◌, ◌<◌, true, List, ◌∷◌, drop, get_or, length, map, ap, sym, ◌∙◌}
 use Rattle.std.proofs.lemmas.Bool.{and_parts}
 use Rattle.std.proofs.lemmas.List.{drop_more}
@@ -10,11 +10,12 @@ use Rattle.ag_grammar.specs.expressions.Trees.{all_below, is_within}
 use Rattle.ag_grammar.specs.values.Operators.{applied}
 
 module _ (others : List (Operator × Node)) (i : ℕ) (x : Operator × Node) (lt : i < length others) where
-  -- what is left begins with the operand
+  -- the rest begins with the operand
   left : drop i others ≡ get_or others i x ∷ drop (i + 1) others
   left = drop_more others i x lt
 
-  -- What the rest gives for the value so far, it gives for the next value behind the operand.
+  -- The rest of a chain has the same value for the value so far as the rest after the operand for the next
+  -- value.
   pub chained_more : (env : ℕ → Value) (bound : List Value) (old new right whole : Value) → x ≡ get_or others i x → right ≡ value_in x.1 env bound → new ≡ applied x.0 old right
       → chain_value env bound old (map (λ (p : Operator × Node). (p.0, value_in p.1)) (drop i others)) ≡ whole
       → chain_value env bound new (map (λ (p : Operator × Node). (p.0, value_in p.1)) (drop (i + 1) others)) ≡ whole

@@ -1,4 +1,4 @@
--- What a condition decides is what is chosen by it.
+-- The decision of a condition agrees with the choice by it.
 use Rattle.std.proofs.Common.{◌≡◌, zero, suc, pos, negsuc, Bool, cond, Result, refl, subst, sym}
 use Rattle.std.specs.Result.{MatchResult}
 use Rattle.ag_value.specs.declared.value.ErrorCode.{ErrorCode}

@@ -1,8 +1,8 @@
--- The values of bindings, where the innermost goes.
+-- The values of bindings without the innermost one.
 use Rattle.std.proofs.Common.{Some, ◌≡◌, ◌≢◌, ℕ, zero, suc, ◌<◌, List, [], ◌∷◌, ◌++◌, length, map, slice_get, refl, sym, ap, subst, ◌∙◌, arith}
 use Rattle.std.proofs.lemmas.List.{length-map, map-append}
 
--- what is bound further out stays
+-- the outer bindings are unchanged
 pub stays : {A : Type 0} (outer : List A) (innermost : A) (k : ℕ) → k < length (outer ++ innermost ∷ []) → k ≢ length outer → slice_get outer k ≡ slice_get (outer ++ innermost ∷ []) k
 stays [] innermost zero lt other = absurd (other refl)
 stays [] innermost (suc k) lt other = absurd (omega arith)
@@ -14,7 +14,7 @@ pub last : {A : Type 0} (outer : List A) (innermost : A) → slice_get (outer ++
 last [] innermost = refl
 last (x ∷ xs) innermost = last xs innermost
 
--- the same of what is seen of the bindings
+-- the same of a view of the bindings
 pub seen_stays : {A B : Type 0} (view : A → B) (whole : List B) (all outer : List A) (innermost : A) (k : ℕ) → map view all ≡ whole → all ≡ outer ++ innermost ∷ [] → k < length whole → k ≢ length outer → slice_get (map view outer) k ≡ slice_get whole k
 seen_stays view whole all outer innermost k is split lt other =
     let parts : map view outer ++ view innermost ∷ [] ≡ whole = sym (map-append view outer (innermost ∷ [])) ∙ ap (map view) (sym split) ∙ is in

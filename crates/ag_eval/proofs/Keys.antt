@@ -1,4 +1,4 @@
--- Where a key stands among those of a table, or belongs.
+-- The index of a key among those of a table, present or not.
 use Rattle.std.proofs.Common.{◌≡◌, ℕ, zero, suc, ◌<◌, ◌≤◌, Bool, true, false, cond, nat_cmp, List, [], ◌∷◌, ◌++◌, length, map, get_or, filter, find, None, bytes_eq, refl, sym, ap, ◌∙◌, subst, arith}
 use Rattle.std.proofs.lemmas.Bool.{and_parts}
 use Rattle.std.proofs.lemmas.Cmp.{nat_list_cmp_total, tied_itself}
@@ -40,7 +40,7 @@ other a b p = sym (is_eq-slice_cmp a b) ∙ ap is_eq (less (order a b) p)
 other_back : (a b : List ℕ) → is_before a b ≡ true → bytes_eq b a ≡ false
 other_back a b p = sym (is_eq-slice_cmp b a) ∙ ap is_eq (nat_list_cmp_total.antisymm b a ∙ ap ordering_reverse (less (order a b) p))
 
--- what is not before a key is before all that it is itself before
+-- a key is before all that come after one that is not before it
 past : (key a b : List ℕ) → is_before a key ≡ false → is_before a b ≡ true → is_before key b ≡ true
 past key a b n p = go (order a key) refl n
   where
@@ -73,7 +73,7 @@ rising_rest : (a : List ℕ) (keys : List (List ℕ)) → is_rising (a ∷ keys)
 rising_rest a [] h = refl
 rising_rest a (b ∷ keys) h = (rising_parts a b keys h).1
 
--- pairs whose keys are all behind a key
+-- pairs whose keys are all after a key
 record AreBehind (key : List ℕ) (pairs : List Pair) : Type 0 where
   back : filter (λ (p : Pair). is_before key p.0) pairs ≡ pairs
   front : filter (λ (p : Pair). is_before p.0 key) pairs ≡ []
@@ -138,11 +138,11 @@ partitioned key (x ∷ xs) rising zero (suc j) d le lt h = before_trans x.0 (get
 partitioned key (x ∷ xs) rising (suc i) zero d le lt h = absurd (omega arith)
 partitioned key (x ∷ xs) rising (suc i) (suc j) d le lt h = partitioned key xs (rising_rest x.0 (map key_of xs) rising) i j d (omega arith) (omega arith) h
 
--- where a search by halves ends is the index
+-- the end of a binary search is the index
 pub index_is : (key : List ℕ) (pairs : List Pair) (i : ℕ) → is_rising (map key_of pairs) ≡ true → i ≤ length pairs → IsPartitionPoint (λ (p : Pair). is_before p.0 key ≡ true) (λ (p : Pair). is_before p.0 key ≡ false) pairs i → IsIndex key pairs i
 index_is key pairs i rising le point = index_found key pairs i rising le (λ k d lt. point.0 k d (omega arith) lt) (λ k d le lt. point.1 k d le lt)
 
--- keys rise also with one more, or with one put in the place of itself
+-- keys also rise with one more, or with a key replaced by itself
 rising_pair : (a b : List ℕ) (keys : List (List ℕ)) → is_before a b ≡ true → is_rising (b ∷ keys) ≡ true → is_rising (a ∷ b ∷ keys) ≡ true
 rising_pair a b keys p q = rw (p, q) refl
 

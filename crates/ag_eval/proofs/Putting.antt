@@ -1,4 +1,4 @@
--- A table with a pair put into it.
+-- A table with a pair added.
 use Rattle.std.proofs.Common.{◌≡◌, ℕ, zero, suc, ◌+◌, ◌<◌, ◌≤◌, max, min, Bool, true, false, cond, List, [], ◌∷◌, ◌++◌, length, map, sum, get_or, pos, set, take, drop, filter, slice_get, Some, refl, sym, ap, ◌∙◌, arith}
 use Rattle.std.proofs.lemmas.Bool.{and_parts}
 use mathlib.Core.List.{map-map}
@@ -18,7 +18,7 @@ use Rattle.ag_grammar.proofs.values.Growing.{all_true-append}
 use Rattle.ag_eval.proofs.Keys.{rising_with}
 use Rattle.ag_grammar.proofs.values.Tables.{Pair, item_table, table_parts}
 
--- what holds of all holds of those that pass a test
+-- a property of all elements holds of those that pass a test
 all_filter : {A : Type 0} (f test : A → Bool) (xs : List A) → all_true (map f xs) ≡ true → all_true (map f (filter test xs)) ≡ true
 all_filter f test [] all = refl
 all_filter f test (x ∷ xs) all = go (test x) (all_filter f test xs (and_parts (f x) (all_true (map f xs)) all).1)
@@ -34,7 +34,7 @@ all_with f key x pairs here all =
     let rest : all_true (map f back) ≡ true = all_filter f (λ (p : Pair). is_before key p.0) pairs all in
     ap all_true (map-append f front ((key, x) ∷ back)) ∙ all_true-append (map f front) (f (key, x) ∷ map f back) (all_filter f (λ (p : Pair). is_before p.0 key) pairs all) (rw (here, rest) refl)
 
--- a pair put into a well table leaves what may stand in a list
+-- a well table with a pair added can be an item of a list
 pub item_with : (key : List ℕ) (x : Value) (pairs : List Pair) → IsWell (v.Table pairs) → is_utf8 key ≡ true → is_item x ≡ true → is_item (v.Table (with_pair key x pairs)) ≡ true
 item_with key x pairs well utf8 item =
     let grown : List Pair = with_pair key x pairs in
@@ -73,7 +73,7 @@ greatest_insert f xs zero y = omega arith
 greatest_insert f [] (suc i) y = omega arith
 greatest_insert f (x ∷ xs) (suc i) y = let rest = greatest_insert f xs i y in omega arith
 
--- what `fit` asks of a table with a pair more
+-- the premises of `fit` on a table with one more pair
 pub fits-inserted : (pairs grown : List Pair) (i : ℕ) (key : List ℕ) (x : Value) (weight depth : ℕ) → grown ≡ insert pairs i (key, x) → IsWell (v.Table pairs) → IsWell x → length key ≤ 1048576
     → weight ≡ weight_of (v.Table pairs) + 4 + length key + weight_of x → depth ≡ max (depth_of (v.Table pairs)) (depth_of x + 1)
     → (weight ≡ min (weight_of (v.Table grown)) 18446744073709551615) × (depth ≡ min (depth_of (v.Table grown)) 4294967295)
@@ -82,7 +82,7 @@ fits-inserted pairs grown i key x weight depth is well well' short heavy deep = 
   (let a = well.shallow in let b = well'.shallow in let e = depth-Table (insert pairs i (key, x)) in let d = depth-Table pairs in let s = greatest_insert (λ (p : Pair). depth_of p.1) pairs i (key, x) in omega arith),
 )
 
--- another value beside a key leaves what may stand in a list
+-- with another value for a key it can still be an item of a list
 keys_set : (pairs : List Pair) (i : ℕ) (p : Pair) (x : Value) → slice_get pairs i ≡ Some p → map key_of (set pairs i (p.0, x)) ≡ map key_of pairs
 keys_set [] i p x at = refl
 keys_set (q ∷ qs) zero p x at = ap (λ (y : Pair). y.0 ∷ map key_of qs) (sym (same_Some q p at))

@@ -15,7 +15,7 @@ use Rattle.ag_grammar.specs.values.Numbers.{is_digits, signed, spelled}
 own : IsNumeralModel (λ ds. list_all is_ascii_digit ds ≡ true) (digits_value 10)
 own = numerals_by_value _ (search rules)
 
--- what is answered where a fact holds, and nothing else
+-- the result is the number if a fact holds, and else none
 answered : {E : Type 0} {P : Type 0} (b : Bool) (z : ℤ) (r : Result ℤ E) → Decides b P → OkIff r P z → result_ok r ≡ cond b (Some z) None
 answered b z (Ok x) decides is = rw (decides.1 is.0) (ap Some is.1)
 answered true z (Err e) decides is = absurd (is (decides.0 refl))

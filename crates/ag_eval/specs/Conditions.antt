@@ -1,11 +1,11 @@
--- What a value decides as a condition. All of this is this project's.
+-- The decision of a value as a condition. All of this is this project's.
 use Rattle.std.specs.Prelude.{zero, suc, pos, negsuc, Bool, true, false, Result, Ok, Err}
 use Rattle.ag_value.specs.declared.value.ErrorCode.{ErrorCode}
 use Rattle.ag_value.specs.declared.value.ErrorCode.TheVariants.{Kind}
 use Rattle.ag_value.specs.declared.value.Value.{Value, out-Value}
 use Rattle.ag_value.specs.declared.value.Value.TheOpen.{Value-F}
 
--- a number decides whether it is another than 0; an error is that error, and any other value the error for a kind
+-- a number decides by whether it is not 0; an error is that error, and any other value is the error `kind`
 abbrev pub decision_at : Value-F Value → Result Bool ErrorCode
 decision_at (Value-F.Num (pos zero)) = Ok false
 decision_at (Value-F.Num (pos (suc n))) = Ok true

@@ -1,4 +1,4 @@
--- The operator and the call whose value is their first operand, grown by the second (this project's).
+-- The operator and the call whose value is their first operand, extended by the second (this project's).
 use Rattle.ag_value.specs.declared.value.Value.{Value}
 use Rattle.ag_eval.specs.declared.calls.Growth.{Growth}
 use Rattle.ag_eval.specs.declared.calls.Growth.TheVariants as growth

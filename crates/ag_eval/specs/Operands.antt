@@ -1,4 +1,4 @@
--- What stands for the values of operands while an expression is evaluated. All of this is this project's.
+-- The values of operands during the evaluation of an expression. All of this is this project's.
 use Rattle.std.specs.Prelude.{ℕ, ◌≡◌, ◌<◌, Bool, true, false, List, length, map, slice_get}
 use Rattle.ag_value.specs.declared.value.Value.{Value}
 use Rattle.ag_value.specs.declared.value.Value.TheVariants as value
@@ -34,20 +34,21 @@ abbrev pub is_lent : Held → Bool
 is_lent (held.Lent v) = true
 is_lent (held.Owned v) = false
 
--- the value of an operand where the values of the bindings are these
+-- the value of an operand, by the values of the bindings
 abbrev pub operand_value : List Value → Operand → Value
 operand_value bound (operand.Held h) = held_value h
 operand_value bound (operand.Bound k) = bound_value (slice_get bound k)
 
--- an operand has the value that a function gives for those of two others
+-- the value of an operand is that of a function for the values of two others
 abbrev pub Gives : List Value → (Value → Value → Value) → (first second : Operand) → Operand → Type 0
 Gives bound f first second result = operand_value bound result ≡ f (operand_value bound first) (operand_value bound second)
 
--- there is a binding with its number, where it is one
+-- a bound operand has a binding with its number
 abbrev pub IsIn : List Value → Operand → Type 0
 IsIn bound (operand.Held h) = Unit {0}
 IsIn bound (operand.Bound k) = k < length bound
 
--- in every item of a list the number of every occurrence is below n, and that of every bound name below how many are bound around it
+-- in every item of a list the number of every occurrence is below n, and that of every bound name below the
+-- number of bindings around it
 abbrev pub each_within : ℕ → ℕ → List Node → Bool
 each_within n bound items = each_passes bound (map (is_within n) items)

@@ -1,5 +1,5 @@
-//! Values that are at hand before an operand is made of them: of literals, occurrences and bound
-//! names, and the numbers that chains of these give.
+//! Values that are available without making an operand: literals, occurrences, bound names, and
+//! chains of these with scalar values.
 
 ghost use Rattle.std.specs.Prelude.{ℕ, ℤ, ◌≡◌, ◌+◌, ◌-◌, ◌^◌, ◌<◌, length, map, true, [], IfOk, IfSome};
 ghost use Rattle.std.specs.Prelude.{MatchOption, None};
@@ -26,8 +26,8 @@ use ag_value::{ErrorCode, MAX_DEPTH, MAX_WEIGHT, NoMemory, Value, copy, depth, w
 use std::alloc::Global;
 
 impl<'e, V: Lender> Evaluation<'e, V> {
-    /// Computes what an operator gives for the value so far and the next operand, if both are scalars
-    /// and the operand is at hand: no operand is made of that one.
+    /// Computes the value of an operator for the value so far and the next operand, if both are
+    /// scalars and the next one is available without making an operand.
     #[inline(always)]
     pub fn next_scalar(
         &self,
@@ -48,8 +48,8 @@ impl<'e, V: Lender> Evaluation<'e, V> {
         Some(Operand::owned(Measured::new(scalar.into_value())))
     }
 
-    /// Computes the value of a literal, an occurrence, a bound name or a chain of such, if each of them
-    /// is a scalar: no operand is made of any. Takes no memory.
+    /// Computes the value of a literal, an occurrence, a bound name or a chain of these, if each of
+    /// them is a scalar, without making operands. Takes no memory.
     #[cycle(scalars)]
     #[inline(always)]
     pub fn scalar(&self, node: &Node, bindings: &Bindings<'_>) -> Option<Scalar>
@@ -97,7 +97,8 @@ impl<'e, V: Lender> Evaluation<'e, V> {
         }
     }
 
-    /// The value of an expression that is an occurrence, or a literal within the limits, lent.
+    /// Lends the value of an expression that is an occurrence, or a literal within the limits.
+    /// Returns `None` for other expressions.
     #[inline(always)]
     pub fn lent_value(&self) -> Option<&'e Value>
         ensures value { IfSome result (λ v. v.now
@@ -114,7 +115,7 @@ impl<'e, V: Lender> Evaluation<'e, V> {
 
 /// Returns the value of an expression that is a number literal, and raises the meter by one
 /// evaluation, as `eval` does; no environment is needed. Returns `None` for any other expression,
-/// which is then not evaluated, and leaves the meter as it was. Takes no memory.
+/// which is then not evaluated, and leaves the meter unchanged. Takes no memory.
 #[inline(always)]
 pub fn eval_number(expr: &Expr, meter: &mut Meter) -> Option<i64>
     requires not_full { meter.old < 2 ^ 64 - 1 }
@@ -134,7 +135,7 @@ pub fn eval_number(expr: &Expr, meter: &mut Meter) -> Option<i64>
     Some(*value)
 }
 
-/// A value that is within the limits.
+/// Returns a value if it is within the limits.
 #[inline(always)]
 fn within_limits(item: &Value) -> Option<&Value>
     requires { is_item item.now ≡ true }
@@ -146,7 +147,7 @@ fn within_limits(item: &Value) -> Option<&Value>
     }
 }
 
-/// The value of a literal, lent where it is within the limits.
+/// Returns the value of a literal, lent if it is within the limits, else the error for it.
 pub fn literal_value<'e>(literal: &'e Literal) -> Held<'e>
     ensures { held_value result ≡ fit literal.now }
 {
@@ -156,7 +157,7 @@ pub fn literal_value<'e>(literal: &'e Literal) -> Held<'e>
     }
 }
 
-/// The error that stands for a value beyond the limits, if it is.
+/// Returns the error for a value beyond the limits, or `None` if it is within them.
 #[inline(always)]
 fn excess(item: &Value) -> Option<ErrorCode>
     requires { is_item item.now ≡ true }
@@ -175,7 +176,7 @@ fn excess(item: &Value) -> Option<ErrorCode>
     None
 }
 
-/// A copy of a value: of a number at once.
+/// Copies a value; a number in one step.
 #[inline(always)]
 pub fn copied(alloc: Global, value: &Value) -> Result<Value, NoMemory>
     requires { IsWell value.now }

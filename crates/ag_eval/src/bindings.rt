@@ -29,7 +29,7 @@ impl<'e> Model for Bindings<'e> {
 }
 
 impl<'e> Bindings<'e> {
-    /// No binding. Takes no memory.
+    /// Makes an empty list of bindings. Takes no memory.
     pub fn new(alloc: Global) -> Bindings<'e>
         ensures { result ≡ [] }
     {
@@ -46,7 +46,7 @@ impl<'e> Bindings<'e> {
         &self.held[k]
     }
 
-    /// One binding more, the innermost.
+    /// Adds an innermost binding.
     pub fn bind(&mut self, held: Held<'e>) -> Result<(), NoMemory>
         ensures { OnOk result (self.new ≡ self.old ++ held_value held.entry ∷ []) }
     {
@@ -54,7 +54,7 @@ impl<'e> Bindings<'e> {
         Ok(())
     }
 
-    /// Takes the innermost binding away, and answers the operand over what is left.
+    /// Removes the innermost binding, and returns the operand over the remaining ones.
     pub fn leave(&mut self, operand: Operand<'e>) -> Operand<'e>
         requires within { IsIn self.old operand }
         requires some { 0 < length self.old }

@@ -1,4 +1,4 @@
-//! What the operators and calls give for values that are no errors, by subject.
+//! The values of operators and calls for arguments that are not errors, by subject.
 
 pub mod comparing;
 pub mod faults;

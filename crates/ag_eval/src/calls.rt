@@ -1,4 +1,4 @@
-//! The table of the builtins: what each operator and call gives for operands, lent where they can be.
+//! The table of the builtins: the value of each operator and call for operands, lent if possible.
 
 ghost use Rattle.std.specs.Prelude.{◌≡◌, ◌≢◌, IfOk, IfSome, None};
 ghost use Rattle.ag_value.specs.Well.{IsWell};
@@ -29,7 +29,7 @@ use ag_grammar::{BinaryCall, Operator, UnaryCall};
 use ag_value::{ErrorCode, NoMemory, Value};
 use std::alloc::Global;
 
-/// An operand that is a value of its own.
+/// Makes an operand of an owned value.
 fn made<'e>(value: Value) -> Operand<'e>
     requires { IsWell value }
     ensures { result ≡ Operand.Held (HeldValue.Owned value) }
@@ -37,14 +37,15 @@ fn made<'e>(value: Value) -> Operand<'e>
     Operand::owned(Measured::new(value))
 }
 
-/// An operand that is an error.
+/// Makes an operand of an error.
 pub fn fault<'e>(code: ErrorCode) -> Operand<'e>
     ensures { result ≡ Operand.Held (HeldValue.Owned (value.Fault code)) }
 {
     Operand::Held(Held::fault(code))
 }
 
-/// The value of an operator between two operands. Takes memory where `++` grows its left argument.
+/// Computes the value of an operator for two operands. Takes memory if `++` extends its left
+/// argument.
 pub fn apply<'e>(
     alloc: Global,
     operator: Operator,
@@ -63,7 +64,7 @@ pub fn apply<'e>(
     Ok(made(calculate(operator, left.get(&*bindings), right.get(&*bindings))))
 }
 
-/// The value of an operator that makes a number, between two values.
+/// Computes the value of an operator other than `++` for two values.
 fn calculate(operator: Operator, left: &Value, right: &Value) -> Value
     requires number { operator ≢ Operator.Join }
     requires left { IsWell left.now }
@@ -77,7 +78,7 @@ fn calculate(operator: Operator, left: &Value, right: &Value) -> Value
     match operator {
         Operator::Equal => equal(left, right),
         Operator::Less => less(left, right),
-        // `++` makes no number
+        // `++` is not computed here
         Operator::Join => Value::Fault(ErrorCode::Kind),
         Operator::Add => sum(left, right),
         Operator::Subtract => difference(left, right),
@@ -87,8 +88,8 @@ fn calculate(operator: Operator, left: &Value, right: &Value) -> Value
     }
 }
 
-/// Computes what an operator gives for two scalars: the leftmost error, if one is an error. Returns
-/// `None` for `++`, whose value is a text or a list.
+/// Computes the value of an operator for two scalars: the leftmost error, if one is an error.
+/// Returns `None` for `++`, whose value is a text or a list.
 #[inline(always)]
 pub fn apply_to_scalars(operator: Operator, left: Scalar, right: Scalar) -> Option<Scalar>
     ensures { IfSome result
@@ -100,7 +101,7 @@ pub fn apply_to_scalars(operator: Operator, left: Scalar, right: Scalar) -> Opti
     }
 }
 
-/// Computes what an operator gives for a number and a scalar, as `apply_to_scalars` does.
+/// Computes the value of an operator for a number and a scalar, as `apply_to_scalars` does.
 #[inline(always)]
 fn apply_to_number(operator: Operator, m: i64, right: Scalar) -> Option<Scalar>
     ensures { IfSome result
@@ -112,7 +113,7 @@ fn apply_to_number(operator: Operator, m: i64, right: Scalar) -> Option<Scalar>
     }
 }
 
-/// Computes what an operator gives for two numbers. Returns `None` for `++`.
+/// Computes the value of an operator for two numbers. Returns `None` for `++`.
 #[tactic(auto, unfolding(ag_grammar::specs::values::Arguments::leftmost))]
 #[inline(always)]
 fn apply_to_numbers(operator: Operator, m: i64, n: i64) -> Option<Scalar>
@@ -130,7 +131,7 @@ fn apply_to_numbers(operator: Operator, m: i64, n: i64) -> Option<Scalar>
     }
 }
 
-/// An operator or a call whose value is its first operand, grown by the second.
+/// An operator or a call whose value is its first operand, extended by the second.
 #[derive(Clone, Copy)]
 pub(crate) enum Growth {
     /// `a ++ b`
@@ -139,8 +140,9 @@ pub(crate) enum Growth {
     Append,
 }
 
-/// The first operand, grown by the second, or the leftmost error of the two. The first is copied before
-/// where it is lent or bound; what is in the second is moved, or copied where it is lent or bound.
+/// Extends the first operand by the second, or returns the leftmost error of the two. A first
+/// operand that is lent or bound is copied first; the contents of the second are moved, or copied
+/// if it is lent or bound.
 #[tactic(auto, using(crate::proofs::Arguments::no_faults))]
 fn grow<'e>(
     alloc: Global,
@@ -165,7 +167,7 @@ fn grow<'e>(
     Ok(Operand::owned(whole))
 }
 
-/// A value that has grown by what is in an operand.
+/// Extends a value by the contents of an operand.
 fn extended<'e>(
     alloc: Global,
     left: Measured,
@@ -181,7 +183,7 @@ fn extended<'e>(
     extend_list(left, right.into_owned(alloc, &*bindings)?)
 }
 
-/// The value of a call of one operand. Takes memory for what is made.
+/// Computes the value of a call of one operand. Takes memory for a value that it makes.
 pub fn call_unary<'e>(
     alloc: Global,
     call: UnaryCall,
@@ -195,7 +197,7 @@ pub fn call_unary<'e>(
     Ok(Operand::owned(made_of(alloc, call, argument.get(&*bindings))?))
 }
 
-/// What a call of one argument makes of its value.
+/// Computes the value of a call of one argument from the argument's value.
 #[tactic(auto, unfolding(ag_grammar::specs::values::Arguments::leftmost))]
 fn made_of(alloc: Global, call: UnaryCall, argument: &Value) -> Result<Measured, NoMemory>
     requires { IsWell argument.now }
@@ -212,13 +214,13 @@ fn made_of(alloc: Global, call: UnaryCall, argument: &Value) -> Result<Measured,
         UnaryCall::Text => decimal(alloc, argument)?,
         UnaryCall::Number => number(argument),
         UnaryCall::Keys => keys(alloc, argument)?,
-        // no argument is an error here
+        // the argument is not an error here
         UnaryCall::IsError => truth(false),
     };
     Ok(Measured::new(value))
 }
 
-/// The value of a call of two operands. Takes memory for what is made.
+/// Computes the value of a call of two operands. Takes memory for a value that it makes.
 pub fn call_binary<'e>(
     alloc: Global,
     call: BinaryCall,
@@ -238,8 +240,8 @@ pub fn call_binary<'e>(
     }
 }
 
-/// The value of a call that keeps none of its operands: a part of the first one is lent where that one
-/// is lent from outside, else it is copied.
+/// Computes the value of a call that keeps none of its operands: a part of the first one is lent if
+/// that one is lent from outside, else it is copied.
 fn found_by<'e>(
     alloc: Global,
     call: BinaryCall,
@@ -261,7 +263,7 @@ fn found_by<'e>(
     Ok(Operand::owned(held.into_owned(alloc)?))
 }
 
-/// What such a call finds in the value of its first argument, lent, or makes of the two.
+/// Computes such a call from the values: a part of the first argument is lent.
 fn found_in<'a>(
     alloc: Global,
     call: BinaryCall,
@@ -281,12 +283,12 @@ fn found_in<'a>(
         BinaryCall::Join => Ok(Held::Owned(join(alloc, first, second)?)),
         BinaryCall::Get => Ok(get(first, second)),
         BinaryCall::Has => Ok(Held::Owned(Measured::new(has(first, second)))),
-        // these keep their arguments
+        // these calls keep their arguments
         BinaryCall::Append | BinaryCall::OrElse => Ok(Held::fault(ErrorCode::Kind)),
     }
 }
 
-/// `orelse(v, w)`
+/// Computes `orelse(v, w)`.
 fn or_else<'e>(value: Operand<'e>, other: Operand<'e>, bindings: &Bindings<'e>) -> Operand<'e>
     requires value { IsIn bindings.now value }
     requires other { IsIn bindings.now other }
@@ -299,8 +301,8 @@ fn or_else<'e>(value: Operand<'e>, other: Operand<'e>, bindings: &Bindings<'e>) 
     }
 }
 
-/// `put(t, k, v)`: the table grows, and is copied before where it is lent or bound. The value is
-/// moved, or copied where it is lent or bound.
+/// Computes `put(t, k, v)`: the table is extended, and copied first if it is lent or bound. The
+/// value is moved, or copied if it is lent or bound.
 #[tactic(auto, using(crate::proofs::Arguments::no_faults))]
 pub fn call_put<'e>(
     alloc: Global,

@@ -14,9 +14,9 @@ use ag_grammar::Expr;
 use ag_value::NoMemory;
 use std::alloc::Global;
 
-/// Computes the value of an expression as `eval` does, where `env` lends carried values, and raises
-/// the meter by one evaluation, also where memory is refused. If the value is that of an occurrence
-/// (`$0.env`, also as what `if`, `let` or `orelse` chooses), it is shared and not copied.
+/// Computes the value of an expression as `eval` does, for an `env` that lends carried values, and
+/// raises the meter by one evaluation, also if memory is refused. If the value is that of an
+/// occurrence (`$0.env`, also as chosen by `if`, `let` or `orelse`), it is shared and not copied.
 ///
 /// Takes memory as `eval` does, and for the encoding of a large value that was made.
 #[inline(always)]
@@ -38,10 +38,10 @@ pub fn eval_carried<C: CarriedEnvironment>(
     Evaluation::new(alloc, expr, &lender).carried()
 }
 
-/// Returns the value of an expression that is a literal, an occurrence or a chain of these, if each of
-/// them is a number or an error, and raises the meter by one evaluation, as `eval_carried` does.
-/// Returns `None` for any other expression, and for literals and occurrences of another kind: nothing
-/// is evaluated then, and the meter stays as it was. Takes no memory.
+/// Returns the value of an expression that is a literal, an occurrence or a chain of these, if each
+/// of them is a number or an error, and raises the meter by one evaluation, as `eval_carried` does.
+/// Returns `None` for any other expression, and for literals and occurrences of another kind:
+/// nothing is evaluated then, and the meter is unchanged. Takes no memory.
 #[inline(always)]
 pub fn eval_scalar<C: CarriedEnvironment>(
     alloc: Global,

@@ -1,4 +1,4 @@
-//! What lends an evaluation the values of its occurrences.
+//! The environments of an evaluation, which lend the values of its occurrences.
 
 ghost use Rattle.std.specs.Prelude.{◌≡◌, ◌<◌, ℕ, IfSome};
 ghost use Rattle.ag_eval.specs.Operands.{loan_value, scalar_value};
@@ -11,7 +11,7 @@ use ag_value::Value;
 pub trait Environment {
     ghost use Rattle.ag_value.specs.declared.value.Value.{Value as AttributeValue};
 
-    /// How many values are lent.
+    /// The number of values that are lent.
     ghost count: { Self → ℕ };
 
     /// The value of the occurrence with this number.
@@ -39,7 +39,7 @@ pub trait CarriedEnvironment {
         ensures { result.now ≡ lent self.now k };
 }
 
-/// A value that an environment lends: alone, or as a carried one.
+/// A value that an environment lends: a plain value or a carried one.
 #[derive(Drop)]
 pub enum Loan<'e> {
     Value(&'e Value),

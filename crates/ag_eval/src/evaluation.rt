@@ -51,7 +51,7 @@ impl<'e, V: Lender> Drop for Evaluation<'e, V> {
 }
 
 impl<'e, V: Lender> Evaluation<'e, V> {
-    /// Of the expression, in the environment.
+    /// Makes the evaluation of an expression in an environment.
     pub fn new(alloc: Global, expr: &'e Expr, env: &'e V) -> Evaluation<'e, V>
         requires lends { length expr.now.1 ≤ V.count env.now }
         requires well { AreWell (length expr.now.1) (V.lent env.now) }
@@ -91,8 +91,8 @@ impl<'e, V: Lender> Evaluation<'e, V> {
         self.env.loan(k).scalar()
     }
 
-    /// Returns the value of the occurrence with this number: lent, or a copy where it is not stored
-    /// as a value.
+    /// Returns the value of the occurrence with this number: lent, or a copy if it is not stored as
+    /// a value.
     #[inline(always)]
     fn held_occurrence(&self, k: usize) -> Result<Held<'e>, NoMemory>
         requires { k < length self.now.expr.now.1 }
@@ -104,7 +104,7 @@ impl<'e, V: Lender> Evaluation<'e, V> {
         }
     }
 
-    /// What a part of the expression gives. The bindings stay as they are.
+    /// Evaluates a part of the expression. The bindings are unchanged afterwards.
     #[cycle(evaluating)]
     #[tactic(auto, using(ag_grammar::proofs::expressions::Trees::parts))]
     fn operand_of(
@@ -156,7 +156,7 @@ impl<'e, V: Lender> Evaluation<'e, V> {
         }
     }
 
-    /// The value of the body of a `let`, where the definition has given a value.
+    /// Evaluates the body of a `let`, given the value of the definition.
     #[cycle(evaluating)]
     fn body_of(
         &self,
@@ -179,7 +179,7 @@ impl<'e, V: Lender> Evaluation<'e, V> {
         Ok(bindings.leave(operand))
     }
 
-    /// The value of a call of two arguments, where the first has given a value.
+    /// Evaluates a call of two arguments, given the value of the first.
     #[cycle(evaluating)]
     fn called_on(
         &self,
@@ -203,7 +203,7 @@ impl<'e, V: Lender> Evaluation<'e, V> {
         call_binary(self.alloc, call, first, second, &*bindings)
     }
 
-    /// The value of a `put`, where the table and the key have given values.
+    /// Evaluates a `put`, given the values of the table and the key.
     #[cycle(evaluating)]
     fn put_of(
         &self,
@@ -225,7 +225,7 @@ impl<'e, V: Lender> Evaluation<'e, V> {
         call_put(self.alloc, table, key.get(&*bindings), item, &*bindings)
     }
 
-    /// The value of a chain from the left, where the operands so far have given a value.
+    /// Evaluates a chain from the left, given the value of the operands so far.
     #[cycle(evaluating)]
     fn chain_of(
         &self,
@@ -253,7 +253,7 @@ impl<'e, V: Lender> Evaluation<'e, V> {
         Ok(value)
     }
 
-    /// `[a, ..]`: the list of the items, or the leftmost of them that is an error.
+    /// Evaluates `[a, ..]`: the list of the items, or the leftmost error among them.
     #[cycle(evaluating)]
     #[tactic(auto, unfolding(ag_grammar::specs::values::Arguments::leftmost))]
     fn list_of(
@@ -278,7 +278,7 @@ impl<'e, V: Lender> Evaluation<'e, V> {
         Ok(Operand::owned(list.into_list()))
     }
 
-    /// The value of the expression.
+    /// Evaluates the expression.
     #[inline(never)]
     fn value(&self) -> Result<Value, NoMemory>
         ensures value { IfOk result (λ v. v
@@ -312,7 +312,7 @@ impl<'e, V: Lender> Evaluation<'e, V> {
     }
 }
 
-/// Whether a call has its first argument's value, whatever the second is.
+/// Returns whether the value of a call is that of its first argument, for any second one.
 fn settles(call: BinaryCall, first: &Value) -> bool
     ensures { IsTrue result
         → (second : AttributeValue) → called_with call first.now second ≡ first.now }
@@ -323,14 +323,14 @@ fn settles(call: BinaryCall, first: &Value) -> bool
     fault_of(first).is_none()
 }
 
-/// The empty table. Takes no memory.
+/// Returns the empty table. Takes no memory.
 fn empty_table<'e>(alloc: Global) -> Operand<'e>
     ensures { result ≡ Operand.Held (HeldValue.Owned (value.Table [])) }
 {
     Operand::owned(Measured::new(Value::Table(Items::from_vec(Vec::new(alloc)))))
 }
 
-/// What the value of a condition decides, or its error.
+/// Returns the decision of a condition, or its error.
 #[tactic(auto, using(crate::proofs::Decided::chooses))]
 fn decide(condition: Operand<'_>, bindings: &Bindings<'_>) -> Result<bool, ErrorCode>
     requires { IsIn bindings.now condition }
@@ -341,7 +341,7 @@ fn decide(condition: Operand<'_>, bindings: &Bindings<'_>) -> Result<bool, Error
     decided(condition.get(bindings))
 }
 
-/// What a value decides as a condition, or its error.
+/// Returns the decision of a value as a condition, or its error.
 fn decided(condition: &Value) -> Result<bool, ErrorCode>
     ensures { result ≡ decision condition.now }
 {
@@ -352,14 +352,15 @@ fn decided(condition: &Value) -> Result<bool, ErrorCode>
     }
 }
 
-/// Computes the value of an expression where `env` lends the values of its occurrences, and raises
-/// the meter by one evaluation, also where memory is refused. The other public calls that take a meter
-/// are `eval_carried`, `eval_scalar` and `eval_number`; they too count one evaluation for each value
-/// that they compute.
+/// Computes the value of an expression for an `env` that lends the values of its occurrences, and
+/// raises the meter by one evaluation, also if memory is refused. The other public calls that take
+/// a meter are `eval_carried`, `eval_scalar` and `eval_number`; they too count one evaluation for
+/// each value that they compute.
 ///
-/// Takes memory for what is made, and for copies: of a value that is lent or bound, where it leaves
-/// the expression, goes into a list or table, or grows; of the part that `nth` or `get` takes of what
-/// the expression made; and of what it made and bound, where another name is bound to that too.
+/// Takes memory for values that it makes, and for copies: of a value that is lent or bound, if it
+/// is the result, an item of a list or table, or extended; of the part that `nth` or `get` takes of
+/// a value that the expression made; and of a value that it made and bound, if another name is
+/// bound to it too.
 #[inline(always)]
 pub fn eval<V: Environment>(
     alloc: Global,

@@ -1,4 +1,4 @@
-//! A list that is made item by item.
+//! A list that is built item by item.
 
 ghost use Rattle.std.specs.Prelude.{◌≡◌, ◌++◌, ◌∷◌, [], None, OnOk};
 ghost use Rattle.ag_value.specs.declared.value.Value.TheVariants as value;
@@ -10,7 +10,7 @@ use ag_value::{Items, NoMemory, Value};
 use std::alloc::Global;
 use std::marker::Model;
 
-/// Items that may stand in a list, beside the weight and the depth of the list of them.
+/// Items for a list, with the weight and the depth of the list.
 #[derive(Debug, Drop)]
 pub struct Gathering {
     items: Vec<Value>,
@@ -35,7 +35,7 @@ impl Model for Gathering {
 }
 
 impl Gathering {
-    /// No items. Takes no memory.
+    /// Makes an empty list of items. Takes no memory.
     pub fn new(alloc: Global) -> Gathering
         ensures { result ≡ [] }
     {
@@ -46,7 +46,7 @@ impl Gathering {
         }
     }
 
-    /// One item more, at the end.
+    /// Appends an item.
     pub fn push(&mut self, item: Measured) -> Result<(), NoMemory>
         requires { fault_of item ≡ None }
         ensures { OnOk result (self.new ≡ self.old ++ item ∷ []) }
@@ -59,7 +59,7 @@ impl Gathering {
         Ok(())
     }
 
-    /// The list of them, where it is within the limits.
+    /// Returns the list of the items, or an error if it is beyond the limits.
     pub fn into_list(self) -> Measured
         ensures { result ≡ fit (value.List self) }
     {

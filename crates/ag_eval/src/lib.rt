@@ -1,5 +1,5 @@
-//! The value of an expression: what its operators and calls give for the values of its attributes,
-//! within the limits of weight and depth.
+//! Evaluating expressions: the values of operators and calls for the values of attributes, within
+//! the limits of weight and depth.
 #![tactic(auto)]
 
 mod at_hand;

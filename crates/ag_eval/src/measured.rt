@@ -1,4 +1,4 @@
-//! Values that are weighed once, so that what grows from them need not be weighed again.
+//! Values with their weights and depths, so that values made of them need not be weighed again.
 
 ghost use Rattle.std.specs.Prelude.{◌≡◌, ◌-◌, ◌^◌, ◌≤◌, min, true};
 ghost use Rattle.ag_value.specs.Measure.{depth_of, max_depth, max_weight, weight_of};
@@ -11,7 +11,7 @@ use std::marker::Model;
 /// The weight of a number.
 const NUMBER_WEIGHT: u64 = 9;
 
-/// A well value, beside its weight and its depth.
+/// A well value, with its weight and its depth.
 #[derive(Debug, Drop)]
 pub struct Measured {
     value: Value,
@@ -35,7 +35,7 @@ impl Model for Measured {
 }
 
 impl Measured {
-    /// A well value, weighed here.
+    /// Weighs a well value.
     pub fn new(value: Value) -> Measured
         requires { IsWell value }
         ensures { result ≡ value }
@@ -56,8 +56,7 @@ impl Measured {
         }
     }
 
-    /// A value that was made, with its weight and its depth: an error in its place where it is
-    /// beyond the limits.
+    /// Makes a value with its weight and its depth, or an error if it is beyond the limits.
     pub fn fit(value: Value, weight: u64, depth: u32) -> Measured
         requires item { is_item value ≡ true }
         requires weighed { weight ≡ min (weight_of value) (2 ^ 64 - 1) }
@@ -77,7 +76,7 @@ impl Measured {
         }
     }
 
-    /// A value that was made, weighed here: an error in its place where it is beyond the limits.
+    /// Weighs a value, and returns it, or an error if it is beyond the limits.
     pub fn weighed(value: Value) -> Measured
         requires { is_item value ≡ true }
         ensures { result ≡ fit value }
@@ -95,7 +94,7 @@ impl Measured {
         &self.value
     }
 
-    /// The value itself.
+    /// Returns the value.
     pub fn into_value(self) -> Value
         ensures value { result ≡ self }
         ensures well { IsWell result }
@@ -104,7 +103,7 @@ impl Measured {
         value
     }
 
-    /// Its weight.
+    /// Returns its weight.
     pub fn weight(&self) -> u64
         ensures value { result ≡ weight_of self.now }
         ensures light { result ≤ max_weight }
@@ -112,7 +111,7 @@ impl Measured {
         self.weight
     }
 
-    /// Its depth.
+    /// Returns its depth.
     pub fn depth(&self) -> u32
         ensures value { result ≡ depth_of self.now }
         ensures shallow { result ≤ max_depth }

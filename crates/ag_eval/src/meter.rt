@@ -5,8 +5,8 @@ ghost use Rattle.std.specs.Prelude.{◌≡◌, ◌+◌, ◌-◌, ◌^◌, ◌<�
 use std::marker::Model;
 
 /// Counts evaluations. Every public call of this crate that takes a meter computes an expression's
-/// value and raises the meter by one: `eval` in each case, `eval_number` where it returns a number.
-/// `eval_number` returns `None` for an expression that is no number literal; then it computes
+/// value and raises the meter by one: `eval` in each case, `eval_number` if it returns a number.
+/// `eval_number` returns `None` for an expression that is not a number literal; then it computes
 /// nothing, and the meter keeps its count.
 #[derive(Debug, Drop)]
 pub struct Meter {
@@ -22,21 +22,21 @@ impl Model for Meter {
 }
 
 impl Meter {
-    /// A meter at 0. Takes no memory.
+    /// Makes a meter at 0. Takes no memory.
     pub fn new() -> Meter
         ensures { result ≡ 0 }
     {
         Meter { count: 0 }
     }
 
-    /// How many evaluations it has counted.
+    /// Returns the number of evaluations that it has counted.
     pub fn count(&self) -> u64
         ensures { result ≡ self.now }
     {
         self.count
     }
 
-    /// Whether it can count no more, which is so exactly at 2^64 - 1.
+    /// Returns whether it can count no more, which is exactly at 2^64 - 1.
     pub fn is_full(&self) -> bool
         ensures exact { result ≡ nat_eq self.now (2 ^ 64 - 1) }
         ensures fits { self.now < 2 ^ 64 }
@@ -44,7 +44,7 @@ impl Meter {
         self.count == u64::MAX
     }
 
-    /// Counts one evaluation more.
+    /// Counts one more evaluation.
     pub(crate) fn count_one(&mut self)
         requires { self.old < 2 ^ 64 - 1 }
         ensures { self.new ≡ self.old + 1 }

@@ -1,4 +1,4 @@
-//! What a part of an expression gives, lent where it can be.
+//! The value of a part of an expression, lent if possible.
 
 ghost use Rattle.std.specs.Prelude.{◌≡◌, IfOk, IfSome, is_some};
 ghost use Rattle.ag_value.specs.Well.{IsWell};
@@ -38,7 +38,7 @@ impl<'e> Model for Lent<'e> {
 }
 
 impl<'e> Lent<'e> {
-    /// A well value, lent.
+    /// Makes a lent value of a well one.
     pub fn new(value: &'e Value) -> Lent<'e>
         requires { IsWell value.now }
         ensures { result ≡ value.entry.now }
@@ -87,14 +87,14 @@ pub enum Held<'e> {
 }
 
 impl<'e> Held<'e> {
-    /// An error.
+    /// Makes a held error.
     pub fn fault(code: ErrorCode) -> Held<'e>
         ensures { result ≡ Held.Owned (value.Fault code) }
     {
         Held::Owned(Measured::new(Value::Fault(code)))
     }
 
-    /// A well value that is lent.
+    /// Makes a held value of a well one that is lent.
     pub fn part(value: &'e Value) -> Held<'e>
         requires { IsWell value.now }
         ensures { result ≡ Held.Lent value.entry.now }
@@ -128,7 +128,7 @@ impl<'e> Held<'e> {
         }
     }
 
-    /// The value where it is lent, for as long as it is.
+    /// Returns the value if it is lent, with the lifetime of the loan.
     pub fn lent(&self) -> Option<&'e Value>
         ensures lends { is_some result ≡ is_lent self.now }
         ensures value { IfSome result (λ v. v.now ≡ held_value self.now) }
@@ -140,7 +140,7 @@ impl<'e> Held<'e> {
         }
     }
 
-    /// The value once more: lent where it is lent, and else a copy.
+    /// Returns the value a second time: lent if it is lent, else a copy.
     pub fn again(&self, alloc: Global) -> Result<Held<'e>, NoMemory>
         ensures { IfOk result (λ h. held_value h ≡ held_value self.now) }
     {
@@ -150,7 +150,7 @@ impl<'e> Held<'e> {
         }
     }
 
-    /// The value itself: a copy of it where it is lent.
+    /// Returns the value as an owned one: a copy if it is lent.
     pub fn into_owned(self, alloc: Global) -> Result<Measured, NoMemory>
         ensures { IfOk result (λ m. m ≡ held_value self.entry) }
     {
@@ -160,7 +160,7 @@ impl<'e> Held<'e> {
         }
     }
 
-    /// Returns the value as a carried one, which is shared where a carried one lends it.
+    /// Returns the value as a carried one, which is shared if a carried one lends it.
     pub fn into_carried(self, alloc: Global) -> Result<Carried, NoMemory>
         ensures value { IfOk result (λ c. c ≡ held_value self.entry) }
         ensures well { IfOk result (λ c. IsWell c) }
@@ -175,7 +175,8 @@ impl<'e> Held<'e> {
     }
 }
 
-/// What a part of an expression gives: a value, or a binding's by its number from the outermost.
+/// The value of a part of an expression: a held value, or that of a binding by its number from the
+/// outermost.
 #[derive(Debug, Drop)]
 pub enum Operand<'e> {
     Held(Held<'e>),
@@ -183,21 +184,21 @@ pub enum Operand<'e> {
 }
 
 impl<'e> Operand<'e> {
-    /// An operand that is a value of its own.
+    /// Makes an operand of an owned value.
     pub fn owned(value: Measured) -> Operand<'e>
         ensures { result ≡ Operand.Held (Held.Owned value) }
     {
         Operand::Held(Held::Owned(value))
     }
 
-    /// Another in its place.
+    /// Drops the operand, and returns another one.
     pub fn replaced(self, other: Operand<'e>) -> Operand<'e>
         ensures { result ≡ other.entry }
     {
         other
     }
 
-    /// Lends the value, where a bound one is among `bindings`.
+    /// Lends the value; that of a bound operand from `bindings`.
     pub fn get<'a>(&'a self, bindings: &'a Bindings<'e>) -> &'a Value
         requires { IsIn bindings.now self.now }
         ensures value { result.now ≡ operand_value bindings.now self.now }
@@ -209,7 +210,8 @@ impl<'e> Operand<'e> {
         }
     }
 
-    /// The value where the environment or the expression lends it, for as long as they do.
+    /// Returns the value if the environment or the expression lends it, with the lifetime of that
+    /// loan.
     pub fn from_outside(&self, bindings: &Bindings<'e>) -> Option<&'e Value>
         requires { IsIn bindings.now self.now }
         ensures lends { (held : HeldValue) → self.now ≡ Operand.Held held → is_some result ≡ is_lent held }
@@ -222,7 +224,7 @@ impl<'e> Operand<'e> {
         }
     }
 
-    /// What a binding keeps of it: a copy where another binding owns it.
+    /// Returns the value that a binding keeps: a copy if another binding owns it.
     pub fn kept(self, alloc: Global, bindings: &Bindings<'e>) -> Result<Held<'e>, NoMemory>
         requires { IsIn bindings.now self }
         ensures { IfOk result (λ h. held_value h ≡ operand_value bindings.now self.entry) }
@@ -233,7 +235,7 @@ impl<'e> Operand<'e> {
         }
     }
 
-    /// The value itself: a copy of it where it is lent or bound.
+    /// Returns the value as an owned one: a copy if it is lent or bound.
     pub fn into_owned(self, alloc: Global, bindings: &Bindings<'e>) -> Result<Measured, NoMemory>
         requires { IsIn bindings.now self }
         ensures { IfOk result (λ m. m ≡ operand_value bindings.now self.entry) }
@@ -241,7 +243,7 @@ impl<'e> Operand<'e> {
         self.kept(alloc, bindings)?.into_owned(alloc)
     }
 
-    /// Returns the value as a carried one, which is shared where a carried one lends it.
+    /// Returns the value as a carried one, which is shared if a carried one lends it.
     pub fn into_carried(self, alloc: Global, bindings: &Bindings<'e>) -> Result<Carried, NoMemory>
         requires { IsIn bindings.now self }
         ensures value { IfOk result (λ c. c ≡ operand_value bindings.now self.entry) }

@@ -1,4 +1,4 @@
--- The names in scope, as they are kept.
+-- The names in scope, as the code keeps them.
 use Rattle.std.proofs.lemmas.List.{map-append}
 use Rattle.std.proofs.Common.{◌∙◌, length, option_to_list, arith, append-nil, ◌≡◌, ℕ, ◌+◌, List, [], ◌∷◌, ◌++◌, map, Option, Some, None, Bor, bytes_eq, cond, refl, ap, sym}
 use Rattle.ag_expr.specs.language.Names.{Names, last_from, number_in, outer}
@@ -7,17 +7,17 @@ last_map : (name : List ℕ) (at : ℕ) (found : Option ℕ) (ys : List (Bor (Li
 last_map name at found [] = refl
 last_map name at found (y ∷ ys) = last_map name (at + 1) (cond (bytes_eq y.now name) (Some at) found) ys
 
--- the number of a name among lent ones
+-- the index of a name in a list of borrowed names
 pub last_lent : (name : List ℕ) (ys : List (Bor (List ℕ))) → number_in (map (λ y. y.now) ys) name ≡ last_from (λ y. bytes_eq y.now name) 0 None ys
 last_lent name ys = last_map name 0 None ys
 
--- what stands around the innermost name
+-- all names but the innermost
 pub outer_end : (names : Names) (name : List ℕ) → outer (names ++ name ∷ []) ≡ names
 outer_end [] name = refl
 outer_end (x ∷ []) name = refl
 outer_end (x ∷ y ∷ ys) name = ap (λ zs. x ∷ zs) (outer_end (y ∷ ys) name)
 
--- the innermost is taken away
+-- the innermost name is removed
 pub unbound : (old new : List (Bor (List ℕ))) (r : Option (Bor (List ℕ))) → old ≡ new ++ option_to_list r → (r ≡ None → length old ≡ 0) → map (λ y. y.now) new ≡ outer (map (λ y. y.now) old)
 unbound [] new None e none = let same = e ∙ append-nil new in ap (map (λ y. y.now)) (sym same)
 unbound (x ∷ old) new None e none = let bad : ⊥ = omega (arith, none refl) in absurd bad

@@ -1,4 +1,4 @@
--- Lemmas on the expression language.
+-- Lemmas about the expression language.
 pub mod Agree
 pub mod Below
 pub mod Chains

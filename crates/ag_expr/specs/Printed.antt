@@ -1,9 +1,9 @@
--- How faults are printed. All of this is this project's.
+-- The formatting of faults. All definitions are this project's.
 use Rattle.std.specs.Prelude.{ℕ, List, ◌++◌, codes, decimal}
 use Rattle.ag_expr.specs.declared.fault.ExprFault.{ExprFault}
 use Rattle.ag_expr.specs.declared.fault.ExprFault.TheVariants as fault
 
--- how a fault is printed: its number, and the offset in decimal
+-- the text of a fault: its number, and the offset in decimal
 abbrev pub printed : ExprFault → List ℕ
 printed (fault.NoToken at) = codes "X1 at " ++ decimal at
 printed (fault.Unexpected at) = codes "X2 at " ++ decimal at

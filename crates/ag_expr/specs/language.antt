@@ -1,4 +1,4 @@
--- The expression language: its syntax.
+-- The expression language: its syntax, and its parser as plain functions.
 pub mod Chains
 pub mod Expression
 pub mod Laws

@@ -1,10 +1,10 @@
-//! How a refusal of a text is printed.
+//! Formatting of faults.
 
 use crate::fault::ExprFault;
 use std::error::Error;
 use std::fmt;
 
-/// The number of the fault, and where it has one its offset: `X2 at 13`.
+/// Writes the number of the fault and, if it has one, the offset: `X2 at 13`.
 impl fmt::Display for ExprFault {
     ghost use Rattle.std.specs.Prelude.{Some};
     ghost use Rattle.ag_expr.specs.Printed.{printed};

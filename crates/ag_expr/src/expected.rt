@@ -1,4 +1,5 @@
-//! What could stand where a text is refused: what the parser takes there, tried token by token.
+//! The tokens that the parser would accept at the offset where it rejects a text, found by trying
+//! each of them.
 
 use crate::expression::read_expr;
 use crate::fault::ExprFault;
@@ -7,20 +8,20 @@ use ag_tokens::{Cursor, Token};
 use ag_value::NoMemory;
 use std::alloc::Global;
 
-/// What could stand at an offset of a text.
+/// Something that could be at an offset of a text.
 #[derive(Clone, Copy, Debug, PartialEq, Eq)]
 pub enum Expected {
-    /// An expression, a `let` or an `if` too.
+    /// An expression, which may be a `let` or an `if`.
     Expression,
-    /// An expression that is no `let` and no `if`.
+    /// An expression other than a `let` or an `if`.
     Operand,
-    /// A name that is bound there: the one that stands there is not.
+    /// A name that is bound there; the name at this offset is not.
     BoundName,
-    /// A name to be bound: one that is not reserved.
+    /// A new name for a binding: one that is not reserved.
     NewName,
     /// An operator.
     Operator,
-    /// An operator other than `==` and `<`, of which one stands there already.
+    /// An operator other than `==` and `<`: the chain already has one of these.
     TighterOperator,
     /// This punctuation or reserved name.
     Sign(&'static str),
@@ -28,12 +29,13 @@ pub enum Expected {
     End,
 }
 
-/// The signs that stand neither before an operand nor between two.
+/// The signs that can be neither before an operand nor between two operands.
 const SIGNS: [&str; 9] = ["=", "(", ")", "]", "}", ",", "in", "then", "else"];
 
-/// What could stand at an offset of a text in place of what stands there, where the text is refused
-/// there by X2: each has been tried behind the text before it. Nothing where the levels of
-/// expressions are used up. Takes memory and time for some readings of the text before the offset.
+/// Returns what could be at the byte offset `at` instead of the token there, if the text is
+/// rejected there with X2. Tries each candidate after the text before the offset, so it parses that
+/// a few times. Returns an empty list if no level of expressions is left, or if `at` is not a
+/// character boundary of the text. Fails with `NoMemory` if memory runs out.
 pub fn expected_at(alloc: Global, text: &str, at: usize) -> Result<Vec<Expected>, NoMemory> {
     let mut found = Vec::new(alloc);
     if let Some(before) = text.get(..at) {
@@ -42,7 +44,7 @@ pub fn expected_at(alloc: Global, text: &str, at: usize) -> Result<Vec<Expected>
     Ok(found)
 }
 
-/// Gathers what could stand behind a front of a text.
+/// Collects in `found` what could follow `before`, which is a prefix of `text`.
 fn gather(
     alloc: Global,
     text: &str,
@@ -65,7 +67,8 @@ fn gather(
     Ok(())
 }
 
-/// Gathers the signs that could stand behind a text; not that which begins an operand, where one could.
+/// Collects in `found` the signs that could follow `before`. Omits `(` if an operand could follow,
+/// since it begins one.
 fn gather_signs(
     alloc: Global,
     before: &str,
@@ -80,7 +83,7 @@ fn gather_signs(
     Ok(())
 }
 
-/// Notes what could stand behind a text, where this token could. Whether it could.
+/// Adds `expected` to `found` if `token` could follow `before`; returns whether it could.
 fn note(
     alloc: Global,
     before: &str,
@@ -95,7 +98,7 @@ fn note(
     Ok(stands)
 }
 
-/// What is said where an operand can stand.
+/// Returns the description of an operand that could follow `before`.
 fn operand_at(alloc: Global, text: &str, before: &str) -> Result<Expected, NoMemory> {
     if let Some(rest) = text.get(before.len()..) {
         if let Some(Token::Name(name)) = Cursor::new(rest).peek() {
@@ -110,7 +113,8 @@ fn operand_at(alloc: Global, text: &str, before: &str) -> Result<Expected, NoMem
     Ok(Expected::Operand)
 }
 
-/// Whether a token could stand behind a text: whether they are read beyond the token's front.
+/// Returns whether `token` could follow `before`: whether the parser does not reject the token
+/// itself.
 fn can_stand(alloc: Global, before: &str, token: &str) -> Result<bool, NoMemory> {
     let tried = format!(in alloc; "{before} {token}")?;
     match refused_at(alloc, tried.as_str())? {
@@ -119,7 +123,7 @@ fn can_stand(alloc: Global, before: &str, token: &str) -> Result<bool, NoMemory>
     }
 }
 
-/// Where a text that is no expression is refused; None where it is one.
+/// Returns the byte offset at which the text is rejected, or `None` if it is an expression.
 fn refused_at(alloc: Global, text: &str) -> Result<Option<usize>, NoMemory> {
     match read_expr(alloc, text) {
         Ok(_) => Ok(None),

@@ -1,4 +1,4 @@
-//! Reading a text as an expression.
+//! Parses a text as an expression.
 
 ghost use Rattle.std.specs.Prelude.{◌≡◌, [], chars, drop, length, true, Ok, Err, IfOk, IfErr};
 ghost use Rattle.ag_grammar.specs.expressions.Trees.{is_below};
@@ -17,12 +17,13 @@ use ag_grammar::{Expr, Node};
 use ag_tokens::Cursor;
 use std::alloc::Global;
 
-/// Reads a text as an expression: its tree, and the different occurrences in it. Takes memory.
+/// Parses a text as an expression: its tree, and the distinct occurrences in it.
 ///
-/// The first token that cannot be taken decides on the refusal, and at one token the order is: X1,
-/// where no token begins; X3, where its number is above the limit; X2, where no expression goes on
-/// with it, or at the text's end; X4, where it begins an expression of level 65. A refusal other
-/// than for memory means that the text reads as no expression.
+/// Fails at the first token that cannot be accepted: with X1 if no token begins there; with X3 if
+/// its number is above the limit; with X2 if no expression continues with it, or if the text ends
+/// there; with X4 if it begins an expression of level 65. If several apply, the first in this order
+/// is returned. Fails with `NoMemory` if memory runs out. With any other fault, the text is proved
+/// not to be an expression.
 pub fn read_expr(alloc: Global, text: &str) -> Result<Expr, ExprFault>
     ensures exact { IsRead text.now result }
     ensures first { IfErr result (λ e. IsFirstOf text.now e) }
@@ -33,12 +34,12 @@ pub fn read_expr(alloc: Global, text: &str) -> Result<Expr, ExprFault>
     whole(Reader::new(alloc, Cursor::new(text), false))
 }
 
-/// Reads the expression that stands from an offset on up to a `;`, and answers it with the offset of
-/// the `;`. Offsets are those of the whole text. Takes memory.
+/// Parses the expression from the byte offset `from` up to the first `;`, and returns it with the
+/// offset of the `;`. Offsets are those of the whole text.
 ///
-/// What stands up to the first `;` is read as `read_expr` reads a text, and refused as it is there;
-/// where no `;` stands, the rest of the text is refused so, or at its end. A refusal other than for
-/// memory means that no expression stands there up to a `;`.
+/// Fails as `read_expr` fails for the text up to the first `;`. Without a `;`, fails as for the
+/// rest of the text, or with X2 at its end. With any fault but `NoMemory`, it is proved that no
+/// expression followed by a `;` begins at `from`.
 pub fn read_until(alloc: Global, text: &str, from: usize) -> Result<(Expr, usize), ExprFault>
     requires { IsCharBoundary text.now from }
     ensures exact { IsReadUntil text.now from result }
@@ -51,9 +52,9 @@ pub fn read_until(alloc: Global, text: &str, from: usize) -> Result<(Expr, usize
     read_ended(alloc, &mut cursor)
 }
 
-/// Passes the expression in front of a cursor and the `;` behind it, and answers it with the offset
-/// of the `;`. What it refuses is refused as by `read_until`; of the cursor nothing is said then.
-/// Takes memory.
+/// Parses the expression at a cursor, advances the cursor past it and past the `;` after it, and
+/// returns the expression with the offset of the `;`. Fails as `read_until` does; the position of
+/// the cursor is then unspecified.
 pub fn read_ended<'t>(alloc: Global, cursor: &mut Cursor<'t>) -> Result<(Expr, usize), ExprFault>
     ensures { IsReadEnded cursor.old result cursor.new }
 {
@@ -67,7 +68,8 @@ pub fn read_ended<'t>(alloc: Global, cursor: &mut Cursor<'t>) -> Result<(Expr, u
     Ok((Expr::new(tree, occurrences), at))
 }
 
-/// Passes the expression in front of a reader that has passed nothing, up to its `;`.
+/// Parses the expression at a reader that has read nothing yet, up to its `;`. Fails as
+/// `read_until` does.
 fn statement(reader: &mut Reader<'_>) -> Result<Node, ExprFault>
     requires { reader.old ≡ start true reader.old.tokens }
     ensures read { IfOk result (λ tree. IsReadEnded reader.old.tokens
@@ -83,7 +85,7 @@ fn statement(reader: &mut Reader<'_>) -> Result<Node, ExprFault>
     Ok(tree)
 }
 
-/// Reads all that is left as an expression.
+/// Parses all remaining tokens as an expression. Fails as `read_expr` does.
 fn whole(mut reader: Reader<'_>) -> Result<Expr, ExprFault>
     requires { reader.scope ≡ [] }
     ensures { IsReadToEnd reader.entry result }
@@ -93,7 +95,7 @@ fn whole(mut reader: Reader<'_>) -> Result<Expr, ExprFault>
     Ok(Expr::new(tree, occurrences))
 }
 
-/// Passes all that is left as an expression.
+/// Parses all remaining tokens as an expression, and returns its tree. Fails as `read_expr` does.
 fn tree_to_end(reader: &mut Reader<'_>) -> Result<Node, ExprFault>
     requires { reader.old.scope ≡ [] }
     ensures read { IfOk result (λ tree. IsReadToEnd reader.old (Ok (tree, reader.new.listed))) }

@@ -1,23 +1,24 @@
-//! Why a text is no expression.
+//! The reasons why a text is not an expression.
 
 ghost use Rattle.std.specs.Prelude.{◌≡◌};
 ghost use Rattle.ag_expr.specs.declared.fault.ExprFault.TheVariants as expr_fault;
 
 use ag_value::OutOfMemory;
 
-/// Why a text is no expression. Offsets are in bytes from the front of the text.
+/// Why a text is not an expression. Offsets are in bytes from the beginning of the text.
 #[derive(Clone, Copy, Debug, PartialEq, Eq)]
 pub enum ExprFault {
-    /// X1: at this offset stands no separator, and no token begins there.
+    /// X1: the character at this offset is not a separator, and no token begins with it.
     NoToken(usize),
-    /// X2: no expression goes on with the token at this offset, or ends here, at the text's end.
+    /// X2: no expression continues with the token at this offset, or the text ends here before the
+    /// expression does.
     Unexpected(usize),
-    /// X3: at this offset stands a number above 9223372036854775807, or an occurrence with a place
-    /// above 65535.
+    /// X3: at this offset there is a number above 9223372036854775807, or an occurrence with a
+    /// place above 65535.
     NumberTooLarge(usize),
-    /// X4: at this offset an expression of level 65 begins.
+    /// X4: an expression of level 65 begins at this offset.
     TooDeep(usize),
-    /// A growth was refused.
+    /// An allocation failed.
     NoMemory,
 }
 

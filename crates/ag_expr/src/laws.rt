@@ -1,5 +1,5 @@
-//! Laws of the expression language, each the contract of a function that does nothing, and examples
-//! worked out by hand.
+//! Laws of the expression language, each the contract of a function with an empty body, and worked
+//! examples.
 
 ghost use Rattle.std.specs.Prelude.{◌≡◌, ◌∷◌, ◌++◌, [], Some, None, true, false, codes};
 ghost use Rattle.ag_expr.specs.language.Expression.{ReadsAsExpr};
@@ -14,43 +14,44 @@ ghost use Rattle.ag_expr.specs.language.Until.{first_semicolon, semicolon};
 ghost use Rattle.ag_expr.specs.language.Worked.{occurrence_and_number, sum_and_product};
 ghost use Rattle.ag_expr.specs.language.Worked.{bound_and_compared, let_and_compare};
 
-/// What is read from tokens, to their end, is what the syntax relates to them, and the other way
-/// round.
+/// States that the parser returns a tree for tokens, read to their end, if and only if the syntax
+/// relates the tokens to the tree.
 #[tactic(auto, using(crate::proofs::language::Agree::exact))]
 pub fn reading_agrees_with_the_syntax()
     ensures { ReadingAgrees }
 {}
 
-/// What is refused is refused at the first token that can't be taken.
+/// States that the parser fails at the first token that cannot be accepted.
 #[tactic(auto, using(crate::proofs::language::Offsets::refuses_at_the_first))]
 pub fn the_first_wrong_token_is_told()
     ensures { RefusesAtTheFirst }
 {}
 
-/// A text reads as one expression at most.
+/// States that a text reads as at most one expression.
 pub fn a_text_reads_as_one_expression()
     ensures { OneExpression }
 {}
 
-/// The tokens of `$1.a + 2`, with their offsets.
+/// States the tokens of `$1.a + 2`, with their offsets.
 #[tactic(auto, using(crate::proofs::language::Examples::occurrence_and_number))]
 pub fn worked_tokens()
     ensures { AreTokens 0 (codes "$1.a + 2") occurrence_and_number 8 [] }
 {}
 
-/// What `2 + 3 * 4` reads as.
+/// States what `2 + 3 * 4` reads as.
 #[tactic(auto, using(crate::proofs::language::Examples::sum_is_read))]
 pub fn worked_expression()
     ensures { ReadsAsExpr (codes "2 + 3 * 4") (sum_and_product, []) }
 {}
 
-/// What `let x = 1 in x < 2` spells, with two levels.
+/// States the tree that `let x = 1 in x < 2` spells, with two levels.
 #[tactic(auto, using(crate::proofs::language::Examples::let_is_spelled))]
 pub fn worked_scope()
     ensures { IsExpr [] 2 (tokens let_and_compare) bound_and_compared }
 {}
 
-/// A name means its innermost binding; calls are reserved, and longer names are not.
+/// States that a name refers to its innermost binding, and that the names of calls are reserved,
+/// but longer names are not.
 pub fn worked_names()
     ensures hidden { number_in (codes "x" ∷ codes "y" ∷ codes "x" ∷ []) (codes "x") ≡ Some 2 }
     ensures unbound { number_in (codes "x" ∷ []) (codes "y") ≡ None }
@@ -58,7 +59,7 @@ pub fn worked_names()
     ensures free { is_reserved (codes "lens") ≡ false }
 {}
 
-/// The first semicolon of `let x = 1 in x < 2` and two semicolons is the one at 18.
+/// States that the first semicolon of `let x = 1 in x < 2; ;` is the one at offset 18.
 pub fn worked_semicolon()
     ensures { first_semicolon (let_and_compare ++ semicolon 18 ∷ semicolon 20 ∷ []) ≡ Some 18 }
 {}

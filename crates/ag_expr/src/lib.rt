@@ -1,4 +1,4 @@
-//! Expressions over the values of attributes: how a text is read as one.
+//! The expressions of rules: the parser of their texts.
 #![tactic(auto)]
 
 mod display;

@@ -1,4 +1,4 @@
-//! Which names are reserved, which are calls, and which are in scope.
+//! The reserved names, the names of calls, and the names in scope.
 
 ghost use Rattle.std.specs.Prelude.{◌≡◌, ◌∷◌, ◌++◌, [], None, OnOk, bytes_eq};
 ghost use Rattle.ag_expr.specs.language.Names as names_spec;
@@ -11,15 +11,15 @@ use std::marker::Model;
 /// A call, by the number of its arguments.
 #[derive(Clone, Copy, Debug, PartialEq, Eq)]
 pub enum Call {
-    /// Of one argument.
+    /// With one argument.
     Unary(UnaryCall),
-    /// Of two arguments.
+    /// With two arguments.
     Binary(BinaryCall),
-    /// Of three: `put`.
+    /// With three arguments: `put`.
     Put,
 }
 
-/// The call that a name is.
+/// Returns the call of this name, or `None`.
 pub fn call_of(name: &str) -> Option<Call>
     ensures { result ≡ names_spec.call_of name.now }
 {
@@ -40,7 +40,7 @@ pub fn call_of(name: &str) -> Option<Call>
     }
 }
 
-/// Whether a name is that of a form or of an operator.
+/// Returns whether a name is a keyword or the name of an operator.
 fn is_keyword(name: &str) -> bool
     ensures { result ≡ names_spec.is_keyword name.now }
 {
@@ -53,14 +53,14 @@ fn is_keyword(name: &str) -> bool
         || name == "mod"
 }
 
-/// Whether a name cannot be bound.
+/// Returns whether a name is reserved, so that it cannot be bound.
 pub fn is_reserved(name: &str) -> bool
     ensures { result ≡ names_spec.is_reserved name.now }
 {
     is_keyword(name) || call_of(name).is_some()
 }
 
-/// The number of the last one with this name.
+/// Returns the index from 0 of the last occurrence of a name in a list, or `None`.
 fn last_number(names: &[&str], name: &str) -> Option<usize>
     ensures { result ≡ names_spec.last_from (λ y. bytes_eq y.now name.now) 0 None names.now }
 {
@@ -88,7 +88,7 @@ impl<'t> Model for Scope<'t> {
 }
 
 impl<'t> Scope<'t> {
-    /// No names. Takes no memory.
+    /// Returns a scope without names. Does not allocate.
     pub fn new(alloc: Global) -> Scope<'t>
         ensures { result ≡ [] }
     {
@@ -97,7 +97,7 @@ impl<'t> Scope<'t> {
         }
     }
 
-    /// Binds a name within the others. Takes memory.
+    /// Binds a name as the innermost one. Fails with `NoMemory` if the scope cannot grow.
     pub fn bind(&mut self, name: &'t str) -> Result<(), NoMemory>
         ensures { OnOk result (self.new ≡ self.old ++ name.now ∷ []) }
     {
@@ -105,7 +105,7 @@ impl<'t> Scope<'t> {
         Ok(())
     }
 
-    /// Takes the innermost name away.
+    /// Removes the innermost name, if there is one.
     #[tactic(auto, using(crate::proofs::Scopes::unbound))]
     pub fn unbind(&mut self)
         ensures { self.new ≡ names_spec.outer self.old }
@@ -113,7 +113,8 @@ impl<'t> Scope<'t> {
         let _ = self.names.pop();
     }
 
-    /// The number of a bound name: of its innermost binding.
+    /// Returns the index of the innermost binding of a name, or `None` if it is not bound. The
+    /// outermost binding has index 0.
     #[tactic(auto, using(crate::proofs::Scopes::last_lent))]
     pub fn number_of(&self, name: &str) -> Option<usize>
         ensures { result ≡ names_spec.number_in self.now name.now }

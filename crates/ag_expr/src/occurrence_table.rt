@@ -1,4 +1,4 @@
-//! The different occurrences of a text, with the number of each by its place and name.
+//! The distinct occurrences of a text, indexed by place and name.
 
 ghost use Rattle.std.specs.Prelude.{◌≡◌, [], Some, IfOk, OnOk, OnErr};
 ghost use Rattle.ag_expr.specs.language.Occurrences as spec;
@@ -11,7 +11,7 @@ use std::alloc::Global;
 use std::collections::HashMap;
 use std::marker::Model;
 
-/// The different occurrences so far, and the number of each by its place and name.
+/// The distinct occurrences so far, and the index of each by its place and name.
 #[derive(Drop)]
 pub struct OccurrenceTable<'t> {
     listed: SmallVec<Occ, 4>,
@@ -34,7 +34,7 @@ impl<'t> Model for OccurrenceTable<'t> {
 }
 
 impl<'t> OccurrenceTable<'t> {
-    /// An empty table. Takes no memory.
+    /// Returns an empty table. Does not allocate.
     pub fn new(alloc: Global) -> OccurrenceTable<'t>
         ensures { result ≡ [] }
     {
@@ -44,15 +44,17 @@ impl<'t> OccurrenceTable<'t> {
         }
     }
 
-    /// The number of the listed occurrence with this place and name. Takes no memory.
+    /// Returns the index of the listed occurrence with this place and name, or `None`. Does not
+    /// allocate.
     fn position(&self, place: u16, attr: &'t str) -> Option<usize>
         ensures { result ≡ spec.position_of self.now place attr.now }
     {
         self.numbers.get(&(place, attr)).copied()
     }
 
-    /// Lists an occurrence at the end, unless its place and name are listed already, and answers
-    /// the number of the listed one. Takes memory; where that is refused, the list stays as it was.
+    /// Appends an occurrence, unless one with the same place and name is listed already; returns
+    /// the index of the listed one. Fails with `NoMemory` if the table cannot grow; the list is
+    /// then unchanged.
     pub fn intern(
         &mut self,
         alloc: Global,
@@ -80,7 +82,7 @@ impl<'t> OccurrenceTable<'t> {
         Ok(number)
     }
 
-    /// The listed occurrences. Takes no memory.
+    /// Returns the listed occurrences. Does not allocate.
     pub fn into_list(self) -> SmallVec<Occ, 4>
         ensures listed { result.items ≡ self.entry }
         ensures different { AreDifferent result.items }

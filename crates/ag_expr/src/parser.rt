@@ -1,4 +1,4 @@
-//! The parser of expressions, by recursive descent.
+//! The recursive-descent parser of expressions.
 
 ghost use Rattle.std.specs.Prelude.{◌≡◌, ◌∷◌, [], Some, IfOk, OnOk};
 ghost use Rattle.ag_expr.specs.language.Syntax as syntax;
@@ -19,11 +19,11 @@ use ag_tokens::{Punctuation, Token, unescaped};
 use ag_value::{Boxed, Items, NoMemory};
 use std::alloc::Global;
 
-/// A precedence of operators, by how strongly they bind: the operands of a chain are chains of the
-/// next precedence.
+/// A precedence of operators. The operands of a chain are chains of the next precedence, which
+/// binds more strongly.
 #[derive(Clone, Copy, Debug, PartialEq, Eq)]
 enum Precedence {
-    /// `==` and `<`, of which a chain has one at most.
+    /// `==` and `<`; a chain has at most one of these.
     Comparison,
     /// `++`.
     Join,
@@ -33,14 +33,14 @@ enum Precedence {
     Product,
 }
 
-/// Whether a chain of the precedence has one operator at most.
+/// Returns whether a chain of this precedence has at most one operator.
 fn takes_one(precedence: Precedence) -> bool
     ensures { result ≡ syntax.takes_one precedence }
 {
     precedence == Precedence::Comparison
 }
 
-/// The punctuation that is an operator: its precedence, and what it does.
+/// Returns the operator with this punctuation and its precedence, or `None`.
 fn marked_operator(mark: Punctuation) -> Option<(Precedence, Operator)>
     ensures { result ≡ syntax.marked_operator mark }
 {
@@ -55,7 +55,7 @@ fn marked_operator(mark: Punctuation) -> Option<(Precedence, Operator)>
     }
 }
 
-/// The reserved name that is an operator: its precedence, and what it does.
+/// Returns the operator with this reserved name and its precedence, or `None`.
 fn named_operator(name: &str) -> Option<(Precedence, Operator)>
     ensures { result ≡ syntax.named_operator name.now }
 {
@@ -68,7 +68,7 @@ fn named_operator(name: &str) -> Option<(Precedence, Operator)>
     }
 }
 
-/// The operator that a token is: its precedence, and what it does.
+/// Returns the operator that a token spells and its precedence, or `None`.
 fn binary_operator(token: Token<'_>) -> Option<(Precedence, Operator)>
     ensures { result ≡ syntax.binary_operator (token_of token.entry) }
 {
@@ -79,7 +79,7 @@ fn binary_operator(token: Token<'_>) -> Option<(Precedence, Operator)>
     }
 }
 
-/// The operator of a precedence that a token is.
+/// Returns the operator that a token spells, if it has this precedence.
 fn operator_of(precedence: Precedence, token: Token<'_>) -> Option<Operator>
     ensures { result ≡ syntax.operator_of precedence (token_of token.entry) }
 {
@@ -94,7 +94,7 @@ fn operator_of(precedence: Precedence, token: Token<'_>) -> Option<Operator>
     }
 }
 
-/// Whether the other precedence binds more strongly.
+/// Returns whether `other` binds more strongly than `precedence`.
 #[tactic(auto, using(crate::proofs::language::Chains::others_closer))]
 fn is_closer(precedence: Precedence, other: Precedence) -> bool
     ensures { result ≡ chains.is_among (closer precedence) other }
@@ -107,7 +107,7 @@ fn is_closer(precedence: Precedence, other: Precedence) -> bool
     }
 }
 
-/// Whether a token is an operator that binds more strongly than those of the precedence.
+/// Returns whether a token is an operator that binds more strongly than `precedence`.
 #[tactic(auto, using(crate::proofs::language::Chains::operator_among, crate::proofs::language::Chains::no_operator))]
 fn is_closer_operator(precedence: Precedence, token: Token<'_>) -> bool
     ensures { result ≡ chains.is_operator_among (closer precedence) (token_of token.entry) }
@@ -118,7 +118,7 @@ fn is_closer_operator(precedence: Precedence, token: Token<'_>) -> bool
     }
 }
 
-/// Whether a token is an operator.
+/// Returns whether a token is an operator.
 #[tactic(auto, using(crate::proofs::language::Chains::any_operator))]
 fn is_operator(token: Token<'_>) -> bool
     ensures { result ≡ chains.is_operator_among syntax.precedences (token_of token.entry) }
@@ -126,7 +126,7 @@ fn is_operator(token: Token<'_>) -> bool
     binary_operator(token).is_some()
 }
 
-/// What a token begins that no operator takes apart.
+/// The forms of an atom: an operand that contains no operator outside of brackets.
 #[derive(Clone, Copy, Debug, PartialEq, Eq)]
 enum Atom {
     /// An expression in parentheses.
@@ -137,11 +137,11 @@ enum Atom {
     Table,
     /// A call.
     Call,
-    /// An operand of one token, or nothing.
+    /// An operand of one token, or a token that begins no operand.
     Operand,
 }
 
-/// What a mark begins.
+/// Returns the form of the atom that begins with this punctuation.
 fn marked_atom(mark: Punctuation) -> Atom
     ensures { result ≡ reading.marked_atom mark }
 {
@@ -153,7 +153,7 @@ fn marked_atom(mark: Punctuation) -> Atom
     }
 }
 
-/// What a token begins.
+/// Returns the form of the atom that begins with this token.
 fn atom_of(token: Token<'_>) -> Atom
     ensures { result ≡ reading.atom_of (token_of token.entry) }
 {
@@ -164,7 +164,8 @@ fn atom_of(token: Token<'_>) -> Atom
     }
 }
 
-/// One operand alone, or a chain.
+/// Makes the tree of a chain: the first operand itself if it is the only one. Fails with `NoMemory`
+/// if memory runs out.
 fn chained(alloc: Global, first: Node, others: Vec<(Operator, Node)>) -> Result<Node, NoMemory>
     ensures { IfOk result (λ e. e ≡ syntax.chained first others.items) }
 {
@@ -174,7 +175,8 @@ fn chained(alloc: Global, first: Node, others: Vec<(Operator, Node)>) -> Result<
     Ok(Node::Chain(Boxed::new(alloc, first)?, Items::from_vec(others)))
 }
 
-/// Where a name is no reserved one, its operand by the number of its binding.
+/// Returns the operand of a bound name, given the index of its binding, or `None` if the name is
+/// reserved or not bound.
 fn bound(name: &str, number: Option<usize>) -> Option<Node>
     ensures { result ≡ syntax.bound_operand name.now number }
 {
@@ -185,7 +187,7 @@ fn bound(name: &str, number: Option<usize>) -> Option<Node>
 }
 
 impl<'t> Reader<'t> {
-    /// The operator of a precedence that stands in front.
+    /// Returns the next token as an operator of this precedence, or `None` if it is not one.
     fn next_operator(&self, precedence: Precedence) -> Option<Operator>
         ensures { result ≡ sign_of (λ _. syntax.operator_of precedence)
             (offset (input self.now)) (front (input self.now)) }
@@ -196,14 +198,14 @@ impl<'t> Reader<'t> {
         }
     }
 
-    /// Whether an operator of a precedence stands in front.
+    /// Returns whether the next token is an operator of this precedence.
     fn goes_on(&self, precedence: Precedence) -> bool
         ensures { result ≡ sees (reading.is_operator_of precedence) (input self.now) }
     {
         self.next_operator(precedence).is_some()
     }
 
-    /// Whether an operator that binds more strongly than those of a precedence stands in front.
+    /// Returns whether the next token is an operator that binds more strongly than `precedence`.
     fn goes_on_closer(&self, precedence: Precedence) -> bool
         ensures { result ≡ sees (chains.is_operator_among (closer precedence)) (input self.now) }
     {
@@ -213,7 +215,7 @@ impl<'t> Reader<'t> {
         }
     }
 
-    /// Whether an operator stands in front.
+    /// Returns whether the next token is an operator.
     fn sees_operator(&self) -> bool
         ensures { result ≡ sees (chains.is_operator_among syntax.precedences) (input self.now) }
     {
@@ -223,7 +225,7 @@ impl<'t> Reader<'t> {
         }
     }
 
-    /// Passes an operator of a precedence.
+    /// Reads an operator of this precedence. Fails with `refusal` if the next token is not one.
     fn operator(&mut self, precedence: Precedence) -> Result<Operator, ExprFault>
         ensures { Reads (λ _ _. reading.token_as (syntax.operator_of precedence))
             self.old result self.new }
@@ -237,7 +239,7 @@ impl<'t> Reader<'t> {
         }
     }
 
-    /// What stands in front that no operator takes apart.
+    /// Returns the form of the atom that begins with the next token.
     fn front_atom(&self) -> Atom
         ensures { reading.BeginsAtom result (input self.now) }
     {
@@ -247,7 +249,7 @@ impl<'t> Reader<'t> {
         }
     }
 
-    /// The call that stands in front.
+    /// Returns the call that the next token names, or `None`.
     fn next_call(&self) -> Option<Call>
         ensures { result ≡ sign_of (λ _. syntax.call_in)
             (offset (input self.now)) (front (input self.now)) }
@@ -258,7 +260,7 @@ impl<'t> Reader<'t> {
         }
     }
 
-    /// Passes the name of a call.
+    /// Reads the name of a call. Fails with `refusal` if the next token is not one.
     fn called(&mut self) -> Result<Call, ExprFault>
         ensures { Reads (λ _ _. reading.token_as syntax.call_in) self.old result self.new }
     {
@@ -271,7 +273,8 @@ impl<'t> Reader<'t> {
         }
     }
 
-    /// Passes an expression of at most so many levels, and answers its tree.
+    /// Parses an expression of at most `levels` levels. Fails with `no_level` if `levels` is 0, and
+    /// with `refusal` at the first token that cannot be accepted.
     #[cycle(parsing)]
     #[tactic(auto, using(crate::proofs::language::Parts::one_level), unfolding(crate::specs::language::Reading::expr_in, crate::specs::language::Reading::whole_from))]
     pub fn expression(&mut self, levels: usize) -> Result<Node, ExprFault>
@@ -289,7 +292,7 @@ impl<'t> Reader<'t> {
         self.chain(levels - 1)
     }
 
-    /// Passes an expression of at most so many levels, and answers its tree in a box.
+    /// Parses an expression of at most `levels` levels, and boxes its tree.
     #[cycle(parsing)]
     fn boxed(&mut self, levels: usize) -> Result<Boxed<Node>, ExprFault>
         ensures { Reads (λ all. expr_in all levels) self.old result self.new }
@@ -298,7 +301,7 @@ impl<'t> Reader<'t> {
         Ok(Boxed::new(self.alloc(), tree)?)
     }
 
-    /// Passes a `let`, whose parts have at most so many levels.
+    /// Parses a `let` whose parts have at most `levels` levels.
     #[cycle(parsing)]
     #[tactic(auto, using(crate::proofs::Scopes::outer_end), unfolding(crate::specs::language::Reading::let_from))]
     fn binding(&mut self, levels: usize) -> Result<Node, ExprFault>
@@ -315,7 +318,7 @@ impl<'t> Reader<'t> {
         Ok(Node::Let(definition, body))
     }
 
-    /// Passes an `if`, whose parts have at most so many levels.
+    /// Parses an `if` whose parts have at most `levels` levels.
     #[cycle(parsing)]
     #[tactic(auto, unfolding(crate::specs::language::Reading::if_from))]
     fn conditional(&mut self, levels: usize) -> Result<Node, ExprFault>
@@ -330,9 +333,10 @@ impl<'t> Reader<'t> {
         Ok(Node::If(test, value, other))
     }
 
-    /// Passes a chain of any precedence, whose atoms have parts of at most so many levels.
+    /// Parses a chain of any precedence; the parts of its atoms have at most `levels` levels.
     ///
-    /// Where no operator stands behind its first atom, as behind most, that atom is the chain.
+    /// If no operator follows its first atom, which is the most frequent case, the atom is the
+    /// chain.
     #[cycle(parsing)]
     #[tactic(auto, using(crate::proofs::language::Chains::atom_alone, crate::proofs::language::Chains::by_atom))]
     fn chain(&mut self, levels: usize) -> Result<Node, ExprFault>
@@ -347,8 +351,8 @@ impl<'t> Reader<'t> {
         self.chain_behind(levels, Precedence::Comparison, first)
     }
 
-    /// Passes what stands behind the first atom of a chain of a precedence, and answers the tree of
-    /// the whole.
+    /// Parses the rest of a chain of this precedence after its first atom; returns the tree of the
+    /// whole chain.
     #[cycle(parsing)]
     #[tactic(auto, using(crate::proofs::language::Chains::operand_alone), unfolding(crate::specs::language::Chains::ranked_behind, crate::specs::language::Chains::chain_behind))]
     fn chain_behind(
@@ -368,8 +372,8 @@ impl<'t> Reader<'t> {
         Ok(chained(self.alloc(), first, others)?)
     }
 
-    /// Passes what stands behind the first atom of an operand of a precedence, and answers the tree
-    /// of the whole.
+    /// Parses the rest of an operand of a chain of this precedence after its first atom; returns
+    /// the tree of the whole operand.
     #[cycle(parsing)]
     #[tactic(auto, unfolding(crate::specs::language::Chains::ranked_behind))]
     fn operand_behind(
@@ -389,9 +393,10 @@ impl<'t> Reader<'t> {
         }
     }
 
-    /// Passes an operand of a precedence: a chain of the next precedence, or behind the last an atom.
+    /// Parses an operand of a chain of this precedence: a chain of the next precedence, or an atom
+    /// after the last one.
     ///
-    /// Where no closer operator stands behind its first atom, that atom is the operand.
+    /// If no operator that binds more strongly follows its first atom, the atom is the operand.
     #[cycle(parsing)]
     #[tactic(auto, using(crate::proofs::language::Chains::atom_alone, crate::proofs::language::Chains::by_atom))]
     fn operand(&mut self, levels: usize, precedence: Precedence) -> Result<Node, ExprFault>
@@ -406,7 +411,7 @@ impl<'t> Reader<'t> {
         self.operand_behind(levels, precedence, first)
     }
 
-    /// Passes the operands behind the first, each with its operator, and answers their trees.
+    /// Parses the further operands of a chain, each after its operator.
     #[cycle(parsing)]
     #[inline(never)]
     #[tactic(auto, using(crate::proofs::language::Parts::shorter, crate::proofs::language::Agree::other_shortens))]
@@ -432,7 +437,7 @@ impl<'t> Reader<'t> {
         Ok(others)
     }
 
-    /// Passes an operator and the operand behind it.
+    /// Parses an operator and the operand after it.
     #[cycle(parsing)]
     #[tactic(auto, unfolding(crate::specs::language::Reading::other_from))]
     fn other(
@@ -449,8 +454,8 @@ impl<'t> Reader<'t> {
         Ok((operator, operand))
     }
 
-    /// Passes what no operator takes apart, whose parts have at most so many levels: a number straight
-    /// away, since nothing else is read as often.
+    /// Parses an atom whose parts have at most `levels` levels. Handles numbers first, since they
+    /// are the most frequent.
     #[cycle(parsing)]
     #[tactic(auto, unfolding(crate::specs::language::Reading::atom_from))]
     fn atom(&mut self, levels: usize) -> Result<Node, ExprFault>
@@ -470,7 +475,7 @@ impl<'t> Reader<'t> {
         }
     }
 
-    /// Passes an operand of one token: a number, a text, a bound name or an occurrence.
+    /// Parses an operand of one token: a number, a text, a bound name or an occurrence.
     fn operand_alone(&mut self) -> Result<Node, ExprFault>
         ensures { Reads (λ all names. reading.token_as (syntax.operand_of all names))
             self.old result self.new }
@@ -493,7 +498,8 @@ impl<'t> Reader<'t> {
         }
     }
 
-    /// Passes the bound name in front.
+    /// Reads the next token, which is this name, as a bound name. Fails with `refusal` if the name
+    /// is reserved or not bound.
     fn bound_operand(&mut self, name: &'t str) -> Result<Node, ExprFault>
         requires { front (input self.old) ≡ Some (token.Name name.now) }
         ensures { Reads (λ all names. reading.token_as (syntax.operand_of all names))
@@ -508,7 +514,7 @@ impl<'t> Reader<'t> {
         }
     }
 
-    /// Passes an expression in parentheses.
+    /// Parses an expression in parentheses.
     #[cycle(parsing)]
     #[tactic(auto, unfolding(crate::specs::language::Reading::parenthesized_from))]
     fn parenthesized(&mut self, levels: usize) -> Result<Node, ExprFault>
@@ -521,7 +527,7 @@ impl<'t> Reader<'t> {
         Ok(inner)
     }
 
-    /// Passes an empty table.
+    /// Parses an empty table.
     #[tactic(auto, unfolding(crate::specs::language::Reading::table_from))]
     fn table(&mut self) -> Result<Node, ExprFault>
         ensures { Reads (λ _ _. reading.table_from) self.old result self.new }
@@ -531,7 +537,7 @@ impl<'t> Reader<'t> {
         Ok(Node::EmptyTable)
     }
 
-    /// Passes a list: no items, or some with commas between them.
+    /// Parses a list: no items, or items separated by commas.
     #[cycle(parsing)]
     #[tactic(auto, unfolding(crate::specs::language::Reading::list_from, crate::specs::language::Reading::none_from, crate::specs::language::Reading::some_from,))]
     fn list(&mut self, levels: usize) -> Result<Node, ExprFault>
@@ -548,7 +554,7 @@ impl<'t> Reader<'t> {
         Ok(Node::List(Items::from_vec(items)))
     }
 
-    /// Passes the items behind the first, and answers all.
+    /// Parses the items of a list after the first; returns all of them, the first included.
     #[cycle(parsing)]
     #[tactic(auto, using(crate::proofs::language::Parts::shorter, crate::proofs::language::Agree::next_shortens), unfolding(crate::specs::language::Reading::items_from))]
     fn items(&mut self, levels: usize, first: Node) -> Result<Vec<Node>, ExprFault>
@@ -565,7 +571,7 @@ impl<'t> Reader<'t> {
         Ok(items)
     }
 
-    /// Passes a comma and the expression behind it.
+    /// Parses a comma and the expression after it.
     #[cycle(parsing)]
     #[tactic(auto, unfolding(crate::specs::language::Reading::next_from))]
     fn next(&mut self, levels: usize) -> Result<Node, ExprFault>
@@ -575,7 +581,7 @@ impl<'t> Reader<'t> {
         self.expression(levels)
     }
 
-    /// Passes a comma and the argument behind it, and answers its tree in a box.
+    /// Parses a comma and the argument after it, and boxes its tree.
     #[cycle(parsing)]
     fn argument(&mut self, levels: usize) -> Result<Boxed<Node>, ExprFault>
         ensures { Reads (λ all. reading.next_from (expr_in all levels)) self.old result self.new }
@@ -584,7 +590,8 @@ impl<'t> Reader<'t> {
         Ok(Boxed::new(self.alloc(), tree)?)
     }
 
-    /// Passes a call: its name, its arguments, as many as it takes, and the closing parenthesis.
+    /// Parses a call: its name, the opening parenthesis, the right number of arguments, and the
+    /// closing parenthesis.
     #[cycle(parsing)]
     #[tactic(auto, unfolding(crate::specs::language::Reading::call_from, crate::specs::language::Reading::unary_from, crate::specs::language::Reading::binary_from, crate::specs::language::Reading::put_from))]
     fn call(&mut self, levels: usize) -> Result<Node, ExprFault>

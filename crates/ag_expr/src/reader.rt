@@ -1,5 +1,5 @@
-//! A reader of an expression: a cursor over its tokens, the occurrences that it has passed, and the
-//! names that are bound where it stands.
+//! The reader under the parser: a cursor over the tokens of an expression, the occurrences read so
+//! far, and the names in scope at the cursor.
 
 ghost use Rattle.std.specs.Prelude.{◌≡◌, ◌++◌, ◌∷◌, [], Some, true, IfOk, OnOk, is_some, option_map};
 ghost use Rattle.ag_tokens.specs.Lexing.{token_of};
@@ -24,10 +24,10 @@ use smallvec::SmallVec;
 use std::alloc::Global;
 use std::marker::Model;
 
-/// A reader of an expression. The tokens that it has are those of its cursor, or where it reads a
-/// statement those up to a `;`.
+/// A reader of the tokens of an expression: those of its cursor, or, in a statement, those before
+/// the first `;`.
 ///
-/// What it answers where a token cannot be taken is `refusal`.
+/// Its methods fail with `refusal` if the next token cannot be accepted.
 #[derive(Drop)]
 pub struct Reader<'t> {
     alloc: Global,
@@ -50,8 +50,9 @@ impl<'t> Model for Reader<'t> {
     } };
 }
 
-/// Why no expression goes on with the token in front of a cursor: X2 at its offset. Where none is
-/// there: X1 where no token begins, X3 where its number is too large, X2 at the end of the text.
+/// Returns the fault for the token at a cursor that no expression can continue with: X2 at its
+/// offset. Without a token: X1 if none begins there, X3 if its number is too large, X2 at the end
+/// of the text.
 #[tactic(auto, using(crate::proofs::language::States::told_is))]
 pub fn refusal(cursor: &Cursor<'_>) -> ExprFault
     ensures { result ≡ reading.refusal cursor.now }
@@ -64,7 +65,7 @@ pub fn refusal(cursor: &Cursor<'_>) -> ExprFault
     }
 }
 
-/// The token that stands before a `;`, where none ends the tokens.
+/// Returns the token, unless it is a `;`, which ends the tokens of a statement.
 fn before_semicolon(front: Option<Token<'_>>) -> Option<Token<'_>>
     ensures { option_map token_of result ≡ state.kept true (option_map token_of front.entry) }
 {
@@ -74,7 +75,7 @@ fn before_semicolon(front: Option<Token<'_>>) -> Option<Token<'_>>
     }
 }
 
-/// Whether an expression begins with the name: a form, a call, or a bound name.
+/// Returns whether an expression can begin with the name: a keyword, a call, or a name in scope.
 fn begins_with(scope: &Scope<'_>, name: &str) -> bool
     ensures { result ≡ state.begins_here scope.now (tokens.Name name.now) }
 {
@@ -84,7 +85,7 @@ fn begins_with(scope: &Scope<'_>, name: &str) -> bool
         || !is_reserved(name) && scope.number_of(name).is_some()
 }
 
-/// Whether an expression begins with the token, where these names are bound around it.
+/// Returns whether an expression can begin with the token, with these names in scope.
 fn begins_expression(scope: &Scope<'_>, token: Token<'_>) -> bool
     ensures { result ≡ state.begins_here scope.now (token_of token.entry) }
 {
@@ -99,7 +100,8 @@ fn begins_expression(scope: &Scope<'_>, token: Token<'_>) -> bool
 }
 
 impl<'t> Reader<'t> {
-    /// A reader of the tokens of a cursor, or of the statement that stands there. Takes no memory.
+    /// Returns a reader of all tokens of a cursor, or, for a statement, of those before the first
+    /// `;`. Does not allocate.
     pub fn new(alloc: Global, cursor: Cursor<'t>, is_statement: bool) -> Reader<'t>
         ensures { result ≡ state.start is_statement cursor.entry }
     {
@@ -112,12 +114,13 @@ impl<'t> Reader<'t> {
         }
     }
 
-    /// What grows takes its memory from here.
+    /// Returns the allocator for everything that the parser builds.
     pub fn alloc(&self) -> Global {
         self.alloc
     }
 
-    /// The token in front. Takes no memory.
+    /// Returns the next token, or `None` at the end of the tokens and where no token can be read.
+    /// Does not allocate.
     #[tactic(auto, using(crate::proofs::language::States::front_is))]
     pub fn peek(&self) -> Option<Token<'t>>
         ensures { option_map token_of result ≡ front (input self.now) }
@@ -129,7 +132,7 @@ impl<'t> Reader<'t> {
         front
     }
 
-    /// Why the token in front cannot be taken.
+    /// Returns the fault for the next token, if that cannot be accepted.
     #[tactic(auto, using(crate::proofs::language::States::refusal_is))]
     pub fn refusal(&self) -> ExprFault
         ensures { result ≡ reading.refusal (input self.now) }
@@ -137,7 +140,8 @@ impl<'t> Reader<'t> {
         refusal(&self.cursor)
     }
 
-    /// Why an expression that has no level left cannot begin here.
+    /// Returns the fault for an expression that would begin here with no level left: X4 if the next
+    /// token can begin one, else `refusal`.
     #[tactic(auto, using(crate::proofs::language::States::too_deep, crate::proofs::language::States::not_begun, crate::proofs::language::States::none_begun))]
     pub fn no_level(&self) -> ExprFault
         ensures { result ≡ state.no_level self.now }
@@ -150,7 +154,7 @@ impl<'t> Reader<'t> {
         }
     }
 
-    /// Passes the token in front. An occurrence that is passed so is not listed.
+    /// Advances past the next token. Does not list an occurrence.
     pub fn bump(&mut self)
         requires { is_some (front (input self.old)) ≡ true }
         ensures exact { self.new ≡ state.passed self.old }
@@ -160,8 +164,9 @@ impl<'t> Reader<'t> {
         self.cursor.bump();
     }
 
-    /// Passes the occurrence in front, and answers its number among the different ones. Takes
-    /// memory where it is the first with its place and name.
+    /// Reads the next token, which is this occurrence, and returns its index among the distinct
+    /// ones. Allocates if it is the first with its place and name; fails with `NoMemory` if that is
+    /// impossible.
     #[tactic(auto, using(crate::proofs::language::States::taken_number))]
     pub fn take_occurrence(&mut self, place: u16, attr: &'t str) -> Result<usize, NoMemory>
         requires { front (input self.old) ≡ Some (tokens.Occurrence place attr.now) }
@@ -175,7 +180,7 @@ impl<'t> Reader<'t> {
         Ok(number)
     }
 
-    /// Binds a name within the others. Takes memory.
+    /// Binds a name as the innermost one. Fails with `NoMemory` if the scope cannot grow.
     #[tactic(auto, unfolding(crate::specs::language::State::everything, crate::specs::language::State::input,))]
     pub fn bind(&mut self, name: &'t str) -> Result<(), NoMemory>
         ensures names { OnOk result (self.new.scope ≡ self.old.scope ++ name.now ∷ []) }
@@ -184,7 +189,7 @@ impl<'t> Reader<'t> {
         self.scope.bind(name)
     }
 
-    /// Takes the innermost name away.
+    /// Removes the innermost name.
     #[tactic(auto, unfolding(crate::specs::language::State::everything, crate::specs::language::State::input,))]
     pub fn unbind(&mut self)
         ensures names { self.new.scope ≡ names_spec.outer self.old.scope }
@@ -193,14 +198,14 @@ impl<'t> Reader<'t> {
         self.scope.unbind();
     }
 
-    /// The number of a bound name: of its innermost binding.
+    /// Returns the index of the innermost binding of a name, or `None` if it is not bound.
     pub fn number_of(&self, name: &str) -> Option<usize>
         ensures { result ≡ names_spec.number_in self.now.scope name.now }
     {
         self.scope.number_of(name)
     }
 
-    /// Whether the tokens end here: at the end of the text, or at the `;` that ends them.
+    /// Returns whether the tokens end here: at the end of the text, or, in a statement, at a `;`.
     #[tactic(auto, using(crate::proofs::language::States::ends_is))]
     pub fn is_at_end(&self) -> bool
         ensures { result ≡ is_end (input self.now).ending (input self.now).left }
@@ -211,7 +216,7 @@ impl<'t> Reader<'t> {
         }
     }
 
-    /// Whether a `;` stands in front.
+    /// Returns whether the next token of the text is a `;`.
     pub fn sees_semicolon(&self) -> bool
         ensures { result
             ≡ sees (is_sign (tokens.mark punctuation.Semicolon)) self.now.tokens }
@@ -222,7 +227,7 @@ impl<'t> Reader<'t> {
         }
     }
 
-    /// The different occurrences that were passed, and the cursor behind them. Takes no memory.
+    /// Returns the distinct occurrences that were read, and the cursor. Does not allocate.
     pub fn into_parts(self) -> (SmallVec<Occ, 4>, Cursor<'t>)
         ensures listed { result.0.items ≡ self.entry.listed }
         ensures different { AreDifferent result.0.items }
@@ -231,7 +236,7 @@ impl<'t> Reader<'t> {
         (self.occurrences.into_list(), self.cursor)
     }
 
-    /// Whether this punctuation stands in front.
+    /// Returns whether the next token is this punctuation.
     pub fn sees(&self, mark: Punctuation) -> bool
         ensures { result ≡ sees (is_sign (tokens.mark mark)) (input self.now) }
     {
@@ -241,7 +246,7 @@ impl<'t> Reader<'t> {
         }
     }
 
-    /// Whether this name stands in front.
+    /// Returns whether the next token is this name.
     pub fn sees_word(&self, name: &str) -> bool
         ensures { result ≡ sees (is_sign (tokens.word name.now)) (input self.now) }
     {
@@ -251,7 +256,8 @@ impl<'t> Reader<'t> {
         }
     }
 
-    /// Passes this punctuation. Takes no memory.
+    /// Reads this punctuation. Fails with `refusal` if the next token is another one. Does not
+    /// allocate.
     pub fn expect(&mut self, mark: Punctuation) -> Result<(), ExprFault>
         ensures { Reads (λ _ _. reading.expect (tokens.mark mark)) self.old result self.new }
     {
@@ -264,7 +270,7 @@ impl<'t> Reader<'t> {
         }
     }
 
-    /// Passes this name. Takes no memory.
+    /// Reads this name. Fails with `refusal` if the next token is another one. Does not allocate.
     pub fn expect_word(&mut self, name: &str) -> Result<(), ExprFault>
         ensures { Reads (λ _ _. reading.expect (tokens.word name.now)) self.old result self.new }
     {
@@ -277,7 +283,8 @@ impl<'t> Reader<'t> {
         }
     }
 
-    /// Passes a name that is not reserved in expressions. Takes no memory.
+    /// Reads a name that is not reserved in expressions. Fails with `refusal` if the next token is
+    /// another one. Does not allocate.
     pub fn new_name(&mut self) -> Result<&'t str, ExprFault>
         ensures { ReadsAs (λ name. name.now) (λ _ _. reading.token_as syntax.new_name)
             self.old result self.new }

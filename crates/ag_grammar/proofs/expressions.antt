@@ -1,4 +1,4 @@
--- Lemmas on the trees of expressions and their values.
+-- Lemmas about the trees of expressions and their values.
 pub mod Depending
 pub mod Occurring
 pub mod Trees

@@ -1,4 +1,4 @@
--- Lemmas on attribute grammars.
+-- Lemmas about attribute grammars.
 pub mod Children
 pub mod Counting
 pub mod Directions

@@ -1,4 +1,4 @@
--- Lemmas about what operations give.
+-- Lemmas about the results of operations.
 pub mod Growing
 pub mod Same
 pub mod Tables

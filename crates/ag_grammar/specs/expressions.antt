@@ -1,4 +1,4 @@
--- Expressions: their trees, the occurrences in them, and what they are worth.
+-- Expressions: their trees, their occurrences, and their values.
 pub mod Evaluation
 pub mod Laws
 pub mod Occurrences

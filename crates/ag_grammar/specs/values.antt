@@ -1,4 +1,4 @@
--- What the forms of an expression give for the values of their arguments, by subject.
+-- The values of the forms of an expression for given values of their arguments, by subject.
 pub mod Arguments
 pub mod Calls
 pub mod Fitting

@@ -1,4 +1,4 @@
-//! A grammar that is known to be accepted.
+//! The type of accepted grammars.
 
 ghost use Rattle.std.specs.Prelude.{◌≡◌};
 ghost use Rattle.std.specs.List.Sorted.{IsStrictlyIncreasing};
@@ -10,9 +10,9 @@ use crate::grammar::{Production, Symbol};
 use ag_value::{Items, Text};
 use std::marker::Model;
 
-/// An accepted grammar. Contracts see it as the plain lists that the definitions of attribute
-/// grammars are over, and know of each that it is accepted, that its classes ascend, and that its
-/// literals are in the order of their first appearance.
+/// An accepted grammar. In contracts it is the record `Grammar` of plain lists over which attribute
+/// grammars are defined. Its invariant: the grammar is accepted (`IsAccepted`), its classes ascend,
+/// and its literals are numbered in the order of their first appearance (`IsInOrder`).
 #[derive(Drop)]
 pub struct Grammar {
     symbols: Items<Symbol>,
@@ -51,9 +51,9 @@ impl Model for Grammar {
 }
 
 impl Grammar {
-    /// Makes a grammar of its lists. The caller has to prove that the grammar is accepted and in
-    /// order; nothing is checked when the program runs. `check` of the crate `normalform` is such a
-    /// caller. Takes no memory.
+    /// Makes a grammar from its lists. The caller must prove that the grammar is accepted and in
+    /// order; nothing is checked at run time. `check` of the crate `normalform` calls it. Does not
+    /// allocate.
     pub fn new(
         symbols: Items<Symbol>,
         productions: Items<Production>,
@@ -92,7 +92,7 @@ impl Grammar {
         }
     }
 
-    /// Lends the declared symbols; a symbol's number is its index. Takes no memory.
+    /// Returns the declared symbols; the number of a symbol is its index. Does not allocate.
     pub fn symbols(&self) -> &[Symbol]
         ensures lent { result.now ≡ self.now.symbols }
         ensures accepted { IsAccepted self.now }
@@ -100,7 +100,7 @@ impl Grammar {
         self.symbols.as_slice()
     }
 
-    /// Lends the productions; a production's number is its index. Takes no memory.
+    /// Returns the productions; the number of a production is its index. Does not allocate.
     pub fn productions(&self) -> &[Production]
         ensures lent { result.now ≡ self.now.productions }
         ensures accepted { IsAccepted self.now }
@@ -108,8 +108,8 @@ impl Grammar {
         self.productions.as_slice()
     }
 
-    /// Lends the different literals in the order of their first appearance on the right sides; a
-    /// literal's number is its index. Takes no memory.
+    /// Returns the distinct literals in the order of their first appearance on the right sides; the
+    /// number of a literal is its index. Does not allocate.
     pub fn literals(&self) -> &[Text]
         ensures lent { result.now ≡ self.now.literals }
         ensures accepted { IsAccepted self.now }
@@ -118,7 +118,8 @@ impl Grammar {
         self.literals.as_slice()
     }
 
-    /// Lends the classes in use, ascending: 0 is NAME, 1 is NUMBER, 2 is TEXT. Takes no memory.
+    /// Returns the token classes in use, in ascending order: 0 is NAME, 1 is NUMBER, 2 is TEXT.
+    /// Does not allocate.
     pub fn classes(&self) -> &[u16]
         ensures lent { result.now ≡ self.now.classes }
         ensures accepted { IsAccepted self.now }
@@ -127,7 +128,7 @@ impl Grammar {
         self.classes.as_slice()
     }
 
-    /// The number of the start symbol.
+    /// Returns the number of the start symbol.
     pub fn start(&self) -> u16
         ensures value { result ≡ self.now.start }
         ensures accepted { IsAccepted self.now }

@@ -1,21 +1,21 @@
-//! The direction in which a pass visits the children of a node: the one place where it is told from
-//! a pass's number.
+//! The direction in which a pass visits the children of a node. Only this file derives it from the
+//! number of the pass.
 
 ghost use Rattle.std.specs.Prelude.{◌≡◌, ◌<◌, ◌↔◌, IsTrue};
 ghost use Rattle.ag_grammar.specs.grammars.Passes.{IsBefore, direction_name, direction_of, nth, other};
 
-/// A direction of passes. Odd passes go from right to left (this project's choice; that directions
-/// alternate is Jazayeri and Walter's, 1975).
+/// A direction of passes. That directions alternate is Jazayeri and Walter's (1975); that odd
+/// passes go from right to left is this project's choice.
 #[derive(Clone, Copy, Debug, PartialEq, Eq)]
 pub enum Direction {
-    /// From left to right: of even passes, 0 too.
+    /// From left to right: even passes, 0 included.
     LeftToRight,
-    /// From right to left: of odd passes.
+    /// From right to left: odd passes.
     RightToLeft,
 }
 
 impl Direction {
-    /// The direction of a pass.
+    /// Returns the direction of the pass with this number.
     #[tactic(auto, using(crate::proofs::grammars::Directions::by_parity))]
     pub fn of_pass(pass: u16) -> Direction
         ensures { result ≡ direction_of pass }
@@ -27,7 +27,7 @@ impl Direction {
         }
     }
 
-    /// The other direction.
+    /// Returns the opposite direction.
     pub fn turned(self) -> Direction
         ensures { result ≡ other self }
     {
@@ -37,8 +37,8 @@ impl Direction {
         }
     }
 
-    /// Whether a pass in this direction visits the first place before the second. Places of the right
-    /// side count from 1.
+    /// Returns whether a pass in this direction visits place `first` before place `second`. The
+    /// places of a right side are numbered from 1.
     pub fn is_before(self, first: u16, second: u16) -> bool
         ensures { IsTrue result ↔ IsBefore self first second }
     {
@@ -48,7 +48,8 @@ impl Direction {
         }
     }
 
-    /// The index from 0 of the child, of so many, that is visited after so many others.
+    /// Returns the index, from 0, of the child that is visited after `turn` others, of `count`
+    /// children.
     pub fn nth(self, count: usize, turn: usize) -> usize
         requires { turn < count }
         ensures nth { result ≡ nth self count turn }
@@ -60,7 +61,7 @@ impl Direction {
         }
     }
 
-    /// How listings write it: `left-to-right` or `right-to-left`.
+    /// Returns the name of the direction in listings: `left-to-right` or `right-to-left`.
     pub fn name(self) -> &'static str
         ensures { result.now ≡ direction_name self }
     {

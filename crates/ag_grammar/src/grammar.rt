@@ -1,5 +1,5 @@
-//! The parts of an attribute grammar as plain data: symbols, productions and rules. What a grammar
-//! of them means, and which ones are accepted, is defined over these types.
+//! The parts of an attribute grammar as plain data: symbols, productions and rules. The specs
+//! define over these types what a grammar means and which grammars are accepted.
 
 use crate::syntax::expression::Expr;
 use ag_value::{Items, Text};
@@ -16,7 +16,8 @@ pub struct Symbol {
     pub inh: Items<Text>,
 }
 
-/// What a sentence is made of (the textbook's terminals; the classes are this project's).
+/// A terminal: a literal or a token of a class (terminals are the textbook's, the classes this
+/// project's).
 #[derive(Clone, Copy, Debug, PartialEq, Eq)]
 pub enum Terminal {
     /// A literal, by its number in the grammar's list of literals, from 0.
@@ -25,7 +26,7 @@ pub enum Terminal {
     Class(u16),
 }
 
-/// What stands on the right side of a production (the textbook).
+/// An item of the right side of a production (the textbook).
 #[derive(Clone, Copy, Debug, PartialEq, Eq)]
 pub enum Item {
     /// A declared symbol, by its number from 0.
@@ -34,25 +35,27 @@ pub enum Item {
     Terminal(Terminal),
 }
 
-/// An attribute at a place of a production: what a rule gives a value, or what one of its arguments
-/// stands for (Knuth 1968).
+/// An attribute at a place of a production: the target of a rule, or the attribute that one of its
+/// arguments refers to (Knuth 1968).
 #[derive(Clone, Copy, Debug, PartialEq, Eq)]
 pub struct Target {
-    /// The place: 0 is the left side; 1, 2, .. are the stored items of the right side, from left to
-    /// right.
+    /// The place: 0 is the left side; 1, 2, .. are the children, which are the items of the right
+    /// side other than literals, from left to right.
     pub place: u16,
-    /// The attribute's number at its symbol, from 0; 0 is the `lex` of a token.
+    /// The number of the attribute at its symbol, from 0. A token has the one attribute `lex`, of
+    /// number 0.
     pub attr: u16,
 }
 
 /// A semantic rule (Knuth 1968).
 #[derive(Debug, Drop)]
 pub struct Rule {
-    /// What the rule gives a value.
+    /// The attribute that the rule defines.
     pub target: Target,
-    /// The expression that has the value.
+    /// The expression whose value the target gets.
     pub expr: Expr,
-    /// What each of the expression's different occurrences stands for, in their order.
+    /// The attribute that each distinct occurrence of the expression refers to, in the order of the
+    /// occurrences.
     pub args: Items<Target>,
 }
 
@@ -61,7 +64,7 @@ pub struct Rule {
 pub struct Production {
     /// The number of the symbol on the left side.
     pub left: u16,
-    /// What stands on the right side, from left to right.
+    /// The items of the right side, from left to right.
     pub items: Items<Item>,
     /// The semantic rules, in the order of the text.
     pub rules: Items<Rule>,

@@ -1,44 +1,45 @@
-//! Laws about the definitions alone.
+//! Laws about the definitions alone: each is the contract of a function with an empty body.
 
 ghost use Rattle.ag_grammar.specs.grammars.Laws.{ProductiveByTrees, OneSolution, OneTranslation};
 ghost use Rattle.ag_grammar.specs.grammars.Laws.{EquationsKept, PassesSolve, PassesHaveAllRules};
 ghost use Rattle.ag_grammar.specs.grammars.Laws.{RunBegins, RunGoesOn, RunIsTheSolution};
 ghost use Rattle.ag_grammar.specs.grammars.Laws.{RunSolvesRest};
 
-/// A symbol derives a list of terminals exactly where there is a tree of it.
+/// States that a symbol derives a list of terminals if and only if it has a tree.
 #[tactic(auto, using(crate::proofs::grammars::Productive::by_trees))]
 pub fn productive_by_trees()
     ensures { ProductiveByTrees }
 {}
 
-/// Any two solutions on a tree of a complete and normal grammar with a legal assignment of passes,
-/// whose start symbol has `out` and no inherited attribute, are the same.
+/// States that any two solutions on a tree are the same, if the grammar is complete and normal, has
+/// a legal assignment of passes, and its start symbol has `out` and no inherited attribute.
 #[tactic(auto, using(crate::proofs::grammars::OneSolution::one_solution))]
 pub fn one_solution()
     ensures { OneSolution }
 {}
 
-/// A tree of an accepted grammar with a legal assignment has one translation at most.
+/// States that a tree of an accepted grammar with a legal assignment has at most one translation.
 pub fn one_translation()
     ensures { OneTranslation }
 {}
 
-/// With a legal assignment the equations of a pass stay true where the values of the passes so far are
-/// kept.
+/// States that, with a legal assignment, the equations of a pass stay true as long as the values of
+/// this pass and of the earlier ones are kept.
 #[tactic(auto, using(crate::proofs::grammars::Kept::equations_kept))]
 pub fn equations_kept()
     ensures { EquationsKept }
 {}
 
-/// Where each target has a pass, values that meet the equations of each pass are a solution.
+/// States that values that satisfy the equations of every pass are a solution, if each target has a
+/// pass.
 pub fn passes_solve()
     ensures { PassesSolve }
 {}
 
-/// What passes leave that run one after the other. Where none has run the values are as before, and
-/// one more has run where it keeps the values of the passes before it and meets its own equations.
-/// Behind the last one each equation from the first pass on is met, and where the first was pass 1
-/// the values are the solution.
+/// States what consecutive passes leave. Before the first of them the values are unchanged. One
+/// more pass has run if it keeps the values of the passes before it and satisfies its own
+/// equations. After the last pass every equation from the first pass on is satisfied, and if the
+/// first was pass 1, the values are the solution.
 pub fn runs_compose()
     ensures begins { RunBegins }
     ensures goes { RunGoesOn }
@@ -46,7 +47,7 @@ pub fn runs_compose()
     ensures solution { RunIsTheSolution }
 {}
 
-/// The rules of a tree are those of its passes, each counted once.
+/// States that the rules of a tree are the rules of its passes, each counted once.
 pub fn passes_have_all_rules()
     ensures { PassesHaveAllRules }
 {}

@@ -1,7 +1,8 @@
-//! Attribute grammars as data of the program (Knuth 1968): expressions as trees, symbols, productions
-//! and rules, grammars as they stand in a text, accepted grammars, and directions of passes. What they
-//! mean is defined over these types: the value of an expression, the trees of a grammar, their
-//! solutions, which assignments of passes are legal, what passes leave, and how many rules a tree has.
+//! Attribute grammars as data of the program (Knuth 1968): expression trees, symbols, productions
+//! and rules, grammars as parsed from a text, accepted grammars, and directions of passes. The
+//! specs define their meaning over these types: the value of an expression, the trees of a grammar,
+//! their solutions, the legal assignments of passes, the values after a pass, and the number of
+//! rules of a tree.
 #![tactic(auto)]
 
 mod accepted;

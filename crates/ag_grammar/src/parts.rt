@@ -1,4 +1,4 @@
-//! What stands at the places of a production, and the attributes of a symbol.
+//! The items at the places of a production, and the attributes of a symbol.
 
 ghost use Rattle.std.specs.Prelude.{◌≡◌, ◌≤◌, ◌∷◌, List, IfOk, IfSome, None, Some, cond};
 ghost use Rattle.std.specs.Prelude.{length, slice_get};
@@ -12,7 +12,8 @@ use ag_value::NoMemory;
 use std::alloc::Global;
 
 impl Item {
-    /// Whether it has a place: declared symbols and classes have one, literals none (this project's).
+    /// Returns whether the item is a child: declared symbols and token classes are, literals are
+    /// not (this project's).
     pub fn has_place(self) -> bool
         ensures { (xs : List TheItem) → stored_items (self ∷ xs)
             ≡ cond result (self ∷ stored_items xs) (stored_items xs) }
@@ -25,7 +26,7 @@ impl Item {
     }
 }
 
-/// The item of this index among those that have a place.
+/// Returns the child with this index, from 0, among the items, or `None` if there is none.
 fn stored_at(items: &[Item], index: usize) -> Option<Item>
     ensures { result ≡ slice_get (stored_items items.now) index }
 {
@@ -42,10 +43,9 @@ fn stored_at(items: &[Item], index: usize) -> Option<Item>
 }
 
 impl Production {
-    /// What stands at a place, if there is such a place: at place 0 the symbol of the left side, and
-    /// from 1 on the items of the right side that have a place, from left to right.
-    ///
-    /// Takes no memory; reads the right side up to the place.
+    /// Returns the item at a place, or `None` if the place does not exist. At place 0 it is the
+    /// symbol of the left side; from place 1 on, the children from left to right. Does not
+    /// allocate; reads the right side up to the place.
     pub fn item_at(&self, place: u16) -> Option<Item>
         ensures { result ≡ item_at self.now place }
     {
@@ -55,7 +55,8 @@ impl Production {
         stored_at(self.items.as_slice(), place as usize - 1)
     }
 
-    /// What stands at each place, from 0 on. Takes memory for the list.
+    /// Returns the item at each place, from place 0 on. Fails with `NoMemory` if the list cannot be
+    /// allocated.
     pub fn places(&self, alloc: Global) -> Result<Vec<Item>, NoMemory>
         ensures { IfOk result (λ places. places.items ≡ places_of self.now) }
     {
@@ -71,7 +72,7 @@ impl Production {
 }
 
 impl Symbol {
-    /// How many attributes it has.
+    /// Returns the number of attributes of the symbol.
     pub fn attribute_count(&self) -> usize
         requires { length (attribute_names self.now) ≤ most_attributes }
         ensures { result ≡ length (attribute_names self.now) }
@@ -79,8 +80,8 @@ impl Symbol {
         self.syn.as_slice().len() + self.inh.as_slice().len()
     }
 
-    /// The name of the attribute of a number, if there is one: the synthesized attributes come first,
-    /// in declared order, and then the inherited ones.
+    /// Returns the name of the attribute with this number, or `None` if there is none: the
+    /// synthesized attributes come first, in declared order, then the inherited ones.
     pub fn attribute_name(&self, attr: u16) -> Option<&str>
         ensures some { IfSome result (λ name. slice_get (attribute_names self.now) attr ≡ Some name.now) }
         ensures none { result ≡ None → slice_get (attribute_names self.now) attr ≡ None }

@@ -1,5 +1,5 @@
-//! A grammar as it stands in a text: names are not looked up, and offsets are kept for refusals.
-//! All lists have the order of the text.
+//! A grammar as parsed from a text: names are not resolved, and offsets are kept for error
+//! messages. All lists have the order of the text.
 
 ghost use Rattle.std.specs.Prelude.{◌≡◌, ◌∷◌, ◌<◌, ◌-◌, List, IfSome, None, Some, cond, length};
 ghost use Rattle.std.specs.Prelude.{slice_get};
@@ -10,12 +10,12 @@ use crate::syntax::expression::Expr;
 use crate::syntax::occurrence::Occ;
 use ag_value::{Items, Text};
 
-/// A name where it stands.
+/// A name and its position.
 #[derive(Debug, Drop)]
 pub struct Named {
     /// The name.
     pub name: Text,
-    /// The offset in bytes of its first character, from the front of the text.
+    /// The offset in bytes of the first character of the name, from the beginning of the text.
     pub at: usize,
 }
 
@@ -31,8 +31,8 @@ pub struct RawSymbol {
 }
 
 impl RawSymbol {
-    /// The name of the attribute of a number, if there is one: the synthesized attributes come first,
-    /// in the order of the text, and then the inherited ones.
+    /// Returns the name of the attribute with this number, or `None` if there is none: the
+    /// synthesized attributes come first, in the order of the text, then the inherited ones.
     pub fn attribute_name(&self, number: usize) -> Option<&str>
         ensures some { IfSome result
             (λ name. slice_get (raw_attribute_names self.now) number ≡ Some name.now) }
@@ -51,7 +51,7 @@ impl RawSymbol {
     }
 }
 
-/// What stands on the right side of a production.
+/// An item of the right side of a production.
 #[derive(Debug, Drop)]
 pub enum RawItem {
     /// The name of a symbol.
@@ -63,7 +63,8 @@ pub enum RawItem {
 }
 
 impl RawItem {
-    /// Whether it has a place: names of symbols and classes have one, literals none (this project's).
+    /// Returns whether the item is a child: names of symbols and token classes are, literals are
+    /// not (this project's).
     pub fn has_place(&self) -> bool
         ensures { (xs : List TheRawItem) → raw_stored (self.now ∷ xs)
             ≡ cond result (self.now ∷ raw_stored xs) (raw_stored xs) }
@@ -75,12 +76,12 @@ impl RawItem {
     }
 }
 
-/// A semantic rule: what it gives a value, and the expression that has the value.
+/// A semantic rule: the attribute that it defines, and the expression for its value.
 #[derive(Debug, Drop)]
 pub struct RawRule {
-    /// The attribute that the rule gives a value; its offset is that of the `$`.
+    /// The attribute that the rule defines; its offset is that of the `$`.
     pub target: Occ,
-    /// The expression; the offsets of its occurrences are those of the grammar's text.
+    /// The expression; the offsets of its occurrences are offsets in the text of the grammar.
     pub expr: Expr,
 }
 
@@ -89,15 +90,15 @@ pub struct RawRule {
 pub struct RawProduction {
     /// The name of the symbol on the left side.
     pub left: Named,
-    /// What stands on the right side.
+    /// The items of the right side.
     pub items: Items<RawItem>,
     /// The semantic rules.
     pub rules: Items<RawRule>,
 }
 
 impl RawProduction {
-    /// The item at a place of the right side, from 1 on, if there is such a place. At place 0 stands the
-    /// left side, which is no item. Takes no memory; reads the right side up to the place.
+    /// Returns the child at a place of the right side, from 1 on, or `None` if the place does not
+    /// exist or is 0 (the left side). Does not allocate; reads the right side up to the place.
     pub fn item_at(&self, place: usize) -> Option<&RawItem>
         ensures some { IfSome result (λ item. (0 < place)
             × (slice_get (raw_stored self.now.items) (place - 1) ≡ Some item.now)) }
@@ -119,7 +120,7 @@ impl RawProduction {
         None
     }
 
-    /// The last place: as many items of the right side have one. Takes no memory.
+    /// Returns the last place, which is the number of children. Does not allocate.
     pub fn last_place(&self) -> usize
         ensures { result ≡ length (raw_stored self.now.items) }
     {
@@ -133,7 +134,7 @@ impl RawProduction {
     }
 }
 
-/// A grammar as it stands in a text.
+/// A grammar as parsed from a text.
 #[derive(Debug, Drop)]
 pub struct RawGrammar {
     /// The name of the start symbol.

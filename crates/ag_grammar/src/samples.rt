@@ -1,4 +1,4 @@
-//! Examples of the definitions, each a law.
+//! Examples for the definitions; each is a law.
 
 ghost use Rattle.std.specs.Prelude.{ℕ, ◌≡◌, [], ◌∷◌, pos, true, false};
 ghost use Rattle.ag_value.specs.declared.value.Value.{Num, Text, Value as AttributeValue};
@@ -23,87 +23,88 @@ ghost use Rattle.ag_grammar.specs.grammars.Sample.{with_unreached, sample_tree, 
 ghost use Rattle.ag_grammar.specs.grammars.Sample.{sample_passes, token_sample, token_tree};
 ghost use Rattle.ag_grammar.specs.grammars.Sample.{token_values, iffy, back_first, descending};
 
-/// The first grammar is accepted.
+/// States that the first grammar is accepted.
 #[tactic(auto, using(crate::proofs::grammars::samples::NumberSample::accepted))]
 pub fn sample_accepted()
     ensures { IsAccepted sample }
 {}
 
-/// Without the rule for `out` of the left side its first production is not complete.
+/// States that its first production is not complete without the rule for `out` of the left side.
 #[tactic(auto, using(crate::proofs::grammars::samples::NumberSample::missing))]
 pub fn rule_missing()
     ensures { IsComplete without_out (production_r (rule_first ∷ rule_second ∷ [])) → ⊥ }
 {}
 
-/// Without that rule the grammar is not accepted.
+/// States that the grammar is not accepted without that rule.
 #[tactic(auto, using(crate::proofs::grammars::samples::NumberSample::refused))]
 pub fn missing_refused()
     ensures { IsAccepted without_out → ⊥ }
 {}
 
-/// With the rule for the second child's `i` twice it is not accepted.
+/// States that the grammar is not accepted with the rule for the second child's `i` twice.
 #[tactic(auto, using(crate::proofs::grammars::samples::NumberSample::doubled_refused))]
 pub fn doubled_refused()
     ensures { IsAccepted doubled → ⊥ }
 {}
 
-/// With a rule whose expression has an occurrence, but without its argument, it is not accepted.
+/// States that the grammar is not accepted if a rule's expression has an occurrence but the rule
+/// has no argument for it.
 #[tactic(auto, using(crate::proofs::grammars::samples::NumberSample::bare_refused))]
 pub fn bare_refused()
     ensures { IsAccepted bare → ⊥ }
 {}
 
-/// Its tree of `x x` is one of the grammar.
+/// States that the tree of `x x` is a tree of the first grammar.
 #[tactic(auto, using(crate::proofs::grammars::samples::NumberSample::fits))]
 pub fn sample_fits()
     ensures { IsTreeOf sample sample_tree }
 {}
 
-/// That tree has depth 2 and 3 nodes, and is within the limits.
+/// States that this tree has depth 2 and 3 nodes, and is within the limits.
 pub fn sample_size()
     ensures depth { depth_of sample_tree ≡ 2 }
     ensures nodes { node_count sample_tree ≡ 3 }
     ensures limits { IsWithinLimits most_depth most_nodes sample_tree }
 {}
 
-/// It yields the literal `x` twice.
+/// States that it yields the literal `x` twice.
 pub fn sample_yield()
     ensures { yield_of sample sample_tree ≡ (Literal 0, 120 ∷ []) ∷ (Literal 0, 120 ∷ []) ∷ [] }
 {}
 
-/// The values with 2 for `out` solve the grammar on it.
+/// States that the values with 2 for `out` solve the grammar on this tree.
 #[tactic(auto, using(crate::proofs::grammars::samples::NumberSample::solved))]
 pub fn sample_solved()
     ensures { Solves AnyRule sample sample_tree (sample_values 2) }
 {}
 
-/// The same values with 1 for `out` do not.
+/// States that the same values with 1 for `out` do not.
 #[tactic(auto, using(crate::proofs::grammars::samples::NumberSample::unsolved))]
 pub fn sample_unsolved()
     ensures { Solves AnyRule sample sample_tree (sample_values 1) → ⊥ }
 {}
 
-/// The translation is 2.
+/// States that the translation is 2.
 #[tactic(auto, using(crate::proofs::grammars::samples::NumberSample::translation))]
 pub fn sample_translation()
     ensures { IsTranslation sample (sample_values 2) (Num (pos 2)) }
 {}
 
-/// The first pass for all attributes is a legal assignment.
+/// States that pass 1 for all attributes is a legal assignment.
 pub fn sample_legal()
     ensures { IsLegal sample sample_passes }
 {}
 
-/// Its tree has five rules: three at the root, and one at each of the two children. All of them are
-/// of the first pass.
+/// States that the tree has five rules: three at the root, and one at each of the two children. All
+/// are rules of pass 1.
 pub fn sample_counts()
     ensures rules { rules_of sample sample_tree ≡ 5 }
     ensures first { rules_of_pass sample_passes 1 sample sample_tree ≡ 5 }
     ensures second { rules_of_pass sample_passes 2 sample sample_tree ≡ 0 }
 {}
 
-/// The first pass is the last one. Whatever the values were that it began with, it has left those
-/// with 2 for `out`, and they are the solution.
+/// States that pass 1 is the last pass. From any values it leaves those with 2 for `out`, and these
+/// are the solution.
 #[tactic(auto, using(crate::proofs::grammars::Running::sample_settled))]
 pub fn sample_ran()
     ensures last { IsLastPass 1 sample_passes }
@@ -114,8 +115,8 @@ pub fn sample_ran()
     sample_legal();
 }
 
-/// In `$0.i + 1` the occurrence 0 stands, and 1 does not. So environments that give it the same value
-/// give the whole the same value.
+/// States that `$0.i + 1` contains occurrence 0 and not occurrence 1. Hence two environments with
+/// the same value for occurrence 0 give the expression the same value.
 #[tactic(auto, using(crate::proofs::expressions::Depending::one_occurrence))]
 pub fn one_occurrence()
     ensures stands { has_occurrence 0 rule_s.expr.0 ≡ true }
@@ -124,95 +125,97 @@ pub fn one_occurrence()
         → value_of rule_s.expr.0 env ≡ value_of rule_s.expr.0 other }
 {}
 
-/// With `$2.i = $1.i` its first production is not normal.
+/// States that the first production is not normal with the rule `$2.i = $1.i`.
 #[tactic(auto, using(crate::proofs::grammars::samples::Refused::not_normal))]
 pub fn not_normal()
     ensures { IsNormal sample (production_r (rule_out ∷ rule_first ∷ rule_inherited ∷ [])) → ⊥ }
 {}
 
-/// A node of `R = A A` with one child is no tree of the grammar.
+/// States that a node of `R = A A` with only one child is not a tree of the grammar.
 #[tactic(auto, using(crate::proofs::grammars::samples::Refused::child_missing))]
 pub fn child_missing()
     ensures { IsTreeOf sample (node 0 (more (node 1 none) none)) → ⊥ }
 {}
 
-/// The second pass for all attributes is not legal: from left to right the first child comes before
-/// what its `i` uses.
+/// States that pass 2 for all attributes is not legal: going from left to right, it visits the
+/// first child before the value that the child's `i` uses is computed.
 #[tactic(auto, using(crate::proofs::grammars::samples::Refused::not_legal))]
 pub fn not_legal()
     ensures { IsLegal sample later_passes → ⊥ }
 {}
 
-/// The first grammar with a production more is in order, and so is the second.
+/// States that the first grammar with one more production is in order, and the second grammar as
+/// well.
 #[tactic(auto, using(crate::proofs::grammars::samples::Ordered::two_literals))]
 pub fn samples_in_order()
     ensures literals { IsInOrder both_ways }
     ensures classes { IsInOrder token_sample }
 {}
 
-/// With that production first the first grammar is not in order, since literal 1 appears before
-/// literal 0; nor is the second with the classes 1 and 0.
+/// States two orders that are wrong: with that production first, literal 1 of the first grammar
+/// appears before literal 0; and the classes 1, 0 of the second grammar do not ascend.
 #[tactic(auto, using(crate::proofs::grammars::samples::Ordered::exchanged))]
 pub fn not_in_order()
     ensures literals { IsInOrder back_first → ⊥ }
     ensures classes { IsInOrder descending → ⊥ }
 {}
 
-/// With a production more, in which the first child's `s` goes into the second, no assignment is
-/// legal, whatever the number of passes: each direction is wrong for one of the two productions.
+/// States that no assignment is legal, for any number of passes, with one more production in which
+/// the first child's `s` flows into the second child: each direction is wrong for one of the two
+/// productions.
 pub fn none_legal()
     ensures { (m : Passes) → IsLegal both_ways m → ⊥ }
 {}
 
-/// A symbol with the production `R = R` alone derives no list of terminals.
+/// States that a symbol whose only production is `R = R` derives no list of terminals.
 #[tactic(auto, using(crate::proofs::grammars::samples::Refused::not_productive))]
 pub fn not_productive()
     ensures { IsProductive endless 0 → ⊥ }
 {}
 
-/// A symbol that stands on no right side, and is not the start symbol, is not reached.
+/// States that a symbol is not reached if it occurs on no right side and is not the start symbol.
 #[tactic(auto, using(crate::proofs::grammars::samples::Refused::not_reached))]
 pub fn not_reached()
     ensures { IsReached with_unreached 2 → ⊥ }
 {}
 
-/// The second grammar, with a token, is accepted.
+/// States that the second grammar, which has a token, is accepted.
 #[tactic(auto, using(crate::proofs::grammars::samples::TokenSample::accepted))]
 pub fn token_accepted()
     ensures { IsAccepted token_sample }
 {}
 
-/// The tree of `iffy if`, with a token, is one of the second grammar.
+/// States that the tree of `iffy if`, which has a token, is a tree of the second grammar.
 #[tactic(auto, using(crate::proofs::grammars::samples::TokenSample::fits))]
 pub fn token_fits()
     ensures { IsTreeOf token_sample token_tree }
 {}
 
-/// A token is a node: that tree has depth 2 and 2 nodes.
+/// States that this tree has depth 2 and 2 nodes: a token counts as a node.
 pub fn token_size()
     ensures depth { depth_of token_tree ≡ 2 }
     ensures nodes { node_count token_tree ≡ 2 }
 {}
 
-/// It yields the name `iffy` and then the literal `if`.
+/// States that it yields the name `iffy` and then the literal `if`.
 pub fn token_yield()
     ensures { yield_of token_sample token_tree
         ≡ (Class 0, iffy) ∷ (Literal 0, 105 ∷ 102 ∷ []) ∷ [] }
 {}
 
-/// The name for `out` solves the grammar on it.
+/// States that the values with the name for `out` solve the grammar on this tree.
 #[tactic(auto, using(crate::proofs::grammars::samples::TokenSample::solved))]
 pub fn token_solved()
     ensures { Solves AnyRule token_sample token_tree (token_values iffy) }
 {}
 
-/// The empty text does not.
+/// States that the values with the empty text for `out` do not.
 #[tactic(auto, using(crate::proofs::grammars::samples::TokenSample::unsolved))]
 pub fn token_unsolved()
     ensures { Solves AnyRule token_sample token_tree (token_values []) → ⊥ }
 {}
 
-/// The translation is the name.
+/// States that the translation is the name.
 #[tactic(auto, using(crate::proofs::grammars::samples::TokenSample::translation))]
 pub fn token_translation()
     ensures { IsTranslation token_sample (token_values iffy) (Text iffy) }

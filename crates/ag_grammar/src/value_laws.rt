@@ -1,5 +1,5 @@
-//! Laws of the values of expressions, each the contract of a function that does nothing, and
-//! examples worked out by hand.
+//! Laws of the values of expressions, each the contract of a function with an empty body, and
+//! worked examples.
 
 ghost use Rattle.std.specs.Prelude.{◌≡◌, ◌∷◌, [], ℕ, neg_ℤ, negsuc, pos, codes};
 ghost use Rattle.ag_value.specs.declared.value.ErrorCode.TheVariants as code;
@@ -19,40 +19,41 @@ ghost use Rattle.ag_grammar.specs.values.Operators.{applied};
 ghost use Rattle.ag_grammar.specs.values.Tables.{put_in, with_pair};
 ghost use Rattle.ag_grammar.specs.values.Worked.{bound_error, least, number, other_branch, two_keys};
 
-/// A value beyond both limits is the error for its depth, beyond one the error for that one, and
-/// within both itself.
+/// States that `fit` turns a value that is too deep into the error `deep`, another that is too
+/// heavy into the error `big`, and leaves a value within both limits as it is.
 pub fn a_value_beyond_the_limits_is_an_error()
     ensures deep { DeepComesFirst }
     ensures big { BigComesNext }
     ensures fits { WhatFitsStays }
 {}
 
-/// Two well values are the same exactly where `==` is 1.
+/// States that `==` returns 1 for two well values if and only if they are the same value.
 pub fn equality_tells_values_apart()
     ensures { SameIsOne }
 {}
 
-/// What `keys` and `get` give of a well table is within the limits without more.
+/// States that the results of `keys` and `get` on a well table are well.
 pub fn parts_of_a_table_are_well()
     ensures keys { KeysAreWell }
     ensures got { GotIsWell }
 {}
 
-/// The value of a tree rests on what is lent for the occurrences that stand in it, and on nothing
-/// else of an environment; and no occurrence stands in it but the listed ones.
+/// States that the value of a tree depends only on the values of the occurrences that it contains,
+/// and that it contains no occurrence but the listed ones.
 pub fn values_rest_on_occurrences()
     ensures value { ValueOfOccurrences }
     ensures listed { OccurrencesAreListed }
 {}
 
-/// A rule's expression has one value, whichever environment lends it the values of its arguments,
-/// and the rule holds where its target has that.
+/// States that a rule's expression has the same value in all environments that give its occurrences
+/// the values of the arguments, and that the rule holds if its target has this value.
 pub fn a_rule_has_one_value()
     ensures value { RuleHasOneValue }
     ensures holds { RuleHoldsByOne }
 {}
 
-/// The leftmost error of two comes before a kind, and a kind before an operation's own error.
+/// States which error an operation returns: the leftmost error among its arguments, else the error
+/// `kind`, else the operation's own error.
 pub fn worked_errors()
     ensures leftmost { applied operator.Add (value.Fault code.Index) (value.Fault code.Key)
         ≡ value.Fault code.Index }
@@ -72,7 +73,7 @@ pub fn worked_errors()
     ensures branch { (env : ℕ → AttributeValue) → value_of other_branch env ≡ number 2 }
 {}
 
-/// Numbers at the ends of their range, and signs of quotients and remainders.
+/// States results at the ends of the range of numbers, and the signs of quotients and remainders.
 pub fn worked_numbers()
     ensures quotient { applied operator.Divide (value.Num (negsuc 6)) (number 4)
         ≡ value.Num (negsuc 0) }
@@ -96,7 +97,7 @@ pub fn worked_numbers()
         ≡ value.Fault code.Number }
 {}
 
-/// Texts by their bytes, lists by places from 0, tables by their keys.
+/// States that texts are measured in bytes, lists are indexed from 0, and tables are sorted by key.
 pub fn worked_parts()
     // an `ä` in UTF-8
     ensures bytes { called unary.Len (value.Text (195 ∷ 164 ∷ [])) ≡ number 2 }

@@ -1,19 +1,19 @@
--- What the front that was read tells of all that a reader gives.
+-- From the bytes that were read to all bytes of the reader.
 use Rattle.std.proofs.Common.{ℕ, ◌≡◌, ◌<◌, ◌≤◌, ◌+◌, min, ◌∙◌, sym, ap, arith, List, length, take, Option, None, Some, subst}
 use Rattle.std.proofs.lemmas.List.{length-take, take_all}
 use Rattle.std.specs.Option.{IfSome}
 
--- a front of at most n + 1 bytes that has n at most is the whole
+-- a prefix that was cut at n + 1 bytes and has at most n is the whole
 pub whole : (known : Option (List ℕ)) (bytes : List ℕ) (n : ℕ) → IfSome known (λ left. bytes ≡ take (n + 1) left) → length bytes ≤ n → IfSome known (λ left. left ≡ bytes)
 whole None bytes n read few = tt
 whole (Some left) bytes n read few = let e : length bytes ≡ min (n + 1) (length left) = ap (λ (w : List ℕ). length w) read ∙ length-take (n + 1) left in sym (take_all (n + 1) left (omega (arith, e, few))) ∙ sym read
 
--- one that has more than n comes of more than n
+-- a prefix of more than n bytes comes from more than n bytes
 pub longer : (known : Option (List ℕ)) (bytes : List ℕ) (n : ℕ) → IfSome known (λ left. bytes ≡ take (n + 1) left) → n < length bytes → IfSome known (λ left. n < length left)
 longer None bytes n read many = tt
 longer (Some left) bytes n read many = let e : length bytes ≡ min (n + 1) (length left) = ap (λ (w : List ℕ). length w) read ∙ length-take (n + 1) left in omega (arith, e, many)
 
--- what holds of the bytes that were read holds of what the reader gives, where it is the same
+-- a property of the bytes that were read holds for the bytes of the reader if these are the same
 pub told : (P : List ℕ → Type 0) (known : Option (List ℕ)) (bytes : List ℕ) → IfSome known (λ left. left ≡ bytes) → P bytes → IfSome known P
 told P None bytes same p = tt
 told P (Some left) bytes same p = subst P (sym same) p

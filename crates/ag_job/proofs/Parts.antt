@@ -1,9 +1,9 @@
--- The parts of a job are its only ones, and how its first line `%%` is found.
+-- A job has only one pair of parts, and they are those at its first line `%%`.
 use Rattle.std.proofs.Common.{ℕ, ◌≡◌, inl, inr, ◌∙◌, sym, ap, List, ◌∷◌, ◌++◌, length, take, drop, arith}
 use Rattle.std.proofs.Math.Seq.{take-append_seam, drop-append_seam}
 use Rattle.ag_job.specs.Jobs.{IsSeparator, OnePairOfParts}
 
--- what stands behind one of two separators in one text stands behind the other
+-- if two separators begin one text, what follows them is the same
 rest_one : (x y p q : List ℕ) → IsSeparator x p → IsSeparator y q → x ++ p ≡ y ++ q → p ≡ q
 rest_one x y p q (inl a) (inl b) e = let f : 37 ∷ 37 ∷ 10 ∷ p ≡ 37 ∷ 37 ∷ 10 ∷ q = sym (ap (λ w. w ++ p) a) ∙ e ∙ ap (λ w. w ++ q) b in cc
 rest_one x y p q (inl a) (inr (inl b)) e = let f : 37 ∷ 37 ∷ 10 ∷ p ≡ 37 ∷ 37 ∷ 13 ∷ 10 ∷ q = sym (ap (λ w. w ++ p) a) ∙ e ∙ ap (λ w. w ++ q) b in absurd cc
@@ -15,7 +15,7 @@ rest_one x y p q (inr (inr a)) (inl b) e = let f : 37 ∷ 37 ∷ p ≡ 37 ∷ 37
 rest_one x y p q (inr (inr a)) (inr (inl b)) e = let f : 37 ∷ 37 ∷ p ≡ 37 ∷ 37 ∷ 13 ∷ 10 ∷ q = sym (ap (λ w. w ++ p) a.0) ∙ e ∙ ap (λ w. w ++ q) b in let none = a.1 in absurd cc
 rest_one x y p q (inr (inr a)) (inr (inr b)) e = a.1 ∙ sym b.1
 
--- two fronts of one text that have one length are the same
+-- two prefixes of one text that have the same length are equal
 front_one : (a b p q : List ℕ) → length a ≡ length b → a ++ p ≡ b ++ q → a ≡ b
 front_one a b p q e same = sym (take-append_seam a p) ∙ ap (λ n. take n (a ++ p)) e ∙ ap (take (length b)) same ∙ take-append_seam b q
 

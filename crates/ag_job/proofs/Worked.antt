@@ -1,11 +1,11 @@
--- The parts of jobs that are worked out by hand. A search along the bytes tells that no separator stands in front of a place.
+-- The examples of jobs that were worked out by hand. A search over the bytes shows that no separator begins before an offset.
 use Rattle.std.proofs.Common.{ℕ, zero, suc, ◌≡◌, ◌+◌, ◌<◌, ◌≤◌, inl, inr, ◌∙◌, ap, refl, subst, List, [], ◌∷◌, ◌++◌, length, codes, Bool, true, false, not, ◌==◌, ◌&&◌, ◌||◌, arith}
 use Rattle.std.proofs.lemmas.Bool.{and_parts}
 use Rattle.std.proofs.lemmas.List.{length-append}
 use Rattle.ag_job.specs.Jobs.{AreWholeLines, HasNoSeparator, IsCut, IsSeparator}
 use Rattle.ag_job.specs.Worked.{CrAloneIsNone, CrAndLfEnd, LongerIsNone, NothingBefore, SpacedIsNone, TheFirstCuts, TheLastEnds}
 
--- the last byte of a text behind another byte
+-- the last byte of a byte followed by a text
 abbrev last_behind : ℕ → List ℕ → ℕ
 last_behind before [] = before
 last_behind before (byte ∷ bytes) = last_behind byte bytes
@@ -14,22 +14,22 @@ joined_ends : (before : ℕ) (front : List ℕ) → last_behind before (front ++
 joined_ends before [] = refl
 joined_ends before (byte ∷ bytes) = joined_ends byte bytes
 
--- behind LF, whole lines end with LF
+-- after LF, a text of whole lines ends with LF
 whole_ends : (text : List ℕ) → AreWholeLines text → last_behind 10 text ≡ 10
 whole_ends text (inl none) = ap (last_behind 10) none
 whole_ends text (inr (front, e)) = ap (last_behind 10) e ∙ joined_ends 10 front
 
--- LF stands in front
+-- the bytes begin with LF
 abbrev feeds : List ℕ → Bool
 feeds [] = false
 feeds (byte ∷ bytes) = byte == 10
 
--- a line ends in front
+-- the bytes are empty or begin with the end of a line
 abbrev ends : List ℕ → Bool
 ends [] = true
 ends (byte ∷ bytes) = (byte == 10) || ((byte == 13) && feeds bytes)
 
--- a line `%%` stands in front
+-- the bytes begin with a line `%%`
 abbrev separates : List ℕ → Bool
 separates [] = false
 separates (first ∷ []) = false
@@ -40,13 +40,13 @@ separated separator rest (inl e) = ap (λ w. separates (w ++ rest)) e
 separated separator rest (inr (inl e)) = ap (λ w. separates (w ++ rest)) e
 separated separator rest (inr (inr (e, none))) = ap (λ w. separates (w ++ rest)) e ∙ ap (λ w. separates (codes "%%" ++ w)) none
 
--- in the first so many places of bytes that stand behind another byte, no line `%%` begins
+-- no line `%%` begins at the first n offsets of bytes that follow the byte `before`
 abbrev is_free : ℕ → List ℕ → ℕ → Bool
 is_free before bytes zero = true
 is_free before [] (suc n) = true
 is_free before (byte ∷ bytes) (suc n) = not ((before == 10) && separates (byte ∷ bytes)) && is_free byte bytes n
 
--- so no line `%%` cuts the bytes before all these places
+-- then a text that is followed by a line `%%` has at least n bytes
 behind_free : (n before : ℕ) (text rest : List ℕ) → is_free before (text ++ rest) n ≡ true → last_behind before text ≡ 10 → separates rest ≡ true → n ≤ length text
 behind_free zero before text rest free ended separated = omega arith
 behind_free (suc n) before [] [] free ended separated = let bad : ⊥ = cc in absurd bad
@@ -60,7 +60,7 @@ behind_free (suc n) before (byte ∷ text) rest free ended separated =
 free_until : (n : ℕ) (bytes text sentence : List ℕ) → is_free 10 bytes n ≡ true → IsCut bytes text sentence → n ≤ length text
 free_until n bytes text sentence free cut = behind_free n 10 text (cut.separator ++ sentence) (subst (λ all. is_free 10 all n ≡ true) cut.all free) (whole_ends text cut.lines) (separated cut.separator sentence cut.is_separator)
 
--- where no line begins in any place, and one is to begin behind all, there is none
+-- if no line `%%` begins at any offset, the bytes have no separator
 free_of_all : (bytes : List ℕ) → is_free 10 bytes (length bytes) ≡ true → HasNoSeparator bytes
 free_of_all bytes free text sentence cut =
     let far = free_until (length bytes) bytes text sentence free cut in

@@ -1,9 +1,9 @@
--- How the faults of a job are printed. This project's.
+-- The printed lines of the faults of a job. This project's.
 use Rattle.std.specs.Prelude.{ℕ, List, codes}
 use Rattle.ag_job.specs.declared.fault.JobFault.{JobFault}
 use Rattle.ag_job.specs.declared.fault.JobFault.TheVariants as fault
 
--- the number of a fault, then what is wrong and what to do
+-- the fault's number, what is wrong, and what to do
 abbrev pub printed : JobFault → List ℕ
 printed fault.NoSeparator = codes "J1 no line is exactly `%%`, write one between the grammar and the sentence"
 printed fault.Read = codes "J2 standard input can't be read"

@@ -4,16 +4,16 @@ ghost use Rattle.std.specs.Prelude.{ℕ, List, ◌≡◌, ◌≤◌, ◌<◌, �
 ghost use Rattle.std.specs.Prelude.{length, take, drop};
 ghost use Rattle.ag_job.specs.Jobs.{AreParts, AreWholeLines, HasNoSeparator, IsCut, IsSeparator};
 
-/// Where a job is cut: offsets in bytes.
+/// Offsets in bytes at which a job is split.
 #[derive(Clone, Copy, Debug, Drop)]
 pub(crate) struct Cut {
-    /// The end of the grammar's text.
+    /// The end of the grammar's text, which is where the line `%%` begins.
     pub text: usize,
-    /// The front of the sentence.
+    /// The beginning of the sentence, after the line `%%`.
     pub sentence: usize,
 }
 
-/// Where the first line `%%` cuts the bytes.
+/// Returns the offsets at which the first line `%%` splits the bytes, or `None` if no line is exactly `%%`.
 pub(crate) fn cut_of(bytes: &[u8]) -> Option<Cut>
     ensures text { IfSome result (λ cut. cut.text ≤ length bytes.now) }
     ensures sentence { IfSome result (λ cut. cut.sentence ≤ length bytes.now) }
@@ -29,7 +29,7 @@ pub(crate) fn cut_of(bytes: &[u8]) -> Option<Cut>
     None
 }
 
-/// How the line `%%` that begins at an offset cuts the bytes, if one does.
+/// Returns the offsets at which a line `%%` that begins at `at` splits the bytes, or `None` if none begins there.
 fn cut_at(bytes: &[u8], at: usize) -> Option<Cut>
     requires { at < length bytes.now }
     ensures text { IfSome result (λ cut. cut.text ≡ at) }
@@ -49,7 +49,7 @@ fn cut_at(bytes: &[u8], at: usize) -> Option<Cut>
     })
 }
 
-/// A line begins at an offset.
+/// Returns whether a line begins at an offset.
 fn begins_a_line(bytes: &[u8], at: usize) -> bool
     requires { at ≤ length bytes.now }
     ensures { IsTrue result ↔ AreWholeLines (take at bytes.now) }
@@ -57,7 +57,7 @@ fn begins_a_line(bytes: &[u8], at: usize) -> bool
     at == 0 || bytes[at - 1] == b'\n'
 }
 
-/// The length of the line `%%` in front of the bytes, if one stands there.
+/// Returns the length in bytes of the line `%%` with its end, or `None` if the bytes don't begin with one.
 fn separator_length(bytes: &[u8]) -> Option<usize>
     ensures within { IfSome result (λ n. n ≤ length bytes.now) }
     ensures separator { IfSome result

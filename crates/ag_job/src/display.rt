@@ -1,10 +1,10 @@
-//! How the faults of a job are printed.
+//! Printing the faults of a job.
 
 use crate::fault::JobFault;
 use std::error::Error;
 use std::fmt;
 
-/// The number of the fault, then what is wrong and what to do: `J2 standard input can't be read`.
+/// Prints the fault's number, what is wrong and what to do: `J2 standard input can't be read`.
 impl fmt::Display for JobFault {
     ghost use Rattle.std.specs.Prelude.{Some};
     ghost use Rattle.ag_job.specs.Printed.{printed};

@@ -1,11 +1,11 @@
-//! Why what a reader gives is no job.
+//! Why a job can't be read.
 
 ghost use Rattle.std.specs.Prelude.{◌≡◌};
 ghost use Rattle.ag_job.specs.Jobs.{job_fault_of};
 
 use crate::reading::ReadFault;
 
-/// Why what a reader gives is no job.
+/// Why a job can't be read.
 #[derive(Clone, Copy, Debug, PartialEq, Eq)]
 pub enum JobFault {
     /// J1: no line is exactly `%%`.
@@ -14,7 +14,7 @@ pub enum JobFault {
     Read,
     /// J3: the job has more than 2,097,156 bytes.
     TooLong,
-    /// A growth was refused.
+    /// A request for memory was refused.
     NoMemory,
 }
 

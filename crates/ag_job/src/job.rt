@@ -1,4 +1,4 @@
-//! What a reader gives, as a job.
+//! Reading a job from a reader.
 
 ghost use Rattle.std.specs.Prelude.{◌≡◌, IfErr, IfOk, IfSome};
 ghost use Rattle.ag_job.specs.Jobs.{IsJob, IsJobFault};
@@ -11,11 +11,11 @@ use std::alloc::Global;
 use std::io::Read;
 use std::marker::Model;
 
-/// How many bytes a job has at most: as many as the text of a grammar, as many as a sentence, and the
-/// 4 of the longest separator.
+/// The maximal number of bytes of a job: that of a grammar's text, that of a sentence, and the 4 bytes of
+/// the longest separator.
 pub const MOST_JOB_BYTES: usize = 2 * MOST_TEXT_BYTES + 4;
 
-/// A job that was read. Contracts see it as the text of its grammar, and its sentence.
+/// A job that was read. In contracts it is the pair of its grammar's text and its sentence.
 #[derive(Debug, Drop)]
 pub struct Job {
     bytes: Vec<u8>,
@@ -34,12 +34,11 @@ impl Model for Job {
 }
 
 impl Job {
-    /// What a reader gives, up to its end: a grammar, the first line that is exactly `%%`, and a
-    /// sentence. One CR before the LF of that line doesn't count, and as the last line it may lack
-    /// its LF.
+    /// Reads a job to the reader's end: a grammar, the first line that is exactly `%%`, and a sentence. A CR
+    /// directly before the LF of that line is ignored, and if it is the last line, its LF may be missing.
     ///
-    /// J2 Read where the reader fails; J3 TooLong above 2,097,156 bytes; J1 NoSeparator where no
-    /// line is `%%`.
+    /// Fails with J2 `Read` if the reader fails, J3 `TooLong` if it has more than 2,097,156 bytes, J1
+    /// `NoSeparator` if no line is exactly `%%`, and `NoMemory` if a request for memory is refused.
     pub fn read<R: Read + Drop>(alloc: Global, reader: R) -> Result<Job, JobFault>
         ensures job { IfOk result (λ job. IfSome (R.remaining reader)
             (λ bytes. IsJob bytes job.0 job.1)) }
@@ -55,14 +54,14 @@ impl Job {
         }
     }
 
-    /// Lends the text of the grammar.
+    /// Returns the text of the grammar.
     pub fn grammar(&self) -> &[u8]
         ensures { result.now ≡ self.now.0 }
     {
         &self.bytes[..self.cut.text]
     }
 
-    /// Lends the sentence.
+    /// Returns the sentence.
     pub fn sentence(&self) -> &[u8]
         ensures { result.now ≡ self.now.1 }
     {

@@ -1,17 +1,17 @@
-//! Laws of jobs, each the contract of a function that does nothing.
+//! Laws of jobs. Each is the contract of a function with an empty body.
 
 ghost use Rattle.ag_job.specs.Jobs.{OnePairOfParts};
 ghost use Rattle.ag_job.specs.Worked.{CrAloneIsNone, CrAndLfEnd, LongerIsNone, NothingBefore};
 ghost use Rattle.ag_job.specs.Worked.{SpacedIsNone, TheFirstCuts, TheLastEnds};
 
-/// A job has one grammar and one sentence at most.
+/// A job has at most one grammar and one sentence.
 pub fn a_job_has_one_grammar_and_one_sentence()
     ensures { OnePairOfParts }
 {}
 
-/// Jobs whose parts are worked out by hand: `%%` ends with CR and LF; it is the last line and lacks its
-/// LF; it is the first of two; nothing stands before it. And bytes without a line that is exactly `%%`:
-/// there is a CR without a LF behind it; a space in front; a third `%`.
+/// Examples that were worked out by hand. In four jobs, the line `%%` ends with CR and LF, is the last line
+/// and has no LF, is the first of two, or is the first line of the job. In three texts no line is exactly
+/// `%%`: it has a CR and no LF after it, begins with a space, or has a third `%`.
 pub fn worked_jobs()
     ensures cr_and_lf { CrAndLfEnd }
     ensures last { TheLastEnds }

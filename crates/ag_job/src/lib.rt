@@ -1,5 +1,5 @@
-//! Jobs: a grammar and a sentence in one text, with a line `%%` between them; and the bytes that a
-//! reader gives.
+//! Jobs: a text with a grammar, a line `%%` and a sentence. Also reads a limited number of bytes from a
+//! reader.
 #![tactic(auto)]
 
 mod cutting;

@@ -1,20 +1,21 @@
-//! The bytes that a reader gives.
+//! Reading a limited number of bytes from a reader.
 
 ghost use Rattle.std.specs.Prelude.{IfOk, IfSome, ◌≡◌, take};
 
 use std::alloc::Global;
 use std::io::{Error, ErrorKind, Read};
 
-/// Why a reader's bytes are not there.
+/// Why bytes can't be read.
 #[derive(Clone, Copy, Debug, PartialEq, Eq)]
 pub enum ReadFault {
     /// The reader failed.
     Read,
-    /// A growth was refused.
+    /// A request for memory was refused.
     NoMemory,
 }
 
-/// What a reader gives, at most so many bytes of it. Read where the reader fails.
+/// Reads to the reader's end, at most `most` bytes. Fails with `Read` if the reader fails, and with
+/// `NoMemory` if a request for memory is refused.
 pub fn read_front<R: Read + Drop>(alloc: Global, reader: R, most: u64) -> Result<Vec<u8>, ReadFault>
     ensures { IfOk result (λ bytes. IfSome (R.remaining reader)
         (λ left. bytes.items ≡ take most left)) }
@@ -26,7 +27,7 @@ pub fn read_front<R: Read + Drop>(alloc: Global, reader: R, most: u64) -> Result
     }
 }
 
-/// Why a reader's bytes are not there: it failed, or memory was short.
+/// Returns `NoMemory` if the error is a refused request for memory, otherwise `Read`.
 fn refusal(error: &Error) -> ReadFault {
     if error.kind() == ErrorKind::OutOfMemory {
         ReadFault::NoMemory

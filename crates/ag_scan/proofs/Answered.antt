@@ -1,4 +1,4 @@
--- The one answer that each sentence has, by a plain function.
+-- The answer to each sentence, by a plain function.
 use Rattle.std.proofs.Common.{◌≡◌, ℕ, zero, suc, ◌+◌, ◌-◌, ◌<◌, ◌≤◌, Bool, true, false, cond, nat_lt, List, [], ◌∷◌, ◌++◌, length, drop, Option, Some, None, Result, Ok, Err, chars, refl, ap, subst, ◌∙◌, arith}
 use Rattle.std.proofs.lemmas.Bool.Decides.{nat_tests}
 use Rattle.std.proofs.lemmas.List.{length-append, length-drop}
@@ -23,14 +23,14 @@ use Rattle.ag_scan.proofs.Cut.{word_is, one_more, as_wide, fewer}
 use Rattle.ag_scan.proofs.Listing.{word_some, spaced}
 use Rattle.ag_scan.proofs.OneToken.{IsWordIn, one_word, token_plain, no_spaces}
 
--- ---- how far the tokens of a text reach
+-- ---- the tokens of a text up to the first fault
 
--- the word in front, where its text is no longer than a token's
+-- the first word, if its text is not too long for a token
 abbrev short_of : Option Front → Option Front
 short_of None = None
 short_of (Some f) = cond (nat_lt most_token_bytes (length f.lex)) None (Some f)
 
--- The tokens that are taken from an offset on, the offset where they end, and what stands there.
+-- The tokens read from an offset on, the offset where they end, and the characters after them.
 record Taken : Type 0 where
   pub tokens : List Token
   pub end : ℕ
@@ -39,24 +39,25 @@ record Taken : Type 0 where
 abbrev behind_one : Token → Taken → Taken
 behind_one t taken = record { tokens = t ∷ taken.tokens; end = taken.end; rest = taken.rest }
 
--- the token in front of characters, at an offset, and those that are taken behind it
+-- the token at the beginning of the characters, at an offset, and the tokens read after it
 abbrev taken_at : (ℕ → List ℕ → Taken) → Vocabulary → ℕ → List ℕ → Taken
 taken_at more v at cs = elim (short_of (word_from v cs)) [
   | None ↦ record { tokens = []; end = at; rest = cs }
   | Some f ↦ behind_one (record { kind = f.kind; lex = f.lex; at = at }) (more (at + (width cs - width f.rest)) f.rest)
 ]
 
--- the first n tokens from an offset on, or fewer where no more are taken
+-- the first n tokens from an offset on, or fewer if no more can be read
 abbrev taken_from : Vocabulary → ℕ → ℕ → List ℕ → Taken
 taken_from v zero at cs = record { tokens = []; end = at; rest = cs }
 taken_from v (suc n) at cs = taken_at (taken_from v n) v (at + prefix_len is_separator cs) (unspaced cs)
 
--- Such tokens end where no more is taken.
+-- No more tokens can be read at the beginning of these characters, which is not a separator.
 record IsEnd (v : Vocabulary) (cs : List ℕ) : Type 0 where
   pub plain : StartsPlain cs
   pub none : short_of (word_from v cs) ≡ None
 
--- The tokens that are taken from an offset on stand there up to their end.
+-- The tokens read from an offset on are tokens of the text, none of them too long, and no more can be read
+-- after them.
 record AreTaken (v : Vocabulary) (at : ℕ) (cs : List ℕ) (t : Taken) : Type 0 where
   pub are : AreTokens v at cs t.tokens t.end t.rest
   pub short : AreShort t.tokens
@@ -82,14 +83,14 @@ are_taken v clean (suc n) at cs less = go (short_of (word_from v (unspaced cs)))
 cut_is : (v : Vocabulary) → IsClean v → (cs : List ℕ) (o : Option Front) → IsWordIn v cs o → word_from v cs ≡ o
 cut_is v clean cs o is = one_word v clean cs (word_from v cs) o (word_is v cs) is
 
--- where no separator stands in front, a token is taken at once
+-- characters that do not begin with a separator begin with the next token
 at_once : (v : Vocabulary) (n at : ℕ) (cs : List ℕ) → StartsPlain cs → taken_from v (suc n) at cs ≡ taken_at (taken_from v n) v at cs
 at_once v n at cs plain =
     let none = no_spaces cs plain in
     let there : at + prefix_len is_separator cs ≡ at = omega (arith, none) in
     λ i. taken_at (taken_from v n) v (there i) (drop (none i) cs)
 
--- tokens that end where no more is taken are those that are taken
+-- tokens that end where no more can be read are those that the function reads
 taken_is : (v : Vocabulary) → IsClean v → (n : ℕ) {at : ℕ} {cs : List ℕ} {ts : List Token} {end : ℕ} {rest : List ℕ} → AreTokens v at cs ts end rest → AreShort ts → IsEnd v rest → length ts < n
     → taken_from v n at cs ≡ record { tokens = ts; end = end; rest = rest }
 taken_is v clean zero are short ends less = absurd (omega arith)
@@ -108,7 +109,7 @@ taken_is v clean (suc n) (word at cs w behind lex t ts end rest split is are) sh
 
 -- ---- the answer
 
--- the answer where the tokens end before these characters, in front of which this word stands
+-- the answer if the tokens end before these characters, which begin with this word
 abbrev ended_by : List ℕ → Option Front → List Token → ℕ → Result (List Token) ScanFault
 ended_by [] o ts at = Ok ts
 ended_by (c ∷ cs) None ts at = Err (fault.NoToken at)
@@ -136,7 +137,7 @@ answers v s readable t taken = go t.rest taken.are taken.ends (word_from v t.res
         let long : most_token_bytes < length f.lex = grind (arith, nat_tests) in
         (readable, record { before = t.tokens; kind = f.kind; lex = f.lex; word = cut.word; rest = f.rest; reaches = record { are = rw cut.split at are; short = taken.short }; token = cut.token; long = long })
 
--- the function's answer is one,
+-- the result of the function is an answer,
 answered : (v : Vocabulary) → IsClean v → (s : List ℕ) → IsAnswer v s (answer_to v s)
 answered v clean s = go (nat_lt most_sentence_bytes (length s)) (is_utf8 s) refl refl
   where
@@ -153,7 +154,7 @@ accepted_clean g is = record { some = λ i x e. (is.limits.literal_bytes i x e).
 pub an_answer : AnAnswer
 an_answer g accepted s = (answer_to (vocabulary_of g) s, answered (vocabulary_of g) (accepted_clean g accepted) s)
 
--- ---- there is no other
+-- ---- there is only one answer
 
 module _ (v : Vocabulary) (clean : IsClean v) (s : List ℕ) where
   reached : {ts : List Token} {end : ℕ} {rest : List ℕ} → IsReadable s → Reaches v (chars s) ts end rest → IsEnd v rest → answer_to v s ≡ ended_by rest (word_from v rest) ts end
@@ -170,7 +171,7 @@ module _ (v : Vocabulary) (clean : IsClean v) (s : List ℕ) where
   long_left [] f ts at cut = let some = word_some v f.kind cut.word f.lex clean.some cut.token.is in absurd (omega (arith, ap length cut.split, length-append cut.word f.rest))
   long_left (c ∷ cs) f ts at cut = refl
 
-  -- and each answer is the function's
+  -- and each answer is the result of the function
   pub is_answer : (q : Result (List Token) ScanFault) → IsAnswer v s q → answer_to v s ≡ q
   is_answer (Ok ts) is = reached is.readable is.tokens (record { plain = tt; none = rw no_word_left refl })
   is_answer (Err fault.NoMemory) is = absurd is

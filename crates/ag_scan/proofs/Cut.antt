@@ -1,4 +1,4 @@
--- The plain functions cut the words and the tokens that the definitions say.
+-- The plain functions return the words and the tokens of the definitions.
 use Rattle.std.proofs.Common.{◌==◌, IsUtf8, ◌≡◌, ℕ, zero, suc, ◌+◌, ◌-◌, ◌≤◌, Bool, true, false, cond, nat_eq, List, [], ◌∷◌, ◌++◌, length, take, drop, Option, Some, None, MatchOption, slice_get, chars, encode_utf8_all, refl, ap, sym, ◌∙◌, subst, arith}
 use Rattle.std.proofs.lemmas.Bool.Decides.{nat_tests}
 use Rattle.std.proofs.lemmas.List.{length-append, length-take-le, take-append-drop}
@@ -20,9 +20,9 @@ use Rattle.ag_scan.proofs.Listing.{word_some, length_width, Scanned, ends}
 use Rattle.ag_scan.proofs.OneToken.{IsWordIn, one_word, token_plain, no_spaces}
 use Rattle.ag_scan.proofs.words.Tables.{split}
 
--- ---- the word in front
+-- ---- the word at the beginning
 
--- a literal's number is found where there is one
+-- the number of a literal is found if there is one
 numbered : (n : ℕ) (xs : List (List ℕ)) (x : List ℕ) → MatchOption (number_from n xs x) (Has xs x → ⊥) (λ l. (i : ℕ) × (l ≡ n + i) × (slice_get xs i ≡ Some x))
 numbered n [] x = λ h. (let e = h.1 in cc)
 numbered n (y ∷ ys) x = go (pointwise nat_eq y x) (told_text y x (pointwise nat_eq y x) refl) (number_from (n + 1) ys x) (numbered (n + 1) ys x)
@@ -37,7 +37,7 @@ numbered n (y ∷ ys) x = go (pointwise nat_eq y x) (told_text y x (pointwise na
     go false apart None none = λ h. other apart none h.0 h.1
     go false apart (Some l) (i, e, at) = (suc i, omega arith, at)
 
--- no front of n characters or more is a literal
+-- no prefix of n or more characters is a literal
 abbrev NoneFrom : List (List ℕ) → List ℕ → ℕ → Type 0
 NoneFrom literals cs n = (w more : List ℕ) → cs ≡ w ++ more → n ≤ length w → IsLiteral literals w → ⊥
 
@@ -53,7 +53,8 @@ module _ (literals : List (List ℕ)) (cs : List ℕ) where
           let len = length-take-le n cs within in
           split (length longer) (n + 1) (λ less. omega arith) (λ far. absurd (none longer more (sym (take-append-drop n cs) ∙ same) far is))
 
-  -- where the first n characters are no literal, no front of as many or more is one
+  -- if the first n characters are not a literal, and no longer prefix is one, then no prefix of n or more
+  -- characters is
   none_from : (n : ℕ) → (Has literals (encode_utf8_all (take n cs)) → ⊥) → NoneFrom literals cs (n + 1) → NoneFrom literals cs n
   none_from n not none w more same le is = split n (length w)
       (λ far. none w more same (omega arith) is)
@@ -76,7 +77,7 @@ word_is v cs = chosen v cs _ _ (literal_is v.literals cs (length cs) (omega arit
 
 -- ---- the tokens of a text
 
--- the token that is cut in front, and those behind it
+-- the token read at the beginning, and the tokens after it
 pub one_more : (v : Vocabulary) (at : ℕ) (cs : List ℕ) (f : Front) (ts : List Token) (end : ℕ) (rest : List ℕ) → word_from v cs ≡ Some f → AreTokens v (at + (width cs - width f.rest)) f.rest ts end rest
     → AreTokens v at cs (record { kind = f.kind; lex = f.lex; at = at } ∷ ts) end rest
 one_more v at cs f ts end rest e are =
@@ -84,19 +85,19 @@ one_more v at cs f ts end rest e are =
     let there : at + (width cs - width f.rest) ≡ at + width cut.word = omega (arith, ap width cut.split, width-append cut.word f.rest) in
     word at cs cut.word f.rest f.lex f.kind ts end rest cut.split cut.token (rw there at are)
 
--- each token has a character
+-- each token has at least one character
 pub fewer : {v : Vocabulary} {at : ℕ} {cs : List ℕ} {ts : List Token} {end : ℕ} {rest : List ℕ} → HasNoEmpty v.literals → AreTokens v at cs ts end rest → length ts ≤ length cs
 fewer some (ended at cs) = omega arith
 fewer some (separator at c cs ts end rest h are) = let n = fewer some are in omega arith
 fewer some (word at whole w cs lex t ts end rest split is are) = omega (arith, fewer some are, word_some _ t w lex some is.is, ap length split, length-append w cs)
 
--- tokens are as wide as the characters that they stand for
+-- the offset and the number of remaining bytes have the same sum before and after the tokens
 pub as_wide : {v : Vocabulary} {at : ℕ} {cs : List ℕ} {ts : List Token} {end : ℕ} {rest : List ℕ} → AreTokens v at cs ts end rest → at + width cs ≡ end + width rest
 as_wide (ended at cs) = refl
 as_wide (separator at c cs ts end rest h are) = let one = separator_width c h in let more = as_wide are in omega arith
 as_wide (word at whole w cs lex t ts end rest split is are) = let more = as_wide are in omega (arith, ap width split, width-append w cs)
 
--- The tokens up to the end of a text begin with the word in front of it, behind the separators there.
+-- The tokens up to the end of a text begin with the word at its beginning, after the leading separators.
 abbrev pub BeginWith : Vocabulary → ℕ → List ℕ → List Token → ℕ → Option Front → Type 0
 BeginWith v at cs ts end None = ts ≡ []
 BeginWith v at cs ts end (Some f) =
@@ -142,15 +143,15 @@ module _ (v : Vocabulary) (clean : IsClean v) where
       go (Some f) (more, first, narrow, behind) recur =
           ap (λ us. record { kind = f.kind; lex = f.lex; at = at + prefix_len is_separator cs } ∷ us) (recur (at + (width cs - width f.rest)) f.rest more end behind (omega (arith, ap length first))) ∙ sym first
 
-  -- there are no more tokens than bytes
+  -- a text has at most as many tokens as bytes
   few : (text : List ℕ) (ts : List Token) → AreTokensOf v text ts → length ts ≤ length text
   few text ts is = omega (arith, fewer clean.some is.tokens.are, length_width (chars text), width-chars text is.readable.utf8)
 
-  -- the tokens of a text are those that are cut
+  -- the tokens of a text are those that the function returns
   pub are_cut : (text : List ℕ) (ts : List Token) → AreTokensOf v text ts → tokens_in v text ≡ ts
   are_cut text ts is = agrees (length text) 0 (chars text) ts (length text) is.tokens.are (few text ts is)
 
--- where nothing is left of a text that is scanned, its tokens are those that are cut
+-- if a text has been scanned to its end, its tokens are those that the function returns
 pub all_cut : (v : Vocabulary) → IsClean v → (text rest : List ℕ) → IsUtf8 text → length text ≤ most_sentence_bytes → Scanned v text rest → true ≡ (length rest == 0) → AreTokensOf v text (tokens_in v text) × FitAll v (tokens_in v text)
 all_cut v clean text rest utf8 short scanned test =
     let none : length rest ≡ 0 = grind (arith, nat_tests) in

@@ -1,4 +1,4 @@
--- Examples worked out by hand.
+-- Worked examples.
 use Rattle.std.proofs.Common.{◌≡◌, ◌≤◌, [], ◌∷◌, length, Some, None, IsUtf8, codes, refl, sym, subst, lit<, arith}
 use Rattle.std.proofs.lemmas.Str.{encode_ascii}
 use Rattle.std.specs.Str.{chars}

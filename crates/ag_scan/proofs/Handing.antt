@@ -1,4 +1,4 @@
--- Tokens that are handed out one by one are those of the text.
+-- The tokens that a reader returns one at a time are those of the text.
 use Rattle.std.proofs.Common.{◌≡◌, ℕ, zero, suc, ◌+◌, ◌-◌, ◌≤◌, List, [], ◌∷◌, length, drop, Option, Some, None, IsUtf8, slice_get, chars, option_map, refl, ap, sym, ◌∙◌, subst, arith}
 use Rattle.std.proofs.Math.Seq.{drop-nil}
 use Rattle.std.specs.List.{prefix_len}
@@ -15,11 +15,11 @@ use Rattle.ag_scan.proofs.OneToken.{IsWordIn}
 use Rattle.ag_scan.proofs.Listing.{left_width}
 use Rattle.ag_scan.proofs.Lefts.{behind, there, ended}
 
--- what stands behind separators is no longer
+-- the text after leading separators is not longer than the text
 pub no_longer : (behind left : List ℕ) → IsUtf8 behind → IsUtf8 left → chars left ≡ unspaced (chars behind) → length left ≤ length behind
 no_longer behind left utf8 utf8' is = omega (arith, left_width (chars behind) left utf8' is, width-chars behind utf8)
 
--- the word that is cut behind separators is in front of the tokens that stand there
+-- the word after leading separators is that of the first of the tokens there
 pub front_told : (v : Vocabulary) (text behind left : List ℕ) → HasTokens v text → length behind ≤ length text → IsUtf8 behind → IsUtf8 left → chars left ≡ unspaced (chars behind) → (o : Option Front) → IsWordIn v (chars left) o
     → (ts : List Token) → AreTokens v (length text - length behind) (chars behind) ts (length text) [] → IsFrontOf v (length text) ts o (length text - length left)
 front_told v text behind left has within utf8 utf8' is o cut ts are = go o (begin_with v has.clean are refl o (subst (λ cs. IsWordIn v cs o) is cut))
@@ -41,13 +41,13 @@ last_is [] (suc i) t e = absurd (cc)
 last_is (u ∷ []) (suc i) t e = let none = drop-nil {A = Token} i in absurd (cc)
 last_is (u ∷ w ∷ ts) (suc i) t e = last_is (w ∷ ts) i t e
 
--- the offset of the token in front, or of the last one
+-- the offset of the next token, or of the last one
 offset_told : (v : Vocabulary) (end : ℕ) (ts : List Token) (i at : ℕ) (o : Option Front) → IsFrontOf v end (drop i ts) o at → (o ≡ None → at ≡ last_offset ts) → at ≡ offset_at ts i
 offset_told v end ts i at None none last = last refl ∙ rw ((ended ts i none).0, offset_at) refl
 offset_told v end ts i at (Some f) (more, first, narrow, are) last = rw (there ts i _ more first, offset_at) refl
 
 module _ (v : Vocabulary) (text : List ℕ) (has : HasTokens v text) where
-  -- at the front of a text
+  -- the state at the beginning of a text
   pub begins : (o : Option Front) (at : ℕ) → IsLookedAt v text text o at → (o ≡ None → at ≡ 0) → IsAt v text 0 o at
   begins o at told end =
       let none : 0 ≡ length text - length text = omega arith in
@@ -55,7 +55,7 @@ module _ (v : Vocabulary) (text : List ℕ) (has : HasTokens v text) where
       let last : o ≡ None → at ≡ last_offset (tokens_in v text) = λ none. end none ∙ sym (ap last_offset (rw none at left)) in
       record { has = has; within = omega arith; left = left; offset = offset_told v (length text) (tokens_in v text) 0 at o left last }
 
-  -- behind the token in front
+  -- the state after the next token
   pub goes_on : (i : ℕ) (f : Front) (at : ℕ) (rest : List ℕ) → IsAt v text i (Some f) at → f.rest ≡ chars rest → IsUtf8 rest → (o : Option Front) (next : ℕ)
       → IsLookedAt v text rest o next → (o ≡ None → next ≡ at) → IsAt v text (i + 1) o next
   goes_on i f at rest is same utf8 o next told end =
@@ -68,18 +68,18 @@ module _ (v : Vocabulary) (text : List ℕ) (has : HasTokens v text) where
       let behind_it = subst (λ us. IsFrontOf v (length text) us o next) (sym after.0) left in
       record { has = has; within = after.1; left = behind_it; offset = offset_told v (length text) (tokens_in v text) (i + 1) next o behind_it last }
 
--- the token in front is the one of that index
+-- the next token is the one with this index
 pub is_next : (v : Vocabulary) (text : List ℕ) (i at : ℕ) (f : Front) → IsAt v text i (Some f) at → slice_get (tokens_in v text) i ≡ Some (record { kind = f.kind; lex = f.lex; at = at })
 is_next v text i at f is = let (more, first, narrow, are) = is.left in there (tokens_in v text) i _ more first
 
 pub none_next : (v : Vocabulary) (text : List ℕ) (i at : ℕ) → IsAt v text i None at → (slice_get (tokens_in v text) i ≡ None) × (length (tokens_in v text) ≤ i)
 none_next v text i at is = ended (tokens_in v text) i is.left
 
--- so many tokens can be counted
+-- the number of tokens taken fits the counter
 pub counted : (v : Vocabulary) (text : List ℕ) (i at : ℕ) (o : Option Front) → IsAt v text i o at → (length text ≤ 1048576) × (i ≤ length text)
 counted v text i at o is = let few = few_tokens v text is.has in (is.has.tokens.readable.short, omega (arith, is.within))
 
--- no front is seen where none is lent
+-- a word of the code is `None` if its specification word is
 pub none_there : (o : Option lent.Front) → option_map (λ f. front_of f) o ≡ None → o ≡ None
 none_there None e = refl
 none_there (Some f) e = absurd (cc)

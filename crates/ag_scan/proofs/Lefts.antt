@@ -1,8 +1,8 @@
--- What is left of a list behind so many.
+-- The rest of a list after its first members.
 use Rattle.std.proofs.Common.{◌≡◌, ℕ, zero, suc, ◌+◌, ◌≤◌, List, [], ◌∷◌, length, drop, slice_get, Some, None, refl, ap, sym, ◌∙◌, add-one, arith}
 use Rattle.std.proofs.Math.Seq.{drop-nil}
 
--- the element at an index is the first of those left
+-- the member at an index is the first of the rest
 pub rest_at : {A : Type 0} (xs : List A) (i : ℕ) (x : A) → slice_get xs i ≡ Some x → drop i xs ≡ x ∷ drop (i + 1) xs
 rest_at [] i x e = absurd (cc)
 rest_at (y ∷ ys) zero x e = let same : y ≡ x = cc in ap (λ z. z ∷ ys) same
@@ -13,7 +13,7 @@ rest_none [] i e = drop-nil i
 rest_none (y ∷ ys) zero e = absurd (cc)
 rest_none (y ∷ ys) (suc i) e = rest_none ys i e
 
--- what is behind the next one, which is within
+-- the rest after one more member, and its index is in range
 pub behind : {A : Type 0} (xs : List A) (i : ℕ) (x : A) (rest : List A) → drop i xs ≡ x ∷ rest → (drop (i + 1) xs ≡ rest) × (i + 1 ≤ length xs)
 behind {A} [] i x rest e = let none = drop-nil {A = A} i in absurd (cc)
 behind (y ∷ ys) zero x rest e = (cc, omega arith)
@@ -22,7 +22,7 @@ behind {A} (y ∷ ys) (suc i) x rest e =
     let a : drop (suc i + 1) (y ∷ ys) ≡ drop (i + 1) ys = ap (λ j. drop j (y ∷ ys)) (add-one (suc i)) ∙ sym (ap (λ j. drop j ys) (add-one i)) in
     (a ∙ h.0, omega (arith, h.1))
 
--- the first of those left is the element at the index
+-- the first member of the rest is the member at the index
 pub there : {A : Type 0} (xs : List A) (i : ℕ) (x : A) (rest : List A) → drop i xs ≡ x ∷ rest → slice_get xs i ≡ Some x
 there {A} [] i x rest e = let none = drop-nil {A = A} i in absurd (cc)
 there (y ∷ ys) zero x rest e = cc

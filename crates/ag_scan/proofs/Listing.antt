@@ -19,7 +19,7 @@ use Rattle.ag_scan.specs.Tokens.{Token}
 
 -- ---- one token
 
--- a word has a character
+-- a word has at least one character
 pub word_some : (v : Vocabulary) (t : Terminal) (cs lex : List ℕ) → HasNoEmpty v.literals → IsWord v t cs lex → 0 < length cs
 word_some v (Literal l) [] lex none is = let some = none l [] is.0 in absurd (omega arith)
 word_some v (Literal l) (c ∷ cs) lex none is = omega arith
@@ -28,7 +28,7 @@ word_some v (Class (suc zero)) cs lex none is = is.1.0.0
 word_some v (Class (suc (suc zero))) cs lex none (used, (body, split, all, text)) = omega (arith, ap length split)
 word_some v (Class (suc (suc (suc c)))) cs lex none is = absurd is.1
 
--- a word that was cut is taken
+-- a word that was read is a token
 pub taken : (v : Vocabulary) (cs : List ℕ) (f : Front) (at : ℕ) → CutsToken v cs f → IsUtf8 f.lex → length f.lex ≤ most_token_bytes → TakesToken v cs at (record { kind = f.kind; lex = f.lex; at = at }) f.rest
 taken v cs f at cut utf8 short = record { word = cut.word; split = cut.split; token = cut.token; offset = refl; short = short; fits = by f.kind cut.token.is }
   where
@@ -36,9 +36,9 @@ taken v cs f at cut utf8 short = record { word = cut.word; split = cut.split; to
     by (Literal l) is = is.0 ∙ ap Some (sym is.1)
     by (Class c) is = (is.0, record { utf8 = is_utf8-from_IsUtf8 f.lex utf8; short = short })
 
--- ---- one behind the other
+-- ---- tokens one after the other
 
--- tokens behind separators
+-- tokens after separators
 pub spaced : (v : Vocabulary) (at : ℕ) (cs : List ℕ) (ts : List Token) (end : ℕ) (rest : List ℕ) → AreTokens v (at + prefix_len is_separator cs) (unspaced cs) ts end rest → AreTokens v at cs ts end rest
 spaced v at [] ts end rest are = subst (λ n. AreTokens v n [] ts end rest) (omega arith) are
 spaced v at (c ∷ cs) ts end rest are = go (is_separator c) refl (spaced v (at + 1) cs ts end rest)
@@ -47,25 +47,26 @@ spaced v at (c ∷ cs) ts end rest are = go (is_separator c) refl (spaced v (at 
     go false h more = let k : at + 0 ≡ at = omega arith in rw (h, k) at are
     go true h more = let k : at + (1 + prefix_len is_separator cs) ≡ (at + 1) + prefix_len is_separator cs = omega arith in separator at c cs ts end rest h (more (rw (h, k, drop_more) at are))
 
--- how wide what is left behind separators is
+-- the width of the text after leading separators
 pub left_width : (cs : List ℕ) (left : List ℕ) → IsUtf8 left → chars left ≡ unspaced cs → prefix_len is_separator cs + length left ≡ width cs
 left_width cs left utf8 is = omega (arith, spaces cs, ap width is, width-chars left utf8)
 
--- ---- beside the loop over a text
+-- ---- for the proof of the loop over a text
 
--- Tokens of the vocabulary stand from an offset on, and none is too long.
+-- Tokens of the vocabulary from an offset on, none of them too long.
 pub record Stand (v : Vocabulary) (at : ℕ) (cs : List ℕ) (ts : List Token) (end : ℕ) (rest : List ℕ) : Type 0 where
   pub are : AreTokens v at cs ts end rest
   pub short : AreShort ts
   pub fit : FitAll v ts
 
--- What stands from the front of what is left of a text on also stands behind tokens of the text; no separator stands in front of it.
+-- Tokens at the beginning of the rest of a text are also tokens of the text, after the tokens before them;
+-- the rest does not begin with a separator.
 pub record Scanned (v : Vocabulary) (text rest : List ℕ) : Type 0 where
   pub whole : (us : List Token) (end : ℕ) (last : List ℕ) → Stand v (length text - length rest) (chars rest) us end last → (ts : List Token) × Stand v 0 (chars text) ts end last
   pub plain : StartsPlain (chars rest)
   pub within : length rest ≤ length text
 
--- the tokens up to what is left
+-- the tokens before the rest
 up_to : (v : Vocabulary) (text rest : List ℕ) → Scanned v text rest → (ts : List Token) × Stand v 0 (chars text) ts (length text - length rest) (chars rest)
 up_to v text rest scanned = scanned.whole [] _ _ (record { are = ended _ _; short = each_none _; fit = each_none _ })
 
@@ -78,7 +79,7 @@ starts v text rest utf8 utf8' is =
       within = omega (arith, left_width (chars text) rest utf8' is, width-chars text utf8);
     }
 
--- each character takes a byte at least
+-- each character takes at least one byte
 pub length_width : (cs : List ℕ) → length cs ≤ width cs
 length_width [] = omega arith
 length_width (c ∷ cs) = let some = (len_utf8_bounds c).0 in let more = length_width cs in omega arith
@@ -87,7 +88,7 @@ module _ (v : Vocabulary) (text rest next : List ℕ) (t : Token) (behind : List
   wide : length rest ≡ width takes.word + prefix_len is_separator behind + length next
   wide = omega (arith, ap width takes.split, width-append takes.word behind, width-chars rest utf8, left_width behind next utf8' is)
 
-  -- what is left behind a token is shorter
+  -- the rest after a token is shorter
   pub shorter : HasNoEmpty v.literals → length next < length rest
   shorter none = omega (arith, word_some v t.kind takes.word t.lex none takes.token.is, length_width takes.word, wide)
 

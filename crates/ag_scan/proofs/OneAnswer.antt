@@ -1,4 +1,4 @@
--- A sentence has no two answers.
+-- A sentence has at most one answer.
 use Rattle.std.proofs.Common.{sym, ◌∙◌}
 use Rattle.ag_scan.specs.Laws.{AtMostOneAnswer}
 use Rattle.ag_scan.specs.Words.{vocabulary_of}

@@ -1,4 +1,4 @@
--- In front of characters stands one token at most, and none where a separator does.
+-- Characters begin with at most one token, and with none if they begin with a separator.
 use Rattle.std.proofs.Common.{◌≡◌, ℕ, zero, suc, ◌<◌, true, false, List, [], ◌∷◌, ◌++◌, length, take, drop, Option, Some, None, MatchOption, slice_get, encode_utf8_all, refl, ap, sym, ◌∙◌, arith}
 use Rattle.std.proofs.lemmas.Bool.Decides.{nat_tests}
 use Rattle.std.proofs.lemmas.Str.{encode_ascii}
@@ -33,12 +33,12 @@ plain_front v clean (Literal l) c cs lex is h =
     clean.plain l (encode_utf8_all (c ∷ cs)) is.0 0 c first (separator_is c h)
 plain_front v clean (Class k) c cs lex is h = let plain = class_plain k c cs lex is.1 in cc
 
--- no word stands where a separator does
+-- no token begins with a separator
 pub no_word_there : (v : Vocabulary) → IsClean v → (c : ℕ) (cs : List ℕ) → is_separator c ≡ true → (t : Terminal) (lex w rest : List ℕ) → c ∷ cs ≡ w ++ rest → IsToken v t lex w rest → ⊥
 no_word_there v clean c cs h t lex [] rest split is = let some = word_some v t [] lex clean.some is.is in omega arith
 no_word_there v clean c cs h t lex (d ∷ w) rest split is = let same : d ≡ c = cc in plain_front v clean t d w lex is.is (rw same h)
 
--- where a token stands in front, no separator does
+-- characters that begin with a token do not begin with a separator
 pub token_plain : (v : Vocabulary) → IsClean v → (cs : List ℕ) (t : Terminal) (lex w rest : List ℕ) → cs ≡ w ++ rest → IsToken v t lex w rest → StartsPlain cs
 token_plain v clean [] t lex w rest split is = tt
 token_plain v clean (c ∷ cs) t lex w rest split is = let not : is_separator c ≡ true → ⊥ = λ h. no_word_there v clean c cs h t lex w rest split is in grind (arith, not)
@@ -60,7 +60,7 @@ one_kind v clean (Literal l) (Class d) cs lex lex' a wins b wins' = absurd (wins
 one_kind v clean (Class c) (Literal m) cs lex lex' a wins b wins' = absurd (wins (m, b.0))
 one_kind v clean (Class c) (Class d) cs lex lex' a wins b wins' = one_class v.classes cs lex lex' c d a.0 b.0 a.1 b.1
 
--- what is cut is the token in front, and nothing where no word is
+-- the word that was read is the token at the beginning; if it is `None`, no word begins there
 abbrev pub IsWordIn : Vocabulary → List ℕ → Option Front → Type 0
 IsWordIn v cs o = MatchOption o (BeginsNone (IsAnyWord v) cs) (λ f. CutsToken v cs f)
 

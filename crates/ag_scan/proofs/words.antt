@@ -1,4 +1,4 @@
--- Which word stands in front of a text.
+-- The word at the beginning of a text.
 pub mod Beginnings
 pub mod Choosing
 pub mod ClassWords

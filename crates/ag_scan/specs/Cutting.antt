@@ -1,4 +1,5 @@
--- Cutting words from the front of characters, and all tokens of a text: the plain functions, which agree with the definitions.
+-- The scanner as plain functions: the word at the beginning of characters, and all tokens of a text. They
+-- agree with the definitions.
 use Rattle.std.specs.Prelude.{◌≡◌, ℕ, zero, suc, ◌+◌, ◌-◌, Bool, cond, nat_eq, nat_lt, ◌==◌, List, [], ◌∷◌, ◌++◌, length, take, drop, Option, Some, None, slice_get, chars, encode_utf8_all}
 use Rattle.std.specs.Cmp.Lexicographic.{pointwise}
 use Rattle.std.specs.Char.{is_ascii_digit}
@@ -12,29 +13,29 @@ use Rattle.ag_scan.specs.declared.front.Front as lent
 use Rattle.ag_scan.specs.Tokens.{Token}
 use Rattle.ag_scan.specs.Words.{Vocabulary, IsLiteral, IsLongest, IsToken}
 
--- A word that is cut: its terminal, the text that it has, and what stands behind it.
+-- A word that was read: its terminal, its text, and the characters after it.
 pub record Front : Type 0 where
   pub kind : Terminal
   pub lex : List ℕ
   pub rest : List ℕ
 
--- the longest front whose characters pass, and what stands behind it
+-- the longest prefix whose characters pass the test, and the characters after it
 abbrev pub front_in : (ℕ → Bool) → List ℕ → List ℕ
 front_in p cs = take (prefix_len p cs) cs
 
 abbrev pub back_of : (ℕ → Bool) → List ℕ → List ℕ
 back_of p cs = drop (prefix_len p cs) cs
 
--- the word of a class that is a longest front
+-- the word of a class that is the longest prefix of characters that pass the test
 abbrev pub span_from : (ℕ → Bool) → ℕ → List ℕ → Front
 span_from p class cs = record { kind = Class class; lex = encode_utf8_all (front_in p cs); rest = back_of p cs }
 
--- the TEXT whose text is `body`, where a quote stands behind that
+-- the TEXT with the text `body`, if a quote follows it
 abbrev pub closed : List ℕ → List ℕ → Option Front
 closed body [] = None
 closed body (c ∷ cs) = cond (c == 34) (Some (record { kind = Class 2; lex = body; rest = cs })) None
 
--- the TEXT whose first quote stood before
+-- the TEXT whose opening quote has been read
 abbrev pub text_from : List ℕ → Option Front
 text_from cs = closed (encode_utf8_all (front_in is_quotable cs)) (back_of is_quotable cs)
 
@@ -42,18 +43,18 @@ text_from cs = closed (encode_utf8_all (front_in is_quotable cs)) (back_of is_qu
 abbrev pub uses : List ℕ → ℕ → Bool
 uses classes k = list_any (λ d. d == k) classes
 
--- the word of a class in use that stands in front
+-- the word of a class in use at the beginning of the characters
 unfoldable pub class_from : List ℕ → List ℕ → Option Front
 class_from classes [] = None
 class_from classes (c ∷ cs) =
     cond (starts_name c) (cond (uses classes 0) (Some (span_from is_xid_continue 0 (c ∷ cs))) None)
     (cond (is_ascii_digit c) (cond (uses classes 1) (Some (span_from is_ascii_digit 1 (c ∷ cs))) None) (cond (c == 34) (cond (uses classes 2) (text_from cs) None) None))
 
--- what a lent front is
+-- the specification word of a word of the code
 abbrev pub front_of : lent.Front → Front
 front_of f = record { kind = f.kind; lex = f.lex.now; rest = chars f.rest.now }
 
--- A literal is cut from the front of the characters, the longest that stands there.
+-- The word is the longest literal at the beginning of the characters.
 pub record CutsLiteral (literals : List (List ℕ)) (cs : List ℕ) (f : Front) : Type 0 where
   pub number : ℕ
   pub word : List ℕ
@@ -63,38 +64,38 @@ pub record CutsLiteral (literals : List (List ℕ)) (cs : List ℕ) (f : Front) 
   pub text : f.lex ≡ encode_utf8_all word
   pub longest : IsLongest (IsLiteral literals) word f.rest
 
--- A token is cut from the front of the characters.
+-- The word is the token at the beginning of the characters.
 pub record CutsToken (v : Vocabulary) (cs : List ℕ) (f : Front) : Type 0 where
   pub word : List ℕ
   pub split : cs ≡ word ++ f.rest
   pub token : IsToken v f.kind f.lex word f.rest
 
--- the number of the first literal with a text, where they are numbered from n on
+-- the number of the first literal with this text, if their numbers begin at n
 abbrev pub number_from : ℕ → List (List ℕ) → List ℕ → Option ℕ
 number_from n [] text = None
 number_from n (x ∷ xs) text = cond (pointwise nat_eq x text) (Some n) (number_from (n + 1) xs text)
 
--- the word of the literal that the first n characters are, and else another
+-- the literal that consists of the first n characters, or else `other`
 abbrev pub literal_or : List (List ℕ) → List ℕ → ℕ → Option Front → Option Front
 literal_or literals cs n other =
     elim (number_from 0 literals (encode_utf8_all (take n cs))) [ Some l ↦ Some (record { kind = Literal l; lex = encode_utf8_all (take n cs); rest = drop n cs }) | None ↦ other ]
 
--- the longest literal in front, of at most n characters
+-- the longest literal at the beginning of the characters that has at most n of them
 abbrev pub literal_within : List (List ℕ) → List ℕ → ℕ → Option Front
 literal_within literals cs zero = literal_or literals cs zero None
 literal_within literals cs (suc n) = literal_or literals cs (suc n) (literal_within literals cs n)
 
--- of the words in front the longer one, the literal where they are as long
+-- the longer of two words; the literal if they have the same length
 abbrev pub longer_of : Option Front → Option Front → Option Front
 longer_of None class = class
 longer_of (Some f) None = Some f
 longer_of (Some f) (Some g) = cond (nat_lt (width g.rest) (width f.rest)) (Some g) (Some f)
 
--- the longest word in front
+-- the longest word at the beginning of the characters
 abbrev pub word_from : Vocabulary → List ℕ → Option Front
 word_from v cs = longer_of (literal_within v.literals cs (length cs)) (class_from v.classes cs)
 
--- the first n tokens from the offset `at` on, or fewer where there are no more
+-- the first n tokens from the offset `at` on, or fewer at the end
 abbrev pub tokens_from : Vocabulary → ℕ → ℕ → List ℕ → List Token
 tokens_from v zero at cs = []
 tokens_from v (suc n) at cs =

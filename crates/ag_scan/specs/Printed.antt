@@ -1,9 +1,9 @@
--- How faults are printed: this project's.
+-- The formatting of faults (this project's).
 use Rattle.std.specs.Prelude.{ℕ, List, ◌++◌, codes, decimal}
 use Rattle.ag_scan.specs.declared.fault.ScanFault.{ScanFault}
 use Rattle.ag_scan.specs.declared.fault.ScanFault.TheVariants as fault
 
--- how a fault is printed: its number, and the offset in decimal
+-- the text of a fault: its number, and the offset in decimal
 abbrev pub printed : ScanFault → List ℕ
 printed (fault.BadUtf8 at) = codes "S1 at " ++ decimal at
 printed (fault.NoToken at) = codes "S2 at " ++ decimal at

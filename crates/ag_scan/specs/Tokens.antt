@@ -1,4 +1,5 @@
--- What the tokens of a sentence are, by longest match, and why a sentence has none. All of this is this project's.
+-- The definition of the tokens of a sentence, by longest match, and the reasons why a sentence has none. All
+-- definitions are this project's.
 use Rattle.std.specs.Prelude.{◌≡◌, ℕ, ◌+◌, ◌<◌, ◌≤◌, true, false, List, [], ◌∷◌, ◌++◌, length, Some, IsUtf8, chars, slice_get}
 use Rattle.std.specs.Str.Lossy.{utf8_valid_len}
 use Rattle.ag_grammar.specs.Lists.{Each, Has}
@@ -11,34 +12,36 @@ use Rattle.ag_scan.specs.Words.{Vocabulary, IsAnyWord, BeginsNone, IsToken}
 use Rattle.ag_scan.specs.declared.fault.ScanFault.{ScanFault}
 use Rattle.ag_scan.specs.declared.fault.ScanFault.TheVariants as fault
 
--- A token of a sentence: what it is a word of, the text that it has, and where its word begins, in bytes from the front.
+-- A token of a sentence: its terminal, its text, and the offset of its word in bytes from the beginning.
 pub record Token : Type 0 where
   pub kind : Terminal
   pub lex : List ℕ
   pub at : ℕ
 
--- how many bytes a sentence has at most: as many as the text of a grammar
+-- the maximum length of a sentence, in bytes: the same as that of the text of a grammar
 abbrev pub most_sentence_bytes : ℕ
 most_sentence_bytes = most_text_bytes
 
--- From the byte offset `at` on, the characters are separators and the tokens `ts`, each at its offset, up to the offset `end`, from which on `rest`
--- stands.
+-- From the byte offset `at` up to the offset `end`, the characters are separators and the tokens `ts`, each
+-- at its offset; `rest` are the characters after them.
 pub data AreTokens (v : Vocabulary) : ℕ → List ℕ → List Token → ℕ → List ℕ → Type 0 where
   ended : (at : ℕ) (cs : List ℕ) → AreTokens v at cs [] at cs
   separator : (at c : ℕ) (cs : List ℕ) (ts : List Token) (end : ℕ) (rest : List ℕ) → is_separator c ≡ true → AreTokens v (at + 1) cs ts end rest → AreTokens v at (c ∷ cs) ts end rest
   word : (at : ℕ) (all word cs lex : List ℕ) (t : Terminal) (ts : List Token) (end : ℕ) (rest : List ℕ) → all ≡ word ++ cs → IsToken v t lex word cs → AreTokens v (at + width word) cs ts end rest
       → AreTokens v at all (record { kind = t; lex = lex; at = at } ∷ ts) end rest
 
--- each token's text has at most 65,535 bytes
+-- the text of each token has at most 65,535 bytes
 abbrev pub AreShort : List Token → Type 0
 AreShort ts = Each (λ t. length t.lex ≤ most_token_bytes) ts
 
--- From the front on, where the characters `cs` stand, the tokens `ts` of at most 65,535 bytes stand up to the offset `at`, and `rest` stands there.
+-- The tokens `ts`, each with a text of at most 65,535 bytes, and separators extend from the beginning of the
+-- characters `cs` up to the offset `at`, where `rest` begins.
 pub record Reaches (v : Vocabulary) (cs : List ℕ) (ts : List Token) (at : ℕ) (rest : List ℕ) : Type 0 where
   pub are : AreTokens v 0 cs ts at rest
   pub short : AreShort ts
 
--- At the offset `at`, which such tokens reach, stands a character that is no separator, and no word begins with it.
+-- At the offset `at`, which such tokens reach, there is a character that is not a separator and begins no
+-- word.
 pub record NoTokenAt (v : Vocabulary) (cs : List ℕ) (at : ℕ) : Type 0 where
   pub before : List Token
   pub first : ℕ
@@ -47,7 +50,7 @@ pub record NoTokenAt (v : Vocabulary) (cs : List ℕ) (at : ℕ) : Type 0 where
   pub no_separator : is_separator first ≡ false
   pub no_word : BeginsNone (IsAnyWord v) (first ∷ rest)
 
--- At the offset `at`, which such tokens reach, stands a token whose text has more than 65,535 bytes.
+-- At the offset `at`, which such tokens reach, there is a token whose text has more than 65,535 bytes.
 pub record LongTokenAt (v : Vocabulary) (cs : List ℕ) (at : ℕ) : Type 0 where
   pub before : List Token
   pub kind : Terminal
@@ -58,18 +61,19 @@ pub record LongTokenAt (v : Vocabulary) (cs : List ℕ) (at : ℕ) : Type 0 wher
   pub token : IsToken v kind lex word rest
   pub long : most_token_bytes < length lex
 
--- The bytes are a text, and no more than a sentence may have.
+-- The bytes are UTF-8, and at most as many as a sentence may have.
 pub record IsReadable (sentence : List ℕ) : Type 0 where
   pub short : length sentence ≤ most_sentence_bytes
   pub utf8 : IsUtf8 sentence
 
--- These are the tokens of the sentence.
+-- The tokens of the sentence are ts.
 pub record AreTokensOf (v : Vocabulary) (sentence : List ℕ) (ts : List Token) : Type 0 where
   pub readable : IsReadable sentence
   pub tokens : Reaches v (chars sentence) ts (length sentence) []
 
--- The sentence has no tokens, for this reason: it is too long; else it is no text, `at` being the length of its longest front that is one; else from
--- the left no token, or one that is too long, stands at the offset `at`. Want of memory says nothing of the sentence.
+-- The reason why the sentence has no tokens: it is too long; else it is not UTF-8, and `at` is the offset of
+-- the first invalid byte; else, from left to right, no word begins at the offset `at`, or the token there is
+-- too long. `NoMemory` states nothing about the sentence.
 abbrev pub IsRefused : Vocabulary → List ℕ → ScanFault → Type 0
 IsRefused v sentence fault.TooLong = most_sentence_bytes < length sentence
 IsRefused v sentence (fault.BadUtf8 at) = (length sentence ≤ most_sentence_bytes) × (IsUtf8 sentence → ⊥) × (at ≡ utf8_valid_len sentence)
@@ -77,16 +81,17 @@ IsRefused v sentence (fault.NoToken at) = IsReadable sentence × NoTokenAt v (ch
 IsRefused v sentence (fault.LongToken at) = IsReadable sentence × LongTokenAt v (chars sentence) at
 IsRefused v sentence fault.NoMemory = Unit {0}
 
--- A token of the vocabulary: a literal's number with the literal's text, or a class in use with UTF-8 of at most 65,535 bytes.
+-- A token of the vocabulary: the number of a literal with the literal's text, or a class in use with UTF-8 of
+-- at most 65,535 bytes.
 abbrev pub IsTokenOf : Vocabulary → Terminal → List ℕ → Type 0
 IsTokenOf v (Literal l) lex = slice_get v.literals l ≡ Some lex
 IsTokenOf v (Class c) lex = Has v.classes c × IsTokenText lex
 
--- each of the tokens is one of the vocabulary
+-- each token belongs to the vocabulary
 abbrev pub FitAll : Vocabulary → List Token → Type 0
 FitAll v ts = Each (λ t. IsTokenOf v t.kind t.lex) ts
 
--- The token stands at the offset `at` in front of the characters, and `rest` behind it.
+-- The characters begin with the token t, whose offset is `at`, and `rest` are the characters after it.
 pub record TakesToken (v : Vocabulary) (cs : List ℕ) (at : ℕ) (t : Token) (rest : List ℕ) : Type 0 where
   pub word : List ℕ
   pub split : cs ≡ word ++ rest
@@ -95,7 +100,7 @@ pub record TakesToken (v : Vocabulary) (cs : List ℕ) (at : ℕ) (t : Token) (r
   pub short : length t.lex ≤ most_token_bytes
   pub fits : IsTokenOf v t.kind t.lex
 
--- A token with a text that is too long stands in front of the characters.
+-- The characters begin with a token whose text is too long.
 pub record HasLongToken (v : Vocabulary) (cs : List ℕ) : Type 0 where
   pub kind : Terminal
   pub lex : List ℕ
@@ -105,7 +110,7 @@ pub record HasLongToken (v : Vocabulary) (cs : List ℕ) : Type 0 where
   pub token : IsToken v kind lex word rest
   pub long : most_token_bytes < length lex
 
--- why no token is taken from the front of the characters at the offset `at`
+-- the reason why no token can be read at the beginning of the characters, which is at the offset `at`
 abbrev pub IsStopped : Vocabulary → List ℕ → ℕ → ScanFault → Type 0
 IsStopped v cs at fault.TooLong = ⊥
 IsStopped v cs at (fault.BadUtf8 k) = ⊥

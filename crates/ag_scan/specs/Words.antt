@@ -1,4 +1,5 @@
--- The words of a sentence: what is a word of a literal or of a class. All of this is this project's. A text stands here as the list of its characters.
+-- The words of a sentence: those of literals and those of classes. All definitions are this project's. In
+-- this file a text is the list of its characters.
 use Rattle.std.specs.Prelude.{◌≡◌, ℕ, zero, suc, ◌≤◌, true, List, [], ◌∷◌, ◌++◌, length, Some, slice_get, encode_utf8_all}
 use Rattle.std.specs.List.{list_all}
 use Rattle.ag_grammar.specs.Lists.{Differ, Each, Has}
@@ -8,7 +9,7 @@ use Rattle.ag_grammar.specs.grammars.Accepted.{IsSeparator}
 use Rattle.ag_grammar.specs.grammars.AttributeGrammar.{Grammar}
 use Rattle.ag_tokens.specs.Tokens.{is_quotable, IsDigits, IsName}
 
--- What the words are taken from: the texts of the literals by their numbers, and the classes in use.
+-- The vocabulary of a grammar: the texts of its literals, indexed by their numbers, and the classes in use.
 pub record Vocabulary : Type 0 where
   pub literals : List (List ℕ)
   pub classes : List ℕ
@@ -16,12 +17,12 @@ pub record Vocabulary : Type 0 where
 abbrev pub over : List (List ℕ) → List ℕ → Vocabulary
 over literals classes = record { literals = literals; classes = classes }
 
--- the literals of a grammar, and the classes that it uses
+-- the vocabulary of a grammar: its literals and its classes
 abbrev pub vocabulary_of : Grammar → Vocabulary
 vocabulary_of g = over g.literals g.classes
 
--- The characters are a word of the class, 0 being NAME, 1 NUMBER and 2 TEXT, and `lex` is the text that it has: of a TEXT what stands between its
--- quotes, of the others the word itself.
+-- The characters are a word of the class (0 is NAME, 1 is NUMBER, 2 is TEXT), and `lex` is its text: for a
+-- TEXT what is between its quotes, else the word itself.
 abbrev pub IsWordOfClass : ℕ → List ℕ → List ℕ → Type 0
 IsWordOfClass zero word lex = IsName word × (lex ≡ encode_utf8_all word)
 IsWordOfClass (suc zero) word lex = IsDigits word × (lex ≡ encode_utf8_all word)
@@ -37,11 +38,11 @@ IsWord v (Class c) word lex = Has v.classes c × IsWordOfClass c word lex
 abbrev pub HasNoEmpty : List (List ℕ) → Type 0
 HasNoEmpty literals = Each (λ x. 1 ≤ length x) literals
 
--- the characters are one of the literals,
+-- the characters are a literal,
 abbrev pub IsLiteral : List (List ℕ) → List ℕ → Type 0
 IsLiteral literals word = Has literals (encode_utf8_all word)
 
--- a word of one of the classes,
+-- or a word of one of the classes,
 abbrev pub IsClassed : List ℕ → List ℕ → Type 0
 IsClassed classes word = (c : ℕ) × (lex : List ℕ) × Has classes c × IsWordOfClass c word lex
 
@@ -49,27 +50,27 @@ IsClassed classes word = (c : ℕ) × (lex : List ℕ) × Has classes c × IsWor
 abbrev pub IsAnyWord : Vocabulary → List ℕ → Type 0
 IsAnyWord v word = (t : Terminal) × (lex : List ℕ) × IsWord v t word lex
 
--- No longer beginning of the characters than the word is so.
+-- No longer prefix of the characters `word ++ rest` has the property.
 abbrev pub IsLongest : (List ℕ → Type 0) → List ℕ → List ℕ → Type 0
 IsLongest P word rest = (longer more : List ℕ) → word ++ rest ≡ longer ++ more → P longer → length longer ≤ length word
 
--- no beginning of the characters is so
+-- no prefix of the characters has the property
 abbrev pub BeginsNone : (List ℕ → Type 0) → List ℕ → Type 0
 BeginsNone P cs = (word more : List ℕ) → cs ≡ word ++ more → P word → ⊥
 
--- a word that is also a literal has the literal's kind
+-- the word is not a literal, if the terminal is a class
 abbrev pub LiteralWins : Vocabulary → Terminal → List ℕ → Type 0
 LiteralWins v (Literal l) word = Unit {0}
 LiteralWins v (Class c) word = IsLiteral v.literals word → ⊥
 
--- The word in front of `rest` is a token of the terminal: it is a word of it, no longer beginning of the characters is a word of any, and a literal
--- wins a tie.
+-- The word before `rest` is a token of the terminal: it is a word of the terminal, no longer prefix of the
+-- characters is a word of any terminal, and a literal wins a tie.
 pub record IsToken (v : Vocabulary) (t : Terminal) (lex word rest : List ℕ) : Type 0 where
   pub is : IsWord v t word lex
   pub longest : IsLongest (IsAnyWord v) word rest
   pub tie : LiteralWins v t word
 
--- The literals are no two the same, none is empty, and none has a separator.
+-- The literals are different, none is empty, and none contains a separator.
 pub record IsClean (v : Vocabulary) : Type 0 where
   pub some : HasNoEmpty v.literals
   pub plain : Each (Each (λ b. IsSeparator b → ⊥)) v.literals

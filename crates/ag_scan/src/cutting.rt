@@ -1,4 +1,4 @@
-//! The token in front of a text: the longest word that stands there.
+//! The first token of a text: the longest word at its beginning.
 
 ghost use Rattle.std.specs.Prelude.{◌≡◌, ◌++◌, nat_lt, chars, encode_utf8_all};
 ghost use Rattle.std.specs.Prelude.{option_map, IfOk, IfErr, MatchOption};
@@ -14,7 +14,7 @@ use crate::literals::Literals;
 use ag_grammar::Terminal;
 use ag_grammar::limits::MOST_TOKEN_BYTES;
 
-/// What stands in a text behind a word in front.
+/// Splits a text after the word with which it begins; returns the word and the rest.
 #[inline(always)]
 fn split_word<'t>(text: &'t str, word: &str) -> (&'t str, &'t str)
     requires { IsFront word.now text.now }
@@ -26,7 +26,7 @@ fn split_word<'t>(text: &'t str, word: &str) -> (&'t str, &'t str)
     text.split_at(word.len())
 }
 
-/// The longest literal at the front.
+/// Returns the longest literal at the beginning of a text, or `None`.
 #[inline(always)]
 fn literal_in_front<'t>(literals: &Literals<'_>, text: &'t str) -> Option<Front<'t>>
     ensures { MatchOption (option_map (λ f. front_of f) result)
@@ -44,7 +44,7 @@ fn literal_in_front<'t>(literals: &Literals<'_>, text: &'t str) -> Option<Front<
     })
 }
 
-/// Whether a text is shorter than another.
+/// Returns whether a text has fewer bytes than another one.
 #[inline(always)]
 fn is_shorter(text: &str, other: &str) -> bool
     ensures { result ≡ nat_lt (width (chars text.now)) (width (chars other.now)) }
@@ -52,7 +52,8 @@ fn is_shorter(text: &str, other: &str) -> bool
     text.len() < other.len()
 }
 
-/// Of a literal and a word of a class in front the longer one; the literal where they are as long.
+/// Returns the longer of a literal and a word of a class, both at the beginning of the same text;
+/// the literal if they have the same length.
 #[inline(always)]
 fn longer_of<'t>(literal: Option<Front<'t>>, class: Option<Front<'t>>) -> Option<Front<'t>>
     ensures { option_map (λ f. front_of f) result ≡ longer_of
@@ -67,7 +68,8 @@ fn longer_of<'t>(literal: Option<Front<'t>>, class: Option<Front<'t>>) -> Option
     }
 }
 
-/// The longest word at the front; a literal wins a tie.
+/// Returns the longest word at the beginning of a text, or `None`; a literal wins a tie. Does not
+/// allocate.
 #[inline(always)]
 pub fn word_in_front<'t>(
     literals: &Literals<'_>,
@@ -82,7 +84,9 @@ pub fn word_in_front<'t>(
     longer_of(literal, class_in_front(classes, text))
 }
 
-/// What stands behind the token in front of what is left of a text, which stands at the offset `at`.
+/// Returns the text after its first token; `at` is the offset of the text in the sentence. Fails
+/// with S2 at `at` if no word begins there, and with S3 at `at` if the text of the token has more
+/// than 65,535 bytes.
 #[inline(always)]
 pub fn behind_token<'t>(
     literals: &Literals<'_>,
@@ -102,7 +106,7 @@ pub fn behind_token<'t>(
     if lex.len() > MOST_TOKEN_BYTES {
         return Err(ScanFault::LongToken(at));
     }
-    // a look tells the prover that a text is UTF-8
+    // this call shows the prover that the text is UTF-8
     let _utf8 = lex.as_bytes();
     Ok(rest)
 }

@@ -1,10 +1,10 @@
-//! How a refusal of a sentence's tokens is printed.
+//! Formatting of faults.
 
 use crate::fault::ScanFault;
 use std::error::Error;
 use std::fmt;
 
-/// The number of the fault, and where it has one its offset: `S2 at 1`, `S4`.
+/// Writes the number of the fault and, if it has one, the offset: `S2 at 1`, `S4`.
 impl fmt::Display for ScanFault {
     ghost use Rattle.std.specs.Prelude.{Some};
     ghost use Rattle.ag_scan.specs.Printed.{printed};

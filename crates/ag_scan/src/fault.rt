@@ -1,22 +1,22 @@
-//! Why a sentence has no tokens.
+//! The reasons why a sentence has no tokens.
 
 ghost use Rattle.std.specs.Prelude.{◌≡◌};
 ghost use Rattle.ag_scan.specs.declared.fault.ScanFault.TheVariants as scan_fault;
 
 use ag_value::OutOfMemory;
 
-/// Why a sentence has no tokens. Offsets are in bytes from the front of the sentence.
+/// Why a sentence has no tokens. Offsets are in bytes from the beginning of the sentence.
 #[derive(Clone, Copy, Debug, PartialEq, Eq)]
 pub enum ScanFault {
-    /// S1: the sentence is no UTF-8; its longest front that is has so many bytes.
+    /// S1: the sentence is not UTF-8; the offset of the first invalid byte.
     BadUtf8(usize),
-    /// S2: at this offset stands no separator, and no word begins there.
+    /// S2: the character at this offset is not a separator, and no word begins there.
     NoToken(usize),
     /// S3: the text of the token at this offset has more than 65,535 bytes.
     LongToken(usize),
     /// S4: the sentence has more than 1,048,576 bytes.
     TooLong,
-    /// A growth was refused.
+    /// An allocation failed.
     NoMemory,
 }
 

@@ -1,4 +1,4 @@
-//! The word of a class at the front of a text.
+//! The words of token classes at the beginning of a text.
 
 ghost use Rattle.std.specs.Prelude.{◌≡◌, ◌∷◌, chars, option_map};
 ghost use Rattle.ag_tokens.specs.Lexing as lexing;
@@ -8,18 +8,19 @@ use ag_grammar::Terminal;
 use ag_grammar::limits::{NAME, NUMBER, TEXT};
 use ag_tokens::{Class, first, split_behind, starts_name};
 
-/// A word in front of a text.
+/// A word at the beginning of a text.
 #[derive(Clone, Copy, Debug)]
 pub struct Front<'t> {
-    /// What it is a word of.
+    /// The terminal to which the word belongs.
     pub kind: Terminal,
-    /// The text that it has.
+    /// The text of the word: for a TEXT what is between its quotes, else the word itself.
     pub lex: &'t str,
-    /// What stands behind the word.
+    /// The text after the word.
     pub rest: &'t str,
 }
 
-/// The word of a class that is a longest front.
+/// Returns the word of a class that is the longest prefix of the text whose characters belong to
+/// `span`.
 fn span_in_front(span: Class, class: u16, text: &str) -> Front<'_>
     ensures { cutting.front_of result
         ≡ cutting.span_from (lexing.is_in span) class (chars text.now) }
@@ -32,7 +33,8 @@ fn span_in_front(span: Class, class: u16, text: &str) -> Front<'_>
     }
 }
 
-/// The TEXT whose first quote stood before the text.
+/// Returns the TEXT whose opening quote has been read, or `None` if its closing quote is missing on
+/// this line.
 fn text_in_front(text: &str) -> Option<Front<'_>>
     ensures { option_map (λ f. cutting.front_of f) result ≡ cutting.text_from (chars text.now) }
 {
@@ -47,8 +49,8 @@ fn text_in_front(text: &str) -> Option<Front<'_>>
     }
 }
 
-/// The word of one of these classes at the front of a text, which has this character and then what
-/// stands behind it.
+/// Returns the word of one of these classes at the beginning of `text`, given its first character
+/// `c` and the text after that; `None` if no such word begins there.
 #[inline(never)]
 #[tactic(auto, unfolding(crate::specs::Cutting::class_from))]
 fn class_begun<'t>(classes: &[u16], c: char, behind: &'t str, text: &'t str) -> Option<Front<'t>>
@@ -74,8 +76,9 @@ fn class_begun<'t>(classes: &[u16], c: char, behind: &'t str, text: &'t str) -> 
     None
 }
 
-/// The word at the front of one of these classes. It stands apart from `class_in_front`, so that room
-/// for an answer is cleared only where a class is in use.
+/// Returns the word of one of these classes at the beginning of a text, or `None`. Separate from
+/// `class_in_front`, so that the stack slot for the result is initialized only if a class is in
+/// use.
 #[inline(always)]
 #[tactic(auto, unfolding(crate::specs::Cutting::class_from))]
 fn class_among<'t>(classes: &[u16], text: &'t str) -> Option<Front<'t>>
@@ -86,7 +89,7 @@ fn class_among<'t>(classes: &[u16], text: &'t str) -> Option<Front<'t>>
     class_begun(classes, c, behind, text)
 }
 
-/// The word of a class in use at the front. Takes no memory.
+/// Returns the word of a class in use at the beginning of a text, or `None`. Does not allocate.
 #[inline(always)]
 #[tactic(auto, unfolding(crate::specs::Cutting::class_from))]
 pub fn class_in_front<'t>(classes: &[u16], text: &'t str) -> Option<Front<'t>>

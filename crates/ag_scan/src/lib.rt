@@ -1,4 +1,5 @@
-//! The tokens of a sentence, by longest match over a grammar's literals and the classes it uses.
+//! The scanner: the tokens of a sentence, by longest match over the literals and the token classes
+//! of a grammar.
 #![tactic(auto)]
 
 mod cutting;

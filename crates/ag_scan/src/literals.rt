@@ -1,5 +1,5 @@
-//! The literals of a grammar in the order of their texts, and the longest one at the front of a
-//! text.
+//! The literals of a grammar, sorted by their texts, and the search for the longest one at the
+//! beginning of a text.
 
 ghost use Rattle.std.specs.Prelude.{◌≡◌, ◌≤◌, length, slice_get, Some, IfNone, IfOk, IfSome};
 ghost use Rattle.std.specs.Prelude.{MatchBool, MatchOption};
@@ -21,9 +21,9 @@ pub struct Word<'g> {
     pub number: u16,
 }
 
-/// The literals in the order of their texts, each with the index of the last one before it that its
-/// own text begins with, and for each byte which of them begin with it. Contracts see it as the list
-/// of the texts by their numbers.
+/// The literals sorted by their texts. For each of them, `shorter` has the index of the last one
+/// before it that is a prefix of it, and `starts` has, for each byte, the literals that begin with
+/// it. In contracts it is the list of the texts, indexed by the literals' numbers.
 #[derive(Drop)]
 pub struct Literals<'g> {
     texts: &'g [Text],
@@ -44,20 +44,20 @@ impl<'g> Model for Literals<'g> {
         × AreTold l.words.items l.starts.items (length l.words.items) };
 }
 
-/// Whether the text begins with a word.
+/// Returns whether the text begins with the word.
 #[inline(always)]
 fn begins_with(text: &str, word: &str) -> bool
     ensures { MatchBool result (IsFront word.now text.now) (IsFront word.now text.now → ⊥) }
 {
-    // most words are one byte, which is looked at in place
+    // most words have one byte, which is compared without a call
     if word.len() == 1 && !text.is_empty() {
         return first_byte(word) == first_byte(text);
     }
     text.as_bytes().starts_with(word.as_bytes())
 }
 
-/// How many words stand no later than the text in the order of texts; the text begins with none of
-/// the others.
+/// Returns the number of words that are not after the text in the order of texts; the others are
+/// not prefixes of the text.
 fn count_up_to(words: &[Word<'_>], text: &str) -> usize
     requires { AreOrdered words.now }
     ensures within { result ≤ length words.now }
@@ -67,7 +67,7 @@ fn count_up_to(words: &[Word<'_>], text: &str) -> usize
     words.partition_point(|word| word.text <= text)
 }
 
-/// How many words stand up to the last one.
+/// Returns the number of words up to the one with this index; 0 for `None`.
 fn behind(last: Option<u16>) -> usize
     ensures { result ≡ behind_last last }
 {
@@ -77,7 +77,8 @@ fn behind(last: Option<u16>) -> usize
     }
 }
 
-/// The last of the first `bound` words that the text begins with.
+/// Returns the index of the last of the first `bound` words that is a prefix of the text, or
+/// `None`.
 fn last_front(words: &[Word<'_>], shorter: &[Option<u16>], bound: usize, text: &str) -> Option<u16>
     requires many { bound ≤ most_literals }
     requires words { bound ≤ length words.now }
@@ -98,7 +99,7 @@ fn last_front(words: &[Word<'_>], shorter: &[Option<u16>], bound: usize, text: &
     None
 }
 
-/// The literals with their numbers.
+/// Returns the literals with their numbers. Fails with `NoMemory` if the list cannot be allocated.
 fn numbered<'g>(alloc: Global, literals: &'g [Text]) -> Result<Vec<Word<'g>>, NoMemory>
     requires { length literals.now ≤ most_literals }
     ensures literals { IfOk result (λ ws. AreLiterals literals.now ws.items) }
@@ -114,7 +115,8 @@ fn numbered<'g>(alloc: Global, literals: &'g [Text]) -> Result<Vec<Word<'g>>, No
     Ok(words)
 }
 
-/// The literals in the order of their texts.
+/// Returns the literals sorted by their texts. Fails with `NoMemory` if the list cannot be
+/// allocated.
 fn ordered<'g>(alloc: Global, literals: &'g [Text]) -> Result<Vec<Word<'g>>, NoMemory>
     requires { length literals.now ≤ most_literals }
     ensures literals { IfOk result (λ ws. AreLiterals literals.now ws.items) }
@@ -126,7 +128,8 @@ fn ordered<'g>(alloc: Global, literals: &'g [Text]) -> Result<Vec<Word<'g>>, NoM
     Ok(words)
 }
 
-/// For each word the last one before it that its text begins with.
+/// Returns for each word the index of the last word before it that is a prefix of it: for `+`,
+/// `++`, `-` these are none, 0 and none. Fails with `NoMemory` if the list cannot be allocated.
 fn linked(alloc: Global, words: &[Word<'_>]) -> Result<Vec<Option<u16>>, NoMemory>
     requires many { length words.now ≤ most_literals }
     requires ordered { AreOrdered words.now }
@@ -141,7 +144,7 @@ fn linked(alloc: Global, words: &[Word<'_>]) -> Result<Vec<Option<u16>>, NoMemor
     Ok(shorter)
 }
 
-/// The longest literal that the text begins with, by the table of the literals.
+/// Returns the longest literal that is a prefix of the text, or `None`. Searches the sorted table.
 fn longest_of<'w, 'g>(
     texts: &[Text],
     words: &'w [Word<'g>],
@@ -157,7 +160,7 @@ fn longest_of<'w, 'g>(
     Some(&words[index as usize])
 }
 
-/// The word of an index, where the text begins with it.
+/// Returns the word with this index, if it is a prefix of the text.
 #[inline(always)]
 fn front_at<'w, 'g>(words: &'w [Word<'g>], index: u16, text: &str) -> Option<&'w Word<'g>>
     ensures there { IfSome result (λ w. slice_get words.now index ≡ Some w.now) }
@@ -171,8 +174,8 @@ fn front_at<'w, 'g>(words: &'w [Word<'g>], index: u16, text: &str) -> Option<&'w
     }
 }
 
-/// The longest literal that the text begins with, which is looked for in the whole table only where
-/// several begin with the text's first byte.
+/// Returns the longest literal that is a prefix of the text, or `None`. Searches the sorted table
+/// only if several literals begin with the first byte of the text.
 #[inline(always)]
 fn longest_by_start<'w, 'g>(
     texts: &[Text],
@@ -198,7 +201,8 @@ fn longest_by_start<'w, 'g>(
 }
 
 impl<'g> Literals<'g> {
-    /// The table of a grammar's literals. Takes memory for each, and for 256 bytes.
+    /// Makes the table of a grammar's literals. Fails with `NoMemory` if memory runs out: allocates
+    /// for each literal, and 256 entries for the first bytes.
     pub fn new(alloc: Global, texts: &'g [Text]) -> Result<Literals<'g>, NoMemory>
         requires many { length texts.now ≤ most_literals }
         requires words { HasNoEmpty texts.now }
@@ -215,7 +219,7 @@ impl<'g> Literals<'g> {
         })
     }
 
-    /// The longest literal that the text begins with. Takes no memory.
+    /// Returns the longest literal that is a prefix of the text, or `None`. Does not allocate.
     #[inline(always)]
     pub fn longest(&self, text: &str) -> Option<&Word<'g>>
         ensures { MatchOption result (HasNoFront self.now text.now)

@@ -1,4 +1,4 @@
-//! A sentence that is known to have tokens.
+//! Sentences that are known to have tokens.
 
 ghost use Rattle.std.specs.Prelude.{◌≡◌, ◌≤◌, length, IfErr, IfOk, OnOk};
 ghost use Rattle.ag_grammar.specs.grammars.Accepted.{most_literals};
@@ -18,8 +18,9 @@ use ag_value::Text;
 use std::alloc::Global;
 use std::marker::Model;
 
-/// A sentence that is known to have tokens, which it hands out one by one. It keeps the sentence's text
-/// and a table of the literals, and no token. Contracts see it as the list of its tokens.
+/// A sentence that is known to have tokens. It stores the text of the sentence and a table of the
+/// literals, but not the tokens; `tokens` computes them again, one at a time. In contracts it is
+/// the list of its tokens.
 #[derive(Drop)]
 pub struct Sentence<'s> {
     literals: Literals<'s>,
@@ -41,7 +42,8 @@ impl<'s> Model for Sentence<'s> {
     ghost invariant = { λ s. HasTokens (over s.literals s.classes.now) s.text.now };
 }
 
-/// Cuts a text that is no longer than a sentence to its end.
+/// Checks that a text of at most 1,048,576 bytes consists of tokens. Fails with S2 or S3 at the
+/// first offset where it does not.
 #[inline(never)]
 fn cut(literals: &Literals<'_>, classes: &[u16], text: &str) -> Result<(), ScanFault>
     requires short { length text.now ≤ most_sentence_bytes }
@@ -64,7 +66,7 @@ fn cut(literals: &Literals<'_>, classes: &[u16], text: &str) -> Result<(), ScanF
     Ok(())
 }
 
-/// The tokens of a sentence over the texts of literals and over classes in use.
+/// Scans a sentence over the texts of literals and the classes in use. Fails as `scan` does.
 fn scan_over<'s>(
     alloc: Global,
     literals: &'s [Text],
@@ -91,11 +93,13 @@ fn scan_over<'s>(
     Ok(Sentence::new(literals, classes, text))
 }
 
-/// The tokens of a sentence, by longest match over the grammar's literals and the classes that it
-/// uses, or the first of these refusals: S4 TooLong, above 1,048,576 bytes; S1 BadUtf8; then from
-/// the left S2 NoToken, where no word begins, and S3 LongToken, a text above 65,535 bytes. Takes
-/// memory for a table of the literals, and none for the tokens, which are cut anew when they are
-/// handed out.
+/// Scans a sentence: checks that it consists of tokens, by longest match over the literals and the
+/// classes of the grammar.
+///
+/// Fails with the first of these faults: S4 if the sentence has more than 1,048,576 bytes; S1 if it
+/// is not UTF-8; then from left to right S2, where no word begins, and S3, where the text of a
+/// token has more than 65,535 bytes. Allocates a table of the literals, but nothing for the tokens,
+/// which are computed again when they are read; fails with `NoMemory` if memory runs out.
 pub fn scan<'s>(
     alloc: Global,
     grammar: &'s Grammar,
@@ -109,7 +113,7 @@ pub fn scan<'s>(
 }
 
 impl<'s> Sentence<'s> {
-    /// The sentence with this text, which has tokens.
+    /// Makes the sentence of a text that has tokens.
     fn new(literals: Literals<'s>, classes: &'s [u16], text: &'s str) -> Sentence<'s>
         requires clean { IsClean (over literals classes.now) }
         requires tokens { AreTokensOf (over literals classes.now) text.now
@@ -123,7 +127,7 @@ impl<'s> Sentence<'s> {
         }
     }
 
-    /// The tokens from the first one on. Takes no memory.
+    /// Returns a reader of the tokens, positioned at the first one. Does not allocate.
     pub fn tokens(&self) -> Tokens<'_>
         ensures { result ≡ handed self.now 0 }
     {

@@ -1,4 +1,4 @@
-//! Which of the literals begin with each byte.
+//! A table of the literals that begin with each byte.
 
 ghost use Rattle.std.specs.Prelude.{◌≡◌, ◌≤◌, ◌∷◌, List, ℕ, length, IfOk};
 ghost use Rattle.ag_grammar.specs.Lists.{Each};
@@ -9,18 +9,18 @@ use crate::literals::Word;
 use ag_value::NoMemory;
 use std::alloc::Global;
 
-/// Which words begin with a byte.
+/// The words that begin with a byte.
 #[derive(Clone, Copy, Debug, PartialEq, Eq)]
 pub enum Start {
     /// None.
     Nothing,
-    /// The one of this index alone.
+    /// Only the one with this index.
     Sole(u16),
     /// Several.
     Several,
 }
 
-/// What is known of a byte once the word of an index begins with it too.
+/// Returns the entry of a byte after one more word, with this index, that begins with it.
 fn with_one(start: Start, index: u16) -> Start
     ensures { result ≡ with_one start index }
 {
@@ -30,7 +30,7 @@ fn with_one(start: Start, index: u16) -> Start
     }
 }
 
-/// The byte that a text begins with.
+/// Returns the first byte of a text that is not empty.
 #[inline(always)]
 pub fn first_byte(text: &str) -> u8
     requires { 1 ≤ length text.now }
@@ -39,7 +39,8 @@ pub fn first_byte(text: &str) -> u8
     text.as_bytes()[0]
 }
 
-/// For each byte the words that begin with it. Takes memory for 256 entries.
+/// Returns a table of the words that begin with each byte. Fails with `NoMemory` if its 256 entries
+/// cannot be allocated.
 pub fn starts_of(alloc: Global, words: &[Word<'_>]) -> Result<Vec<Start>, NoMemory>
     requires many { length words.now ≤ most_literals }
     requires texts { Each (λ w. 1 ≤ length w.text.now) words.now }

@@ -5,10 +5,10 @@ use ag_grammar::Terminal;
 /// A token of a sentence.
 #[derive(Clone, Copy, Debug)]
 pub struct Token<'t> {
-    /// What it is a word of.
+    /// The terminal to which the word belongs.
     pub kind: Terminal,
-    /// Where its word begins, in bytes from the front of the sentence.
+    /// The offset of the word in bytes from the beginning of the sentence.
     pub at: u32,
-    /// Its text: of a TEXT what stands between the quotes, and else the word itself.
+    /// The text of the token: for a TEXT what is between its quotes, else the word itself.
     pub lex: &'t str,
 }

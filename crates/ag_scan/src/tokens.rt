@@ -1,4 +1,4 @@
-//! The tokens of a sentence from one on, cut one by one.
+//! A reader of the tokens of a sentence, which computes one token at a time.
 
 ghost use Rattle.std.specs.Prelude.{◌≡◌, ◌+◌, ◌<◌, ◌≤◌, None, length, option_map, slice_get};
 ghost use Rattle.ag_scan.specs.Cutting.{front_of, tokens_in};
@@ -12,8 +12,8 @@ use crate::token::Token;
 use ag_tokens::skip_separators;
 use std::marker::Model;
 
-/// A reader of the tokens of a sentence: how many are taken, and the one that is next. Contracts see it
-/// as the list of all tokens and the number of those that are taken.
+/// A reader of the tokens of a sentence: the number of tokens already taken, and the next one. In
+/// contracts it is the list of all tokens and the number of those taken.
 #[derive(Drop)]
 pub struct Tokens<'t> {
     literals: &'t Literals<'t>,
@@ -21,7 +21,8 @@ pub struct Tokens<'t> {
     text: &'t str,
     taken: usize,
     front: Option<Front<'t>>,
-    /// Where the next token begins, or at the end the last one, in bytes from the front.
+    /// The offset of the next token, or, at the end, of the last one, in bytes from the beginning
+    /// of the sentence.
     at: u32,
 }
 
@@ -39,8 +40,8 @@ impl<'t> Model for Tokens<'t> {
         (option_map (λ f. front_of f) t.front) t.at };
 }
 
-/// The word in front of what stands behind an offset of a text, and where it begins; at the end of the
-/// text no word, and where the one before began.
+/// Returns the first word of a suffix of `text`, after its leading separators, and the offset of
+/// the word in `text`. At the end of the text returns no word and the offset `before`.
 #[inline(always)]
 fn look<'t>(
     literals: &Literals<'_>,
@@ -63,7 +64,7 @@ fn look<'t>(
 }
 
 impl<'t> Tokens<'t> {
-    /// The tokens of a text that has some, from the first one on.
+    /// Returns a reader at the first token of a text that has tokens.
     pub(crate) fn new(literals: &'t Literals<'t>, classes: &'t [u16], text: &'t str) -> Tokens<'t>
         requires { HasTokens (over literals.now classes.now) text.now }
         ensures { result ≡ handed (tokens_in (over literals.now classes.now) text.now) 0 }
@@ -79,7 +80,7 @@ impl<'t> Tokens<'t> {
         }
     }
 
-    /// The next token; none at the end. Takes no memory.
+    /// Returns the next token, or `None` at the end. Does not allocate.
     #[inline(always)]
     pub fn ahead(&self) -> Option<Token<'t>>
         ensures { option_map (λ t. token_of t) result ≡ slice_get self.now.list self.now.taken }
@@ -94,29 +95,29 @@ impl<'t> Tokens<'t> {
         }
     }
 
-    /// How many tokens are taken.
+    /// Returns the number of tokens taken.
     pub fn taken(&self) -> usize
         ensures { result ≡ self.now.taken }
     {
         self.taken
     }
 
-    /// Where the next token begins, in bytes from the front of the sentence; at the end where the last
-    /// one does, and 0 where there is none.
+    /// Returns the offset of the next token, in bytes from the beginning of the sentence; at the
+    /// end, the offset of the last token, or 0 for a sentence without tokens.
     pub fn at(&self) -> u32
         ensures { result ≡ offset_at self.now.list self.now.taken }
     {
         self.at
     }
 
-    /// Takes the next token, of which there is one. Takes no memory.
+    /// Advances past the next token, which must exist. Does not allocate.
     #[inline(always)]
     pub fn advance(&mut self)
         requires { self.old.taken < length self.old.list }
         ensures { self.new ≡ handed self.old.list (self.old.taken + 1) }
     {
         if let Some(front) = self.front {
-            // a look tells the prover that a text is UTF-8
+            // this call shows the prover that the text is UTF-8
             let _utf8 = front.rest.as_bytes();
             let (front, at) = look(self.literals, self.classes, self.text, front.rest, self.at);
             self.front = front;

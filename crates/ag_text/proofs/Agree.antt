@@ -1,4 +1,4 @@
--- The laws of the grammar language.
+-- The proofs of the laws of the grammar language.
 use Rattle.std.proofs.Common.{◌≡◌, ℕ, true, false, if◌then◌else◌, List, [], ◌∷◌, ◌++◌, map, Ok, Err, ◌⊎◌, inl, inr, chars, refl, ap, sym, ◌∙◌, subst, append_assoc, append-nil, arith}
 use Rattle.ag_tokens.specs.Ending.{Ending}
 use Rattle.ag_tokens.specs.Ending as ending
@@ -20,7 +20,7 @@ use Rattle.ag_text.proofs.Manner.{itself, manner}
 end_left : (e : Ending) (ps : List Placed) → is_end e ps ≡ true → ps ≡ []
 end_left e ps h = grind arith
 
--- what is read to the end
+-- a grammar that is parsed to the end
 pub record Whole (i j : Input) (raw : RawGrammar) : Type 0 where
   pub read : grammar_from i ≡ Ok (raw, j)
   pub ends : is_end j.ending j.left ≡ true
@@ -63,7 +63,7 @@ one_grammar text left right is also =
 -- ---- the first wrong token
 
 module _ (us : List Placed) where
-  -- where reading settles, nothing else is a grammar
+  -- if the parser succeeds, the tokens are not any other grammar
   settled : (e : Ending) (rest : List Placed) (raw : RawGrammar) → IsGrammar (us ++ rest) raw → grammar_from (before us (record { left = rest; ending = e })) ≡ Ok (raw, record { left = []; ending = e })
   settled e rest raw is = read_whole e (us ++ rest) raw is
 
@@ -93,7 +93,7 @@ refused i at x = go x.how
           none = none_goes_on x.us i.ending x.j.left (λ k same raw read. let clash = sym (stuck k same) ∙ read in cc);
         }
 
--- a whole grammar, and more behind it
+-- a whole grammar, followed by more tokens
 followed : (i j : Input) (raw : RawGrammar) → grammar_from i ≡ Ok (raw, j) → is_end j.ending j.left ≡ false → IsFirstWrong i (offset j)
 followed i j raw read open_end =
     let x = (grammar_steady.at i).ok j raw read in

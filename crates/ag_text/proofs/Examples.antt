@@ -1,4 +1,4 @@
--- Examples worked out by hand.
+-- Worked examples.
 use Rattle.std.proofs.Common.{◌≡◌, List, [], ◌∷◌, Ok, Err, codes, IsUtf8, lit<, refl, ap, sym, ◌∙◌, subst, arith}
 use Rattle.std.proofs.lemmas.Str.{encode_ascii}
 use Rattle.std.specs.Str.{chars}
@@ -50,7 +50,7 @@ start_alone_is_read = record {
   spells = (reading_agrees 8 start_tokens start_alone).0 start_is_read;
 }
 
--- without the name
+-- the tokens without the name
 abbrev bare_tokens : List Placed
 bare_tokens = name_at 0 (codes "start") ∷ mark_at 6 punctuation.Semicolon ∷ []
 

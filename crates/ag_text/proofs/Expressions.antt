@@ -1,4 +1,4 @@
--- The expression of a rule, up to its `;`, is read as the expression language reads it.
+-- The expression of a rule, up to its `;`, is parsed as in the expression language.
 use Rattle.std.proofs.Common.{◌≡◌, ◌≢◌, ℕ, pos, Bool, true, List, [], ◌∷◌, ◌++◌, map, Option, Some, None, Result, Ok, Err, refl, ap, sym, ◌∙◌, subst, append_assoc, arith}
 use Rattle.ag_expr.specs.declared.fault.ExprFault.{ExprFault}
 use Rattle.ag_expr.specs.declared.fault.ExprFault.TheVariants as fault
@@ -32,7 +32,7 @@ use Rattle.ag_text.proofs.Manner.{Exact, Steady, itself, manner}
 abbrev is_semicolon : Token → Bool
 is_semicolon = is_mark punctuation.Semicolon
 
--- ---- a whole text of tokens
+-- ---- tokens that are a whole text
 
 own_of : (at : ℕ) (es : List Placed) (x : Node × List Occ) → first_semicolon es ≡ None → read_from (record { left = es; ending = ending.EndsAt at }) ≡ Ok x → IsOwnExpr es x
 own_of at es x free h = let s = spells_of (record { left = es; ending = ending.EndsAt at }) x h in record { free = free; listed = s.listed; spells = rw s.listed s.spells }
@@ -93,7 +93,7 @@ ended_steady = record {
   word = (zero_tokens ++ semicolon 1 ∷ [], (zero_node, []), ended_is zero_tokens 1 (zero_node, []) zero_own);
 }
 
--- ---- what is read with a cursor
+-- ---- the result for a cursor
 
 pub read_refused : (i : Input) (f : ExprFault) → stop_of f ≢ NoMemory → (f ≢ fault.NoMemory → read_until_from i ≡ Err f) → ended_expr_from i ≡ Err (stop_of f)
 unfolding ended_expr_from

@@ -1,4 +1,4 @@
--- Reading agrees with the syntax of grammars, and stops at the first token that can't be taken.
+-- The parser agrees with the syntax of grammars, and fails at the first token that cannot be accepted.
 use Rattle.std.proofs.Common.{◌≡◌, ℕ, Bool, true, false, not, ◌||◌, List, [], ◌∷◌, ◌++◌, map, Some, codes, bytes_eq, refl, ap, sym, ◌∙◌, subst, append-nil, arith}
 use denote.Enum.Bare.{true_same}
 use Rattle.std.proofs.lemmas.Slice.Eq.{bytes_eq-Decides}
@@ -24,7 +24,7 @@ use Rattle.ag_expr.proofs.reading.Steady.{Shortens, ends_steady, further_steady,
 use Rattle.ag_text.proofs.Expressions.{ended_exact, ended_steady}
 use Rattle.ag_text.proofs.Manner.{Exact, Starts, Steady, manner, token_exact, token_starts, token_steady}
 
--- ---- what one token is
+-- ---- the meaning of one token
 
 held : {A : Type 0} (b : Bool) (x a : A) → some_where b x ≡ Some a → b ≡ true
 held b x a h = grind arith
@@ -49,33 +49,33 @@ is_plain _ = false
 plain : (at : ℕ) (t : Token) (a : Named) → name_in at t ≡ Some a → is_plain t ≡ true
 plain at t a h = grind arith
 
--- an item is no `{`
+-- an item is not a `{`
 item_goes_on : (at : ℕ) (t : Token) (a : RawItem) → item_in at t ≡ Some a → is_other_than punctuation.OpenTable t ≡ true
 item_goes_on at t a h = grind arith
 
--- a target is no `}`
+-- a target is not a `}`
 target_goes_on : (at : ℕ) (t : Token) (a : Occ) → target_in at t ≡ Some a → is_other_than punctuation.CloseTable t ≡ true
 target_goes_on at t a h = grind arith
 
--- a name is one of two different ones at most
+-- a name equals at most one of two different names
 one_word : (v w name : List ℕ) → bytes_eq v w ≡ false → bytes_eq name v ≡ true → bytes_eq name w ≡ false
 one_word v w name other h = subst (λ x. bytes_eq x w ≡ false) (sym ((bytes_eq-Decides name v).0 h)) other
 
--- and none of the reserved ones, where it is not reserved
+-- and a name that is not reserved equals no reserved one
 not_symbol : (name : List ℕ) → not (is_reserved name) ≡ true → bytes_eq name (codes "symbol") ≡ false
 not_symbol name h = let is = bytes_eq-Decides name (codes "symbol") in grind arith
 
 plain_apart : Apart is_plain (λ t. is_word (codes "symbol") t || nowhere t)
 plain_apart t h = grind (arith, not_symbol)
 
--- what goes on with the names of a section
+-- the tokens that continue the names of a section
 abbrev names_go_on : Token → Bool
 names_go_on t = is_comma t || nowhere t
 
 abbrev section_goes_on : List ℕ → Token → Bool
 section_goes_on w t = is_word w t || names_go_on t
 
--- what stands behind the first section
+-- the tokens after the first section
 abbrev behind_syn : Token → Bool
 behind_syn t = is_word (codes "inh") t || is_semi t
 
@@ -86,7 +86,7 @@ behind_syn_apart t h = grind arith
 semi_apart : Apart is_semi (section_goes_on (codes "inh"))
 semi_apart t h = grind arith
 
--- punctuation ends what goes on with other tokens
+-- the punctuation that ends a repetition does not continue it
 mark_ends : (m : Punctuation) → Apart (is_mark m) (λ t. is_other_than m t || nowhere t)
 mark_ends m t h = rw h refl
 
@@ -96,7 +96,7 @@ mark_starts m = token_starts (λ at t a h. held (is_mark m t) tt a h)
 word_starts : (w : List ℕ) → Starts (is_word w) (word w)
 word_starts w = token_starts (λ at t a h. held (is_word w t) tt a h)
 
--- ---- each word is read
+-- ---- the parser of each rule of the syntax accepts exactly its language
 
 next_name_exact : Exact nowhere IsFurther next_name_from
 unfolding next_name_from
@@ -148,7 +148,7 @@ production_exact =
     (λ rules. then_starts (mark_starts punctuation.CloseTable)) (mark_ends punctuation.CloseTable)))
     (λ items. then_starts (mark_starts punctuation.OpenTable)) (mark_ends punctuation.OpenTable)))
 
--- any token goes on with productions
+-- any token continues the productions
 abbrev any_goes_on : Token → Bool
 any_goes_on t = is_any t || nowhere t
 
@@ -173,7 +173,7 @@ grammar_exact =
         let all : map (λ p. p) vs ≡ us = e ∙ ap (λ ys. us ++ ys) no_more ∙ append-nil us in
         many_leads {m = manner} is_plain (λ t. is_word (codes "symbol") t || nowhere t) IsProduction productions_start plain_apart vs xs (subst (λ ps. Many IsProduction ps xs) (sym all) are) rest (nothing_goes_on _ rest h)
 
--- ---- where each part stops
+-- ---- where each part fails
 
 abbrev a_name : Named
 a_name = record { name = codes "A"; at = 0 }
@@ -231,7 +231,7 @@ grammar_steady =
     then_steady (many_steady (is_word (codes "symbol")) symbol_steady (shortens symbol_exact (then_starts (word_starts (codes "symbol"))))) (λ symbols.
     ends_steady (λ productions. record { start = start; symbols = symbols; productions = productions }) (many_steady is_any production_steady (shortens production_exact any_starts))))))
 
--- ---- each further part takes a token
+-- ---- each further part takes at least one token
 
 pub symbol_shortens : Shortens symbol_from
 symbol_shortens = shortens symbol_exact (then_starts (word_starts (codes "symbol")))

@@ -1,4 +1,4 @@
--- Grammars as a language of placed tokens that a parser reads.
+-- Grammars as a language of tokens with offsets that a parser reads.
 use Rattle.std.proofs.Common.{◌≡◌, ℕ, Bool, true, false, List, [], ◌∷◌, map, Option, Some, refl, ap}
 use Rattle.ag_tokens.specs.Placed.{Placed}
 use Rattle.ag_tokens.specs.Token.{Token}
@@ -11,7 +11,7 @@ use Rattle.ag_text.specs.Syntax.{one}
 use Rattle.ag_text.specs.declared.stop.Stop.{Stop}
 use Rattle.ag_text.specs.declared.stop.Stop.TheVariants.{WrongAt}
 
--- the fault of an expression is told by the expression language
+-- whether a fault is about a token of the grammar; those of expressions belong to the expression language
 abbrev is_told : Stop → Bool
 is_told (WrongAt at) = true
 is_told _ = false

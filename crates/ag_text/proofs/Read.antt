@@ -1,4 +1,4 @@
--- What is answered of a text is what reading its tokens gives, and what follows of the text.
+-- The result of parsing a text is that of its tokens; and what follows for the text.
 use Rattle.std.proofs.Common.{◌≡◌, ◌≢◌, ◌≤◌, ℕ, nat_lt, Bool, true, false, List, length, Result, Ok, Err, IfOk, IfErr, chars, IsUtf8, refl, ap, sym, ◌∙◌, subst, arith}
 use Rattle.std.proofs.lemmas.Bool.Decides.{nat_tests}
 use Rattle.std.proofs.lemmas.Str.{IsUtf8-from_is_utf8, is_utf8-from_IsUtf8}
@@ -33,7 +33,7 @@ read_err text j s f is lexes read i one memory =
     let other : s ≢ stop.NoMemory = λ e. memory (ap Err (is ∙ ap (fault_of text) e)) in
     ap (λ l. answer_of text (grammar_of l)) (same_input 0 (chars text) i j one lexes) ∙ ap (answer_of text) (read other) ∙ ap Err (sym is)
 
--- what does not end is not read to the end
+-- tokens that do not end the text are not parsed to its end
 no_end : (e : Ending) (ps : List Placed) (raw : RawGrammar) (j : Input) → ((qs : List Placed) → is_end e qs ≡ false) → grammar_of (record { left = ps; ending = e }) ≡ Ok (raw, j) → ⊥
 no_end e ps raw j never read =
     let i : Input = record { left = ps; ending = e } in
@@ -44,7 +44,7 @@ no_end e ps raw j never read =
     let open_end = never j.left in
     let bad : ⊥ = grind arith in bad
 
--- ---- of a whole text
+-- ---- for a whole text
 
 pub is_read : (text : List ℕ) → IsUtf8 text → length text ≤ most_text_bytes → (r : Result RawGrammar TextFault) → IsReadText text r → IsRead text r
 is_read text utf8 short r is i lexes memory = let valid = is_utf8-from_IsUtf8 text utf8 in let read = is i lexes memory in grind (arith, nat_tests)
@@ -93,7 +93,7 @@ pub never_of : (text : List ℕ) (r : Result RawGrammar TextFault) → IsRead te
 never_of text (Ok raw) is = tt
 never_of text (Err f) is = λ e. let input = one_input (chars text) in let all = is input.0 input.1 (λ q. cc) in let bad : ⊥ = grind arith in bad
 
--- the same in the words of the code
+-- the same for the values of the code
 pub is_text : (text part : List ℕ) → part ≡ text → (r : Result RawGrammar TextFault) → IsReadText part r → IsReadText text r
 is_text text part same r is = subst (λ t. IsReadText t r) same is
 

@@ -1,4 +1,5 @@
--- Parts that are read one after the other, beside a loop: what the theory of reading says of grammars.
+-- Parts that are parsed one after the other, for the proofs of loops: the theory of parsers, applied to
+-- grammars.
 use Rattle.std.proofs.Common.{◌≡◌, Bool, true, false, List, [], ◌∷◌, ◌++◌, Ok, Err, refl}
 use Rattle.ag_tokens.specs.Placed.{Input}
 use Rattle.ag_tokens.specs.Parsing.{sees}
@@ -18,5 +19,5 @@ module _ {A : Type 0} (begins : Token → Bool) (item : Parser A) (found : List 
   pub failed : (e : Stop) → Going false begins item found i whole → sees begins i ≡ true → item i ≡ Err e → whole ≡ Err e
   failed e so_far leads is = turns.failed false begins item found i whole e so_far leads is
 
--- what a loop over them goes by
+-- the lemmas for a loop over parts
 pub ruleset looped = (goes_on, stopped, failed, shorter)

@@ -1,4 +1,4 @@
--- What reading a text as a grammar answers: this project's.
+-- The result of parsing a text as a grammar (this project's).
 use Rattle.std.specs.Prelude.{◌≡◌, ◌≢◌, ◌+◌, ◌==◌, ℕ, nat_lt, cond, List, length, take, Result, Ok, Err, chars}
 use Rattle.std.specs.List.{count_by}
 use Rattle.std.specs.Str.{is_utf8}
@@ -20,11 +20,11 @@ use Rattle.ag_text.specs.Reading.{Outcome, grammar_of}
 abbrev pub line_feeds : List ℕ → ℕ
 line_feeds bytes = count_by (λ c. c == 10) bytes
 
--- the line on which an offset stands: one more than the line feeds before it
+-- the number of the line at an offset: one more than the number of line feeds before it
 abbrev pub line_of : List ℕ → ℕ → ℕ
 line_of text at = 1 + line_feeds (take at text)
 
--- the fault of an expression, which is never for memory
+-- the fault of a text for a fault of an expression; `NoMemory` stays itself
 abbrev pub expr_fault : ExprFault → TextFault
 expr_fault expr.NoMemory = fault.NoMemory
 expr_fault f = fault.Expr f
@@ -38,24 +38,24 @@ abbrev pub answer_of : List ℕ → Outcome RawGrammar → Result RawGrammar Tex
 answer_of text (Ok p) = Ok p.0
 answer_of text (Err s) = Err (fault_of text s)
 
--- what reading a text gives, whose tokens these are: too long before not UTF-8 before what its tokens give
+-- the result of parsing a text with these tokens: too long, else not UTF-8, else the result for its tokens
 abbrev pub read_text : List ℕ → Input → Result RawGrammar TextFault
 read_text text i = cond (nat_lt most_text_bytes (length text)) (Err fault.TooLong) (cond (is_utf8 text) (answer_of text (grammar_of i)) (Err (fault.BadUtf8 (utf8_valid_len text))))
 
--- The answer is what reading gives, or that memory ran out.
+-- The answer is the result of parsing the text, or memory ran out.
 abbrev pub IsRead : List ℕ → Result RawGrammar TextFault → Type 0
 IsRead text answer = (i : Input) → Lexes 0 (chars text) i → answer ≢ Err fault.NoMemory → read_text text i ≡ answer
 
--- the same of a text that is short enough and UTF-8
+-- the same for a text that is short enough and UTF-8
 abbrev pub IsReadText : List ℕ → Result RawGrammar TextFault → Type 0
 IsReadText text answer = (i : Input) → Lexes 0 (chars text) i → answer ≢ Err fault.NoMemory → answer_of text (grammar_of i) ≡ answer
 
--- A token that is told is the first that can't be taken.
+-- The token of a G2 fault is the first that cannot be accepted, and the line is that of its offset.
 abbrev pub IsFirstOf : List ℕ → TextFault → Type 0
 IsFirstOf text (fault.Unexpected line at) = (i : Input) → Lexes 0 (chars text) i → IsFirstWrong i at × (line ≡ line_of text at)
 IsFirstOf text f = Unit {0}
 
--- what a refusal says of the text: that it reads as no grammar, unless memory ran out
+-- a fault means that the text does not read as a grammar, unless memory ran out
 abbrev pub IsRefused : List ℕ → TextFault → Type 0
 IsRefused text fault.NoMemory = Unit {0}
 IsRefused text f = ReadsAsNone text

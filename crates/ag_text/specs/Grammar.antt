@@ -1,4 +1,4 @@
--- Which texts read as which grammars, and what is told of those that read as none: this project's.
+-- The texts that read as grammars (this project's).
 use Rattle.std.specs.Prelude.{◌≤◌, ℕ, List, length, chars, IsUtf8}
 use Rattle.ag_tokens.specs.Ending as ending
 use Rattle.ag_tokens.specs.Placed.{Placed}
@@ -7,8 +7,8 @@ use Rattle.ag_grammar.specs.declared.raw.RawGrammar.{RawGrammar}
 use Rattle.ag_grammar.specs.grammars.Accepted.{most_text_bytes}
 use Rattle.ag_text.specs.Syntax.{IsGrammar}
 
--- The text reads as the grammar: it is short enough and UTF-8; it is separators and longest tokens, each number within its limit; and
--- they spell the grammar.
+-- The text reads as the grammar: it is short enough and UTF-8; it is separators and longest tokens, with each
+-- number within its limit; and the tokens spell the grammar.
 pub record ReadsAsGrammar (text : List ℕ) (raw : RawGrammar) : Type 0 where
   pub short : length text ≤ most_text_bytes
   pub utf8 : IsUtf8 text
@@ -16,6 +16,6 @@ pub record ReadsAsGrammar (text : List ℕ) (raw : RawGrammar) : Type 0 where
   pub lexes : Lexes 0 (chars text) (record { left = placed; ending = ending.EndsAt (length text) })
   pub spells : IsGrammar placed raw
 
--- the text reads as no grammar
+-- the text does not read as a grammar
 abbrev pub ReadsAsNone : List ℕ → Type 0
 ReadsAsNone text = (raw : RawGrammar) → ReadsAsGrammar text raw → ⊥

@@ -1,4 +1,4 @@
--- What the laws of the grammar language state.
+-- Statements of the laws of the grammar language.
 use Rattle.std.specs.Prelude.{◌≡◌, ◌↔◌, List, [], ℕ, Ok, Err}
 use Rattle.ag_tokens.specs.Ending as ending
 use Rattle.ag_tokens.specs.Placed.{Placed, Input}
@@ -9,15 +9,17 @@ use Rattle.ag_text.specs.Reading.{grammar_of}
 use Rattle.ag_text.specs.declared.stop.Stop.TheVariants.{WrongAt}
 use Rattle.ag_text.specs.Syntax.{IsGrammar}
 
--- What is read from tokens, to their end, is what the syntax relates to them, and the other way round.
+-- The parser returns a grammar for tokens, read to their end, if and only if the syntax relates the tokens to
+-- the grammar.
 abbrev pub ReadingAgrees : Type 0
 ReadingAgrees = (at : ℕ) (placed : List Placed) (raw : RawGrammar)
     → (grammar_of (record { left = placed; ending = ending.EndsAt at }) ≡ Ok (raw, record { left = []; ending = ending.EndsAt at })) ↔ IsGrammar placed raw
 
--- Outside expressions, placed tokens that spell no grammar are refused at the first that can't be taken.
+-- Outside of expressions, the parser rejects tokens that are not a grammar at the first token that cannot be
+-- accepted.
 abbrev pub RefusesAtTheFirst : Type 0
 RefusesAtTheFirst = (i : Input) (at : ℕ) → grammar_of i ≡ Err (WrongAt at) → IsFirstWrong i at
 
--- A text reads as one grammar at most.
+-- A text reads as at most one grammar.
 abbrev pub OneGrammar : Type 0
 OneGrammar = (text : List ℕ) (left right : RawGrammar) → ReadsAsGrammar text left → ReadsAsGrammar text right → left ≡ right

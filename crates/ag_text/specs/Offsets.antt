@@ -1,4 +1,4 @@
--- Which token of a grammar's text is the first that can't be taken: this project's.
+-- The first token of a grammar's text that cannot be accepted (this project's).
 use Rattle.std.specs.Prelude.{◌≡◌, ℕ, List, [], ◌∷◌, ◌++◌}
 use Rattle.ag_tokens.specs.Ending.{Ending}
 use Rattle.ag_tokens.specs.Ending as ending
@@ -7,16 +7,17 @@ use Rattle.ag_grammar.specs.declared.raw.RawGrammar.{RawGrammar}
 use Rattle.ag_tokens.specs.Parsing.{front_offset}
 use Rattle.ag_text.specs.Syntax.{IsGrammar}
 
--- the tokens are the beginning of a grammar's text
+-- the tokens are a prefix of the text of a grammar
 abbrev pub Begins : List Placed → Type 0
 Begins ps = (more : List Placed) × (raw : RawGrammar) × IsGrammar (ps ++ more) raw
 
--- no grammar's text goes on with the token in front of the rest, wherever it stands, or ends with the text
+-- no grammar continues with the next token, at any offset, or ends with the text if that ends here
 abbrev pub NoneGoesOn : List Placed → Ending → List Placed → Type 0
 NoneGoesOn ps e [] = (at : ℕ) → e ≡ ending.EndsAt at → (raw : RawGrammar) → IsGrammar ps raw → ⊥
 NoneGoesOn ps e (p ∷ rest) = Begins (ps ++ p ∷ []) → ⊥
 
--- The offset is that in front of `rest`: what stands before is the beginning of a grammar's text, and with what stands there none goes on.
+-- The offset is that of the first token of `rest`: the tokens before it are a prefix of the text of a
+-- grammar, and no grammar continues with this token.
 pub record IsFirstWrong (i : Input) (at : ℕ) : Type 0 where
   pub before : List Placed
   pub rest : List Placed

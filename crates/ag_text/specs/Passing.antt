@@ -1,4 +1,4 @@
--- What a function that passes tokens of a text answers: this project's.
+-- The contract of the parser's functions (this project's).
 use Rattle.std.specs.Prelude.{◌≡◌, ◌≢◌, Result, Ok, Err}
 use Rattle.ag_expr.specs.declared.fault.ExprFault.{ExprFault}
 use Rattle.ag_expr.specs.declared.fault.ExprFault.TheVariants as fault
@@ -7,12 +7,13 @@ use Rattle.ag_text.specs.Reading.{Parser}
 use Rattle.ag_text.specs.declared.stop.Stop.{Stop}
 use Rattle.ag_text.specs.declared.stop.Stop.TheVariants as stop
 
--- what is read from the tokens that are left, and then those behind are left; or why reading stops, unless memory ran out
+-- the result is that of the plain parser, with the same remaining input; or the fault is that of the plain
+-- parser, unless memory ran out
 abbrev pub Reads : {X : Type 0} → Parser X → Input → Result X Stop → Input → Type 0
 Reads read old (Ok x) new = read old ≡ Ok (x, new)
 Reads read old (Err e) new = e ≢ stop.NoMemory → read old ≡ Err e
 
--- what a fault of a rule's expression is to a grammar's text
+-- the fault of the grammar's parser for a fault of an expression
 abbrev pub stop_of : ExprFault → Stop
 stop_of fault.NoMemory = stop.NoMemory
 stop_of f = stop.InExpr f

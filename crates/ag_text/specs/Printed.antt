@@ -1,10 +1,10 @@
--- How faults are printed: this project's.
+-- The formatting of faults (this project's).
 use Rattle.std.specs.Prelude.{ℕ, List, ◌++◌, codes, decimal}
 use Rattle.ag_expr.specs.Printed.{printed as printed_expr}
 use Rattle.ag_text.specs.declared.fault.TextFault.{TextFault}
 use Rattle.ag_text.specs.declared.fault.TextFault.TheVariants as fault
 
--- how a fault is printed: its number, and the offset in decimal
+-- the text of a fault: its number, and the offset in decimal
 abbrev pub printed : TextFault → List ℕ
 printed (fault.BadUtf8 at) = codes "G1 at " ++ decimal at
 printed (fault.Unexpected line at) = codes "G2 at " ++ decimal at

@@ -1,4 +1,5 @@
--- Reading a grammar from the front of placed tokens: what is read, and what is left; or why reading stops.
+-- The parser of grammars as a plain function on tokens with offsets: it returns a result and the remaining
+-- input, or a fault.
 use Rattle.std.specs.Prelude.{ℕ, Bool, true, false, not, List, [], ◌∷◌, Option, Result, Ok, Err, codes}
 use Rattle.ag_expr.specs.declared.fault.ExprFault.{ExprFault}
 use Rattle.ag_grammar.specs.declared.syntax.node.Node.{Node}
@@ -28,20 +29,20 @@ Outcome = parsing.Outcome Stop
 abbrev pub Parser : Type 0 → Type 0
 Parser = parsing.Parser Stop
 
--- a token that can't be taken is told by its offset
+-- the fault for a token that cannot be accepted: its offset
 abbrev pub wrong : Input → Stop
 wrong i = WrongAt (offset i)
 
 abbrev pub one_from : {A : Type 0} → (ℕ → Token → Option A) → Parser A
 one_from = parsing.one_from wrong
 
--- as many as there are
+-- as many parts as there are
 abbrev pub many : {A : Type 0} → (Token → Bool) → Parser A → List A → Parser (List A)
 many = further_from false
 
 -- ---- the expression of a rule
 
--- an expression that is read up to its `;`, which is passed
+-- the result for an expression up to its `;`; the remaining input begins after the `;`
 abbrev pub ended : Input → Result Ended ExprFault → Outcome (Node × List Occ)
 ended i (Ok x) = Ok (x.0, record i { left = behind_semicolon i.left })
 ended i (Err f) = Err (InExpr f)

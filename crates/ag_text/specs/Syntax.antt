@@ -1,4 +1,4 @@
--- Which placed tokens spell a grammar: this project's grammar of grammars.
+-- The syntax of grammars over tokens with offsets (this project's grammar of grammars).
 use Rattle.std.specs.Prelude.{◌≡◌, ℕ, false, List, [], ◌∷◌, Option, None, codes}
 use Rattle.ag_grammar.specs.declared.syntax.node.Node.{Node}
 use Rattle.ag_grammar.specs.declared.syntax.occurrence.Occ.{Occ}
@@ -19,7 +19,7 @@ use Rattle.ag_tokens.specs.Words as words
 use Rattle.ag_tokens.specs.Words.{◌>>=◌, ◌>>◌, gives, ◌or◌, Many, further}
 use Rattle.ag_text.specs.Words.{mark_in, word_in, name_in, item_in, target_in}
 
--- one placed token, for what it stands for at its offset
+-- one token with its meaning at its offset
 abbrev pub one : {A : Type 0} → (ℕ → Token → Option A) → List Placed → A → Type 0
 one sign = words.one (λ p. sign p.at p.token)
 
@@ -41,7 +41,7 @@ IsNames = do
   first ← one name_in
   further false (first ∷ []) IsFurther
 
--- names behind `syn` or `inh`
+-- the names after `syn` or `inh`
 abbrev pub IsSection : List ℕ → List Placed → List Named → Type 0
 IsSection w = do
   word w
@@ -61,7 +61,8 @@ IsSymbol = do
   mark punctuation.Semicolon
   gives (record { name = name; syn = syn; inh = inh })
 
--- The tokens are an expression, with its tree and the different occurrences among its own tokens. No `;` is among them.
+-- The tokens are an expression, with its tree and the distinct occurrences among these tokens. They contain
+-- no `;`.
 pub record IsOwnExpr (ps : List Placed) (expr : Node × List Occ) : Type 0 where
   pub free : first_semicolon ps ≡ None
   pub listed : expr.1 ≡ different (all_occurrences ps)

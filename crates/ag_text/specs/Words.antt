@@ -1,4 +1,4 @@
--- What one token stands for in a grammar's text: this project's.
+-- The meaning of one token in a grammar's text (this project's).
 use Rattle.std.specs.Prelude.{ℕ, ◌==◌, ◌&&◌, length, Bool, not, cond, if◌then◌else◌, List, [], ◌∷◌, Option, Some, None, bytes_eq, codes}
 use Rattle.std.specs.List.{list_any}
 use Rattle.ag_tokens.specs.declared.token.Punctuation.{Punctuation}
@@ -12,7 +12,7 @@ use Rattle.ag_grammar.specs.grammars.Accepted.{name_class, number_class, text_cl
 use Rattle.ag_grammar.specs.declared.raw.RawItem.{RawItem}
 use Rattle.ag_grammar.specs.declared.raw.RawItem.TheVariants as item
 
--- the names that name no symbol and no attribute
+-- the names that cannot be names of symbols or attributes
 abbrev pub reserved : List (List ℕ)
 reserved = codes "start" ∷ codes "symbol" ∷ codes "syn" ∷ codes "inh" ∷ codes "NAME" ∷ codes "NUMBER" ∷ codes "TEXT" ∷ []
 
@@ -35,7 +35,7 @@ mark_in m at t = some_where (is_mark m t) tt
 abbrev pub word_in : List ℕ → ℕ → Token → Option (Unit {0})
 word_in w at t = some_where (is_word w t) tt
 
--- a name that is not reserved, where it stands
+-- a name that is not reserved, with its offset
 abbrev pub named : ℕ → List ℕ → Option Named
 named at name = some_where (not (is_reserved name)) (record { name = name; at = at })
 
@@ -43,14 +43,14 @@ abbrev pub name_in : ℕ → Token → Option Named
 name_in at (token.Name name) = named at name
 name_in at _ = None
 
--- a literal is not empty, and no separator is in it
+-- a literal is not empty and contains no separator
 abbrev pub is_literal : List ℕ → Bool
 is_literal bytes = not (length bytes == 0) && not (list_any is_separator bytes)
 
 abbrev pub literal_of : List ℕ → Option RawItem
 literal_of bytes = some_where (is_literal bytes) (item.Literal bytes)
 
--- the class of tokens that a reserved name means
+-- the token class with this reserved name
 abbrev pub class_of : List ℕ → Option ℕ
 class_of name = cond (bytes_eq name (codes "NAME")) (Some name_class) (cond (bytes_eq name (codes "NUMBER")) (Some number_class) (cond (bytes_eq name (codes "TEXT")) (Some text_class) None))
 
@@ -59,13 +59,13 @@ class_or_name (Some class) name = Some (item.Class class)
 class_or_name None (Some name) = Some (item.Name name)
 class_or_name None None = None
 
--- what stands on the right side of a production: a class, a name or a literal
+-- an item of a right side: a class, a name or a literal
 abbrev pub item_in : ℕ → Token → Option RawItem
 item_in at (token.Name name) = class_or_name (class_of name) (named at name)
 item_in at (token.Text bytes) = literal_of bytes
 item_in at _ = None
 
--- what a rule gives a value
+-- the target of a rule
 abbrev pub target_in : ℕ → Token → Option Occ
 target_in at (token.Occurrence place attr) = Some (record { place = place; attr = attr; at = at })
 target_in at _ = None

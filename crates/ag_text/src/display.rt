@@ -1,10 +1,10 @@
-//! How a refusal of a grammar's text is printed.
+//! Formatting of faults.
 
 use crate::fault::TextFault;
 use std::error::Error;
 use std::fmt;
 
-/// The number of the fault, and where it has one its offset: `G2 at 6`, `G3 X2 at 46`, `G4`.
+/// Writes the number of the fault and, if it has one, the offset: `G2 at 6`, `G3 X2 at 46`, `G4`.
 impl fmt::Display for TextFault {
     ghost use Rattle.std.specs.Prelude.{Some};
     ghost use Rattle.ag_text.specs.Printed.{printed};

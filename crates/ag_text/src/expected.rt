@@ -1,5 +1,5 @@
-//! What could stand where a grammar's text is refused: what the parser takes there, tried token by
-//! token.
+//! The tokens that the parser would accept where it rejects the text of a grammar, found by trying
+//! each of them.
 
 use crate::fault::TextFault;
 use crate::grammar::read_grammar;
@@ -8,16 +8,16 @@ use ag_tokens::{Cursor, Punctuation, Token};
 use ag_value::NoMemory;
 use std::alloc::Global;
 
-/// What could stand at an offset of a grammar's text.
+/// Something that could be at an offset of a grammar's text.
 #[derive(Clone, Copy, Debug, PartialEq, Eq)]
 pub enum Expected {
     /// A name that is not reserved: of a symbol or of an attribute.
     Name,
-    /// A part of a right side: a symbol's name, a literal, or a class.
+    /// An item of a right side: the name of a symbol, a literal, or a class.
     Item,
-    /// A rule, which begins with the occurrence that it is for.
+    /// A rule, which begins with its target.
     Rule,
-    /// This part of an expression; never its end, which is the sign `;`.
+    /// This part of an expression. Never `End`: an expression ends with the sign `;`.
     Part(ag_expr::Expected),
     /// This punctuation or reserved name.
     Sign(&'static str),
@@ -25,13 +25,13 @@ pub enum Expected {
     End,
 }
 
-/// The signs and reserved names between the names, items and rules of a grammar.
+/// The signs and reserved names of a grammar outside of names, items and rules.
 const SIGNS: [&str; 9] = ["=", "{", "}", ",", ";", "start", "symbol", "syn", "inh"];
 
-/// What could stand where a grammar's text is refused by this fault, in place of what stands there:
-/// each has been tried behind the text before it. Nothing for other faults than G2 and an X2 within
-/// G3, and where the levels of an expression are used up. Takes memory, and time for some readings
-/// of the text before the offset.
+/// Returns what could be at the offset of this fault instead of the token there. Tries each
+/// candidate after the text before the offset, so it parses that a few times. Returns an empty list
+/// for faults other than G2 and G3 with X2, and if no level of expressions is left. Fails with
+/// `NoMemory` if memory runs out.
 pub fn expected_at(alloc: Global, text: &str, fault: TextFault) -> Result<Vec<Expected>, NoMemory> {
     match fault {
         TextFault::Unexpected(_, at) => expected_outside(alloc, text, at),
@@ -40,7 +40,7 @@ pub fn expected_at(alloc: Global, text: &str, fault: TextFault) -> Result<Vec<Ex
     }
 }
 
-/// What could stand at an offset outside the expressions.
+/// Returns what could be at a byte offset outside of expressions.
 fn expected_outside(alloc: Global, text: &str, at: usize) -> Result<Vec<Expected>, NoMemory> {
     let mut found = Vec::new(alloc);
     if let Some(before) = text.get(..at) {
@@ -49,7 +49,7 @@ fn expected_outside(alloc: Global, text: &str, at: usize) -> Result<Vec<Expected
     Ok(found)
 }
 
-/// Gathers what could stand behind a front of a text, outside the expressions.
+/// Collects in `found` what could follow `before`, which ends outside of expressions.
 fn gather_outside(alloc: Global, before: &str, found: &mut Vec<Expected>) -> Result<(), NoMemory> {
     if can_stand(alloc, before, "\"a\"")? {
         found.push(Expected::Item)?;
@@ -70,7 +70,7 @@ fn gather_outside(alloc: Global, before: &str, found: &mut Vec<Expected>) -> Res
     Ok(())
 }
 
-/// What could stand at an offset within an expression.
+/// Returns what could be at a byte offset inside an expression.
 fn expected_inside(alloc: Global, text: &str, at: usize) -> Result<Vec<Expected>, NoMemory> {
     let mut found = Vec::new(alloc);
     let from = expression_front(text, at);
@@ -87,8 +87,8 @@ fn expected_inside(alloc: Global, text: &str, at: usize) -> Result<Vec<Expected>
     Ok(found)
 }
 
-/// Where the expression begins in which an offset stands: behind the last `=` before it that follows
-/// an occurrence, since within expressions none does.
+/// Returns the byte offset at which the expression around the offset `at` begins: after the last
+/// `=` before `at` that follows an occurrence. Inside an expression no `=` follows an occurrence.
 fn expression_front(text: &str, at: usize) -> usize {
     let mut cursor = Cursor::new(text);
     let mut front = 0usize;
@@ -109,7 +109,8 @@ fn expression_front(text: &str, at: usize) -> usize {
     front
 }
 
-/// Whether a token could stand behind a text: whether they are read beyond the token's front.
+/// Returns whether `token` could follow `before`: whether the parser does not reject the token
+/// itself.
 fn can_stand(alloc: Global, before: &str, token: &str) -> Result<bool, NoMemory> {
     let tried = format!(in alloc; "{before} {token}")?;
     match refused_at(alloc, tried.as_str())? {
@@ -118,15 +119,15 @@ fn can_stand(alloc: Global, before: &str, token: &str) -> Result<bool, NoMemory>
     }
 }
 
-/// Where a text that is no grammar is refused, 0 where no token is told as the reason; None where it
-/// is one.
+/// Returns the byte offset at which the text is rejected, or `None` if it is a grammar. Returns 0
+/// for a fault other than G2 and G3 with X2.
 fn refused_at(alloc: Global, text: &str) -> Result<Option<usize>, NoMemory> {
     match read_grammar(alloc, text.as_bytes()) {
         Ok(_) => Ok(None),
         Err(TextFault::NoMemory) | Err(TextFault::Expr(ExprFault::NoMemory)) => Err(
             NoMemory::NoMemory,
         ),
-        // behind the `=` of a rule the text ends where an expression could stand
+        // after the `=` of a rule the text ends where an expression could begin
         Err(TextFault::Unexpected(_, at) | TextFault::Expr(ExprFault::Unexpected(at))) => Ok(Some(
             at,
         )),

@@ -1,4 +1,4 @@
-//! Reading a text as a grammar.
+//! Parses a text as a grammar.
 
 ghost use Rattle.std.specs.Prelude.{◌≡◌, ◌≢◌, IfErr, IfOk};
 ghost use Rattle.ag_expr.specs.declared.fault.ExprFault.TheVariants as expr_fault;
@@ -16,7 +16,7 @@ use ag_grammar::limits::MOST_TEXT_BYTES;
 use ag_tokens::Cursor;
 use std::alloc::Global;
 
-/// How many line feeds there are.
+/// Returns the number of line feeds.
 fn line_feeds(bytes: &[u8]) -> usize
     ensures { result ≡ answers.line_feeds bytes.now }
 {
@@ -29,7 +29,7 @@ fn line_feeds(bytes: &[u8]) -> usize
     count
 }
 
-/// The line on which an offset stands, from 1.
+/// Returns the number of the line, from 1, at a byte offset.
 fn line_of(text: &str, at: usize) -> usize
     ensures { result ≡ answers.line_of text.now at }
 {
@@ -40,7 +40,7 @@ fn line_of(text: &str, at: usize) -> usize
     1 + line_feeds(bytes)
 }
 
-/// The fault of a text where its reading stops so.
+/// Returns the fault of a text for a fault of its tokens.
 fn told(text: &str, stop: Stop) -> TextFault
     ensures { result ≡ answers.fault_of text.now stop }
 {
@@ -52,7 +52,7 @@ fn told(text: &str, stop: Stop) -> TextFault
     }
 }
 
-/// Reads the characters of a text as a grammar.
+/// Parses the characters of a text as a grammar. Fails with G2 or G3, or with `NoMemory`.
 fn read_characters(alloc: Global, text: &str) -> Result<RawGrammar, TextFault>
     ensures { IsReadText text.now result }
 {
@@ -63,12 +63,12 @@ fn read_characters(alloc: Global, text: &str) -> Result<RawGrammar, TextFault>
     }
 }
 
-/// Reads a text as a grammar. Takes memory.
+/// Parses a text as a grammar.
 ///
-/// A text of more than 1,048,576 bytes is refused as too long; else one that is not UTF-8 as that;
-/// else it is read from its front, and the first token that cannot be taken decides: within the
-/// expression of a rule, up to its `;`, it is the fault of the expression, and elsewhere the token
-/// is told with its line. A refusal other than for memory means that the text reads as no grammar.
+/// Fails with the first of these faults: G4 if the text has more than 1,048,576 bytes; G1 if it is
+/// not UTF-8; then, at the first token that cannot be accepted, G3 inside the expression of a rule
+/// (up to its `;`), and G2 with the line elsewhere. Fails with `NoMemory` if memory runs out. With
+/// any other fault, the text is proved not to be a grammar.
 pub fn read_grammar(alloc: Global, text: &[u8]) -> Result<RawGrammar, TextFault>
     ensures exact { IsRead text.now result }
     ensures first { IfErr result (λ e. IsFirstOf text.now e) }

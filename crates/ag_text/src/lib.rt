@@ -1,4 +1,4 @@
-//! Grammars as they stand in a text: what a text is to be read as, and reading it.
+//! The grammar language: the definition of the texts of grammars, and their parser.
 #![tactic(auto)]
 
 mod display;

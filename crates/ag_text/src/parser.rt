@@ -1,4 +1,4 @@
-//! Passing the parts of a grammar's text, from its front to its end.
+//! The parser of grammars: one function for each rule of the syntax.
 
 ghost use Rattle.std.specs.Prelude.{◌≡◌, [], Bool, codes};
 ghost use Rattle.ag_tokens.specs.Parsing.{sees};
@@ -18,7 +18,7 @@ use ag_tokens::{Cursor, Punctuation};
 use ag_value::Items;
 use std::alloc::Global;
 
-/// Passes a comma and a name.
+/// Parses a comma and a name.
 #[tactic(auto, unfolding(crate::specs::Reading::next_name_from))]
 fn further(alloc: Global, cursor: &mut Cursor<'_>) -> Result<Named, Stop>
     ensures { Reads reading.next_name_from cursor.old result cursor.new }
@@ -27,7 +27,7 @@ fn further(alloc: Global, cursor: &mut Cursor<'_>) -> Result<Named, Stop>
     name(alloc, cursor)
 }
 
-/// Passes names with commas between them.
+/// Parses names separated by commas.
 #[tactic(auto, using(crate::proofs::Turns::looped, crate::proofs::Grammars::next_name_shortens), unfolding(crate::specs::Reading::names_from))]
 fn names(alloc: Global, cursor: &mut Cursor<'_>) -> Result<Items<Named>, Stop>
     ensures { Reads reading.names_from cursor.old result cursor.new }
@@ -42,7 +42,8 @@ fn names(alloc: Global, cursor: &mut Cursor<'_>) -> Result<Items<Named>, Stop>
     Ok(Items::from_vec(names))
 }
 
-/// Passes the names behind a reserved name, where that stands in front.
+/// Parses the reserved name `word` and the names after it; returns no names if the next token is
+/// another one.
 #[tactic(auto, unfolding(crate::specs::Reading::attributes_from, crate::specs::Reading::section_from))]
 fn attributes(alloc: Global, cursor: &mut Cursor<'_>, word: &str) -> Result<Items<Named>, Stop>
     ensures { Reads (reading.attributes_from word.now) cursor.old result cursor.new }
@@ -54,30 +55,30 @@ fn attributes(alloc: Global, cursor: &mut Cursor<'_>, word: &str) -> Result<Item
     names(alloc, cursor)
 }
 
-/// A part of a grammar's text that may stand there any number of times, one behind another.
+/// A part of a grammar's text that may be repeated any number of times.
 trait Repeated: Sized {
     ghost use Rattle.ag_text.specs.Reading.{Parser};
     ghost use Rattle.ag_tokens.specs.Token.{Token};
 
-    /// The tokens with which one more begins.
+    /// The tokens that begin another part.
     ghost begins: { Token → Bool };
 
-    /// How one is read.
+    /// The plain parser of one part.
     ghost part: { Parser Self };
 
-    /// Whether one more begins in front.
+    /// Returns whether the next token begins another part.
     fn stands(cursor: &Cursor<'_>) -> bool
         ensures { result ≡ sees begins cursor.now };
 
-    /// Passes one.
+    /// Parses one part.
     fn pass(alloc: Global, cursor: &mut Cursor<'_>) -> Result<Self, Stop>
         ensures { Reads part cursor.old result cursor.new };
 }
 
-/// Passes parts, as many as stand there.
+/// Parses parts as long as the next token begins another one.
 #[tactic(auto, using(crate::proofs::Turns::looped))]
 fn parts<P: Repeated + Drop>(alloc: Global, cursor: &mut Cursor<'_>) -> Result<Items<P>, Stop>
-    // each takes a token
+    // each part takes at least one token
     requires { Shortens P.part }
     ensures { Reads (reading.many P.begins P.part []) cursor.old result cursor.new }
 {
@@ -110,7 +111,7 @@ impl Repeated for RawSymbol {
     }
 }
 
-/// What stands on the right side of a production, up to a `{`.
+/// An item of the right side of a production; a `{` ends the items.
 impl Repeated for RawItem {
     ghost begins = { reading.is_other_than punctuation.OpenTable };
 
@@ -125,7 +126,7 @@ impl Repeated for RawItem {
     }
 }
 
-/// A rule of a production, up to a `}`.
+/// A rule of a production; a `}` ends the rules.
 impl Repeated for RawRule {
     ghost begins = { reading.is_other_than punctuation.CloseTable };
 
@@ -144,7 +145,7 @@ impl Repeated for RawRule {
     }
 }
 
-/// A production, as long as tokens are left.
+/// A production; only the end of the tokens ends the productions.
 impl Repeated for RawProduction {
     ghost begins = { reading.is_any };
 
@@ -166,7 +167,7 @@ impl Repeated for RawProduction {
     }
 }
 
-/// Passes a grammar.
+/// Parses a grammar.
 #[tactic(auto, using(crate::proofs::Grammars::symbol_shortens, crate::proofs::Grammars::production_shortens), unfolding(crate::specs::Reading::grammar_from))]
 fn grammar(alloc: Global, cursor: &mut Cursor<'_>) -> Result<RawGrammar, Stop>
     ensures { Reads reading.grammar_from cursor.old result cursor.new }
@@ -183,7 +184,7 @@ fn grammar(alloc: Global, cursor: &mut Cursor<'_>) -> Result<RawGrammar, Stop>
     })
 }
 
-/// Passes a grammar and the end of its text.
+/// Parses a grammar and the end of its text.
 #[tactic(auto, unfolding(crate::specs::Reading::grammar_of))]
 pub fn whole_grammar(alloc: Global, cursor: &mut Cursor<'_>) -> Result<RawGrammar, Stop>
     ensures { Reads reading.grammar_of cursor.old result cursor.new }

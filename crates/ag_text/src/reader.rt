@@ -1,4 +1,4 @@
-//! The expression of a rule.
+//! The parser of the expression of a rule.
 
 ghost use Rattle.ag_text.specs.Passing.{Reads};
 ghost use Rattle.ag_text.specs.Reading.{ended_expr_from};
@@ -9,7 +9,7 @@ use ag_grammar::Expr;
 use ag_tokens::Cursor;
 use std::alloc::Global;
 
-/// Passes the expression in front, and the `;` behind it.
+/// Parses an expression and the `;` after it.
 #[tactic(auto, using(crate::proofs::Expressions::read_refused), unfolding(crate::specs::Reading::ended_expr_from))]
 pub fn ended_expr(alloc: Global, cursor: &mut Cursor<'_>) -> Result<Expr, Stop>
     ensures { Reads ended_expr_from cursor.old result cursor.new }

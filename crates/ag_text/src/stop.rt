@@ -1,4 +1,4 @@
-//! Why reading a grammar's tokens stops.
+//! The faults of the parser of grammars.
 
 ghost use Rattle.std.specs.Prelude.{◌≡◌};
 ghost use Rattle.ag_text.specs.Passing.{stop_of};
@@ -7,18 +7,18 @@ ghost use Rattle.ag_text.specs.declared.stop.Stop.TheVariants as stop;
 use ag_expr::ExprFault;
 use ag_value::OutOfMemory;
 
-/// Why reading a grammar's tokens stops. Offsets are in bytes from the front of the text.
+/// Why the parser of grammars fails. Offsets are in bytes from the beginning of the text.
 #[derive(Clone, Copy, Debug, PartialEq, Eq)]
 pub enum Stop {
-    /// The token at this offset cannot be taken, or the text ends there.
+    /// The token at this offset cannot be accepted, or the text ends there.
     WrongAt(usize),
-    /// This is the fault of a rule's expression.
+    /// The expression of a rule has this fault.
     InExpr(ExprFault),
-    /// A growth was refused.
+    /// An allocation failed.
     NoMemory,
 }
 
-/// What a fault of a rule's expression is to a grammar's text.
+/// Returns the fault of the grammar's parser for a fault of an expression.
 pub fn in_expr(fault: ExprFault) -> Stop
     ensures { result ≡ stop_of fault }
 {

@@ -1,4 +1,4 @@
-//! Passing one token of a grammar's text, for what it stands for.
+//! Tests and parsers for one token of a grammar's text.
 
 ghost use Rattle.std.specs.List.{list_any};
 ghost use Rattle.std.specs.Prelude.{◌≡◌, IfOk, chars};
@@ -18,7 +18,7 @@ use ag_tokens::{Cursor, Punctuation, Token, is_mark, is_word, unescaped};
 use ag_value::{NoMemory, Text};
 use std::alloc::Global;
 
-/// Whether a name is reserved in a grammar's text.
+/// Returns whether a name is reserved in a grammar's text.
 fn is_reserved(name: &str) -> bool
     ensures { result ≡ words.is_reserved name.now }
 {
@@ -31,14 +31,14 @@ fn is_reserved(name: &str) -> bool
         || name == "TEXT"
 }
 
-/// Why reading stops at the token in front, or where the tokens end.
+/// Returns the fault for the next token, or for the place where the tokens end.
 pub fn wrong(cursor: &Cursor<'_>) -> Stop
     ensures { result ≡ stop.WrongAt (offset cursor.now) }
 {
     Stop::WrongAt(cursor.offset())
 }
 
-/// Whether this punctuation stands in front.
+/// Returns whether the next token is this punctuation.
 pub fn sees_mark(cursor: &Cursor<'_>, mark: Punctuation) -> bool
     ensures { result ≡ sees (words.is_mark mark) cursor.now }
 {
@@ -48,7 +48,7 @@ pub fn sees_mark(cursor: &Cursor<'_>, mark: Punctuation) -> bool
     }
 }
 
-/// Whether this reserved name stands in front.
+/// Returns whether the next token is this reserved name.
 pub fn sees_word(cursor: &Cursor<'_>, word: &str) -> bool
     ensures { result ≡ sees (words.is_word word.now) cursor.now }
 {
@@ -58,7 +58,7 @@ pub fn sees_word(cursor: &Cursor<'_>, word: &str) -> bool
     }
 }
 
-/// Whether a token stands in front that is not this punctuation.
+/// Returns whether there is a next token other than this punctuation.
 pub fn sees_other(cursor: &Cursor<'_>, mark: Punctuation) -> bool
     ensures { result ≡ sees (reading.is_other_than mark) cursor.now }
 {
@@ -68,14 +68,14 @@ pub fn sees_other(cursor: &Cursor<'_>, mark: Punctuation) -> bool
     }
 }
 
-/// Whether any token stands in front.
+/// Returns whether there is a next token.
 pub fn sees_any(cursor: &Cursor<'_>) -> bool
     ensures { result ≡ sees reading.is_any cursor.now }
 {
     cursor.peek().is_some()
 }
 
-/// Passes this punctuation.
+/// Reads this punctuation. Fails with `wrong` if the next token is another one.
 pub fn expect(cursor: &mut Cursor<'_>, mark: Punctuation) -> Result<(), Stop>
     ensures { Reads (reading.expect mark) cursor.old result cursor.new }
 {
@@ -88,7 +88,7 @@ pub fn expect(cursor: &mut Cursor<'_>, mark: Punctuation) -> Result<(), Stop>
     }
 }
 
-/// Passes this reserved name.
+/// Reads this reserved name. Fails with `wrong` if the next token is another one.
 pub fn expect_word(cursor: &mut Cursor<'_>, word: &str) -> Result<(), Stop>
     ensures { Reads (reading.expect_word word.now) cursor.old result cursor.new }
 {
@@ -101,14 +101,14 @@ pub fn expect_word(cursor: &mut Cursor<'_>, word: &str) -> Result<(), Stop>
     }
 }
 
-/// A copy of a text.
+/// Returns a copy of a text. Fails with `NoMemory` if the copy cannot be allocated.
 fn copied(alloc: Global, text: &str) -> Result<Text, NoMemory>
     ensures { IfOk result (λ copy. copy ≡ text.now) }
 {
     Ok(Text::from_string(String::from_str(alloc, text)?))
 }
 
-/// Passes a name that is not reserved.
+/// Reads a name that is not reserved. Fails with `wrong` if the next token is another one.
 pub fn name(alloc: Global, cursor: &mut Cursor<'_>) -> Result<Named, Stop>
     ensures { Reads (reading.one_from words.name_in) cursor.old result cursor.new }
 {
@@ -123,7 +123,7 @@ pub fn name(alloc: Global, cursor: &mut Cursor<'_>) -> Result<Named, Stop>
     }
 }
 
-/// The class of tokens that a reserved name means.
+/// Returns the token class with this reserved name, or `None`.
 fn class(name: &str) -> Option<u16>
     ensures { result ≡ words.class_of name.now }
 {
@@ -138,7 +138,7 @@ fn class(name: &str) -> Option<u16>
     }
 }
 
-/// Whether a separator is among the bytes of a text.
+/// Returns whether the bytes contain a separator.
 fn has_separator(bytes: &[u8]) -> bool
     ensures { result ≡ list_any is_separator bytes.now }
 {
@@ -151,14 +151,14 @@ fn has_separator(bytes: &[u8]) -> bool
     false
 }
 
-/// Whether a text can be a literal: it is not empty, and no separator is in it.
+/// Returns whether a text can be a literal: it is not empty and contains no separator.
 fn is_literal(text: &str) -> bool
     ensures { result ≡ words.is_literal text.now }
 {
     !text.is_empty() && !has_separator(text.as_bytes())
 }
 
-/// The literal of what stands between the quotes of a text.
+/// Returns the literal for the body of a text literal, or `None` if its text cannot be a literal.
 fn literal(alloc: Global, body: &str) -> Result<Option<RawItem>, NoMemory>
     ensures { IfOk result (λ found. found
         ≡ words.literal_of (unescaped_bytes (chars body.now))) }
@@ -170,7 +170,7 @@ fn literal(alloc: Global, body: &str) -> Result<Option<RawItem>, NoMemory>
     Ok(None)
 }
 
-/// The item that a name is.
+/// Returns the item for a name: a class or a symbol's name; `None` for another reserved name.
 fn named_item(alloc: Global, name: &str, at: usize) -> Result<Option<RawItem>, NoMemory>
     ensures { IfOk result (λ found. found ≡ words.item_in at (token.Name name.now)) }
 {
@@ -184,7 +184,7 @@ fn named_item(alloc: Global, name: &str, at: usize) -> Result<Option<RawItem>, N
     Ok(Some(RawItem::Name(Named { name, at })))
 }
 
-/// What a token is on the right side of a production.
+/// Returns the item of a right side for a token, or `None` if the token cannot be one.
 fn item_of(alloc: Global, token: Token<'_>, at: usize) -> Result<Option<RawItem>, NoMemory>
     ensures { IfOk result (λ found. found ≡ words.item_in at (token_of token.entry)) }
 {
@@ -195,7 +195,8 @@ fn item_of(alloc: Global, token: Token<'_>, at: usize) -> Result<Option<RawItem>
     }
 }
 
-/// Passes what stands on the right side of a production: a class, a name or a literal.
+/// Reads an item of a right side: a class, a name or a literal. Fails with `wrong` if the next
+/// token is not one.
 pub fn item(alloc: Global, cursor: &mut Cursor<'_>) -> Result<RawItem, Stop>
     ensures { Reads (reading.one_from words.item_in) cursor.old result cursor.new }
 {
@@ -209,7 +210,7 @@ pub fn item(alloc: Global, cursor: &mut Cursor<'_>) -> Result<RawItem, Stop>
     Err(wrong(cursor))
 }
 
-/// Passes an occurrence.
+/// Reads an occurrence. Fails with `wrong` if the next token is not one.
 pub fn target(alloc: Global, cursor: &mut Cursor<'_>) -> Result<Occ, Stop>
     ensures { Reads (reading.one_from words.target_in) cursor.old result cursor.new }
 {
@@ -224,7 +225,7 @@ pub fn target(alloc: Global, cursor: &mut Cursor<'_>) -> Result<Occ, Stop>
     }
 }
 
-/// Passes the end of the text, where nothing else is left.
+/// Checks that the text ends here. Fails with `wrong` if it does not.
 pub fn end(cursor: &mut Cursor<'_>) -> Result<(), Stop>
     ensures { Reads reading.at_end cursor.old result cursor.new }
 {

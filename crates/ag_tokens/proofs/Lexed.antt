@@ -1,4 +1,4 @@
--- Tokens that are cut one after the other, and the separators between them.
+-- Tokens that the lexer reads one after the other, and the separators between them.
 use Rattle.std.proofs.Common.{◌≡◌, ℕ, ◌+◌, ◌-◌, ◌<◌, ◌≤◌, Bool, true, false, List, [], ◌∷◌, ◌++◌, length, drop, Some, chars, IsUtf8, encode_utf8, encode_utf8_all, refl, ap, ◌∙◌, subst, arith}
 use Rattle.std.proofs.lemmas.List.{length-append}
 use Rattle.std.proofs.lemmas.Bool.Decides.{nat_tests}
@@ -13,7 +13,7 @@ use Rattle.ag_tokens.specs.Lexing.{token_from}
 use Rattle.ag_tokens.proofs.Fronts.{drop_more}
 use Rattle.ag_tokens.proofs.TokenLaws.{token_sound, cut_longest, word_some}
 
--- What stands behind a token that was cut is shorter, and less wide.
+-- The characters after a token that was read are fewer, and do not take more bytes.
 pub record IsBehind (cs rest : List ℕ) : Type 0 where
   pub shorter : length rest < length cs
   pub narrower : width rest ≤ width cs
@@ -35,7 +35,7 @@ pub spaces : (cs : List ℕ) → prefix_len is_separator cs + width (drop (prefi
 spaces [] = refl
 spaces (c ∷ cs) = let more = spaces cs in grind (arith, separator_width, drop_more)
 
--- tokens behind separators
+-- tokens after separators
 pub spaced : (at : ℕ) (cs : List ℕ) (ps : List Placed) (end : ℕ) (rest : List ℕ) → AreTokens (at + prefix_len is_separator cs) (drop (prefix_len is_separator cs) cs) ps end rest → AreTokens at cs ps end rest
 spaced at [] ps end rest are = subst (λ n. AreTokens n [] ps end rest) (omega arith) are
 spaced at (c ∷ cs) ps end rest are = go (is_separator c) refl (spaced (at + 1) cs ps end rest)
@@ -48,7 +48,7 @@ pub plain_behind : (cs : List ℕ) → StartsPlain (drop (prefix_len is_separato
 plain_behind [] = tt
 plain_behind (c ∷ cs) = let more = plain_behind cs in grind (arith, drop_more)
 
--- a token that is cut, and those behind it
+-- a token that the lexer reads, and the tokens after it
 pub one_more : (at : ℕ) (cs : List ℕ) (t : Token) (behind : List ℕ) (ps : List Placed) (end : ℕ) (rest : List ℕ) → token_from cs ≡ Some (t, behind) → AreTokens (at + (width cs - width behind)) behind ps end rest
     → AreTokens at cs (record { at = at; token = t } ∷ ps) end rest
 one_more at cs t behind ps end rest e more =
@@ -63,5 +63,5 @@ width-encoded (c ∷ cs) = let more = width-encoded cs in omega (arith, length-a
 pub width-chars : (bs : List ℕ) → IsUtf8 bs → width (chars bs) ≡ length bs
 width-chars bs is = width-encoded (chars bs) ∙ ap length (encodes-chars bs is)
 
--- the same for a function of the code
+-- the same as a rule set
 pub ruleset wide = (width-chars)

@@ -1,4 +1,4 @@
--- Tokens that are cut one after the other are those of the text, and a text has no others.
+-- The tokens that the lexer reads one after the other are those of the text, and a text has no others.
 use Rattle.std.proofs.Common.{◌≡◌, ℕ, zero, suc, ◌+◌, ◌-◌, ◌<◌, ◌≤◌, Bool, true, false, cond, List, [], ◌∷◌, ◌++◌, length, Option, Some, None, refl, ap, sym, ◌∙◌, subst, arith}
 use Rattle.std.proofs.lemmas.Bool.{and_parts}
 use Rattle.std.proofs.lemmas.List.{length-append, length-drop}
@@ -21,7 +21,7 @@ nothing_cut = refl
 pub shorter : (cs : List ℕ) (t : Token) (rest : List ℕ) → token_from cs ≡ Some (t, rest) → length (unspaced rest) < length cs
 shorter cs t rest e = let less = (is_behind cs t rest e).shorter in omega (arith, length-drop (prefix_len is_separator rest) rest)
 
--- turns enough are as good as more
+-- any two numbers of steps that suffice give the same input
 pub same_cut : (n m len : ℕ) (cs : List ℕ) → length cs < n → length cs < m → cut n len cs ≡ cut m len cs
 unfolding cut
 same_cut zero m len cs h k = let bad : ⊥ = omega arith in absurd bad
@@ -46,7 +46,7 @@ too_large_cut at cs t behind e large =
       stops = record { word = one.word; token = t; behind = behind; split = one.split; is = one.token; longest = cut_longest cs t behind one.word e one.split; large = large };
     }
 
--- the tokens that are cut are those that stand there
+-- the tokens that the lexer reads are those of the text
 cut_lexes : (n len : ℕ) (cs : List ℕ) → length cs < n → width cs ≤ len → StartsPlain cs → Lexes (len - width cs) cs (cut n len cs)
 unfolding cut
 cut_lexes zero len cs h wide plain = let bad : ⊥ = omega arith in absurd bad
@@ -72,19 +72,19 @@ cut_lexes (suc n) len cs h wide plain = go (token_from cs) refl (cut_lexes n len
             let are = spaced (at + (width cs - width p.1)) p.1 left.left end next.rest (subst (λ m. AreTokens m (unspaced p.1) left.left end next.rest) place next.before) in
             record { rest = next.rest; before = one_more at cs p.0 p.1 left.left end next.rest e are; within = rw within next.within; stops = next.stops }
 
--- ---- a text has no others
+-- ---- a text has no other tokens
 
--- where a word of a token stands no separator does
+-- a word of a token does not begin with a separator
 plain_word : (cs w rest : List ℕ) (t : Token) → cs ≡ w ++ rest → IsToken w t → (unspaced cs ≡ cs) × (0 < length w)
 plain_word cs w rest t split is = let plain = begins_plain w t is in (grind arith, word_some w t is)
 
--- two fronts of one length are one
+-- two prefixes of the same length are the same
 same_fronts : (xs ys us vs : List ℕ) → xs ++ us ≡ ys ++ vs → length xs ≡ length ys → (xs ≡ ys) × (us ≡ vs)
 same_fronts [] [] us vs e n = (refl, e)
 same_fronts (x ∷ xs) (y ∷ ys) us vs e n = let more = same_fronts xs ys us vs (cc) (omega arith) in (cc, more.1)
 same_fronts xs ys us vs e n = let bad : ⊥ = omega arith in absurd bad
 
--- the longest token is cut
+-- the lexer reads the longest token
 cut_there : (cs w rest : List ℕ) (t : Token) → cs ≡ w ++ rest → IsToken w t → IsLongest w rest → token_from cs ≡ Some (t, rest)
 cut_there cs w rest t split is longest = go (token_from cs) refl
   where
@@ -120,7 +120,7 @@ cut_end (ending.TooLargeAt at) rest h n len place =
 separated : (c : ℕ) (cs : List ℕ) → is_separator c ≡ true → unspaced (c ∷ cs) ≡ unspaced cs
 separated c cs h = grind arith
 
--- what stands there is what is cut
+-- the tokens of the text are those that the lexer reads
 cut_is : {at : ℕ} {cs : List ℕ} {ps : List Placed} {end : ℕ} {rest : List ℕ} → AreTokens at cs ps end rest → (e : Ending) → end ≡ offset_of e → Stops e rest → all_within ps ≡ true
     → (n len : ℕ) → at + width cs ≡ len → length (unspaced cs) < n → cut n len (unspaced cs) ≡ record { left = ps; ending = e }
 unfolding cut
@@ -140,7 +140,7 @@ cut_is (word at all w cs t ps end rest split is longest are) e ends stops within
     let more = cut_is are e ends stops both.1 n len (omega (arith, ap width split, width-append w cs)) fewer in
     rw (plain.0, cut_there all w cs t split is longest, both.0, there, more) refl
 
--- the one list of tokens, and the ending, of characters that end at the offset `len`
+-- the one list of tokens and the ending of characters that end at the offset `len`
 unfoldable pub cut_at : ℕ → List ℕ → Input
 cut_at len cs = cut (suc (length (unspaced cs))) len (unspaced cs)
 
@@ -161,15 +161,15 @@ cut_only from len cs fits i is = sym (cut_is is.before i.ending refl is.stops is
 pub one_input : OneInput
 one_input cs = (cut_at (width cs) cs, cut_first 0 (width cs) cs (omega arith), cut_only 0 (width cs) cs (omega arith))
 
--- the tokens of characters that are worked out
+-- the tokens of given characters, by computation
 pub lexed : (cs : List ℕ) (i : Input) (len : ℕ) → width cs ≡ len → cut_at len cs ≡ i → Lexes 0 cs i
 lexed cs i len wide worked = subst (Lexes 0 cs) worked (cut_first 0 len cs (omega (arith, wide)))
 
--- from an offset on characters have one list of tokens too
+-- characters from an offset on have one list of tokens, too
 pub same_input : (from : ℕ) (cs : List ℕ) (i j : Input) → Lexes from cs i → Lexes from cs j → i ≡ j
 same_input from cs i j one other = cut_only from (from + width cs) cs refl i one ∙ sym (cut_only from (from + width cs) cs refl j other)
 
--- what a text's tokens leave is as wide as what stands behind them
+-- the offset and the number of remaining bytes have the same sum before and after the tokens
 pub ends_wide : {at : ℕ} {cs : List ℕ} {ps : List Placed} {end : ℕ} {rest : List ℕ} → AreTokens at cs ps end rest → at + width cs ≡ end + width rest
 ends_wide (ended at cs) = refl
 ends_wide (separator at c cs ps end rest h are) = let one = separator_width c h in let more = ends_wide are in omega arith

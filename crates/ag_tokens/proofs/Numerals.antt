@@ -17,19 +17,19 @@ use Rattle.ag_tokens.proofs.Fronts.{front_passes, take_more, drop_more}
 own : IsNumeralModel (λ ds. list_all is_ascii_digit ds ≡ true) (digits_value 10)
 own = numerals_by_value _ (search rules)
 
--- a digit is one byte
+-- a digit takes one byte
 pub digits_encoded : (ds : List ℕ) → list_all is_ascii_digit ds ≡ true → encode_utf8_all ds ≡ ds
 digits_encoded [] all = refl
 digits_encoded (d ∷ ds) all = let more = digits_encoded ds in grind (arith, nat_tests, encode_ascii, more)
 
--- where they are refused, the number is too large
+-- digits that do not parse are a number that is too large
 pub place_refused : {E : Type 0} (ds : List ℕ) (e : E) → IsDigits ds → (let r : Result ℕ E = Err e in ParsesUnsigned 16 10 ds r) → nat_le (digits_value 10 ds) 65535 ≡ false
 place_refused ds e is parses = let bad = parse_digits own 16 ds (Err e) parses is.1 in grind (arith, nat_tests)
 
 pub number_refused : {E : Type 0} (ds : List ℕ) (e : E) → IsDigits ds → (let r : Result ℤ E = Err e in ParsesSigned w64 10 ds r) → nat_le (digits_value 10 ds) 9223372036854775807 ≡ false
 number_refused ds e is parses = let bad = parse_signed_digits own w64 ds (Err e) parses is.1 in grind (arith, nat_tests)
 
--- the digits in front, as they are cut
+-- the leading digits that the lexer reads
 front_empty : (p : ℕ → Bool) (cs : List ℕ) → length (take (prefix_len p cs) cs) ≡ 0 → prefix_len p cs ≡ 0
 front_empty p [] none = refl
 front_empty p (c ∷ cs) none = grind (arith, take_more)
@@ -47,7 +47,7 @@ module _ (cs word : List ℕ) (is : word ≡ encode_utf8_all (front_in class.Dig
   pub digits_are : (length word == 0) ≡ false → IsDigits word
   digits_are some = let same = word_is in let all = front_passes is_ascii_digit cs in grind (arith, nat_tests)
 
--- ---- a number worked out digit by digit
+-- ---- a number computed digit by digit
 
 digit_is : (c : ℕ) → is_ascii_digit c ≡ true → digit_value c ≡ c - 48
 digit_is c is = grind (arith, nat_tests)
@@ -61,7 +61,7 @@ back_more c cs is = grind (arith, drop_more)
 value_more : (n c : ℕ) (ds : List ℕ) → is_ascii_digit c ≡ true → digits_value_after 10 n (c ∷ ds) ≡ digits_value_after 10 (n * 10 + (c - 48)) ds
 value_more n c ds is = ap (λ d. digits_value_after 10 (n * 10 + d) ds) (digit_is c is)
 
--- The digits in front of `cs` were worked out to the number, up to those in front of `rest`.
+-- The digits of `cs` up to the beginning of `rest` have been read, and their value is `number`.
 pub record WorkedOut (cs : List ℕ) (number : ℕ) (rest : List ℕ) : Type 0 where
   pub small : number < 1000000000000000000
   pub value : digits_value_after 10 number (front_in class.Digit (chars rest)) ≡ digits_value 10 (front_in class.Digit cs)

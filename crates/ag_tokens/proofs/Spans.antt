@@ -1,4 +1,4 @@
--- The longest front of a text whose characters pass, beside a loop over its characters.
+-- The longest prefix whose characters pass a test, and the loop that reads it.
 use Rattle.ag_tokens.proofs.Fronts.{front_is, drop_more}
 use Rattle.std.proofs.Common.{◌≡◌, ℕ, ◌-◌, ◌<◌, ◌≤◌, Bool, true, List, [], ◌∷◌, ◌++◌, length, take, drop, Bor, Some, chars, IsUtf8, encode_utf8, encode_utf8_all, refl, ap, sym, ◌∙◌, arith, append_assoc, append-nil, length-append}
 use Rattle.std.specs.List.{prefix_len, list_all}
@@ -13,7 +13,7 @@ use Rattle.ag_tokens.specs.Left.{unspaced}
 use Rattle.ag_tokens.specs.Tokens.{width}
 use Rattle.ag_tokens.proofs.Lexed.{spaces, width-chars}
 
--- The characters in `front` pass, and `rest` stands behind them.
+-- The characters of `front` pass, and `rest` is the text after them.
 pub record Passed (p : ℕ → Bool) (text rest : List ℕ) : Type 0 where
   pub front : List ℕ
   pub all : list_all p front ≡ true
@@ -32,7 +32,7 @@ goes_on class text rest after (c, passes, characters, split) so_far = record {
 pub nearer : (class : Class) (rest : List ℕ) (after : Bor (List ℕ)) → PassesOne class rest (Some after) → length after.now < length rest
 nearer class rest after (c, passes, characters, split) = let some = (len_utf8_bounds c).0 in omega (arith, ap length split, length-append (encode_utf8 c) after.now, length-encode c)
 
--- a text is cut behind characters in front
+-- a text is split after the characters of `front`
 module _ (text rest front : List ℕ) (split : text ≡ encode_utf8_all front ++ rest) where
   cut_at : length text - length rest ≡ length (encode_utf8_all front)
   cut_at = omega (arith, ap length split, length-append (encode_utf8_all front) rest)
@@ -64,13 +64,13 @@ pub empty_text : (text : List ℕ) → length text ≡ 0 → chars text ≡ []
 empty_text [] e = chars-nil
 empty_text (b ∷ text) e = let bad : ⊥ = omega arith in absurd bad
 
--- what is left behind separators has as many bytes as its characters are wide, and no more than the text
+-- the text after separators has as many bytes as its characters take, and at most as many as the whole text
 pub left_within : (text rest : List ℕ) → IsUtf8 text → IsUtf8 rest → chars rest ≡ unspaced (chars text) → length rest ≤ length text
 left_within text rest utf8 utf8' is =
     let space = spaces (chars text) in
     omega (arith, width-chars text utf8, width-chars rest utf8', ap width is)
 
--- separators that are skipped one by one
+-- separators that are skipped one at a time
 pub skipped : (rest : List ℕ) (after : Bor (List ℕ)) → PassesOne class.Separator rest (Some after) → unspaced (chars after.now) ≡ unspaced (chars rest)
 skipped rest after (c, passes, characters, split) = rw characters (grind (arith, drop_more))
 

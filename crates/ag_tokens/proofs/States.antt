@@ -1,4 +1,4 @@
--- What is left of a text, by the token in front.
+-- The remaining input, by the next token.
 use Rattle.std.proofs.Common.{◌≡◌, ◌==◌, ℕ, suc, ◌-◌, ◌<◌, ◌≤◌, ◌+◌, Bool, true, false, List, [], ◌∷◌, length, drop, Result, Ok, Err, Bor, IsUtf8, chars, refl, ap, sym, ◌∙◌, subst, arith}
 use Rattle.std.proofs.lemmas.List.{length-drop}
 use Rattle.std.proofs.lemmas.Str.{len_utf8_bounds, IsUtf8-drop}
@@ -27,7 +27,7 @@ module _ (len : ℕ) (cs : List ℕ) where
   by_front (Ok x) = one_before (len - width cs) (token_of x.0) (input len (unspaced (chars x.1.now)))
   by_front (Err e) = none_left (ending_by e (len - width cs) cs)
 
-  -- what is left is the token in front and what is left behind it, or there is none
+  -- the remaining input is the next token and the input after it, or it is empty
   pub front_is : (r : Front) → GivesToken r (token_from cs) → input len cs ≡ by_front r
   unfolding cut input
   front_is (Ok x) given =
@@ -37,11 +37,11 @@ module _ (len : ℕ) (cs : List ℕ) where
   front_is (Err fault.Nothing) given = ap (left_by (cut (length cs) len) (len - width cs) cs) given
   front_is (Err fault.TooLarge) given = let read = token_from cs in grind arith
 
-  -- it stands at the offset of what is left, and so do the tokens end there
+  -- its offset is that of the rest of the text, in either case
   pub offset_is : (r : Front) → GivesToken r (token_from cs) → offset (input len cs) ≡ len - width cs
   offset_is r given = let is = front_is r given in grind arith
 
-  -- and no text ends there where characters are left
+  -- and the text does not end there if characters are left
   before_end : (r : Front) → GivesToken r (token_from cs) → 0 < width cs → is_end (input len cs).ending (input len cs).left ≡ false
   before_end r given some = let is = front_is r given in grind arith
 
@@ -49,17 +49,17 @@ module _ (len : ℕ) (cs : List ℕ) where
   unfolding cut input
   at_end none = rw (no_width cs none, nothing_cut) refl
 
-  -- the text ends where no bytes are left
+  -- the text ends if and only if no bytes are left
   pub ends_here : (r : Front) → GivesToken r (token_from cs) → (n : ℕ) → width cs ≡ n → (b : Bool) → b ≡ (n == 0) → b ≡ is_end (input len cs).ending (input len cs).left
   ends_here r given n wide b is = let here = before_end r given in let none = at_end in grind (arith, nat_tests, here, none)
 
--- ---- in the words of the code
+-- ---- for the values of the code
 
--- what is left is no longer
+-- the rest of the text does not grow
 pub narrower : (cs rest : List ℕ) (x : lent.Token × Bor (List ℕ)) (len : ℕ) → GivesToken (Ok x) (token_from cs) → chars rest ≡ unspaced (chars x.1.now) → width (chars rest) ≡ length rest → width cs ≤ len → length rest ≤ len
 narrower cs rest x len given is wide within = let less = (is_behind cs (token_of x.0) (chars x.1.now) given.0).narrower in let space = spaces (chars x.1.now) in omega (arith, ap width is)
 
--- from an offset on all tokens are left
+-- the tokens after an offset are the remaining input of a new cursor
 pub left_from : (text rest : List ℕ) (from : ℕ) → IsUtf8 text → IsCharBoundary text from → chars rest ≡ unspaced (chars (drop from text)) → Lexes from (chars (drop from text)) (input (length text) (chars rest))
 unfolding input cut_at
 left_from text rest from utf8 boundary is =
@@ -71,7 +71,7 @@ pub all_left : (text rest : List ℕ) → IsUtf8 text → chars rest ≡ unspace
 unfolding input cut_at
 all_left text rest utf8 is = subst (λ cs. Lexes 0 (chars text) (input (length text) cs)) (sym is) (cut_first 0 (length text) (chars text) (omega (arith, width-chars text utf8)))
 
--- behind the token in front the one that is cut there stands in front
+-- after the next token, the cursor holds the lexer's result for the rest
 pub ready : (text now rest : List ℕ) (x : lent.Token × Bor (List ℕ)) (front : Front) → GivesToken (Ok x) (token_from (chars now)) → width (chars now) ≡ length now → length now ≤ length text
     → chars rest ≡ unspaced (chars x.1.now) → IsUtf8 rest → GivesToken front (token_from (chars rest)) → IsReady text rest front
 ready text now rest x front given wide fewer is utf8 cut =

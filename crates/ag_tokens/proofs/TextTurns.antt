@@ -1,4 +1,4 @@
--- A text literal read character by character, beside a loop.
+-- The body of a text literal, read character by character, and the loop that reads it.
 use Rattle.std.specs.Option.{option_and_then}
 use Rattle.std.proofs.Common.{◌≡◌, ℕ, zero, suc, ◌≤◌, ◌<◌, ◌≢◌, true, List, [], ◌∷◌, ◌++◌, length, Option, Some, None, chars, encode_utf8, encode_utf8_all, ◌∙◌, refl, sym, ap, subst, arith, append_assoc, append-nil, take, ◌-◌, IsUtf8, is_some, Bor, MatchOption, lit<}
 use Rattle.std.specs.Str.{IsCharBoundary}
@@ -11,7 +11,8 @@ use Rattle.ag_tokens.specs.Token as token
 use Rattle.ag_tokens.specs.Tokens.{IsBody, empty, plain, escape, escaped}
 use Rattle.ag_tokens.specs.Lexing.{piece_from, character_from, escape_from, text_from, unquoted, unescaped, IsPast, PassesEscape}
 
--- The characters in `taken` were read, which stand for the bytes in `front`; `rest` is left, and with turns enough for it the total is read.
+-- The characters in `taken` have been read and denote the bytes in `front`; `rest` is left, and reading it to
+-- its end gives `total`.
 pub record Within (text rest : List ℕ) (total : Option (Token × List ℕ)) : Type 0 where
   pub taken : List ℕ
   pub front : List ℕ
@@ -31,7 +32,7 @@ joined (plain c body bytes quote slash so_far) ys more is =
 joined (escape c d body bytes same so_far) ys more is =
     subst (IsBody (92 ∷ c ∷ (body ++ ys))) (sym (append_assoc (encode_utf8 d) bytes more)) (escape c d (body ++ ys) (bytes ++ more) same (joined so_far ys more is))
 
--- what a character leaves is shorter
+-- the characters after an escape are fewer
 shorter_escape : (cs rest : List ℕ) (c : ℕ) → escape_from cs ≡ Some (c, rest) → length rest < length cs
 shorter_escape cs rest c e = grind arith
 
@@ -77,7 +78,7 @@ unescapes empty = refl
 unescapes (plain c body bytes quote slash is) = rw (ne_eqb c 92 slash) (ap (λ x. encode_utf8 c ++ x) (unescapes is))
 unescapes (escape c d body bytes same is) = rw same (ap (λ x. encode_utf8 d ++ x) (unescapes is))
 
--- the body that was read is what stands before the rest
+-- the body that has been read is the text before the rest
 module _ (text rest : List ℕ) (total : Option (Token × List ℕ)) (so_far : Within text rest total) where
   pub boundary : IsUtf8 rest → IsCharBoundary text (length text - length rest)
   boundary = seam text rest so_far.taken so_far.split
@@ -94,7 +95,7 @@ some_escape c h = grind arith
 encoded_escape : (c : ℕ) (rest : List ℕ) → 92 ∷ (encode_utf8 c ++ rest) ≡ encode_utf8_all (92 ∷ c ∷ []) ++ rest
 encoded_escape c rest = rw (encode_ascii 92 (lit< tt), append-nil (encode_utf8 c)) refl
 
--- past an escape
+-- an escape
 pub past_escape : (text behind : List ℕ) (passed : Option (Bor (List ℕ))) → chars text ≡ 92 ∷ chars behind → text ≡ encode_utf8 92 ++ behind → PassesEscape behind passed
     → MatchOption passed (character_from (chars text) ≡ None) (λ rest. IsPast text rest.now)
 past_escape text behind None characters split is = rw (characters, is) refl
@@ -108,7 +109,7 @@ past_escape text behind (Some rest) characters split (c, h, more, after) =
       split = split ∙ ap (λ x. encode_utf8 92 ++ x) after ∙ ap (λ x. x ++ (encode_utf8 c ++ rest.now)) (encode_ascii 92 (lit< tt)) ∙ encoded_escape c rest.now;
     }
 
--- past a character that stands for itself
+-- a character that denotes itself
 pub past_plain : (text rest : List ℕ) (c : ℕ) → c ≢ 34 → c ≢ 92 → chars text ≡ c ∷ chars rest → text ≡ encode_utf8 c ++ rest → IsPast text rest
 past_plain text rest c quote slash characters split = record {
   character = c;
@@ -118,10 +119,10 @@ past_plain text rest c quote slash characters split = record {
   split = split ∙ ap (λ x. x ++ rest) (sym (append-nil (encode_utf8 c)));
 }
 
--- what stands behind one character of a text literal
+-- the text after one character of a body
 pub ruleset past = (past_escape, past_plain)
 
--- ---- what stands between the quotes is worked out piece by piece
+-- ---- the text that a body denotes, computed piece by piece
 
 pub piece_some : (cs : List ℕ) (c : ℕ) (rest : List ℕ) → Some (c, rest) ≡ piece_from cs → (unescaped cs ≡ encode_utf8 c ++ unescaped rest) × (length rest < length cs)
 piece_some [] c rest h = let bad : ⊥ = cc in absurd bad

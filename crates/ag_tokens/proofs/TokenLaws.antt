@@ -1,4 +1,4 @@
--- Cutting the token in front and the definition of tokens agree.
+-- The lexer and the definition of tokens agree.
 use Rattle.ag_tokens.proofs.Options.{opened}
 use Rattle.std.proofs.lemmas.Bool.{and_parts}
 use Rattle.std.proofs.lemmas.Option.{none-some, same_Some}
@@ -30,7 +30,7 @@ same_number a b e = eqb-true a b e
 other_number : (a b : ℕ) → a ≢ b → (a == b) ≡ false
 other_number a b e = grind (arith, nat_tests)
 
--- ---- which characters start a name
+-- ---- the characters that start a name
 
 pub no_start : (k : ℕ) → k < 128 → is_ascii_alphabetic k ≡ false → (k == 95) ≡ false → starts_name k ≡ false
 no_start k small letter line = rw (is_xid_start-ascii k small, letter, line) refl
@@ -44,7 +44,7 @@ name_no_digit c starts = grind (arith, nat_tests, no_start)
 goes_on : (c : ℕ) → starts_name c ≡ true → is_xid_continue c ≡ true
 goes_on c starts = let line : is_xid_continue 95 ≡ true = is_xid_continue-ascii 95 (lit< tt) in grind (arith, nat_tests, is_xid_start-is_xid_continue, line)
 
--- ---- what is cut is what is defined
+-- ---- what the lexer reads is a token
 
 digits_sound : (cs d rest : List ℕ) → digits_from cs ≡ Some (d, rest) → (cs ≡ d ++ rest) × IsDigits d
 digits_sound cs d rest e = grind (arith, nat_tests, take-append-drop, front_passes, prefix_len-le-length, length-take-le)
@@ -57,7 +57,7 @@ name_sound (c ∷ cs) n rest e =
     let k : prefix_len is_xid_continue (c ∷ cs) ≡ suc (prefix_len is_xid_continue cs) = rw (goes_on c starts) (omega arith) in
     rw (n_is.0, n_is.1, k) (ap (λ x. c ∷ x) (sym (take-append-drop (prefix_len is_xid_continue cs) cs)), (starts, front_passes is_xid_continue cs))
 
--- what a text literal read so far is
+-- the part of a text literal that is left to read
 abbrev IsTextOf : List ℕ → List ℕ → Token → List ℕ → Type 0
 IsTextOf front cs t rest = (body : List ℕ) × (bytes : List ℕ) × (cs ≡ body ++ 34 ∷ rest) × IsBody body bytes × (t ≡ token.Text (front ++ bytes))
 
@@ -102,7 +102,7 @@ punctuation_sound : (cs : List ℕ) (s : Punctuation) (rest : List ℕ) → punc
 punctuation_sound [] s rest e = absurd (none-some _ e)
 punctuation_sound (c ∷ cs) s rest e = grind (arith, nat_tests, single_sound, doubled_sound)
 
--- a token was cut from the front
+-- a token was read from the beginning of the characters
 pub record IsCut (cs : List ℕ) (t : Token) (rest : List ℕ) : Type 0 where
   pub word : List ℕ
   pub split : cs ≡ word ++ rest
@@ -155,9 +155,10 @@ token_sound (c ∷ cs) t rest e = go (c == 34) (c == 36) refl refl e
     go false true p q h = subst (λ k. IsCut (k ∷ cs) t rest) (sym (same_number c 36 q)) (occurrence_sound cs t rest h)
     go false false p q h = plain_sound (c ∷ cs) t rest h
 
--- ---- where a token stands, one is cut that is no shorter; it is that token where it is no longer
+-- ---- if characters begin with a token, the lexer reads one that is at least as long; if it is as long, it
+-- is that token
 
--- what is cut reaches at least as far as the word in front of `more`, and is what that word is where it reaches no further
+-- the lexer reads at least the word before `more`; if it reads exactly this word, the result is a
 record Reaches {A : Type 0} (a : A) (more : List ℕ) (found : Option (A × List ℕ)) : Type 0 where
   pub cut : A × List ℕ
   pub is : found ≡ Some cut
@@ -201,7 +202,7 @@ text_reach _ _ (escape c d body bytes a is) (suc n) front more lt =
     let rest = text_reach body bytes is n (front ++ encode_utf8 d) more (omega arith) in
     rw a (rest ∙ ap (λ y. Some (token.Text y, more)) (append_assoc front (encode_utf8 d) bytes))
 
--- what reaches so far as one thing does so as another that is made from it
+-- the same for a result that is made from another
 reach_as : {A B : Type 0} (f : A → B) (a : A) (more : List ℕ) (found : Option (A × List ℕ)) (made : Option (B × List ℕ)) (x : Reaches a more found) → made ≡ Some (f x.cut.0, x.cut.1) → Reaches (f a) more made
 reach_as f a more found made x is = record { cut = (f x.cut.0, x.cut.1); is = is; far = x.far; same = λ ends. ap f (x.same ends) }
 
@@ -238,7 +239,7 @@ occurrence_reached digits name more is called =
     let found = name_reach name more called in
     reach_as (λ w. token.Occurrence (digits_value 10 digits) (encode_utf8_all w)) name more _ _ found (rw (append_assoc digits (46 ∷ name) more, cut, found.is) refl)
 
--- what is cut where a mark stands in front of `more`: the mark, or its doubled one
+-- the punctuation that the lexer reads at a mark before `more`: the mark, or its doubled form
 abbrev mark_cut : Punctuation → List ℕ → Punctuation × List ℕ
 mark_cut punctuation.Plus more = doubled 43 punctuation.Join punctuation.Plus more
 mark_cut punctuation.Equal more = doubled 61 punctuation.EqualEqual punctuation.Equal more
@@ -266,7 +267,7 @@ token_reached word more (token.Name bytes) is = rw is.1 (name_reached word more 
 token_reached word more (token.Occurrence place attr) is = rw (is.2, is.5, is.6) (occurrence_reached is.0 is.1 more is.3 is.4)
 token_reached word more (token.Punctuation s) is = rw is (punctuation_reached s more)
 
--- ---- what is cut is the longest token, and where nothing is cut there is none
+-- ---- the lexer reads the longest token, and if it reads none, no token begins there
 
 pub cut_longest : (cs : List ℕ) (t : Token) (rest word : List ℕ) → token_from cs ≡ Some (t, rest) → cs ≡ word ++ rest → IsLongest word rest
 cut_longest cs t rest word e split longer more u same is =
@@ -287,7 +288,7 @@ longest_is_cut cs rest t e = let cut = token_sound cs t rest e in (cut.word, cut
 pub nothing_is_cut : NothingIsCut
 nothing_is_cut = cut_none
 
--- ---- a word is one token at most, and no token begins with a separator
+-- ---- a word spells at most one token, and no token begins with a separator
 
 pub one_token : (word : List ℕ) (t u : Token) → IsToken word t → IsToken word u → t ≡ u
 one_token word t u is also =
@@ -296,7 +297,7 @@ one_token word t u is also =
     let both : a.cut ≡ b.cut = same_Some _ _ (sym a.is ∙ b.is) in
     sym (a.same (omega (arith, a.far))) ∙ ap (λ (x : Token × List ℕ). x.0) both ∙ b.same (omega (arith, b.far))
 
--- a character that is no separator stands in front
+-- the word begins with a character that is not a separator
 abbrev pub IsPlainWord : List ℕ → Type 0
 IsPlainWord [] = ⊥
 IsPlainWord (c ∷ cs) = is_separator c ≡ false

@@ -1,7 +1,8 @@
--- What stands behind the tokens of a text: this project's language.
+-- The ending of a text's tokens (this project's language).
 use Rattle.std.specs.Prelude.{ℕ}
 
--- the end of the text; or something with which no token begins; or a token whose number is above its limit; each at this offset
+-- the offset where the tokens end, and the reason: the end of the text, characters that begin no token, or a
+-- token whose number is above its limit
 pub data Ending : Type 0 where
   EndsAt : ℕ → Ending
   NoTokenAt : ℕ → Ending

@@ -1,4 +1,5 @@
--- What is left of a text that is read from its front: the tokens from there on, and how they end. All of this is this project's.
+-- The rest of a text while it is read from left to right: the remaining tokens, and their ending. All
+-- definitions are this project's.
 use Rattle.std.specs.Prelude.{◌≡◌, ℕ, zero, suc, ◌-◌, ◌≤◌, false, cond, List, [], ◌∷◌, drop, length, Option, Some, None, Result, chars}
 use Rattle.std.specs.Borrow.{Bor}
 use Rattle.std.specs.List.{prefix_len}
@@ -12,48 +13,51 @@ use Rattle.ag_tokens.specs.declared.fault.TokenFault.TheVariants as token_fault
 use Rattle.ag_tokens.specs.Lexing.{token_from, GivesToken}
 use Rattle.ag_tokens.specs.Tokens.{is_separator, is_within, width}
 
--- no separator stands in front
+-- the characters do not begin with a separator
 abbrev pub StartsPlain : List ℕ → Type 0
 StartsPlain [] = Unit {0}
 StartsPlain (c ∷ cs) = is_separator c ≡ false
 
--- what stands behind the separators in front
+-- the characters after the leading separators
 abbrev pub unspaced : List ℕ → List ℕ
 unspaced cs = drop (prefix_len is_separator cs) cs
 
--- no token is left
+-- the input with no token and this ending
 abbrev pub none_left : Ending → Input
 none_left e = record { left = []; ending = e }
 
--- one more token in front
+-- the input with one more token at its head
 abbrev pub one_before : ℕ → Token → Input → Input
 one_before at t i = record i { left = record { at = at; token = t } ∷ i.left }
 
--- where no token stands at the offset `at`, in front of `cs`
+-- the ending at the offset `at` if the characters `cs` from there on do not begin with a token
 abbrev pub ending_at : ℕ → List ℕ → Ending
 ending_at at [] = ending.EndsAt at
 ending_at at (c ∷ cs) = ending.NoTokenAt at
 
--- the same by why none does
+-- the ending for a fault of the lexer
 abbrev pub ending_by : TokenFault → ℕ → List ℕ → Ending
 ending_by token_fault.Nothing at cs = ending_at at cs
 ending_by token_fault.TooLarge at cs = ending.TooLargeAt at
 
--- what is left, by the token that is read at the offset `at` in front of `cs`, and what is left behind it
+-- the input from the offset `at` on, given the token that the lexer reads at the beginning of `cs` and the
+-- input after it
 abbrev pub left_by : (List ℕ → Input) → ℕ → List ℕ → Option (Token × List ℕ) → Input
 left_by more at cs None = none_left (ending_at at cs)
 left_by more at cs (Some p) = cond (is_within p.0) (one_before at p.0 (more (unspaced p.1))) (none_left (ending.TooLargeAt at))
 
--- The tokens of the last characters of a text that is `len` bytes long, in so many turns; no separator stands in front of them.
+-- The tokens of the last characters `cs` of a text of `len` bytes, at most `turns` of them; `cs` does not
+-- begin with a separator.
 unfoldable pub cut : ℕ → ℕ → List ℕ → Input
 cut zero len cs = none_left (ending.EndsAt len)
 cut (suc turns) len cs = left_by (cut turns len) (len - width cs) cs (token_from cs)
 
--- with turns enough for all of them
+-- all of them
 unfoldable pub input : ℕ → List ℕ → Input
 input len cs = cut (suc (length cs)) len cs
 
--- Of a text and what is left of it: the token in front is cut, and no more bytes are left than the text has, as many as the characters are wide.
+-- The state of a cursor is consistent: `front` is the lexer's result for `rest`, and `rest` has at most as
+-- many bytes as the text, and as many as its characters take.
 pub record IsReady (text rest : List ℕ) (front : Result (lent.Token × Bor (List ℕ)) TokenFault) : Type 0 where
   pub cut_front : GivesToken front (token_from (chars rest))
   pub fewer : length rest ≤ length text

@@ -1,4 +1,5 @@
--- Reading from the front of placed tokens, whatever the faults are: what is read, and what is left; or why reading stops. All of this is this project's.
+-- Parsers over tokens with offsets, for any type of faults: a parser returns a result and the remaining
+-- input, or a fault. All definitions are this project's.
 use Rattle.std.specs.Prelude.{ℕ, zero, suc, Bool, true, false, if◌then◌else◌, List, [], ◌∷◌, ◌++◌, length, Option, Some, None, Result, Ok, Err, bytes_eq}
 use denote.Enum.Bare.{sameb}
 use Rattle.ag_tokens.specs.contracts.token.Punctuation.{the_type}
@@ -27,7 +28,7 @@ behind_front (p ∷ ps) = ps
 abbrev pub next : Input → Input
 next i = record i { left = behind_front i.left }
 
--- where it stands, or the tokens end
+-- the offset of the next token, or of the ending
 abbrev pub front_offset : Ending → List Placed → ℕ
 front_offset e [] = offset_of e
 front_offset e (p ∷ ps) = p.at
@@ -40,7 +41,7 @@ abbrev pub is_end : Ending → List Placed → Bool
 is_end (ending.EndsAt at) [] = true
 is_end _ _ = false
 
--- why no token stands where the tokens end before the text does
+-- the fault of an ending other than the end of the text
 abbrev pub ending_fault : Ending → Option TokenFault
 ending_fault (ending.EndsAt at) = None
 ending_fault (ending.NoTokenAt at) = Some token_fault.Nothing
@@ -88,12 +89,12 @@ p >> q = p >>= (λ _. q)
 abbrev pub pure : {Fault A : Type 0} → A → Parser Fault A
 pure a = λ i. Ok (a, i)
 
--- takes the next token for what it stands for, where it stands for something, and else refuses it
+-- accepts the next token with the meaning a, if it has one, and else fails
 abbrev pub taken : {Fault A : Type 0} → (Input → Fault) → Option A → Parser Fault A
 taken wrong None = λ i. Err (wrong i)
 taken wrong (Some a) = λ i. Ok (a, next i)
 
--- what a token stands for at an offset, where there is one
+-- the meaning of a token at an offset, if there is a token and it has a meaning
 abbrev pub sign_of : {A : Type 0} → (ℕ → Token → Option A) → ℕ → Option Token → Option A
 sign_of sign at None = None
 sign_of sign at (Some t) = sign at t
@@ -104,7 +105,7 @@ one_from wrong sign = λ i. taken wrong (sign_of sign (offset i) (front i)) i
 abbrev pub choose : {Fault A : Type 0} → (Token → Bool) → Parser Fault A → Parser Fault A → Parser Fault A
 choose test one other = λ i. if sees test i then one i else other i
 
--- as long as the next token begins a further one, so many turns at most
+-- repeats a parser as long as the next token begins another item, at most n times
 unfoldable pub many_from : {Fault A : Type 0} → (Token → Bool) → Parser Fault A → ℕ → List A → Parser Fault (List A)
 many_from begins item zero found = pure found
 many_from begins item (suc n) found = choose begins (item >>= λ x. many_from begins item n (found ++ x ∷ [])) (pure found)
@@ -113,10 +114,10 @@ abbrev pub turns : Bool → List Placed → ℕ
 turns true ps = 1
 turns false ps = length ps
 
--- one at most where the test says so, else as many as there are, behind those that were found
+-- parses further items after `found`: at most one if `one` holds, else as many as there are
 abbrev pub further_from : {Fault A : Type 0} → Bool → (Token → Bool) → Parser Fault A → List A → Parser Fault (List A)
 further_from one begins item found = λ i. many_from begins item (turns one i.left) found i
 
--- the end of a text
+-- the end of the text, or a fault
 abbrev pub end_from : {Fault : Type 0} → (Input → Fault) → Parser Fault (Unit {0})
 end_from wrong = λ i. if is_end i.ending i.left then Ok (tt, i) else Err (wrong i)

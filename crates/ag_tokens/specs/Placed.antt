@@ -1,4 +1,5 @@
--- The tokens of a text, each with its offset, and what stands behind them: all that a text is to a reader of its tokens.
+-- The tokens of a text with their offsets, and their ending. A reader of tokens depends on the text only
+-- through these.
 use Rattle.std.specs.Prelude.{ℕ, List, map}
 use Rattle.ag_tokens.specs.Ending.{Ending}
 use Rattle.ag_tokens.specs.Token.{Token}
@@ -12,6 +13,6 @@ pub record Input : Type 0 where
   pub left : List Placed
   pub ending : Ending
 
--- the tokens alone
+-- the tokens without their offsets
 abbrev pub tokens : List Placed → List Token
 tokens = map (λ p. p.token)

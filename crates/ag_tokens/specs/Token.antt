@@ -1,19 +1,19 @@
--- The tokens of the language, as what they stand for: this project's language.
+-- The tokens of the language, by what they denote (this project's language).
 use Rattle.std.specs.Prelude.{ℕ, ℤ, List}
 use Rattle.ag_tokens.specs.declared.token.Punctuation as punctuation
 
 pub data Token : Type 0 where
-  -- a number literal, by its number
+  -- a number literal, by the number
   Number : ℤ → Token
-  -- a text literal, by the bytes of the text that it stands for
+  -- a text literal, by the bytes of the text that it denotes
   Text : List ℕ → Token
   -- a name, by its bytes
   Name : List ℕ → Token
-  -- an occurrence of an attribute, by its place and the bytes of the attribute's name
+  -- an occurrence of an attribute, by its place and the bytes of its name
   Occurrence : ℕ → List ℕ → Token
   Punctuation : punctuation.Punctuation → Token
 
--- A token that is written in one way only: punctuation, or a name of the language.
+-- A token with only one spelling: punctuation, or a name of the language.
 pub data Sign : Type 0 where
   mark : punctuation.Punctuation → Sign
   word : List ℕ → Sign

@@ -1,4 +1,5 @@
--- What the tokens of a text are, by longest match: this project's language. A text stands here as the list of its characters.
+-- The definition of the tokens of a text, by longest match (this project's language). In this file a text is
+-- the list of its characters.
 use Rattle.std.specs.Prelude.{◌≡◌, ℕ, ◌+◌, ◌<◌, ◌≤◌, pos, int_le, nat_le, Bool, true, false, not, cond, ◌||◌, ◌&&◌, ◌==◌, ◌≢◌, List, [], ◌∷◌, ◌++◌, length, Option, Some, None, encode_utf8, encode_utf8_all}
 use Rattle.std.specs.Char.{is_ascii_digit, len_utf8}
 use Rattle.std.specs.List.{list_all}
@@ -21,7 +22,8 @@ is_separator c = c == 32 || c == 9 || c == 13 || c == 10
 abbrev pub starts_name : ℕ → Bool
 starts_name c = is_xid_start c || c == 95
 
--- what may stand between the quotes of a TEXT: any character but a double quote and LF, and there are no escapes
+-- the characters allowed between the quotes of a TEXT: all but a double quote and LF (such a TEXT has no
+-- escapes)
 abbrev pub is_quotable : ℕ → Bool
 is_quotable c = not (c == 34 || c == 10)
 
@@ -29,23 +31,23 @@ is_quotable c = not (c == 34 || c == 10)
 abbrev pub IsDigits : List ℕ → Type 0
 IsDigits word = (0 < length word) × (list_all is_ascii_digit word ≡ true)
 
--- a start character, and XID_Continue characters behind it
+-- a start character, followed by XID_Continue characters
 abbrev pub IsName : List ℕ → Type 0
 IsName [] = ⊥
 IsName (c ∷ cs) = (starts_name c ≡ true) × (list_all is_xid_continue cs ≡ true)
 
--- what stands behind a backslash in a text literal, and the character that it stands for: `"`, `\`, `n`, `t` and `r`
+-- the character that a backslash followed by c denotes, for c one of `"`, `\`, `n`, `t` and `r`
 abbrev pub escaped : ℕ → Option ℕ
 escaped c = cond (c == 34) (Some 34) (cond (c == 92) (Some 92) (cond (c == 110) (Some 10) (cond (c == 116) (Some 9) (cond (c == 114) (Some 13) None))))
 
--- what stands between the quotes of a text literal, and the bytes of the text that it stands for: a quote or a backslash only as an escape,
--- and any other character for itself
+-- the body of a text literal, and the bytes of the text that it denotes: a quote or a backslash appears only
+-- in an escape, and any other character denotes itself
 pub data IsBody : List ℕ → List ℕ → Type 0 where
   empty : IsBody [] []
   plain : (c : ℕ) (body bytes : List ℕ) → c ≢ 34 → c ≢ 92 → IsBody body bytes → IsBody (c ∷ body) (encode_utf8 c ++ bytes)
   escape : (c d : ℕ) (body bytes : List ℕ) → escaped c ≡ Some d → IsBody body bytes → IsBody (92 ∷ c ∷ body) (encode_utf8 d ++ bytes)
 
--- how punctuation is written
+-- the spelling of punctuation
 abbrev pub punctuation_text : Punctuation → List ℕ
 punctuation_text punctuation.Plus = 43 ∷ []
 punctuation_text punctuation.Minus = 45 ∷ []
@@ -63,7 +65,7 @@ punctuation_text punctuation.CloseTable = 125 ∷ []
 punctuation_text punctuation.Comma = 44 ∷ []
 punctuation_text punctuation.Semicolon = 59 ∷ []
 
--- The word is this token. Numbers and places may be of any size here.
+-- The word is a spelling of this token. Numbers and places may have any size here.
 abbrev pub IsToken : List ℕ → Token → Type 0
 IsToken word (token.Number n) = IsDigits word × (n ≡ pos (digits_value 10 word))
 IsToken word (token.Text bytes) = (body : List ℕ) × (word ≡ 34 ∷ (body ++ 34 ∷ [])) × IsBody body bytes
@@ -72,40 +74,41 @@ IsToken word (token.Occurrence place attr) =
     (digits : List ℕ) × (name : List ℕ) × (word ≡ 36 ∷ (digits ++ 46 ∷ name)) × IsDigits digits × IsName name × (place ≡ digits_value 10 digits) × (attr ≡ encode_utf8_all name)
 IsToken word (token.Punctuation s) = word ≡ punctuation_text s
 
--- No longer beginning of the characters than the word is a token.
+-- No longer prefix of the characters `word ++ rest` is a token.
 abbrev pub IsLongest : List ℕ → List ℕ → Type 0
 IsLongest word rest = (longer more : List ℕ) (t : Token) → word ++ rest ≡ longer ++ more → IsToken longer t → length longer ≤ length word
 
--- no beginning of the characters is a token
+-- no prefix of the characters is a token
 abbrev pub BeginsNoToken : List ℕ → Type 0
 BeginsNoToken cs = (word more : List ℕ) (t : Token) → cs ≡ word ++ more → IsToken word t → ⊥
 
--- how many bytes characters take
+-- the number of bytes of characters in UTF-8
 abbrev pub width : List ℕ → ℕ
 width [] = 0
 width (c ∷ cs) = len_utf8 c + width cs
 
--- From the byte offset `at` on, the characters are separators and the longest tokens `placed`, each at its offset, up to the offset `end`,
--- from which on `rest` stands.
+-- From the byte offset `at` up to the offset `end`, the characters are separators and the longest tokens
+-- `placed`, each at its offset; `rest` are the characters after them.
 pub data AreTokens : ℕ → List ℕ → List Placed → ℕ → List ℕ → Type 0 where
   ended : (at : ℕ) (cs : List ℕ) → AreTokens at cs [] at cs
   separator : (at c : ℕ) (cs : List ℕ) (placed : List Placed) (end : ℕ) (rest : List ℕ) → is_separator c ≡ true → AreTokens (at + 1) cs placed end rest → AreTokens at (c ∷ cs) placed end rest
   word : (at : ℕ) (all word cs : List ℕ) (t : Token) (placed : List Placed) (end : ℕ) (rest : List ℕ) → all ≡ word ++ cs → IsToken word t → IsLongest word cs → AreTokens (at + width word) cs placed end rest
       → AreTokens at all (record { at = at; token = t } ∷ placed) end rest
 
--- A number literal is at most the greatest value of 64 bits with a sign, and a place at most the greatest of 16 bits.
+-- The number of a token is within its limit: a number literal in the range of i64, a place at most 65,535.
 abbrev pub is_within : Token → Bool
 is_within (token.Number n) = int_le n (pos 9223372036854775807)
 is_within (token.Occurrence place attr) = nat_le place MOST_PLACE
 is_within _ = true
 
--- From the byte offset `from` on, where the characters `cs` stand, whole tokens and separators stand up to the offset `at`,
--- and `rest` stands there.
+-- From the byte offset `from`, where the characters `cs` begin, whole tokens and separators extend up to the
+-- offset `at`, where `rest` begins.
 pub record Reaches (from : ℕ) (cs : List ℕ) (at : ℕ) (rest : List ℕ) : Type 0 where
   pub placed : List Placed
   pub before : AreTokens from cs placed at rest
 
--- At the offset `at`, which whole tokens and separators reach, stands a character that is no separator and begins no token.
+-- At the offset `at`, which whole tokens and separators reach, there is a character that is not a separator
+-- and begins no token.
 pub record NoTokenAt (from : ℕ) (cs : List ℕ) (at : ℕ) : Type 0 where
   pub first : ℕ
   pub rest : List ℕ
@@ -113,7 +116,8 @@ pub record NoTokenAt (from : ℕ) (cs : List ℕ) (at : ℕ) : Type 0 where
   pub no_separator : is_separator first ≡ false
   pub no_token : BeginsNoToken (first ∷ rest)
 
--- At the offset `at`, which whole tokens and separators reach, stands a token, the longest there, of whatever number.
+-- At the offset `at`, which whole tokens and separators reach, there is a token, the longest there, whose
+-- number may have any size.
 pub record AnyTokenAt (from : ℕ) (cs : List ℕ) (at : ℕ) : Type 0 where
   pub word : List ℕ
   pub token : Token
@@ -122,29 +126,29 @@ pub record AnyTokenAt (from : ℕ) (cs : List ℕ) (at : ℕ) : Type 0 where
   pub is : IsToken word token
   pub longest : IsLongest word rest
 
--- There stands a token whose number is above its limit,
+-- At this offset there is a token whose number is above its limit,
 abbrev pub TooLargeAt : ℕ → List ℕ → ℕ → Type 0
 TooLargeAt from cs at = (there : AnyTokenAt from cs at) × (is_within there.token ≡ false)
 
--- or one whose number, if it has one, is within it;
+-- or a token whose number, if it has one, is within its limit,
 abbrev pub TokenAt : ℕ → List ℕ → ℕ → Type 0
 TokenAt from cs at = (there : AnyTokenAt from cs at) × (is_within there.token ≡ true)
 
--- or the characters end there.
+-- or the end of the characters.
 abbrev pub EndsAt : ℕ → List ℕ → ℕ → Type 0
 EndsAt from cs at = Reaches from cs at []
 
--- Each of the tokens has its number within the limit.
+-- The number of each token is within its limit.
 abbrev pub all_within : List Placed → Bool
 all_within [] = true
 all_within (p ∷ ps) = is_within p.token && all_within ps
 
--- a character that is no separator stands in front, and no token begins with it
+-- the characters begin with a character that is not a separator and begins no token
 abbrev pub HasNoToken : List ℕ → Type 0
 HasNoToken [] = ⊥
 HasNoToken (c ∷ cs) = (is_separator c ≡ false) × BeginsNoToken (c ∷ cs)
 
--- a token stands in front, the longest there, with a number above its limit
+-- the characters begin with a token, the longest there, whose number is above its limit
 pub record HasTooLarge (cs : List ℕ) : Type 0 where
   pub word : List ℕ
   pub token : Token
@@ -154,13 +158,14 @@ pub record HasTooLarge (cs : List ℕ) : Type 0 where
   pub longest : IsLongest word behind
   pub large : is_within token ≡ false
 
--- what stands where the tokens of a text end
+-- the characters after the tokens of a text agree with the ending
 abbrev pub Stops : Ending → List ℕ → Type 0
 Stops (ending.EndsAt at) rest = rest ≡ []
 Stops (ending.NoTokenAt at) rest = HasNoToken rest
 Stops (ending.TooLargeAt at) rest = HasTooLarge rest
 
--- From the byte offset `from` on, the characters are these tokens, each with its number within the limit, and this ending.
+-- From the byte offset `from` on, the characters are the tokens and the ending of i, and the number of each
+-- token is within its limit.
 pub record Lexes (from : ℕ) (cs : List ℕ) (i : Input) : Type 0 where
   pub rest : List ℕ
   pub before : AreTokens from cs i.left (offset_of i.ending) rest

@@ -1,4 +1,4 @@
-//! A cursor over the tokens of a text: it peeks at the token in front and bumps it.
+//! A cursor over the tokens of a text.
 
 ghost use Rattle.std.specs.Prelude.{◌≡◌, ℕ, chars, drop, option_map};
 ghost use Rattle.std.specs.Str.{IsCharBoundary};
@@ -13,16 +13,15 @@ use crate::lexer::{quick_token, skip_separators, token_in_front};
 use crate::token::Token;
 use std::marker::Model;
 
-/// A reader in a text: what is left of it, from the front of a token on. Each token is cut
-/// once, when the one before it is passed.
-///
-/// Offsets are in bytes from the front of the text.
+/// A cursor over the tokens of a text. It is positioned before a token, or where the tokens end,
+/// and holds the next token, so that each token is read only once. Offsets are in bytes from the
+/// beginning of the text.
 #[derive(Drop)]
 pub struct Cursor<'t> {
     text: &'t str,
-    /// What is left of the text.
+    /// The rest of the text, from the next token on.
     rest: &'t str,
-    /// The token in front, and what stands behind it.
+    /// The next token and the text after it, or the reason why there is none.
     front: Result<(Token<'t>, &'t str), TokenFault>,
 }
 
@@ -38,7 +37,8 @@ impl<'t> Model for Cursor<'t> {
     ghost invariant = { λ c. IsReady c.text.now c.rest.now c.front };
 }
 
-/// Why no token stands in front of what is left, where this is why none is cut.
+/// Returns why no token can be read at the beginning of `rest`, or `None` if `rest` is empty.
+/// `fault` is the fault of the failed attempt to read one.
 #[tactic(auto, using(crate::proofs::States::no_width, crate::proofs::Lexed::wide))]
 fn fault_before(fault: TokenFault, rest: &str) -> Option<TokenFault>
     ensures { (at : ℕ) → result ≡ ending_fault (ending_by fault at (chars rest.now)) }
@@ -51,7 +51,7 @@ fn fault_before(fault: TokenFault, rest: &str) -> Option<TokenFault>
 }
 
 impl<'t> Cursor<'t> {
-    /// A cursor at the first token of a text. Takes no memory.
+    /// Returns a cursor at the first token of a text. Does not allocate.
     pub fn new(text: &'t str) -> Cursor<'t>
         ensures { Lexes 0 (chars text.now) result }
     {
@@ -63,8 +63,9 @@ impl<'t> Cursor<'t> {
         }
     }
 
-    /// A cursor at the first token from an offset on, at which a character begins or the text ends.
-    /// The offsets that it tells are those of the whole text. Takes no memory.
+    /// Returns a cursor at the first token at or after the byte offset `from`, which must be at the
+    /// beginning of a character or the end of the text. Its offsets are those of the whole text.
+    /// Does not allocate.
     pub fn at(text: &'t str, from: usize) -> Cursor<'t>
         requires { IsCharBoundary text.now from }
         ensures { Lexes from (chars (drop from text.now)) result }
@@ -78,8 +79,8 @@ impl<'t> Cursor<'t> {
         }
     }
 
-    /// The token in front: None at the end of the text, where no token begins, and where its number
-    /// is too large. Takes no memory.
+    /// Returns the next token, or `None` if the text ends here, or if no token begins here, or if
+    /// its number is above its limit. Does not allocate.
     pub fn peek(&self) -> Option<Token<'t>>
         ensures { option_map token_of result ≡ front self.now }
     {
@@ -89,7 +90,7 @@ impl<'t> Cursor<'t> {
         }
     }
 
-    /// The offset of the token in front, or the one where the tokens end. Takes no memory.
+    /// Returns the offset of the next token, or the offset where the tokens end. Does not allocate.
     #[tactic(auto, using(crate::proofs::States::offset_is))]
     pub fn offset(&self) -> usize
         ensures { result ≡ offset self.now }
@@ -97,7 +98,7 @@ impl<'t> Cursor<'t> {
         self.text.len() - self.rest.len()
     }
 
-    /// Whether the text ends here. Takes no memory.
+    /// Returns whether the text ends here. Does not allocate.
     #[tactic(auto, using(crate::proofs::States::ends_here))]
     pub fn is_at_end(&self) -> bool
         ensures { result ≡ is_end self.now.ending self.now.left }
@@ -105,7 +106,8 @@ impl<'t> Cursor<'t> {
         self.rest.is_empty()
     }
 
-    /// Why no token stands in front, where none does and the text does not end. Takes no memory.
+    /// Returns why no token can be read here, or `None` if one can or the text ends here. Does not
+    /// allocate.
     pub fn fault(&self) -> Option<TokenFault>
         ensures { result ≡ fault_of self.now.ending self.now.left }
     {
@@ -115,7 +117,7 @@ impl<'t> Cursor<'t> {
         }
     }
 
-    /// Passes the token in front, where one is there. Takes no memory.
+    /// Advances past the next token; does nothing if there is none. Does not allocate.
     pub fn bump(&mut self)
         ensures { self.new ≡ next self.old }
     {

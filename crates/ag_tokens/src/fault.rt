@@ -1,10 +1,10 @@
-//! Why no token is cut.
+//! The reasons why no token can be read.
 
-/// Why no token is cut from the front of a text.
+/// Why no token can be read at the beginning of a text.
 #[derive(Clone, Copy, Debug, PartialEq, Eq)]
 pub enum TokenFault {
-    /// No token begins there.
+    /// No token begins at the first character.
     Nothing,
-    /// The token there has a number above its limit.
+    /// The first token has a number above its limit.
     TooLarge,
 }

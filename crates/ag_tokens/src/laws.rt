@@ -1,15 +1,15 @@
-//! Laws of tokens, each the contract of a function that does nothing.
+//! Laws of tokens, each the contract of a function with an empty body.
 
 ghost use Rattle.ag_tokens.specs.Laws.{LongestIsCut, NothingIsCut, OneInput};
 
-/// A text has one list of placed tokens and one ending.
+/// States that a text has exactly one list of tokens with offsets, and one ending.
 #[tactic(auto, using(crate::proofs::Lexes::one_input))]
 pub fn a_text_has_one_list_of_tokens()
     ensures { OneInput }
 {}
 
-/// What is cut from the front of characters is their longest token, and where nothing is cut no
-/// token begins.
+/// States that `token_from` returns the longest token at the beginning of characters, and that no
+/// token begins there if it returns `None`.
 #[tactic(auto, using(crate::proofs::TokenLaws::longest_is_cut, crate::proofs::TokenLaws::nothing_is_cut))]
 pub fn cutting_agrees_with_tokens()
     ensures cut { LongestIsCut }

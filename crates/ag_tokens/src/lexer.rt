@@ -1,4 +1,4 @@
-//! Cutting the token at the front of a text.
+//! The lexer: reads the first token of a text.
 
 ghost use Rattle.std.specs.Prelude.{◌≡◌, ◌++◌, ◌∷◌, [], None, pos, true, false, length, chars, is_some};
 ghost use Rattle.std.specs.Prelude.{option_map};
@@ -21,17 +21,18 @@ use std::alloc::Global;
 /// A class of characters.
 #[derive(Clone, Copy, Debug, PartialEq, Eq)]
 pub enum Class {
-    /// Space, tab, CR and LF.
+    /// Separators: space, tab, CR and LF.
     Separator,
     /// `0` to `9`.
     Digit,
-    /// What a name goes on with.
+    /// Characters of a name after the first one (XID_Continue).
     NamePart,
-    /// All but a quote and LF: what stands between the quotes of a TEXT in a sentence.
+    /// All characters but a double quote and LF: those allowed between the quotes of a TEXT in a
+    /// sentence.
     Quotable,
 }
 
-/// Whether a character is of a class.
+/// Returns whether a character belongs to a class.
 fn is_in(class: Class, c: char) -> bool
     ensures { result ≡ lexing.is_in class c }
 {
@@ -43,14 +44,15 @@ fn is_in(class: Class, c: char) -> bool
     }
 }
 
-/// Whether a name starts with the character.
+/// Returns whether a name can start with the character.
 pub fn starts_name(c: char) -> bool
     ensures { result ≡ tokens_spec.starts_name c }
 {
     unicode_ident::is_xid_start(c) || c == '_'
 }
 
-/// The first character, and what stands behind it. Takes no memory.
+/// Returns the first character and the text after it, or `None` if the text is empty. Does not
+/// allocate.
 pub fn first(text: &str) -> Option<(char, &str)>
     ensures { MatchOption result (chars text.now ≡ []) (λ x. lexing.IsSplit text.now x.0 x.1.now) }
 {
@@ -61,7 +63,7 @@ pub fn first(text: &str) -> Option<(char, &str)>
     }
 }
 
-/// What stands behind the first character, where that is of a class.
+/// Returns the text after the first character if that belongs to the class, else `None`.
 fn behind_one(class: Class, text: &str) -> Option<&str>
     ensures { lexing.PassesOne class text.now result }
 {
@@ -71,8 +73,8 @@ fn behind_one(class: Class, text: &str) -> Option<&str>
     }
 }
 
-/// The longest front whose characters are of a class, and what stands behind it. Takes no
-/// memory.
+/// Splits a text after its longest prefix of characters of the class; returns the prefix and the
+/// rest. Does not allocate.
 pub fn split_behind(class: Class, text: &str) -> (&str, &str)
     ensures front { result.0.now ≡ encode_utf8_all (front_in class (chars text.now)) }
     ensures back { chars result.1.now ≡ back_of class (chars text.now) }
@@ -84,7 +86,7 @@ pub fn split_behind(class: Class, text: &str) -> (&str, &str)
     text.split_at(text.len() - rest.len())
 }
 
-/// What stands behind the separators in front.
+/// Returns the text after its leading separators. Does not allocate.
 pub fn skip_separators(text: &str) -> &str
     ensures { chars result.now ≡ unspaced (chars text.now) }
 {
@@ -95,7 +97,8 @@ pub fn skip_separators(text: &str) -> &str
     rest
 }
 
-/// The digits in front, where there are some, and what stands behind them.
+/// Returns the leading digits and the text after them, or `None` if the text does not begin with a
+/// digit.
 #[tactic(auto, using(crate::proofs::Numerals::no_digits_cut, crate::proofs::Numerals::digits_cut, crate::proofs::Numerals::digits_are))]
 fn digits_in_front(text: &str) -> Option<(&str, &str)>
     ensures value { lexing.GivesDigits result (lexing.digits_from (chars text.now)) }
@@ -108,7 +111,8 @@ fn digits_in_front(text: &str) -> Option<(&str, &str)>
     Some((digits, rest))
 }
 
-/// The name in front, where one begins, and what stands behind it.
+/// Returns the name at the beginning of the text and the text after it, or `None` if no name begins
+/// there.
 #[inline(never)]
 fn name_in_front(text: &str) -> Option<(&str, &str)>
     ensures { lexing.GivesName result (lexing.name_from (chars text.now)) }
@@ -119,7 +123,8 @@ fn name_in_front(text: &str) -> Option<(&str, &str)>
     }
 }
 
-/// The punctuation that is one character.
+/// Returns the punctuation that consists of this character alone, and begins no longer one, or
+/// `None`.
 #[inline(always)]
 #[tactic(auto, using(crate::proofs::TokenLaws::no_start))]
 fn single_punctuation(c: char) -> Option<Punctuation>
@@ -142,8 +147,8 @@ fn single_punctuation(c: char) -> Option<Punctuation>
     }
 }
 
-/// One mark where its character stands twice, and another where it stands once, as it does before
-/// the text.
+/// Returns `two` if the text begins with the character `twice`, else `one`, with the text after it.
+/// The caller has already read this character once.
 #[inline(always)]
 fn doubled(twice: char, two: Punctuation, one: Punctuation, text: &str) -> (Punctuation, &str)
     ensures { (result.0, chars result.1.now) ≡ lexing.doubled twice two one (chars text.now) }
@@ -154,8 +159,8 @@ fn doubled(twice: char, two: Punctuation, one: Punctuation, text: &str) -> (Punc
     }
 }
 
-/// The punctuation that begins with the character, where no name does, and what stands behind it;
-/// `rest` stands behind the character.
+/// Returns the punctuation that begins with the character `c` and the text after it, or `None`;
+/// `rest` is the text after `c`. A character that begins punctuation begins no name.
 #[inline(always)]
 #[tactic(auto, using(crate::proofs::TokenLaws::no_start))]
 fn punctuation_of(c: char, rest: &str) -> Option<(Punctuation, &str)>
@@ -170,7 +175,8 @@ fn punctuation_of(c: char, rest: &str) -> Option<(Punctuation, &str)>
     }
 }
 
-/// The character that a backslash and this one stand for.
+/// Returns the character that a backslash followed by `c` denotes, or `None` if this is not an
+/// escape.
 fn escape(c: char) -> Option<char>
     ensures { result ≡ tokens_spec.escaped c }
 {
@@ -184,14 +190,15 @@ fn escape(c: char) -> Option<char>
     }
 }
 
-/// Whether a backslash and the character are an escape.
+/// Returns whether a backslash followed by the character is an escape.
 fn is_escape(c: char) -> bool
     ensures { result ≡ is_some (tokens_spec.escaped c) }
 {
     escape(c).is_some()
 }
 
-/// What stands behind an escape whose backslash stood before.
+/// Returns the text after the escape whose backslash has been read, or `None` if this is not an
+/// escape.
 fn past_escape(text: &str) -> Option<&str>
     ensures { lexing.PassesEscape text.now result }
 {
@@ -201,8 +208,8 @@ fn past_escape(text: &str) -> Option<&str>
     }
 }
 
-/// What stands behind one character of a text literal: None at a quote, at an escape that is none,
-/// and at the end.
+/// Returns the text after the first character of the body of a text literal. Returns `None` at a
+/// quote, at a backslash that does not begin an escape, and at the end of the text.
 #[tactic(auto, using(crate::proofs::TextTurns::past))]
 fn past_character(text: &str) -> Option<&str>
     ensures { MatchOption result (lexing.character_from (chars text.now) ≡ None)
@@ -215,7 +222,7 @@ fn past_character(text: &str) -> Option<&str>
     }
 }
 
-/// What stands behind a closing quote.
+/// Returns the text after a closing quote, or `None` if the text does not begin with one.
 fn unquoted(text: &str) -> Option<&str>
     ensures { option_map (λ x. chars x.now) result ≡ lexing.unquoted (chars text.now) }
 {
@@ -225,7 +232,7 @@ fn unquoted(text: &str) -> Option<&str>
     }
 }
 
-/// What stands behind a dot.
+/// Returns the text after a dot, or `None` if the text does not begin with one.
 fn undotted(text: &str) -> Option<&str>
     ensures { option_map (λ x. chars x.now) result ≡ lexing.undotted (chars text.now) }
 {
@@ -235,8 +242,9 @@ fn undotted(text: &str) -> Option<&str>
     }
 }
 
-/// The character that stands in front between the quotes of a text literal, an escape for what it
-/// stands for, and what stands behind it.
+/// Returns the character that the beginning of the body of a text literal denotes (an escape
+/// denotes one), and the text after it. Returns `None` at the end and at a backslash that does not
+/// begin an escape.
 fn character(text: &str) -> Option<(char, &str)>
     ensures { option_map (λ x. (x.0, chars x.1.now)) result
         ≡ lexing.piece_from (chars text.now) }
@@ -250,7 +258,8 @@ fn character(text: &str) -> Option<(char, &str)>
     }
 }
 
-/// The text that a text literal stands for, from what stands between its quotes. Takes memory.
+/// Returns the text that a text literal denotes, given its body between the quotes. Fails with
+/// `NoMemory` if the text cannot be allocated.
 #[tactic(auto, using(crate::proofs::TextTurns::piece_some, crate::proofs::TextTurns::piece_none,))]
 pub fn unescaped(alloc: Global, body: &str) -> Result<Text, NoMemory>
     ensures { IfOk result (λ text. text ≡ lexing.unescaped (chars body.now)) }
@@ -264,8 +273,8 @@ pub fn unescaped(alloc: Global, body: &str) -> Result<Text, NoMemory>
     Ok(Text::from_string(text))
 }
 
-/// What stands between the quotes of the text literal whose first quote stood before the text, and
-/// what stands behind it.
+/// Returns the body of the text literal whose opening quote has been read, and the text after its
+/// closing quote, or `None` if it has a wrong escape or no closing quote.
 #[inline(never)]
 fn quoted_in_front(text: &str) -> Option<(&str, &str)>
     ensures { option_map (λ x. (token.Text (lexing.unescaped (chars x.0.now)), chars x.1.now)) result
@@ -284,7 +293,8 @@ fn quoted_in_front(text: &str) -> Option<(&str, &str)>
     }
 }
 
-/// The text literal whose first quote stood before the text.
+/// Reads the text literal whose opening quote has been read. Fails with `Nothing` if that has a
+/// wrong escape or no closing quote.
 #[inline(always)]
 fn text_literal(text: &str) -> Result<(Token<'_>, &str), TokenFault>
     ensures { GivesToken result (lexing.text_from (length (chars text.now)) [] (chars text.now)) }
@@ -295,7 +305,8 @@ fn text_literal(text: &str) -> Result<(Token<'_>, &str), TokenFault>
     }
 }
 
-/// The number literal of these digits, in front of `rest`.
+/// Makes the number literal of these digits; `rest` is the text after them. Fails with `TooLarge`
+/// if the number does not fit in an `i64`.
 #[inline(always)]
 fn number_literal<'t>(digits: &str, rest: &'t str) -> Result<(Token<'t>, &'t str), TokenFault>
     requires { IsDigits digits.now }
@@ -308,7 +319,9 @@ fn number_literal<'t>(digits: &str, rest: &'t str) -> Result<(Token<'t>, &'t str
     }
 }
 
-/// The number literal in front, of however many digits.
+/// Reads the number literal at the beginning of the text, with any number of digits. Fails with
+/// `TooLarge` if the number does not fit in an `i64`, and with `Nothing` if the text does not begin
+/// with a digit.
 #[inline(always)]
 fn long_number(text: &str) -> Result<(Token<'_>, &str), TokenFault>
     ensures { GivesToken result (lexing.number_from (chars text.now)) }
@@ -319,7 +332,7 @@ fn long_number(text: &str) -> Result<(Token<'_>, &str), TokenFault>
     }
 }
 
-/// The digit in front, and what stands behind it.
+/// Returns the digit at the beginning of the text and the text after it, or `None`.
 fn digit_in_front(text: &str) -> Option<(char, &str)>
     ensures { lexing.PassesDigit text.now result }
 {
@@ -329,8 +342,8 @@ fn digit_in_front(text: &str) -> Option<(char, &str)>
     }
 }
 
-/// The number of a digit and of those that stand behind it, and what stands behind them. None where
-/// the number is 10 to the power 18 or more.
+/// Returns the number of a first digit and of the digits at the beginning of `text`, and the text
+/// after them, or `None` if the number is 10^18 or more.
 fn short_number(digit: char, text: &str) -> Option<(i64, &str)>
     requires { is_ascii_digit digit ≡ true }
     ensures value { IfSome result (λ x. x.0
@@ -350,7 +363,8 @@ fn short_number(digit: char, text: &str) -> Option<(i64, &str)>
     Some((number as i64, rest))
 }
 
-/// The number literal that begins with the digit; `rest` stands behind the digit.
+/// Reads the number literal at the beginning of `text`, whose first character is `digit`, with
+/// `rest` after it. Fails with `TooLarge` if the number does not fit in an `i64`.
 #[inline(always)]
 fn number<'t>(digit: char, rest: &'t str, text: &'t str) -> Result<(Token<'t>, &'t str), TokenFault>
     requires digit { is_ascii_digit digit ≡ true }
@@ -363,8 +377,8 @@ fn number<'t>(digit: char, rest: &'t str, text: &'t str) -> Result<(Token<'t>, &
     }
 }
 
-/// The digits and the name of the occurrence whose `$` stood before the text, and what stands behind
-/// it.
+/// Returns the digits and the name of the occurrence whose `$` has been read, and the text after
+/// it, or `None` if this is not an occurrence.
 #[inline(never)]
 fn occurrence_in_front(text: &str) -> Option<(&str, &str, &str)>
     ensures value { option_map (λ x. (token.Occurrence (digits_value 10 x.0.now) x.1.now, chars x.2.now)) result
@@ -376,7 +390,8 @@ fn occurrence_in_front(text: &str) -> Option<(&str, &str, &str)>
     Some((digits, attr, rest))
 }
 
-/// The occurrence of these digits and this name, in front of `rest`.
+/// Makes the occurrence of these digits and this name; `rest` is the text after it. Fails with
+/// `TooLarge` if the place is above 65,535.
 #[inline(always)]
 fn occurrence_of<'t>(
     digits: &str,
@@ -393,7 +408,8 @@ fn occurrence_of<'t>(
     }
 }
 
-/// The occurrence whose `$` stood before the text.
+/// Reads the occurrence whose `$` has been read. Fails with `Nothing` if this is not an occurrence,
+/// and with `TooLarge` if its place is above 65,535.
 #[inline(always)]
 fn occurrence(text: &str) -> Result<(Token<'_>, &str), TokenFault>
     ensures { GivesToken result (lexing.occurrence_from (chars text.now)) }
@@ -404,8 +420,8 @@ fn occurrence(text: &str) -> Result<(Token<'_>, &str), TokenFault>
     }
 }
 
-/// The name or punctuation that begins with the character, which is no digit; `rest` stands behind
-/// the character.
+/// Reads the name or punctuation at the beginning of `text`, whose first character is `c`, not a
+/// digit, with `rest` after it. Fails with `Nothing` if neither begins there.
 #[inline(always)]
 #[tactic(auto, using(crate::proofs::Numerals::no_digit))]
 fn plain_token<'t>(
@@ -426,10 +442,12 @@ fn plain_token<'t>(
     }
 }
 
-/// The token in front, and what stands behind it. Takes no memory.
+/// Reads the first token of a text; returns it and the text after it. Fails with `Nothing` if no
+/// token begins there, and with `TooLarge` if the number of the token is above its limit. Does not
+/// allocate.
 ///
-/// What is long is cut by functions that are not inlined, and answer less than a whole token. So a
-/// token is put together in registers.
+/// The functions for long tokens are not inlined, and return less than a whole token; so this
+/// function assembles the token in registers.
 #[inline(never)]
 #[tactic(auto, using(crate::proofs::Numerals::some_digit), unfolding(crate::specs::Lexing::token_from))]
 pub fn token_in_front(text: &str) -> Result<(Token<'_>, &str), TokenFault>
@@ -444,8 +462,8 @@ pub fn token_in_front(text: &str) -> Result<(Token<'_>, &str), TokenFault>
     }
 }
 
-/// The token in front, and what stands behind it, where that is punctuation or a number below 10 to
-/// the power 18: what is cut without a further call. Takes no memory.
+/// Reads the first token of a text if it is punctuation or a number below 10^18, which needs no
+/// further call; else returns `None`. Does not allocate.
 #[inline(always)]
 #[tactic(auto, using(crate::proofs::TokenLaws::marked_token, crate::proofs::Numerals::numbered_token))]
 pub fn quick_token(text: &str) -> Option<(Token<'_>, &str)>

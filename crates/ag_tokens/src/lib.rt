@@ -1,4 +1,4 @@
-//! The tokens of expressions and of grammars: cutting a text into them, and a cursor over them.
+//! The tokens of expressions and of grammars: a lexer, and a cursor over the tokens of a text.
 #![tactic(auto)]
 
 mod cursor;

@@ -1,4 +1,4 @@
-//! Tokens that are written in one way only.
+//! Tests for tokens that have only one spelling.
 
 ghost use Rattle.std.specs.Prelude.{◌≡◌};
 ghost use Rattle.ag_tokens.specs.Lexing.{token_of};
@@ -7,7 +7,7 @@ ghost use Rattle.ag_tokens.specs.Token as sign;
 
 use crate::token::{Punctuation, Token};
 
-/// Whether a token is this punctuation.
+/// Returns whether a token is this punctuation.
 pub fn is_mark(mark: Punctuation, token: Token<'_>) -> bool
     ensures { result ≡ is_sign (sign.mark mark) (token_of token.entry) }
 {
@@ -17,7 +17,7 @@ pub fn is_mark(mark: Punctuation, token: Token<'_>) -> bool
     }
 }
 
-/// Whether a token is this name.
+/// Returns whether a token is this name.
 pub fn is_word(word: &str, token: Token<'_>) -> bool
     ensures { result ≡ is_sign (sign.word word.now) (token_of token.entry) }
 {

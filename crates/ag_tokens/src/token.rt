@@ -1,6 +1,6 @@
 //! The tokens of the language.
 
-/// Punctuation of the language, the operators that are no names among it.
+/// Punctuation of the language, including the operators that are not names.
 #[derive(Clone, Copy, Debug, PartialEq, Eq)]
 pub enum Punctuation {
     /// `+`
@@ -35,14 +35,14 @@ pub enum Punctuation {
     Semicolon,
 }
 
-/// A word of the language, lent from the text.
+/// A token of the language, borrowed from the text.
 #[derive(Clone, Copy, Debug, PartialEq, Eq)]
 pub enum Token<'t> {
     /// A number literal.
     Number(i64),
-    /// A text literal, as it stands between its quotes.
+    /// A text literal, as written between its quotes.
     Text(&'t str),
-    /// A name, a reserved one too.
+    /// A name, reserved or not.
     Name(&'t str),
     /// An occurrence of an attribute: `$`, a place, `.`, a name.
     Occurrence(u16, &'t str),

@@ -1,4 +1,4 @@
--- What is read is spelled so, and what is spelled so is read.
+-- Values that are read have the bytes as their spelling, and spellings are read as their values.
 use Rattle.std.proofs.Common.{◌≡◌, ℕ, zero, suc, ◌^◌, ◌-◌, ◌<◌, ◌≤◌, ℤ, Bool, true, false, ◌&&◌, ◌||◌, true≢false, cond, List, [], ◌∷◌, ◌++◌, length, map, sum, take, None, Some, refl, sym, ap, subst, ◌∙◌, append_assoc, arith}
 use Rattle.std.proofs.lemmas.List.{append-nil, length-append, take_at}
 use Rattle.std.proofs.lemmas.List.Sums.{sum_by-cons}
@@ -26,7 +26,7 @@ use Rattle.std.proofs.Math.Facts.{Fits-of_z, sfits_to_z}
 use Rattle.std.proofs.lemmas.Bool.{and_parts, lt-ltb, ltb-true, or_left, or_right}
 use Rattle.std.proofs.lemmas.Option.{cond_some, none-some, option_and_then_some, same_Some}
 
--- ---- what is read is spelled so
+-- ---- values that are read have the bytes as their spelling
 
 code_takes : (b : ℕ) (c : ErrorCode) → code_at b ≡ Some c → number_of c ≡ b
 code_takes zero c e = absurd cc
@@ -183,7 +183,7 @@ read_is_spelled levels (suc (suc (suc (suc zero))) ∷ b ∷ rest) x is e =
     }))
 read_is_spelled levels (suc (suc (suc (suc (suc b)))) ∷ rest) x is e = absurd cc
 
--- ---- what is spelled so is read
+-- ---- spellings are read as their values
 
 without_first : (a b : Bool) → a ≡ false → (a || b) ≡ true → b ≡ true
 without_first true b e h = absurd (true≢false e)
@@ -301,9 +301,9 @@ layer_again (suc levels) (Value-F.Table ps) = subst (λ (w : Value). IsLegible (
 pub spelled_is_read : (levels : ℕ) (value : Value) → IsLegible levels value → Again spelling_of (item_at levels) value
 spelled_is_read levels = of_layers levels (layer_again levels)
 
--- ---- what the decoder says
+-- ---- the results of the decoder
 
--- what is read as an item is read as a value
+-- a value that is read as an item is read as a value
 as_value : (levels : ℕ) (bytes : List ℕ) (x : Value × List ℕ) → item_at levels bytes ≡ Some x → value_at levels bytes ≡ Some x
 unfolding value_at item_at
 as_value levels [] x e = absurd cc
@@ -336,24 +336,24 @@ well_again (Value-F.Fault c) = subst IsReadWell (sym (rolls-Fault c)) (fault_aga
 pub well_is_read : (value : Value) (rest : List ℕ) → IsWell value → value_at 64 (spelling_of value ++ rest) ≡ Some (value, rest)
 well_is_read value rest well = subst IsReadWell (roll-out-Value value) (well_again (out-Value value)) well rest
 
--- where a front is a spelling, only memory is a reason to refuse
+-- if a prefix is a spelling, the only fault is NoMemory
 pub only_memory : (input : List ℕ) (e : ValueFault) → Fails e (value_at 64 input) → (value : Value) (rest : List ℕ) → IsWell value → input ≡ spelling_of value ++ rest → e ≡ NoMemory
 only_memory input Malformed fails value rest well spelled =
     let some : value_at 64 input ≡ Some (value, rest) = ap (value_at 64) spelled ∙ well_is_read value rest well in
     absurd (none-some (value, rest) (sym fails ∙ some))
 only_memory input NoMemory fails value rest well spelled = refl
 
--- a front that is a spelling is the one that was read
+-- a prefix that is a spelling is the one that was read
 pub one_spelled : (input : List ℕ) (read : Value × List ℕ) → value_at 64 input ≡ Some read → (value : Value) (rest : List ℕ) → IsWell value → input ≡ spelling_of value ++ rest → read ≡ (value, rest)
 one_spelled input read e value rest well spelled = same_Some read (value, rest) (sym e ∙ ap (value_at 64) spelled ∙ well_is_read value rest well)
 
--- the front of that length is the spelling
+-- the prefix of that length is the spelling
 pub front_is : (input text rest : List ℕ) → input ≡ text ++ rest → take (length input - length rest) input ≡ text
 front_is input text rest e =
     let len : length text ≡ length input - length rest = omega (arith, ap length e, length-append text rest) in
     ap (take (length input - length rest)) e ∙ take_at text rest (length input - length rest) len
 
--- a value that was read from its own spelling, and how many bytes were read
+-- a value that was read from its own spelling, and the number of bytes read
 pub read_whole : (input : List ℕ) (read : Value × List ℕ) → value_at 64 input ≡ Some read → (value : Value) (rest : List ℕ) → IsWell value → input ≡ spelling_of value ++ rest → ◌≡◌ {A = Value × ℕ} (read.0, length input - length read.1) (value, length (spelling_of value))
 read_whole input read e value rest well spelled =
     let same = one_spelled input read e value rest well spelled in
@@ -363,7 +363,7 @@ read_whole input read e value rest well spelled =
     let len_is : length input - length read.1 ≡ length (spelling_of value) = ap (λ (r : List ℕ). length input - length r) rest_is ∙ len in
     cc
 
--- what is read is well if it took no more bytes than a well value may weigh
+-- a value that is read is well if it took no more bytes than the greatest weight
 pub read_is_well : (input : List ℕ) (x : Value × List ℕ) → IsBytes input → value_at 64 input ≡ Some x → length input - length x.1 ≤ max_weight → IsWell x.0
 read_is_well input x is e short =
     let read = read_is_spelled 64 input x is e in
@@ -371,14 +371,14 @@ read_is_well input x is e short =
     let light : weight_of x.0 ≤ max_weight = omega (arith, len, short, length-append (spelling_of x.0) x.1, length-spelling x.0) in
     record { formed = read.holds; shallow = read.shallow; light = light }
 
--- if it took more, no front is the spelling of a well value
+-- if it took more, no prefix is the spelling of a well value
 pub too_long : (input : List ℕ) (x : Value × List ℕ) → value_at 64 input ≡ Some x → max_weight < length input - length x.1 → (value : Value) (rest : List ℕ) → IsWell value → input ≡ spelling_of value ++ rest → ⊥
 too_long input x e long value rest well spelled =
     let rest_is : length x.1 ≡ length rest = ap (λ (p : Value × List ℕ). length p.1) (one_spelled input x e value rest well spelled) in
     let l = well.light in
     omega (arith, long, rest_is, ap length spelled, length-append (spelling_of value) rest, length-spelling value, l)
 
--- no spelling of a well value begins another
+-- no spelling of a well value is a proper prefix of another
 pub prefix_free : (value other : Value) (rest : List ℕ) → IsWell value → IsWell other → spelling_of other ≡ spelling_of value ++ rest → value ≡ other
 prefix_free value other rest well well' e =
     let read : value_at 64 (spelling_of other) ≡ Some (other, []) = ap (value_at 64) (sym (append-nil (spelling_of other))) ∙ well_is_read other [] well' in

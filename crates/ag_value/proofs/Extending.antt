@@ -1,4 +1,4 @@
--- What grows at its end, in one step or several.
+-- Lists that grow at their end, in one step or several.
 use Rattle.std.proofs.Common.{◌≡◌, ℕ, List, [], ◌++◌, sym, ap, ◌∙◌, append_assoc}
 use Rattle.std.proofs.lemmas.List.{append-nil}
 use Rattle.ag_value.specs.Spelling.{Extends}
@@ -15,5 +15,5 @@ by_two a b c p q = record { more = p.more ++ q.more; is = q.is ∙ ap (λ (w : L
 
 pub ruleset extending = (by_nothing, by_one, by_two)
 
--- for a whole value, also how its spelling and its weight are made of those of its parts
+-- for a whole value, also its spelling and its weight by those of its parts
 pub ruleset appending = (extending, spellings, weights)

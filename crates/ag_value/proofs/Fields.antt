@@ -1,4 +1,4 @@
--- The fields of a spelling: what is read is what was written, and what was written is read.
+-- The fields of a spelling: reading gives the written value, and writing the bytes that were read.
 use Rattle.std.proofs.Common.{◌≡◌, ℕ, suc, ◌+◌, ◌^◌, ◌<◌, ◌≤◌, Bool, true, false, cond, ltb, List, ◌∷◌, ◌++◌, length, get_or, take, drop, Option, Some, None, refl, sym, ap, subst, ◌∙◌, append_assoc, arith, inl, inr}
 use Rattle.std.specs.Int.{Width, w32, w64, byte_len, from_be_bytes, to_be_bytes}
 use Rattle.std.specs.Str.{is_utf8}
@@ -26,12 +26,12 @@ IsBytes-take n bytes is i =
 pub IsBytes-rest : (b : ℕ) (bytes : List ℕ) → IsBytes (b ∷ bytes) → IsBytes bytes
 IsBytes-rest b bytes is i = is (suc i)
 
--- a test that let something through
+-- a test that did not stop
 pub unless_some : {A : Type 0} (b : Bool) (x : Option A) (y : A) → cond b None x ≡ Some y → (b ≡ false) × (x ≡ Some y)
 unless_some true x y e = absurd (none-some y e)
 unless_some false x y e = (refl, e)
 
--- text was taken from the front of the bytes
+-- text was taken from the beginning of the bytes
 pub record Takes (bytes text rest : List ℕ) : Type 0 where
   pub parts : bytes ≡ text ++ rest
   pub are_bytes : IsBytes rest

@@ -1,10 +1,10 @@
--- A recursion on a count, beside a loop that counts up.
+-- A recursion on a count, for a loop that counts up.
 use Rattle.std.proofs.Common.{◌≡◌, ℕ, suc, ◌+◌, ◌-◌, ◌<◌, List, [], ◌∷◌, ◌++◌, Some, ◌∙◌, refl, sym, arith}
 use Rattle.ag_value.specs.declared.fault.ValueFault.{ValueFault}
 use Rattle.ag_value.specs.declared.fault.ValueFault.TheVariants.{Malformed, NoMemory}
 use Rattle.ag_value.specs.Reading.{Fails, Read, all_at}
 
--- one item more is read, and one fewer is to come
+-- one more item is read, and one fewer is left
 pub goes_on : {A : Type 0} (item : List ℕ → Read A) (n i : ℕ) (front : List A) (bytes : List ℕ) (first : A) (rest : List ℕ) (whole : Read (List A)) → i < n → item bytes ≡ Some (first, rest)
     → all_at item (n - i) front bytes ≡ whole → all_at item (n - (i + 1)) (front ++ first ∷ []) rest ≡ whole
 unfolding all_at
@@ -12,7 +12,7 @@ goes_on item n i front bytes first rest whole lt read so_far =
     let left : n - i ≡ suc (n - (i + 1)) = omega arith in
     sym (rw (left, read) refl) ∙ so_far
 
--- where the next item is not read, nothing is
+-- if the next item can't be read, neither can the list
 pub stops : {A : Type 0} (item : List ℕ → Read A) (n i : ℕ) (front : List A) (bytes : List ℕ) (whole : Read (List A)) (e : ValueFault) → i < n → Fails e (item bytes)
     → all_at item (n - i) front bytes ≡ whole → Fails e whole
 unfolding all_at

@@ -1,4 +1,4 @@
--- What a bound on weights says of counts.
+-- Bounds on counts by a bound on weights.
 use Rattle.std.proofs.Common.{ℕ, ◌≤◌, List, [], ◌∷◌, length, map, sum, arith, subst}
 use Rattle.std.proofs.lemmas.List.Sums.{sum_by-cons}
 use Rattle.ag_value.specs.declared.value.Value.{Value, out-Value, roll-Value, roll-out-Value}
@@ -6,7 +6,7 @@ use Rattle.ag_value.specs.declared.value.Value.TheOpen.{Value-F}
 use Rattle.ag_value.specs.declared.value.Value.TheFolds.{fold-roll-Value}
 use Rattle.ag_value.specs.Measure.{weight_of, weight_of_pair, weight_step}
 
--- each value weighs something
+-- the weight of each value is positive
 pub weight_positive : (v : Value) → 1 ≤ weight_of v
 weight_positive v = subst (λ (w : Value). 1 ≤ weight_of w) (roll-out-Value v) (layer (out-Value v))
   where

@@ -1,4 +1,4 @@
--- What a text is, wherever its bytes lie. All of this is this project's.
+-- The storage of texts. All of this is this project's.
 use Rattle.std.specs.Prelude.{ℕ, List, string_bytes}
 use Rattle.ag_value.specs.declared.text.Held.{Held}
 

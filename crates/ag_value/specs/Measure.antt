@@ -1,4 +1,4 @@
--- How heavy and how deep a value is, and the limits of both. All of this is this project's.
+-- The weight and the depth of a value, and their limits. All of this is this project's.
 use Rattle.std.specs.Prelude.{ℕ, ◌+◌, max, List, [], ◌∷◌, length, sum, map}
 use Rattle.ag_value.specs.declared.limits.TheConstants.{MAX_DEPTH, MAX_WEIGHT}
 use Rattle.ag_value.specs.declared.value.Value.{Value, fold-Value}
@@ -22,7 +22,7 @@ weight_of = fold-Value ℕ weight_step
 abbrev pub weight_of_pair : List ℕ × Value → ℕ
 weight_of_pair p = 4 + length p.0 + weight_of p.1
 
--- the greatest of some numbers, 0 where there is none
+-- the greatest of some numbers, 0 if there is none
 abbrev pub greatest : List ℕ → ℕ
 greatest [] = 0
 greatest (n ∷ ns) = max n (greatest ns)
@@ -35,12 +35,12 @@ depth_step (Value-F.List depths) = 1 + greatest depths
 depth_step (Value-F.Table pairs) = 1 + greatest (map (λ p. p.1) pairs)
 depth_step (Value-F.Fault code) = 0
 
--- The depth of a value: 0 for a number, a text and an error; for a list or a table one more than that of
--- the deepest value in it, and 1 where there is none.
+-- The depth of a value: 0 for a number, a text and an error; for a list or a table one more than that of the
+-- deepest value in it, and 1 if it is empty.
 abbrev pub depth_of : Value → ℕ
 depth_of = fold-Value ℕ depth_step
 
--- the greatest weight of a well value: its spelling has at most so many bytes
+-- the greatest weight of a well value: the greatest number of bytes of its spelling
 abbrev pub max_weight : ℕ
 max_weight = MAX_WEIGHT
 

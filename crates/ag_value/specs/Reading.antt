@@ -1,5 +1,5 @@
--- Reading a value from the front of some bytes, as a plain function on lists. It reads exactly the spellings of values
--- that are well but for their weight. Laws tie it to the spelling.
+-- Reading a value from a prefix of some bytes, as a plain function on lists. It reads exactly the spellings
+-- of values that are well except for their weight. Laws relate it to the spelling.
 use Rattle.std.specs.Prelude.{◌≡◌, ℕ, zero, suc, List, [], ◌∷◌, ◌++◌, length, take, drop, map, Option, Some, None, Result, Ok, Err, nat_lt, if◌then◌else◌}
 use Rattle.std.specs.Option.{option_and_then}
 use Rattle.std.specs.Int.{Width, w32, w64, byte_len, from_be_bytes, cast_signed}
@@ -12,26 +12,26 @@ use Rattle.ag_value.specs.declared.value.ErrorCode.{ErrorCode}
 use Rattle.ag_value.specs.declared.value.ErrorCode.TheVariants as code
 use Rattle.ag_value.specs.Well.{are_keys, key_of}
 
--- what is read, and the bytes behind it
+-- the value that is read, and the bytes after it
 abbrev pub Read : Type 0 → Type 0
 Read A = Option (A × List ℕ)
 
--- what f makes of what is there
+-- the result of f for the value of an option
 infixl 10 ◌>>=◌
 abbrev pub ◌>>=◌ : {A B : Type 0} → Option A → (A → Option B) → Option B
 o >>= f = option_and_then f o
 
--- a refusal for another cause than memory comes where reading gives nothing
+-- a fault other than NoMemory is returned exactly if reading fails
 abbrev pub Fails : {Y : Type 0} → ValueFault → Option Y → Type 0
 Fails fault.Malformed read = read ≡ None
 Fails fault.NoMemory read = Unit {0}
 
--- what a function answers, as view shows it, is what reading gives, unless memory ran out
+-- the result of a function, seen through view, is the result of reading, unless memory ran out
 abbrev pub Gives : {X Y : Type 0} → (X → Y) → Result X ValueFault → Option Y → Type 0
 Gives view (Ok x) read = read ≡ Some (view x)
 Gives view (Err e) read = Fails e read
 
--- a number of so many bytes
+-- a number of a given width
 abbrev pub number_at : Width → List ℕ → Read ℕ
 number_at w bytes = if nat_lt (length bytes) (byte_len w) then None else Some (from_be_bytes w (take (byte_len w) bytes), drop (byte_len w) bytes)
 
@@ -57,12 +57,12 @@ unfoldable pub fault_at : List ℕ → Read Value
 fault_at [] = None
 fault_at (b ∷ rest) = code_at b >>= λ c. Some (v.Fault c, rest)
 
--- so many of what item reads, after those in front
+-- n values read by `item`, after those before them
 unfoldable pub all_at : {A : Type 0} → (List ℕ → Read A) → ℕ → List A → List ℕ → Read (List A)
 all_at item zero front bytes = Some (front, bytes)
 all_at item (suc n) front bytes = item bytes >>= λ first. all_at item n (front ++ first.0 ∷ []) first.1
 
--- a key, and what item reads
+-- a key, and a value read by `item`
 unfoldable pub pair_at : (List ℕ → Read Value) → List ℕ → Read (List ℕ × Value)
 pair_at item bytes = text_at bytes >>= λ key. item key.1 >>= λ value. Some ((key.0, value.0), value.1)
 

@@ -1,4 +1,4 @@
--- A value as text for a reader. This project's.
+-- The text of a value for a reader. This project's.
 use Rattle.std.specs.Prelude.{ℕ, List, [], ◌∷◌, ◌++◌, map, codes, encode_utf8, ◌==◌, if◌then◌else◌}
 use Rattle.std.specs.Fmt.{signed_decimal}
 use Rattle.std.specs.List.{flat_map}
@@ -42,7 +42,7 @@ abbrev pub separated : List (List ℕ) → List ℕ
 separated [] = []
 separated (text ∷ texts) = text ++ following texts
 
--- what is shown of a value, from what is shown of the values in it
+-- the text of a value, from the texts of the values in it
 abbrev pub shown_step : Value-F (List ℕ) → List ℕ
 shown_step (Value-F.Num n) = signed_decimal n
 shown_step (Value-F.Text text) = quoted text
@@ -55,6 +55,6 @@ shown_step (Value-F.Fault c) = codes "error " ++ name_of c
 abbrev pub shown_of : Value → List ℕ
 shown_of = fold-Value (List ℕ) shown_step
 
--- what is shown of a pair of a table
+-- the text of a pair of a table
 abbrev pub shown_of_pair : List ℕ × Value → List ℕ
 shown_of_pair p = quoted p.0 ++ codes ": " ++ shown_of p.1

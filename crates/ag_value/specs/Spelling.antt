@@ -21,7 +21,7 @@ number_of code.Deep = 8
 abbrev pub counted : List ℕ → List ℕ
 counted bytes = to_be_bytes w32 (length bytes) ++ bytes
 
--- texts one behind the other
+-- texts, one after the other
 abbrev pub joined : List (List ℕ) → List ℕ
 joined [] = []
 joined (text ∷ texts) = text ++ joined texts
@@ -45,7 +45,7 @@ spelling_of = fold-Value (List ℕ) spelling_step
 abbrev pub spelling_of_pair : List ℕ × Value → List ℕ
 spelling_of_pair p = counted p.0 ++ spelling_of p.1
 
--- new is old with something behind it
+-- new is old and then more bytes
 pub record Extends (old new : List ℕ) : Type 0 where
   pub more : List ℕ
   pub is : new ≡ old ++ more

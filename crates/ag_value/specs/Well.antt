@@ -1,4 +1,4 @@
--- Which values are well: those that the product makes, stores and takes. All of this is this project's.
+-- Well values: those that the product makes, stores and takes. All of this is this project's.
 use Rattle.std.specs.Prelude.{◌≡◌, ℕ, ◌^◌, ◌≤◌, ℤ, pos, negsuc, Bool, true, false, ◌&&◌, ◌||◌, nat_lt, List, [], ◌∷◌, map}
 use Rattle.std.specs.Cmp.Lexicographic.{slice_cmp}
 use Rattle.std.specs.Ordering.{nat_cmp, is_lt}
@@ -12,7 +12,8 @@ abbrev pub is_i64 : ℤ → Bool
 is_i64 (pos n) = nat_lt n (2 ^ 63)
 is_i64 (negsuc n) = nat_lt n (2 ^ 63)
 
--- one text comes before another by their bytes: the first byte in which they differ decides, and a beginning comes first
+-- one text comes before another by their bytes: the first byte in which they differ decides, and a proper
+-- prefix comes first
 abbrev pub is_before : List ℕ → List ℕ → Bool
 is_before a b = is_lt (slice_cmp nat_cmp a b)
 
@@ -22,7 +23,7 @@ is_rising [] = true
 is_rising (a ∷ []) = true
 is_rising (a ∷ b ∷ keys) = is_before a b && is_rising (b ∷ keys)
 
--- all of them hold
+-- all of them are true
 abbrev pub all_true : List Bool → Bool
 all_true [] = true
 all_true (b ∷ bs) = b && all_true bs
@@ -31,7 +32,7 @@ all_true (b ∷ bs) = b && all_true bs
 abbrev pub are_keys : List (List ℕ) → Bool
 are_keys keys = is_rising keys && all_true (map is_utf8 keys)
 
--- whether a value may stand in a list or table, from whether the values in it may
+-- whether a list or table may contain a value, from whether it may contain the values in it
 abbrev pub item_step : Value-F Bool → Bool
 item_step (Value-F.Num n) = is_i64 n
 item_step (Value-F.Text text) = is_utf8 text
@@ -39,12 +40,12 @@ item_step (Value-F.List items) = all_true items
 item_step (Value-F.Table pairs) = are_keys (map (λ p. p.0) pairs) && all_true (map (λ p. p.1) pairs)
 item_step (Value-F.Fault code) = false
 
--- A value may stand in a list or table: at every level of it numbers are of i64, texts and keys are UTF-8,
--- keys rise strictly by their bytes, and nothing is an error.
+-- A list or table may contain a value: at every level of it numbers are of i64, texts and keys are UTF-8,
+-- keys rise strictly by their bytes, and there is no error.
 abbrev pub is_item : Value → Bool
 is_item = fold-Value Bool item_step
 
--- the keys of the pairs of a table, and whether the value of a pair may stand in it
+-- the key of a pair of a table, and whether a list or table may contain the pair's value
 abbrev pub key_of : List ℕ × Value → List ℕ
 key_of p = p.0
 
@@ -62,8 +63,8 @@ fault_step (Value-F.Fault code) = true
 abbrev pub is_fault : Value → Bool
 is_fault = fold-Value Bool fault_step
 
--- A value is well where it is an error, or where it may stand in a list or table; and where it is
--- neither too deep nor too heavy.
+-- A value is well if it is an error, or if a list or table may contain it; and if it is neither too deep nor
+-- too heavy.
 pub record IsWell (value : Value) : Type 0 where
   pub formed : (is_fault value || is_item value) ≡ true
   pub shallow : depth_of value ≤ max_depth

@@ -1,11 +1,11 @@
-//! A box in memory that contracts see as the value in it.
+//! A box in memory; contracts see the value in it.
 ghost use Rattle.std.specs.Prelude.{◌≡◌, IfOk};
 
 use crate::fault::NoMemory;
 use std::alloc::Global;
 use std::marker::Model;
 
-/// A `Box` that contracts see as the value in it.
+/// A `Box`; contracts see the value in it.
 #[derive(Debug, Drop)]
 pub struct Boxed<T> {
     inner: Box<T>,
@@ -29,7 +29,7 @@ impl<T> Boxed<T> {
 }
 
 impl<T: Drop> Boxed<T> {
-    /// The value in a box of its own.
+    /// Puts the value into a new box. Takes memory. Fails with NoMemory.
     pub fn new(alloc: Global, value: T) -> Result<Boxed<T>, NoMemory>
         ensures { IfOk result (λ b. b ≡ value) }
     {

@@ -1,4 +1,4 @@
-//! Why a call on values has no answer, and how the faults of memory become that.
+//! The faults of calls on values, and conversions from faults of memory.
 ghost use Rattle.std.specs.Prelude.{◌≡◌};
 ghost use Rattle.ag_value.specs.declared.fault.NoMemory.{NoMemory};
 ghost use Rattle.ag_value.specs.declared.fault.NoMemory.TheVariants as no_memory;
@@ -6,15 +6,15 @@ ghost use Rattle.ag_value.specs.declared.fault.ValueFault.TheVariants as value_f
 
 use std::alloc::{AllocError, AllocFailed};
 
-/// The fault of a call that can only run out of memory. It is answered only where a growth was
-/// refused.
+/// The fault of a call that can only run out of memory. It is returned only if the allocator
+/// refused memory.
 #[derive(Clone, Copy, Debug, PartialEq, Eq)]
 pub enum NoMemory {
     NoMemory,
 }
 
-/// A fault of which nothing more can be told than that a growth was refused. So a crate's refusal is
-/// made of each by one `From`.
+/// A fault that only says that memory was refused. Each crate converts them to its own fault by one
+/// `From`.
 pub trait OutOfMemory: Drop {}
 
 impl OutOfMemory for AllocError {}
@@ -39,12 +39,12 @@ impl<T: Drop> From<AllocFailed<T>> for NoMemory {
     }
 }
 
-/// Why bytes gave no value.
+/// The reasons why bytes can't be decoded.
 #[derive(Clone, Copy, Debug, PartialEq, Eq)]
 pub enum ValueFault {
-    /// No front of the bytes is the spelling of a well value.
+    /// No prefix of the bytes is the spelling of a well value.
     Malformed,
-    /// A growth was refused.
+    /// The allocator refused memory.
     NoMemory,
 }
 

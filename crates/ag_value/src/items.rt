@@ -1,10 +1,9 @@
-//! A vector that contracts see as the list of its elements.
+//! A vector; contracts see the list of its elements.
 ghost use Rattle.std.specs.Prelude.{◌≡◌};
 
 use std::marker::Model;
 
-/// A `Vec` that contracts see as the list of its elements, so that equal lists of equal values are
-/// equal.
+/// A `Vec`; contracts see the list of its elements, so that equal lists of equal values are equal.
 #[derive(Debug, Drop)]
 pub struct Items<T> {
     vec: Vec<T>,
@@ -22,7 +21,7 @@ impl<T> Model for Items<T> {
 }
 
 impl<T> Items<T> {
-    /// The items of a vector. Takes no memory.
+    /// Makes items of a vector. Takes no memory.
     pub fn from_vec(vec: Vec<T>) -> Items<T>
         ensures { result ≡ vec.items }
     {
@@ -36,7 +35,7 @@ impl<T> Items<T> {
         self.vec.as_slice()
     }
 
-    /// The vector again. Takes no memory.
+    /// Returns the vector. Takes no memory.
     pub fn into_vec(self) -> Vec<T>
         ensures { result.items ≡ self }
     {

@@ -10,7 +10,7 @@ ghost use Rattle.ag_value.specs.declared.value.ErrorCode.TheVariants as code;
 ghost use Rattle.ag_value.specs.declared.value.Value.{Value};
 ghost use Rattle.ag_value.specs.declared.value.Value.TheVariants as v;
 
-/// No spelling of a well value begins that of another.
+/// No spelling of a well value is a proper prefix of that of another.
 pub fn no_spelling_begins_another()
     ensures { (value other : Value) (rest : List ℕ) → IsWell value → IsWell other
         → spelling_of other ≡ spelling_of value ++ rest → value ≡ other }

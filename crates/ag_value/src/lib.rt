@@ -1,5 +1,4 @@
-//! Values of attributes: what they are, how heavy and how deep, how they are spelled in bytes and
-//! shown as text.
+//! Values of attributes: their weight and depth, their spelling in bytes, and their text.
 #![tactic(auto)]
 
 mod boxed;

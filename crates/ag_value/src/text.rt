@@ -1,4 +1,4 @@
-//! A string that contracts see as the list of its bytes.
+//! A string; contracts see the list of its bytes.
 ghost use Rattle.std.specs.Prelude.{◌≡◌, string_bytes, IfOk};
 
 use crate::fault::NoMemory;
@@ -6,15 +6,15 @@ use arrayvec::ArrayString;
 use std::alloc::Global;
 use std::marker::Model;
 
-/// Where the bytes of a text lie: up to 16 in the value itself, any number in a string.
+/// The storage of a text: up to 16 bytes in the value itself, any number in a string.
 #[derive(Debug, Drop)]
 enum Held {
     Short(ArrayString<16>),
     Long(String),
 }
 
-/// A string that contracts see as the list of its bytes. Made of up to 16 bytes it takes no memory
-/// for them.
+/// A string; contracts see the list of its bytes. A text that is made of up to 16 bytes takes no
+/// memory for them.
 #[derive(Debug, Drop)]
 pub struct Text {
     held: Held,
@@ -30,7 +30,7 @@ impl Model for Text {
 }
 
 impl Text {
-    /// The text of a string. Takes no memory.
+    /// Makes a text of a string. Takes no memory.
     pub fn from_string(string: String) -> Text
         ensures { result ≡ string_bytes string }
     {
@@ -39,7 +39,7 @@ impl Text {
         }
     }
 
-    /// A copy of a text. Takes memory for more than 16 bytes.
+    /// Copies a text. Takes memory for more than 16 bytes.
     pub fn from_str(alloc: Global, text: &str) -> Result<Text, NoMemory>
         ensures { IfOk result (λ copied. copied ≡ text.now) }
     {
@@ -64,7 +64,7 @@ impl Text {
         }
     }
 
-    /// A string of the text. Takes memory for a text that has none yet.
+    /// Returns the text as a string. Takes memory if the text is stored in the value itself.
     pub fn into_string(self, alloc: Global) -> Result<String, NoMemory>
         ensures { IfOk result (λ string. string_bytes string ≡ self) }
     {

@@ -1,9 +1,9 @@
-//! What an attribute can have as its value.
+//! The values of attributes.
 use crate::items::Items;
 use crate::text::Text;
 
-/// Why an expression has no other value, as a value. In spellings the errors have the numbers 1 to
-/// 8 in this order.
+/// The reason why an expression has no other value, as a value. In spellings the errors have the
+/// numbers 1 to 8 in this order.
 #[derive(Clone, Copy, Debug, PartialEq, Eq)]
 pub enum ErrorCode {
     /// A number left the range of i64.
@@ -12,11 +12,11 @@ pub enum ErrorCode {
     Divide,
     /// An argument of a kind that the operation does not take.
     Kind,
-    /// A list has no item there.
+    /// A list has no item at this index.
     Index,
     /// A table has no such key.
     Key,
-    /// A text is no number.
+    /// A text does not spell a number.
     Number,
     /// A value whose spelling has more than 1,048,576 bytes.
     Big,
@@ -27,13 +27,13 @@ pub enum ErrorCode {
 /// The value of an attribute.
 #[derive(Debug, Drop)]
 pub enum Value {
-    /// A number of 64 bits with a sign.
+    /// A signed number of 64 bits.
     Num(i64),
     /// A text.
     Text(Text),
     /// Values in order.
     List(Items<Value>),
-    /// Pairs of a key and its value, with keys that rise by their bytes where the value is well.
+    /// Pairs of a key and its value. In a well value the keys rise by their bytes.
     Table(Items<(Text, Value)>),
     /// An error.
     Fault(ErrorCode),

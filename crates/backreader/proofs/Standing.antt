@@ -1,4 +1,4 @@
--- The part of a buffer that stands in a content before an offset.
+-- The part of a buffer that agrees with a content before an offset.
 use Rattle.std.proofs.Common.{◌≡◌, ℕ, zero, suc, ◌+◌, ◌-◌, ◌≤◌, List, [], ◌∷◌, ◌++◌, length, take, drop, slice_range, Result, Ok, Err, sym, ap, subst, ◌∙◌, arith, lit<}
 use Rattle.std.proofs.lemmas.List.{drop-drop, drop-take, take-append-drop, take-take}
 use Rattle.std.proofs.lemmas.List.Folds.{drop_split}
@@ -52,13 +52,13 @@ bytes_later xs a b less p =
 
 -- ---- the buffer
 
--- a part that stands behind what was written
+-- a part after the bytes that were written
 pub kept_behind : (xs ys : List ℕ) (from to : ℕ) → drop from ys ≡ drop from xs → slice_range ys from to ≡ slice_range xs from to
 kept_behind xs ys from to same = ap (take (to - from)) same
 
--- ---- what stands before an offset
+-- ---- bytes before an offset
 
--- a part of them, told by how many bytes are behind its ends
+-- a part of them, by the numbers of bytes after its ends
 pub part_stands : (content xs : List ℕ) (at from to n m : ℕ) → from ≤ to → to ≤ length xs → to - from ≤ at → StandBefore content at (slice_range xs from to) → n ≤ to - from → m ≤ n → slice_range xs (to - n) (to - m) ≡ slice_range content (at - n) (at - m)
 part_stands content xs at from to n m p q r s small less =
     let count = to - from in
@@ -74,7 +74,7 @@ part_stands content xs at from to n m p q r s small less =
     let theirs : slice_range (slice_range content (at - count) at) i j ≡ slice_range content (at - n) (at - m) = range_part content (at - count) at i j (omega arith) (omega arith) ∙ (λ t. slice_range content (starts t) (stops t)) in
     sym mine ∙ ap (λ (l : List ℕ). slice_range l i j) same ∙ theirs
 
--- those that are left where so many were taken
+-- the bytes that are left after `n` were taken
 pub taken_stands : (content xs : List ℕ) (at from to n : ℕ) → from ≤ to → to ≤ length xs → to - from ≤ at → StandBefore content at (slice_range xs from to) → n ≤ to - from → StandBefore content (at - n) (slice_range xs from (to - n))
 taken_stands content xs at from to n p q r s small =
     let count = to - from in
@@ -109,13 +109,13 @@ body_stands content xs at from to n p q r s enough =
     ∙ part_stands content xs at from to (n + 4) 4 p q r s enough (omega arith)
     ∙ ap (λ (k : ℕ). slice_range content k (at - 4)) begins
 
--- the body of the frame that ends there, where its length is known
+-- the body of the frame that ends there, if its length is known
 pub body_at_hand : (version : Version) (content : List ℕ) (at n : ℕ) → n ≡ number_before content at → least_body ≤ n → n ≤ greatest_body version → header_bytes + n + length_bytes ≤ at → body_before version content at ≡ Ok (slice_range content (at - length_bytes - n) (at - length_bytes))
 body_at_hand version content at n is least greatest room =
     let ends : at - 4 - n + n ≡ at - 4 = omega arith in
     read_at version content (slice_range content (at - 4 - n) (at - 4)) at n (sym is) (ap (slice_range content (at - 4 - n)) ends) (omega arith) (fits version at n least greatest room)
 
--- those that there are when so many before them were read
+-- all bytes after `n` more were read before them
 pub read_stands : (content xs ys : List ℕ) (at from to n : ℕ) → from ≤ to → to ≤ length xs → length ys ≡ length xs → IsBytes ys → StandBefore content at (slice_range xs from to) → n ≤ from → to - from + n ≤ at → drop from ys ≡ drop from xs → slice_range ys (from - n) from ≡ slice_range content (at - (to - from + n)) (at - (to - from + n) + (from - (from - n))) → StandBefore content at (slice_range ys (from - n) to)
 read_stands content xs ys at from to n p q size bytes s free room same read =
     let count = to - from in
@@ -139,27 +139,27 @@ read_stands content xs ys at from to n p q size bytes s free room same read =
       known = subst (λ (k : ℕ). IsBytes (drop (at - k) content)) (sym longer) whole;
     }
 
--- the same bytes, where they stand elsewhere in a buffer
+-- the same bytes at another place of a buffer
 pub same_stand : (content xs ys : List ℕ) (at : ℕ) → ys ≡ xs → StandBefore content at xs → StandBefore content at ys
 same_stand content xs ys at same s = subst (StandBefore content at) (sym same) s
 
--- a content that was read up to its header is bytes
+-- a content that was read up to its header has only bytes
 pub all_bytes : (content : List ℕ) (state : BackState) → IsOver content state → state.progress.at ≡ header_bytes → IsBytes content
 all_bytes content state over at =
     let from = state.progress.at - length state.window in
     let behind : IsBytes (drop header_bytes content) = bytes_later content from header_bytes (omega (arith, at)) over.window.known in
     subst IsBytes (take-append-drop header_bytes content) (bytes_join (take header_bytes content) (drop header_bytes content) over.header behind)
 
--- ---- what is told
+-- ---- results
 
--- of a refusal the same is told, however a body is seen
+-- a fault has the same meaning for every view of a body
 pub told_as_well : {X Y Z : Type 0} (view : X → Z) (another : Y → Z) (fault : FrameFault) (read : Result Z FrameFault) → Told view (Err fault) read → Told another (Err fault) read
 told_as_well view another NotATreeFile read told = told
 told_as_well view another (Damaged at) read told = told
 told_as_well view another Device read told = told
 told_as_well view another NoMemory read told = told
 
--- a buffer is no larger than the greatest frame
+-- a new buffer has at most the size of the greatest frame
 pub buffer_is_small : (version : FileVersion) → buffer_bytes ≤ greatest_body (version_of version) + length_bytes
 buffer_is_small One = lit< tt
 buffer_is_small Two = lit< tt

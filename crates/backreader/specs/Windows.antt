@@ -1,16 +1,16 @@
--- What the buffer of a reader has. All of this is this project's.
+-- The buffer of a reader. All of this is this project's.
 use Rattle.std.specs.Prelude.{◌≡◌, ℕ, ◌+◌, ◌-◌, ◌≤◌, List, slice_range}
 use Rattle.backreader.specs.declared.window.Window.{Window}
 
--- the bytes that were read and not yet taken
+-- the bytes that were read and are not taken yet
 abbrev pub unread : Window → List ℕ
 unread window = slice_range window.buffer.items window.from window.to
 
--- so many of the bytes that were taken last
+-- the first `count` of the bytes that were taken last
 abbrev pub taken : Window → ℕ → List ℕ
 taken window count = slice_range window.buffer.items window.to (window.to + count)
 
--- the last of the bytes that were read and not yet taken are those that there were before
+-- the bytes that were read before and are not taken yet are still the last ones
 pub record Keeps (old now : Window) : Type 0 where
   pub more : old.to - old.from ≤ now.to - now.from
   pub last : slice_range now.buffer.items (now.to - (old.to - old.from)) now.to ≡ unread old

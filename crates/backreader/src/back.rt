@@ -16,9 +16,9 @@ use std::alloc::Global;
 use std::marker::Model;
 use treefile::{Device, FileVersion, FrameFault, fits_before, pass_in};
 
-/// Reads the bodies of a tree file from the last to the first. It holds no device: each call takes
-/// the one that it was started on. It is seen as how far it has come, and the bytes that it has
-/// read before there.
+/// Reads the bodies of a tree file from the last to the first. The reader holds no device: each
+/// call takes the device that the reader was started on. Contracts see its progress, and the bytes
+/// before its offset that it has read.
 #[derive(Drop)]
 pub struct Back {
     window: Window,
@@ -46,8 +46,8 @@ impl Model for Back {
       };
     } };
 
-    // each body that was lent stood behind the offset with its length: so they are fewer than the
-    // greatest u64
+    // each body that was lent is after the offset with its length: so the number of bodies is below
+    // the greatest u64
     ghost invariant = { λ b. b.records + b.window.at < 2 ^ 64 };
 }
 
@@ -57,56 +57,56 @@ impl Back {
     ghost use Rattle.backreader.specs.contracts.back.Back.{the_row};
     ghost use mathlib.Core.Option.{none};
 
-    /// A reader of the tree file that a device has, behind its last frame.
+    /// Starts a reader at the end of the tree file on a device.
     ///
-    /// B1 NotATreeFile where there are fewer than 6 bytes or the first four are not `AGT2`. D1
-    /// Device where a call of the device failed. Takes memory for a buffer of 4,096 bytes.
+    /// Fails with B1 NotATreeFile if there are fewer than 6 bytes or the first four are not `AGT2`,
+    /// and with D1 Device if a call of the device failed. Takes memory for a buffer of 4,096 bytes.
     pub fn start<D: Device>(alloc: Global, device: &mut D) -> Result<Back, FrameFault>
-        // The number of the pass, and B1, exactly as the content has them
+        // The number of the pass and B1 agree with the content.
         ensures told { WhenHonest (D.is_honest device.new) (Told (λ back. back.progress.pass) result
             (pass_in version_two (D.content device.old))) }
         ensures started { IfOk result (IsStarted version_two (D.is_honest device.new)
             (D.content device.old)) }
         ensures content { LeavesContent (D.is_honest device.new)
             (D.content device.old) (D.content device.new) }
-        // D1 only where the number of failures rose
+        // D1 only if the number of failures rose
         ensures persists { Persists (D.is_honest device.old) (D.is_honest device.new)
             (D.failures device.old) (D.failures device.new) (IsErrOf result FrameFault.Device) }
     {
         Back::start_version(alloc, FileVersion::Two, device)
     }
 
-    /// The same of a tree file of version 1, whose bodies have at most 16,777,219 bytes: B1 where the
-    /// first four are not `AGT1`.
+    /// Starts a reader at the end of a tree file of version 1, whose bodies have at most 16,777,219
+    /// bytes. Fails as `start` does, but with B1 if the first four bytes are not `AGT1`.
     pub fn start_old<D: Device>(alloc: Global, device: &mut D) -> Result<Back, FrameFault>
-        // The number of the pass, and B1, exactly as the content has them
+        // The number of the pass and B1 agree with the content.
         ensures told { WhenHonest (D.is_honest device.new) (Told (λ back. back.progress.pass) result
             (pass_in version_one (D.content device.old))) }
         ensures started { IfOk result (IsStarted version_one (D.is_honest device.new)
             (D.content device.old)) }
         ensures content { LeavesContent (D.is_honest device.new)
             (D.content device.old) (D.content device.new) }
-        // D1 only where the number of failures rose
+        // D1 only if the number of failures rose
         ensures persists { Persists (D.is_honest device.old) (D.is_honest device.new)
             (D.failures device.old) (D.failures device.new) (IsErrOf result FrameFault.Device) }
     {
         Back::start_version(alloc, FileVersion::One, device)
     }
 
-    /// A reader of the tree file of a version that a device has, behind its last frame.
+    /// Starts a reader at the end of the tree file of a version on a device.
     fn start_version<D: Device>(
         alloc: Global,
         version: FileVersion,
         device: &mut D,
     ) -> Result<Back, FrameFault>
-        // The number of the pass, and B1, exactly as the content has them
+        // The number of the pass and B1 agree with the content.
         ensures told { WhenHonest (D.is_honest device.new) (Told (λ back. back.progress.pass) result
             (pass_in (version_of version) (D.content device.old))) }
         ensures started { IfOk result (IsStarted (version_of version) (D.is_honest device.new)
             (D.content device.old)) }
         ensures content { LeavesContent (D.is_honest device.new)
             (D.content device.old) (D.content device.new) }
-        // D1 only where the number of failures rose
+        // D1 only if the number of failures rose
         ensures persists { Persists (D.is_honest device.old) (D.is_honest device.new)
             (D.failures device.old) (D.failures device.new) (IsErrOf result FrameFault.Device) }
     {
@@ -122,40 +122,40 @@ impl Back {
     }
 
     /// Lends the body of the frame before the one that was lent last, or of the last frame at the
-    /// first call; `None` where the header ends there. Asks for the device of `start`, with its
-    /// content where it is honest.
+    /// first call. Returns `None` if the header ends there. Requires the device of `start`, with
+    /// the same content if it is honest.
     ///
-    /// B2 Damaged where no frame ends there, with the offset at which one should. D1 Device where
-    /// a call of the device failed. After either that refusal is answered for good, and the device
-    /// is left alone. Takes memory for a frame of more than 4,096 bytes, and for want of it nothing
-    /// changes.
+    /// Fails with B2 Damaged and the expected offset if no frame ends there, and with D1 Device if
+    /// a call of the device failed. After either, every later call fails with the same fault and
+    /// does not use the device. Takes memory for a frame of more than 4,096 bytes; after NoMemory
+    /// nothing has changed.
     #[inline(always)]
     pub fn back<D: Device>(&mut self, device: &mut D) -> Result<Option<&[u8]>, FrameFault>
         requires { WhenHonest (D.is_honest device.old) (IsOver (D.content device.old) self.old) }
-        // How far the reader has come, and that it is one of the same content
+        // The progress of the reader, which still reads the same content.
         ensures* after { sem 𝓛 (follows_so the_row the_row self.entry.ghost_name none (λ _ _. ⊤)
             (λ now. HasRead (D.is_honest device.new) (D.content device.old) self.old
             (lent_body (λ body. body.now) result) now)) }
-        // The body, None and B2, exactly as the content has them
+        // The body, None and B2 agree with the content.
         ensures told { self.old.progress.fault ≡ None → WhenHonest (D.is_honest device.new)
             (Told (option_map (λ body. body.now)) result
             (next_before self.old.progress.version (D.content device.old) self.old.progress.at)) }
-        // Want of memory only where the frame has more bytes than the buffer of `start`
+        // NoMemory only if the frame has more bytes than the buffer of `start`
         ensures memory { self.old.progress.fault ≡ None → WhenHonest (D.is_honest device.new)
             (IsErrOf result FrameFault.NoMemory →
             IsLarge (next_before self.old.progress.version (D.content device.old) self.old.progress.at)) }
-        // Whatever the device is, a body is lent that may stand in a frame and stood before
+        // On any device: the body may be in a frame, and its frame fits before the offset.
         ensures body { IfOk result (λ found. IfSome found
             (λ body. IsBody self.old.progress.version body.now)) }
         ensures room { IfOk result (λ found. IfSome found
             (λ body. length body.now + length_bytes ≤ self.old.progress.at)) }
-        // B1 is only told by `start`
+        // Only `start` returns B1.
         ensures file { IsErrOf result FrameFault.NotATreeFile → self.old.progress.fault ≢ None }
         ensures broken { IfSome self.old.progress.fault
             (λ fault. (result ≡ Err fault) × (device.new ≡ device.old)) }
         ensures content { LeavesContent (D.is_honest device.new)
             (D.content device.old) (D.content device.new) }
-        // D1 only where the number of failures rose, but for a reader that it broke before
+        // D1 only if the number of failures rose, or the reader was broken before
         ensures persists { Persists (D.is_honest device.old) (D.is_honest device.new)
             (D.failures device.old) (D.failures device.new)
             (IsErrOf result FrameFault.Device × (self.old.progress.fault ≡ None)) }
@@ -176,21 +176,22 @@ impl Back {
         }
     }
 
-    /// Lends the body of the frame before the one that was lent last out of the device, if the device has
-    /// it in memory. Returns `None` if `back` has to read it, and then nothing has changed: at the header,
-    /// in a file of version 1, of a broken reader, and where no frame ends. Asks for the device of
-    /// `start`, with its content if it is honest. Takes no memory.
+    /// Lends the body of the frame before the one that was lent last from the memory of the device,
+    /// if the device has it there. Returns `None`, and changes nothing, if the body has to be read
+    /// by `back`: also at the header, in a file of version 1, after a fault, and if no frame ends
+    /// there. Requires the device of `start`, with the same content if it is honest. Takes no
+    /// memory.
     #[inline(always)]
     pub fn lend_back<'d, D: Device>(&mut self, device: &'d D) -> Option<Body<'d>>
         requires { WhenHonest (D.is_honest device.now) (IsOver (D.content device.now) self.old) }
-        // How far the reader has come, and that it is one of the same content
+        // The progress of the reader, which still reads the same content.
         ensures after { IfSome result (λ body. HasRead (D.is_honest device.now)
             (D.content device.now) self.old (Ok (Some body)) self.new) }
-        // The body exactly as the content has it
+        // The body agrees with the content.
         ensures exact { IfSome result (λ body. WhenHonest (D.is_honest device.now)
             (next_before self.old.progress.version (D.content device.now) self.old.progress.at
             ≡ Ok (Some body))) }
-        // Whatever the device is, a body is lent that may be in a frame and has room before the offset
+        // On any device: the body may be in a frame, and its frame fits before the offset.
         ensures body { IfSome result (λ body. IsBody self.old.progress.version body) }
         ensures room { IfSome result
             (λ body. length body + length_bytes ≤ self.old.progress.at) }
@@ -210,21 +211,21 @@ impl Back {
         Some(body)
     }
 
-    /// The number of the pass in the header.
+    /// Returns the number of the pass in the header.
     pub fn pass(&self) -> u16
         ensures { result ≡ self.now.progress.pass }
     {
         self.pass
     }
 
-    /// The offset at which the next frame should end.
+    /// Returns the offset where the next frame is expected to end.
     pub fn end(&self) -> u64
         ensures { result ≡ self.now.progress.at }
     {
         self.window.at()
     }
 
-    /// How many bodies were lent.
+    /// Returns the number of bodies that were lent.
     pub fn records(&self) -> u64
         ensures { result ≡ self.now.progress.records }
     {
@@ -232,7 +233,7 @@ impl Back {
     }
 }
 
-/// A refusal that is answered for good, which want of memory is not.
+/// Returns the fault if it is permanent; NoMemory is not.
 fn for_good(fault: FrameFault) -> Option<FrameFault>
     ensures { (old : Progress) → old.fault ≡ None →
         record old { fault = result } ≡ progress_after old (Err fault) }

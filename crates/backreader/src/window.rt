@@ -1,4 +1,4 @@
-//! The bytes of a device that stand before an offset, read by blocks from its end on.
+//! The bytes of a device before an offset, read in blocks from its end on.
 
 ghost use Rattle.std.specs.Prelude.{◌≡◌, ◌≤◌, ◌<◌, ◌+◌, ◌-◌, ℕ, List, [], Ok, Err, length, min, vec_len};
 ghost use Rattle.std.specs.Prelude.{drop, slice_range, IfNone, IfOk, IfSome, IsErrOf, IsTrue, OnErr, OnOk};
@@ -17,18 +17,19 @@ use treefile::{
     fits_before,
 };
 
-/// How many bytes a buffer has at first.
+/// The initial number of bytes of a buffer.
 const BUFFER: usize = 4096;
 
-/// How many bytes the length behind a body has.
+/// The number of bytes of the length after a body.
 const LENGTH: usize = LENGTH_BYTES as usize;
 
-/// How many bytes a body has at least.
+/// The least number of bytes of a body.
 const LEAST: usize = LEAST_BODY as usize;
 
-/// The bytes of a device that stand before an offset in a file of a version, as far as they were read:
-/// those of a buffer from one index to another. Before them the buffer is free, and behind them stand the bytes that
-/// were taken last. The buffer has room for the least block, and for the greatest frame at most.
+/// The bytes of a device before the offset `at` in a file of a version, as far as they were read:
+/// those of the buffer from index `from` to index `to`. Before `from` the buffer is free, and from
+/// `to` on it has the bytes that were taken last. The buffer has room for the least block, and at
+/// most for the greatest frame.
 #[derive(Drop)]
 pub(crate) struct Window {
     version: FileVersion,
@@ -46,7 +47,8 @@ pub(crate) struct Window {
 impl Window {
     ghost use Rattle.backreader.specs.Windows.{Keeps, taken, unread};
 
-    /// No bytes before an offset, in a buffer of 4,096. Takes memory for it.
+    /// Makes a window with no bytes before offset `at`, and a buffer of 4,096 bytes. Takes memory
+    /// for it.
     #[tactic(auto, using(crate::proofs::Standing::buffer_is_small))]
     pub(crate) fn new(alloc: Global, version: FileVersion, at: u64) -> Result<Window, AllocError>
         requires { header_bytes ≤ at }
@@ -65,7 +67,7 @@ impl Window {
         })
     }
 
-    /// The offset before which the bytes stand.
+    /// Returns the offset where the bytes end.
     pub(crate) fn at(&self) -> u64
         ensures { result ≡ self.now.at }
     {
@@ -80,7 +82,7 @@ impl Window {
         self.version == FileVersion::Two
     }
 
-    /// Goes before a frame that was not read, whose body has `length` bytes.
+    /// Moves before a frame that was not read, whose body has `length` bytes.
     #[inline(always)]
     pub(crate) fn pass_over(&mut self, length: usize)
         requires { header_bytes + length + length_bytes ≤ self.old.at }
@@ -92,11 +94,12 @@ impl Window {
         self.at -= (length + LENGTH) as u64;
     }
 
-    /// Takes the bytes of the frame that ends at the offset. The length of its body; `None` where
-    /// the header ends there.
+    /// Takes the bytes of the frame that ends at the offset, and returns the length of its body.
+    /// Returns `None` if the header ends there.
     ///
-    /// B2 Damaged where no frame ends there. D1 Device where a call of the device failed. Takes
-    /// memory for a frame that has more bytes than the buffer, and for want of it is as before.
+    /// Fails with B2 Damaged if no frame ends there, and with D1 Device if a call of the device
+    /// failed. Takes memory for a frame that has more bytes than the buffer; after NoMemory nothing
+    /// has changed.
     #[inline(always)]
     #[tactic(auto, unfolding(treefile::specs::ways::Backward::next_before))]
     pub(crate) fn next<D: Device>(&mut self, device: &mut D) -> Result<Option<usize>, FrameFault>
@@ -138,7 +141,7 @@ impl Window {
             return Err(FrameFault::Damaged(self.at));
         };
         if self.grow(length + LENGTH).is_err() {
-            // what was read since is read again by the next call
+            // the next call reads these bytes again
             self.from = self.to - unread;
             return Err(FrameFault::NoMemory);
         }
@@ -147,7 +150,7 @@ impl Window {
         Ok(Some(length))
     }
 
-    /// Lends so many of the bytes that were taken last.
+    /// Lends the first `count` of the bytes that were taken last.
     pub(crate) fn taken(&self, count: usize) -> &[u8]
         requires { self.now.to + count ≤ vec_len self.now.buffer }
         ensures { result.now ≡ taken self.now count }
@@ -155,8 +158,8 @@ impl Window {
         &self.buffer[self.to..self.to + count]
     }
 
-    /// The length of the body whose frame ends at the offset, where the bytes that were read have
-    /// all of that frame: then there is room for it behind the header, and in the buffer.
+    /// Returns the length of the body whose frame ends at the offset, if all of that frame was
+    /// read: then it fits after the header, and in the buffer. Else returns `None`.
     #[tactic(auto, using(crate::proofs::Standing::body_at_hand))]
     fn at_hand(&self) -> Option<usize>
         ensures found { (content : List ℕ) → StandBefore content self.now.at (unread self.now) →
@@ -179,7 +182,8 @@ impl Window {
         Some(length)
     }
 
-    /// The length of the body whose frame ends at the offset; `None` where none does.
+    /// Returns the length of the body whose frame ends at the offset, or `None` if no frame ends
+    /// there. Fails with D1 if the device fails.
     #[cold]
     #[inline(never)]
     #[tactic(auto, unfolding(treefile::specs::ways::Ending::body_before))]
@@ -223,7 +227,7 @@ impl Window {
         }
     }
 
-    /// The number in the last four bytes.
+    /// Returns the big-endian number in the last four bytes.
     fn number(&self) -> u32
         requires { length_bytes ≤ self.now.to - self.now.from }
         ensures { (content : List ℕ) → StandBefore content self.now.at (unread self.now) →
@@ -234,7 +238,7 @@ impl Window {
         u32::from_be_bytes(number)
     }
 
-    /// Takes the last frame, whose body has so many bytes.
+    /// Takes the last frame, whose body has `length` bytes.
     fn take(&mut self, length: usize)
         requires { length + length_bytes ≤ self.old.to - self.old.from }
         ensures body { (content : List ℕ) →
@@ -253,7 +257,7 @@ impl Window {
         self.at -= (length + LENGTH) as u64;
     }
 
-    /// Makes the buffer have so many bytes at least. Takes memory where it has fewer.
+    /// Grows the buffer to at least `count` bytes. Takes memory if it has fewer.
     fn grow(&mut self, count: usize) -> Result<(), AllocError>
         requires { count ≤ greatest_body (version_of self.old.version) + length_bytes }
         ensures room { OnOk result (count ≤ vec_len self.new.buffer) }
@@ -271,8 +275,8 @@ impl Window {
         Ok(())
     }
 
-    /// Reads on where there are fewer bytes than so many. Asks for a buffer that has room for them,
-    /// and for so many bytes between the header and the offset.
+    /// Reads more bytes if fewer than `count` were read. Requires room for `count` bytes in the
+    /// buffer, and `count` bytes between the header and the offset.
     fn load<D: Device>(&mut self, device: &mut D, count: usize) -> Result<(), DeviceFault>
         requires room { count ≤ vec_len self.old.buffer }
         requires behind { header_bytes + count ≤ self.old.at }
@@ -297,7 +301,7 @@ impl Window {
     }
 
     /// Moves the bytes to the end of the buffer, and reads those before them: as many as are free,
-    /// or up to the header. After a failure there are as many as before.
+    /// or up to the header. After a failure no bytes were added.
     #[cold]
     #[inline(never)]
     fn fill<D: Device>(&mut self, device: &mut D) -> Result<(), DeviceFault>

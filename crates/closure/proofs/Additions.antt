@@ -14,7 +14,7 @@ added_more xs y t h = (h.0, h.1, get_push_front xs y h.1 h.0 h.2, h.3)
 pub added_here : (xs : List Addition) (y : Addition) → IsAdded (xs ++ y ∷ []) y.number
 added_here xs y = (length xs, y, get_push_end xs y, refl)
 
--- a reason stays one where more is there
+-- a reason stays one if more numbers are there
 pub reason_more : (clauses : List Clause) (seeds : List ℕ) (P Q : ℕ → Type 0) → ((t : ℕ) → P t → Q t) → (n : ℕ) (r : Reason) → IsReason clauses seeds P n r → IsReason clauses seeds Q n r
 reason_more clauses seeds P Q more n (reason.Seed i) h = h
 reason_more clauses seeds P Q more n (reason.Clause p) h = (h.0, h.1, h.2, λ k d lt. more (get_or h.0.body k d) (h.3 k d lt))
@@ -25,7 +25,7 @@ before_more xs y n t h = (h.0, h.1, h.2, get_push_front xs y h.1 h.0 h.3, h.4)
 before_end : (xs : List Addition) (y : Addition) (t : ℕ) → IsAdded xs t → IsAddedBefore (xs ++ y ∷ []) (length xs) t
 before_end xs y t h = (h.0, h.1, slice_get_within xs h.0 h.1 h.2, get_push_front xs y h.1 h.0 h.2, h.3)
 
--- one more number is added, which was not
+-- one more number is added, which was not there
 pub order_more : (clauses : List Clause) (seeds : List ℕ) (xs : List Addition) (y : Addition) → (IsAdded xs y.number → ⊥) → IsReason clauses seeds (IsAdded xs) y.number y.reason → AreInOrder clauses seeds xs → AreInOrder clauses seeds (xs ++ y ∷ [])
 order_more clauses seeds xs y fresh why order = record { once = once; reasoned = reasoned }
   where

@@ -1,4 +1,4 @@
--- One more mark, and what it leaves.
+-- One more mark, and its effects.
 use Rattle.std.proofs.Common.{ℕ, zero, suc, ◌⊎◌, Contains, ◌+◌, ◌≡◌, ◌<◌, ◌≤◌, ◌↔◌, Bool, true, false, ◌&&◌, List, [], ◌∷◌, ◌++◌, length, get_or, take, replicate, count_by, Some, slice_get, slice_index, nat_eq, refl, sym, subst, ◌∙◌, inl, inr, set, arith, length-set}
 use Rattle.std.proofs.lemmas.Bool.{cases_eq, cases_lt, false≢true}
 use Rattle.std.proofs.lemmas.Bool.Decides.{nat_tests}
@@ -25,7 +25,7 @@ both : (a b : Bool) → (a && b) ≡ true → (a ≡ true) × (b ≡ true)
 both true b h = (refl, h)
 both false b h = absurd (cc)
 
--- what is in a set is in a larger one
+-- a subset of a set is a subset of a larger one
 pub list_all-within : (s t : ℕ → Bool) → ((n : ℕ) → s n ≡ true → t n ≡ true) → (xs : List ℕ) → list_all s xs ≡ true → list_all t xs ≡ true
 list_all-within s t le [] h = refl
 list_all-within s t le (x ∷ xs) h = let p = both (s x) (list_all s xs) h in rw (le x p.0) (list_all-within s t le xs p.1)
@@ -34,7 +34,7 @@ list_all-within s t le (x ∷ xs) h = let p = both (s x) (list_all s xs) h in rw
 pub waits : (marks : List Bool) (added : List Addition) (v : ℕ) (q : Clause) (n : ℕ) (d : ℕ) → n < length q.body → is_marked marks (get_or q.body n d) ≡ false → IsSettled marks added v q
 waits marks added v q n d lt h = inr (get_or q.body n d, Contains-get_or q.body n d lt, inl h)
 
--- the same in the words of the code
+-- the same in the form of the code
 pub waits_at : (marks : List Bool) (added : List Addition) (v : ℕ) (clauses : List Clause) (clause : ℕ) (q : Clause) (body : List ℕ) (n : ℕ) (d : Clause) → clause < length clauses → body ≡ (get_or clauses clause q).body → n ≤ length body
     → ((e : ℕ) → n < length body → is_marked marks (get_or body n e) ≡ false) → nat_eq n (length body) ≡ false → IsSettled marks added v (get_or clauses clause d)
 waits_at marks added v clauses clause q body n d inside is most stops differs =
@@ -50,12 +50,12 @@ marks_stay marks u lt t h = elim (cases_eq t u) [
 count_one : (marks : List Bool) (k : ℕ) → k < length marks → is_marked marks k ≡ false → count_by (λ b. b) (set marks k true) ≡ count_by (λ b. b) marks + 1
 count_one marks k lt e = grind (arith, common_steps)
 
--- what is added for a reason follows where what is there does
+-- a number that is added for a reason follows if the numbers there do
 reason_follows : (clauses : List Clause) (seeds : List ℕ) (there : ℕ → Type 0) → ((t : ℕ) → there t → Follows clauses seeds t) → (n : ℕ) (r : Reason) → IsReason clauses seeds there n r → Follows clauses seeds n
 reason_follows clauses seeds there follow n (reason.Seed i) h = seed (i, slice_get_within seeds i n h, get_or_from_slice_get seeds i n n h)
 reason_follows clauses seeds there follow n (reason.Clause p) h = subst (Follows clauses seeds) h.2 (head_follows clauses seeds p h.0 h.1 (λ k d lt. follow (get_or h.0.body k d) (h.3 k d lt)))
 
--- a search goes on with a number added that was not, for a reason
+-- a search continues with a new number, added for a reason
 pub marked_more : (clauses : List Clause) (seeds : List ℕ) (marks : List Bool) (added : List Addition) (v : ℕ) (passed : List ℕ) (x : Addition) → x.number < length marks → is_marked marks x.number ≡ false → IsReason clauses seeds (IsAdded added) x.number x.reason → IsSearch clauses seeds marks added v passed
     → IsSearch clauses seeds (set marks x.number true) (added ++ x ∷ []) v passed
 marked_more clauses seeds marks added v passed x lt new why search = record {
@@ -82,7 +82,7 @@ marked_more clauses seeds marks added v passed x lt new why search = record {
   marked = λ p d inside. list_all-within (is_marked marks) (is_marked (set marks x.number true)) (marks_stay marks x.number lt) (take (slice_index passed p) (get_or clauses p d).body) (search.marked p d inside);
 }
 
--- what is open stays so with one more
+-- open numbers stay open with one more
 pub grows_one : (marks : List Bool) (added : List Addition) (v : ℕ) (x : Addition) → x.number < length marks → v ≤ length added → Grows v marks added (set marks x.number true) (added ++ x ∷ [])
 grows_one marks added v x lt most = record {
   count = length-set marks x.number true;
@@ -129,7 +129,8 @@ settled_more B v marks added marks' added' q visited i p lt grows before here (i
   | inr e ↦ here e
 ]
 
--- where nothing is left to visit and all clauses are settled, the marks are closed under the clauses, and so have all that follows
+-- if nothing is left to visit and all clauses are settled, the marks are closed under the clauses, so all
+-- numbers that follow are marked
 pub complete : (clauses : List Clause) (seeds : List ℕ) (marks : List Bool) (added : List Addition) (v : ℕ) → length added ≤ v → ((p : ℕ) (d : Clause) → p < length clauses → IsSettled marks added v (get_or clauses p d)) → ((t : ℕ) → Contains seeds t → is_marked marks t ≡ true)
     → (s : ℕ) → Follows clauses seeds s → is_marked marks s ≡ true
 complete clauses seeds marks added v most settled seeded = follows_in clauses seeds (λ t. is_marked marks t ≡ true) seeded (λ p q e all. elim (rw (get_or_from_slice_get clauses p q q e) at (settled p q (slice_get_within clauses p q e))) [
@@ -140,7 +141,7 @@ complete clauses seeds marks added v most settled seeded = follows_in clauses se
   ]
 ])
 
--- a clause that has a body is settled where nothing is marked
+-- a clause with a body is settled if no number is marked
 pub settled_first : (marks : List Bool) (added : List Addition) (v : ℕ) (q : Clause) (facts : List ℕ) (p : ℕ) → ((t : ℕ) → is_marked marks t ≡ false) → (q.body ≡ [] → Contains facts p) → IsSettled marks added v q ⊎ Contains facts p
 settled_first marks added v q facts p blank noted = go q.body refl
   where
@@ -148,13 +149,13 @@ settled_first marks added v q facts p blank noted = go q.body refl
     go [] e = inr (noted e)
     go (x ∷ xs) e = inl (inr (x, rw e (Contains-get_or (x ∷ xs) 0 0 (omega arith)), inl (blank x)))
 
--- in a list of false nothing is marked
+-- in a list of false no number is marked
 pub unmarked : (n t : ℕ) → is_marked (replicate n false) t ≡ false
 unmarked zero t = refl
 unmarked (suc n) zero = refl
 unmarked (suc n) (suc t) = unmarked n t
 
--- what is marked is below the count
+-- a marked number is below the count
 pub marked_within : (marks : List Bool) (t : ℕ) → is_marked marks t ≡ true → t < length marks
 marked_within marks t h = elim (cases_lt t (length marks)) [
   | inl lt ↦ lt
@@ -179,7 +180,7 @@ search_taken clauses seeds marks added v passed lt search = record {
   marked = search.marked;
 }
 
--- a clause that was settled still is, or the number stands in it
+-- a clause that was settled still is, or its body contains the number
 pub settled_taken : (marks : List Bool) (added : List Addition) (v p : ℕ) (x : Addition) (q : Clause) (uses : List (List ℕ)) → slice_get added v ≡ Some x → ((t : ℕ) → Contains q.body t → Contains (row uses t) p)
     → IsSettled marks added v q → IsSettled marks added (v + 1) q ⊎ Contains (row uses x.number) p
 settled_taken marks added v p x q uses is noted (inl m) = inl (inl m)

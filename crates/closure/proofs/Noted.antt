@@ -1,4 +1,4 @@
--- Which clauses wait for each number.
+-- The clauses that wait for each number.
 use Rattle.std.proofs.Common.{ℕ, zero, suc, Contains, ◌+◌, ◌≡◌, ◌<◌, List, [], ◌∷◌, ◌++◌, length, get_or, take, All, refl, ap, sym, ◌∙◌, inl, inr, set, arith, length-set}
 use Rattle.std.proofs.lemmas.Bool.{cases_eq}
 use Rattle.std.proofs.lemmas.List.{get_or-set_other, get_or-set_same, get_or_default, get_or-map, map-set, take_more}
@@ -7,7 +7,7 @@ use Rattle.std.specs.Global.{Vec}
 use Rattle.closure.specs.declared.clause.Clause.{Clause}
 use Rattle.closure.specs.Waiting.{Notes, row, rows}
 
--- a clause is noted at one symbol
+-- a clause is added at one number
 pub notes_at : (clause symbol : ℕ) (uses : List (List ℕ)) → symbol < length uses → Notes clause uses (set uses symbol (row uses symbol ++ clause ∷ []))
 notes_at clause symbol uses lt = record {
   same = length-set uses symbol (row uses symbol ++ clause ∷ []);
@@ -32,14 +32,14 @@ pub rows_set : (table : List (Vec ℕ)) (u clause : ℕ) (v w : Vec ℕ) → u <
 rows_set table u clause v w lt is pushed =
     map-set (λ (x : Vec ℕ). x.items) table u w ∙ ap (set (rows table) u) (pushed ∙ sym (ap (λ xs. xs ++ clause ∷ []) (row_of table u v lt is)))
 
--- nothing is noted
+-- no clause is added
 pub notes_none : (clause : ℕ) (uses : List (List ℕ)) → Notes clause uses uses
 notes_none clause uses = record { same = refl; kept = λ t p h. h; fits = λ n below all. all }
 
 pub notes_on : (clause : ℕ) (a b c : List (List ℕ)) → Notes clause a b → Notes clause b c → Notes clause a c
 notes_on clause a b c m n = record { same = n.same ∙ m.same; kept = λ t p h. n.kept t p (m.kept t p h); fits = λ k below all. n.fits k below (m.fits k below all) }
 
--- one more number is noted
+-- one more number of the body is done
 pub noted_more : (clause : ℕ) (a b : List (List ℕ)) (body : List ℕ) (i : ℕ) (d : ℕ) → i < length body → Notes clause a b → ((t : ℕ) → Contains (take i body) t → Contains (row a t) clause)
     → ((t : ℕ) → get_or body i d ≡ t → Contains (row b t) clause) → (t : ℕ) → Contains (take (i + 1) body) t → Contains (row b t) clause
 noted_more clause a b body i d lt notes before here t h = elim (Contains-push_cases (take i body) (get_or body i d) t (rw (← take_more body i d lt) h)) [
@@ -53,7 +53,7 @@ rows_empty [] empty t = refl
 rows_empty (v ∷ table) empty zero = All-head (λ (w : Vec ℕ). w.items ≡ []) v table empty
 rows_empty (v ∷ table) empty (suc t) = rows_empty table (All-tail (λ (w : Vec ℕ). w.items ≡ []) v table empty) t
 
--- one more clause is noted
+-- one more clause is added
 pub noted_lines : (a b : List (List ℕ)) (clauses : List Clause) (at : ℕ) (q : Clause) (body : List ℕ) → at < length clauses → body ≡ (get_or clauses at q).body → Notes at a b
     → ((p t : ℕ) (d : Clause) → p < at → Contains (get_or clauses p d).body t → Contains (row a t) p) → ((t : ℕ) → Contains body t → Contains (row b t) at)
     → (p t : ℕ) (d : Clause) → p < at + 1 → Contains (get_or clauses p d).body t → Contains (row b t) p

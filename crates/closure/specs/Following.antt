@@ -1,5 +1,5 @@
--- What follows from clauses and seeds (Dowling and Gallier 1984): each seed does, and the head of a clause of whose body each
--- number does. No smaller set has the seeds and is closed under the clauses.
+-- The numbers that follow from clauses and seeds (Dowling and Gallier 1984): each seed does, and the head of
+-- a clause if each number of its body does. No smaller set has the seeds and is closed under the clauses.
 use Rattle.std.specs.Prelude.{ℕ, ◌≡◌, ◌↔◌, Bool, true, false, List, [], ◌∷◌, Some, slice_get, slice_index_or, Contains}
 use Rattle.closure.specs.declared.clause.Clause.{Clause}
 

@@ -1,4 +1,4 @@
--- What the search for the closure keeps on the way.
+-- The invariants of the search for the closure.
 use Rattle.std.specs.Prelude.{ℕ, ◌≡◌, ◌<◌, ◌≤◌, ◌⊎◌, ◌↔◌, Bool, true, false, List, Some, length, take, slice_get, slice_index, slice_index_or, count_by, All, Contains}
 use Rattle.std.specs.List.{list_all}
 use Rattle.closure.specs.Additions.{IsAdded, AreInOrder}
@@ -15,14 +15,14 @@ IsOpen marks added visited t = (is_marked marks t ≡ false) ⊎ ((i : ℕ) × (
 abbrev pub IsSettled : List Bool → List Addition → ℕ → Clause → Type 0
 IsSettled marks added visited q = (is_marked marks q.head ≡ true) ⊎ ((t : ℕ) × Contains q.body t × IsOpen marks added visited t)
 
--- marks stay, and what is open stays so
+-- marks are kept, and open numbers stay open
 pub record Grows (visited : ℕ) (marks : List Bool) (added : List Addition) (marks' : List Bool) (added' : List Addition) : Type 0 where
   pub count : length marks' ≡ length marks
   pub marked : (t : ℕ) → is_marked marks t ≡ true → is_marked marks' t ≡ true
   pub open_stays : (t : ℕ) → IsOpen marks added visited t → IsOpen marks' added' visited t
 
--- What always holds of a search: what is marked follows and is added, in order, and of each clause the numbers in front that
--- are passed are marked.
+-- The invariant of a search: marked numbers follow and are added, in order, and the passed prefix of each
+-- clause's body is marked.
 pub record IsSearch (clauses : List Clause) (seeds : List ℕ) (marks : List Bool) (added : List Addition) (visited : ℕ) (passed : List ℕ) : Type 0 where
   pub below : All (IsClauseBelow (length marks)) clauses
   pub count : length passed ≡ length clauses

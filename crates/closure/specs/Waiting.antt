@@ -1,4 +1,4 @@
--- Which clauses wait for each number.
+-- The clauses that wait for each number.
 use Rattle.std.specs.Prelude.{ℕ, map, ◌≡◌, ◌<◌, List, [], length, slice_index_or, All, Contains}
 use Rattle.std.specs.Global.{Vec}
 use Rattle.closure.specs.Clauses.{IsClauseBelow}
@@ -8,17 +8,17 @@ use Rattle.closure.specs.declared.clause.Clause.{Clause}
 abbrev pub rows : {A : Type 0} → List (Vec A) → List (List A)
 rows table = map (λ v. v.items) table
 
--- what a table has for a number
+-- the row of a number
 abbrev pub row : List (List ℕ) → ℕ → List ℕ
 row table t = slice_index_or table t []
 
--- A table goes on from another with a clause: what is in a row stays, and what is new there is the clause.
+-- A clause is added to a table: old entries of a row are kept, and a new entry is the clause.
 pub record Notes (clause : ℕ) (old new : List (List ℕ)) : Type 0 where
   pub same : length new ≡ length old
   pub kept : (t p : ℕ) → Contains (row old t) p → Contains (row new t) p
   pub fits : (n : ℕ) → clause < n → ((t : ℕ) → All (λ p. p < n) (row old t)) → (t : ℕ) → All (λ p. p < n) (row new t)
 
--- Each number's row has the clauses in whose bodies the number stands, and a list those that have no body.
+-- Each number's row has the clauses whose bodies contain the number, and a list those that have no body.
 pub record AreWaiting (clauses : List Clause) (uses : List (List ℕ)) (facts : List ℕ) : Type 0 where
   pub below : All (IsClauseBelow (length uses)) clauses
   pub noted : (p t : ℕ) (d : Clause) → p < length clauses → Contains (slice_index_or clauses p d).body t → Contains (row uses t) p

@@ -1,22 +1,22 @@
-//! What is found to follow, and why.
+//! The numbers that follow, and the reasons why.
 
-/// Why a number follows.
+/// The reason why a number follows.
 #[derive(Clone, Copy, Debug, PartialEq, Eq)]
 pub enum Reason {
-    /// It is the seed of this index.
+    /// It is the seed with this index.
     Seed(usize),
-    /// It is the head of the clause of this index, whose body follows.
+    /// It is the head of the clause with this index, whose body follows.
     Clause(usize),
 }
 
-/// A number that follows, and why.
+/// A number that follows, and the reason why.
 #[derive(Clone, Copy, Debug, PartialEq, Eq)]
 pub struct Addition {
     pub number: usize,
     pub reason: Reason,
 }
 
-/// All that follows, in the order in which it is found, and marks of it.
+/// All numbers that follow, in the order in which they are found, and their marks.
 #[derive(Debug, Drop)]
 pub struct Found {
     pub added: Vec<Addition>,

@@ -2,12 +2,12 @@
 
 use ag_value::Items;
 
-/// A clause: the head follows where each number of the body does. A number may stand in the body
-/// more than once.
+/// A clause: the head follows if each number of the body does. A number may occur in the body more
+/// than once.
 #[derive(Debug, Drop)]
 pub struct Clause {
-    /// What follows.
+    /// The number that follows.
     pub head: usize,
-    /// From what it follows.
+    /// The numbers from which it follows.
     pub body: Items<usize>,
 }

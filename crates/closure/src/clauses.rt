@@ -1,4 +1,4 @@
-//! Clauses with what waits for each number, and what follows from them.
+//! Clauses, indexed by the numbers in their bodies, and the numbers that follow from them.
 ghost use Rattle.std.specs.Prelude.{ℕ, true, ◌≡◌, ◌<◌, ◌↔◌, length, All, IfOk};
 ghost use Rattle.closure.specs.Additions.{IsAdded, AreInOrder};
 ghost use Rattle.closure.specs.Clauses.{IsClauseBelow};
@@ -38,7 +38,8 @@ impl Model for Clauses {
 }
 
 impl Clauses {
-    /// Clauses over the numbers below a count. Takes memory, and time linear in their lengths.
+    /// Makes clauses over the numbers below `count`. Takes memory, and time linear in their
+    /// lengths.
     pub fn new(alloc: Global, clauses: Vec<Clause>, count: usize) -> Result<Clauses, NoMemory>
         requires { All (IsClauseBelow count) clauses.items }
         ensures { IfOk result (λ c. c ≡ record {
@@ -55,8 +56,8 @@ impl Clauses {
         })
     }
 
-    /// Edges between the numbers below a count, as clauses: what follows is what is reached. Takes
-    /// memory, and time linear in the number of edges and the count.
+    /// Makes clauses of edges between the numbers below `count`: the numbers that follow are those
+    /// that are reached. Takes memory, and time linear in the number of edges and in `count`.
     pub fn of_edges(alloc: Global, edges: &[Edge], count: usize) -> Result<Clauses, NoMemory>
         requires { All (IsEdgeBelow count) edges.now }
         ensures { IfOk result (λ c. c ≡ over edges.now count) }
@@ -65,8 +66,8 @@ impl Clauses {
         Clauses::new(alloc, clauses, count)
     }
 
-    /// Marks of the numbers that follow from the clauses and seeds, and of no others. Takes memory,
-    /// and time linear in the lengths of the clauses and the seeds, and in the count.
+    /// Returns the marks of the numbers that follow from the clauses and seeds, and of no others.
+    /// Takes memory, and time linear in the lengths of the clauses and the seeds, and in the count.
     pub fn closure(&self, alloc: Global, seeds: &[usize]) -> Result<Vec<bool>, NoMemory>
         requires { All (λ t. t < self.now.count) seeds.now }
         ensures len { IfOk result (λ marks. length marks.items ≡ self.now.count) }
@@ -75,14 +76,14 @@ impl Clauses {
         Ok(self.find(alloc, seeds)?.marks)
     }
 
-    /// What follows from the clauses and seeds, in the order in which it is found: each number once,
-    /// with the seed or the clause by which it follows, and all numbers of that clause's body in
-    /// front of it. Marks tell of each number whether it is there.
+    /// Returns the numbers that follow from the clauses and seeds, in the order in which they are
+    /// found: each number once, with the seed or the clause by which it follows, and after all
+    /// numbers of that clause's body; and the marks of these numbers.
     ///
-    /// The order is that of a queue: the heads of clauses without a body, by their indices, the
-    /// seeds, by theirs, and then of each number in its turn the heads of the clauses that wait for
-    /// it, by their indices. Takes memory, and time linear in the lengths of the clauses and the
-    /// seeds, and in the count.
+    /// The order is that of a queue: the heads of clauses without a body, by their indices; the
+    /// seeds, by theirs; and then for each number in its turn the heads of the clauses that wait
+    /// for it, by their indices. Takes memory, and time linear in the lengths of the clauses and
+    /// the seeds, and in the count.
     pub fn find(&self, alloc: Global, seeds: &[usize]) -> Result<Found, NoMemory>
         requires { All (λ t. t < self.now.count) seeds.now }
         ensures len { IfOk result (λ found. length found.marks.items ≡ self.now.count) }

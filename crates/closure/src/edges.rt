@@ -1,4 +1,5 @@
-//! Edges between numbers, as clauses with one number in the body: what follows is what is reached.
+//! Edges between numbers, as clauses with one number in the body: the numbers that follow are those
+//! that are reached.
 ghost use Rattle.std.specs.Prelude.{◌≡◌, map, IfOk};
 ghost use Rattle.closure.specs.Edges.{along};
 
@@ -6,14 +7,14 @@ use crate::clause::Clause;
 use ag_value::{Items, NoMemory};
 use std::alloc::Global;
 
-/// An edge: where its start is reached its end is.
+/// An edge: if its start is reached, its end is.
 #[derive(Clone, Copy, Debug, PartialEq, Eq)]
 pub struct Edge {
     pub from: usize,
     pub to: usize,
 }
 
-/// The clauses of edges.
+/// Returns the clauses of edges.
 pub(crate) fn clauses_along(alloc: Global, edges: &[Edge]) -> Result<Vec<Clause>, NoMemory>
     ensures { IfOk result (λ clauses. clauses.items ≡ map along edges.now) }
 {

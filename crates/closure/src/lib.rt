@@ -1,5 +1,5 @@
-//! What follows from clauses: the least set of numbers that has some seeds, and with the body of a
-//! clause its head.
+//! The consequences of clauses: the least set of numbers that contains the seeds, and with the body
+//! of a clause its head.
 #![tactic(auto)]
 
 mod addition;

@@ -1,4 +1,4 @@
-//! The search for what follows: each clause is passed over once, number by number.
+//! The search for the numbers that follow: it moves along each clause once, number by number.
 ghost use Rattle.std.specs.Prelude.{◌≡◌, ◌<◌, ◌≤◌, ◌⊎◌, ◌↔◌, ℕ, true, false, length, take, All};
 ghost use Rattle.std.specs.Prelude.{Contains, IfOk, OnOk, slice_index_or};
 ghost use Rattle.std.specs.List.{list_all};
@@ -13,14 +13,15 @@ use crate::clause::Clause;
 use ag_value::NoMemory;
 use std::alloc::Global;
 
-/// A number is marked.
+/// Returns whether a number is marked.
 fn is_known(marks: &[bool], number: usize) -> bool
     ensures { result ≡ is_marked marks.now number }
 {
     number < marks.len() && marks[number]
 }
 
-/// How many numbers of a body in front are marked, where `from` are.
+/// Returns the length of the longest prefix of a body whose numbers are marked, if the first `from`
+/// are.
 fn known_in_front(marks: &[bool], body: &[usize], from: usize) -> usize
     requires within { from ≤ length body.now }
     requires known { list_all (is_marked marks.now) (take from body.now) ≡ true }
@@ -37,8 +38,8 @@ fn known_in_front(marks: &[bool], body: &[usize], from: usize) -> usize
     body.len()
 }
 
-/// A search: the numbers that are marked, these in the order in which they are added, how many of
-/// them have been visited, and of each clause how many numbers in front are marked.
+/// The state of a search: the marks, the marked numbers in the order in which they were added, the
+/// count of visited ones, and for each clause the length of the prefix of its body that is passed.
 #[derive(Drop)]
 struct Search<'g> {
     clauses: &'g [Clause],
@@ -50,7 +51,7 @@ struct Search<'g> {
 }
 
 impl<'g> Search<'g> {
-    /// Passes by the marked numbers of a clause, and says whether these are all.
+    /// Passes the marked numbers of a clause, and returns whether these are all.
     fn advance(&mut self, clause: usize) -> bool
         requires clause { clause < length self.old.clauses.now }
         requires search { IsSearch self.old.clauses.now self.old.seeds.now self.old.marks.items
@@ -73,7 +74,7 @@ impl<'g> Search<'g> {
         passed == body.len()
     }
 
-    /// Adds a number for a reason, and marks it, unless it is marked.
+    /// Adds a number for a reason, and marks it, unless it is marked already.
     fn mark(&mut self, number: usize, reason: Reason) -> Result<(), NoMemory>
         requires number { number < length self.old.marks.items }
         requires reason { IsReason self.old.clauses.now self.old.seeds.now
@@ -118,7 +119,7 @@ impl<'g> Search<'g> {
         Ok(())
     }
 
-    /// Marks the head of a clause, where its whole body is marked.
+    /// Marks the head of a clause, if its whole body is marked.
     fn visit(&mut self, clause: usize) -> Result<(), NoMemory>
         requires clause { clause < length self.old.clauses.now }
         requires search { IsSearch self.old.clauses.now self.old.seeds.now self.old.marks.items
@@ -140,7 +141,7 @@ impl<'g> Search<'g> {
         Ok(())
     }
 
-    /// Visits clauses, after which those are settled that were, or are among them.
+    /// Visits clauses, which are then settled, as are those that were settled before.
     fn visit_all(&mut self, waiting: &[usize]) -> Result<(), NoMemory>
         requires clauses { All (λ p. p < length self.old.clauses.now) waiting.now }
         requires search { IsSearch self.old.clauses.now self.old.seeds.now self.old.marks.items
@@ -165,8 +166,8 @@ impl<'g> Search<'g> {
     }
 }
 
-/// What follows from clauses and seeds, by what waits for each number. It takes time linear in the
-/// lengths of the clauses, of the seeds and of the table.
+/// Returns the numbers that follow from clauses and seeds. `uses` has the clauses that wait for
+/// each number. It takes time linear in the lengths of the clauses, of the seeds and of the table.
 pub(crate) fn find<'g>(
     alloc: Global,
     clauses: &'g [Clause],

@@ -1,4 +1,4 @@
-//! Which clauses wait for each number, and which wait for none.
+//! The clauses that wait for each number, and those that wait for none.
 ghost use Rattle.std.specs.Prelude.{◌≡◌, ◌<◌, ℕ, [], length, All, Contains, IfOk, OnOk};
 ghost use Rattle.std.specs.Prelude.{slice_index_or};
 ghost use Rattle.closure.specs.Clauses.{IsClauseBelow};
@@ -8,7 +8,7 @@ use crate::clause::Clause;
 use ag_value::NoMemory;
 use std::alloc::Global;
 
-/// Notes a clause at a number.
+/// Adds a clause to the list of a number.
 fn note(uses: &mut Vec<Vec<usize>>, clause: usize, number: usize) -> Result<(), NoMemory>
     requires { number < length uses.old.items }
     ensures notes { OnOk result (Notes clause (rows uses.old.items) (rows uses.new.items)) }
@@ -18,7 +18,7 @@ fn note(uses: &mut Vec<Vec<usize>>, clause: usize, number: usize) -> Result<(), 
     Ok(())
 }
 
-/// Notes a clause at each number of its body.
+/// Adds a clause to the list of each number of its body.
 fn note_all(uses: &mut Vec<Vec<usize>>, clause: usize, body: &[usize]) -> Result<(), NoMemory>
     requires { All (λ t. t < length uses.old.items) body.now }
     ensures notes { OnOk result (Notes clause (rows uses.old.items) (rows uses.new.items)) }
@@ -31,7 +31,7 @@ fn note_all(uses: &mut Vec<Vec<usize>>, clause: usize, body: &[usize]) -> Result
     Ok(())
 }
 
-/// The clauses in whose body each number stands.
+/// Returns the clauses whose bodies contain each number.
 pub(crate) fn uses(
     alloc: Global,
     clauses: &[Clause],
@@ -54,7 +54,7 @@ pub(crate) fn uses(
     Ok(uses)
 }
 
-/// The clauses that have no body.
+/// Returns the clauses that have no body.
 pub(crate) fn facts(alloc: Global, clauses: &[Clause]) -> Result<Vec<usize>, NoMemory>
     ensures noted { IfOk result (λ facts. (p : ℕ) (d : Clause) → p < length clauses.now →
         (slice_index_or clauses.now p d).body ≡ [] → Contains facts.items p) }

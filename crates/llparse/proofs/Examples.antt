@@ -49,7 +49,7 @@ left_recursion_least = record {
   ];
 }
 
--- the symbol's first production predicts `x`, since what it begins with may begin with that
+-- the symbol's first production predicts `x`, since its first item can begin with that
 pub first_choice : IsChoice left_recursive 0 (ahead.Terminal (Literal 0)) 0
 unfolding left_recursion
 first_choice = (production_more, refl, refl, left_recursion.one_predicts)

@@ -30,7 +30,7 @@ module _ (g : Grammar) where
   pub items_are : (p : ℕ) (q : Production) → IsProduction g p q → right_side (slice_get g.productions p) ≡ q.items
   items_are p q e = ap right_side e
 
-  -- the words of a tree begin as FIRST says, or there are none and the symbol is nullable
+  -- the words of a tree begin with a terminal in FIRST, or there are none and the symbol is nullable
   abbrev Begins : ℕ → List Lexeme → Type 0
   Begins s ws = (IsNullable g s × (ws ≡ [])) ⊎ ((w : Lexeme) × (rest : List Lexeme) × (ws ≡ w ∷ rest) × InFirst g s w.0)
 
@@ -65,7 +65,7 @@ module _ (g : Grammar) where
     begin_as none (item.Terminal (Literal l) ∷ xs) fit = inr ((Literal l, literal_text g l), all_words none xs, refl, here)
     begin_as (more t ts) (item.Terminal (Literal l) ∷ xs) fit = inr ((Literal l, literal_text g l), all_words (more t ts) xs, refl, here)
 
-  -- what may come after the rest of a right side
+  -- the look-aheads after the rest of a right side
   abbrev At : ℕ → Production → Type 0
   At p q = IsProduction g p q
 

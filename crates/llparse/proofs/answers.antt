@@ -1,4 +1,4 @@
--- What a parse answers, and what it writes.
+-- The result of a parse, and the bytes that it writes.
 pub mod Answered
 pub mod FirstFile
 pub mod Kept

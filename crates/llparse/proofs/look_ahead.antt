@@ -1,4 +1,4 @@
--- What tables are made of, and that they predict what the definitions say.
+-- The sets that tables are made of, and that they agree with the definitions.
 pub mod Choices
 pub mod Columns
 pub mod Comes

@@ -1,4 +1,4 @@
--- What the steps of a parser do to the trees that complete what is open.
+-- The effects of the steps of a parser on the trees that complete the open nodes.
 pub mod Begins
 pub mod Closing
 pub mod Fronts

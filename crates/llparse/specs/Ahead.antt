@@ -1,5 +1,5 @@
--- Look-ahead (the textbook): which symbols may stand for nothing, what may come first, what may follow, which productions
--- that predicts, and where two of them conflict. Each relation is the least one that its rules make.
+-- Look-ahead (the textbook): nullable symbols, FIRST, FOLLOW, the predictions of productions, and conflicts.
+-- Each relation is the least one that its rules make.
 use Rattle.std.specs.Prelude.{◌≡◌, ◌<◌, ℕ, List, [], ◌∷◌, ◌++◌, ◌⊎◌}
 use Rattle.ag_grammar.specs.declared.grammar.Item.TheVariants as item
 use Rattle.ag_grammar.specs.declared.grammar.Item.{Item}
@@ -19,9 +19,9 @@ mutual
     nothing : AreNullable g []
     a_symbol : {s : ℕ} {xs : List Item} → IsNullable g s → AreNullable g xs → AreNullable g (item.Symbol s ∷ xs)
 
--- A terminal may come first in what a symbol stands for, where it may in the right side of one of its productions. There it
--- may where it stands in front, where it may come first in what the symbol in front stands for, or where that symbol is
--- nullable and the terminal may come first in the rest.
+-- A terminal is in FIRST of a symbol if it is in FIRST of the right side of one of its productions. It is in
+-- FIRST of a right side if it is the first item, if it is in FIRST of the first item, or if the first item is
+-- nullable and the terminal is in FIRST of the rest.
 mutual
   pub data InFirst (g : Grammar) : ℕ → Terminal → Type 0 where
     of_production : (p : ℕ) (q : Production) {s : ℕ} {a : Terminal} → IsProduction g p q → q.left ≡ s → InFirstOf g q.items a → InFirst g s a
@@ -31,24 +31,24 @@ mutual
     inside : {s : ℕ} {a : Terminal} {xs : List Item} → InFirst g s a → InFirstOf g (item.Symbol s ∷ xs) a
     later : {s : ℕ} {a : Terminal} {xs : List Item} → IsNullable g s → InFirstOf g xs a → InFirstOf g (item.Symbol s ∷ xs) a
 
--- What may follow a symbol: the end may follow the start symbol; what may come first in the rest of a right side behind the
--- symbol may; and where that rest is nullable, what may follow the left side.
+-- FOLLOW of a symbol: the end follows the start symbol; a terminal in FIRST of the rest of a right side after
+-- the symbol follows it; and if that rest is nullable, each look-ahead that follows the left side does.
 pub data InFollow (g : Grammar) : ℕ → Ahead → Type 0 where
   at_end : InFollow g g.start ahead.End
   next : (p : ℕ) (q : Production) {s : ℕ} {a : Terminal} (xs ys : List Item) → IsProduction g p q → q.items ≡ xs ++ item.Symbol s ∷ ys → InFirstOf g ys a → InFollow g s (ahead.Terminal a)
   last : (p : ℕ) (q : Production) {s : ℕ} {x : Ahead} (xs ys : List Item) → IsProduction g p q → q.items ≡ xs ++ item.Symbol s ∷ ys → AreNullable g ys → InFollow g q.left x → InFollow g s x
 
--- a look-ahead may come first in items; the end comes first in none
+-- a look-ahead is in FIRST of items; the end is in none
 abbrev pub ComesFirst : Grammar → List Item → Ahead → Type 0
 ComesFirst g xs (ahead.Terminal a) = InFirstOf g xs a
 ComesFirst g xs ahead.End = ⊥
 
--- A production predicts a look-ahead that may come first in its right side, and, where its right side is nullable, one that
--- may follow its left side.
+-- A production predicts a look-ahead that is in FIRST of its right side, and, if its right side is nullable,
+-- one that is in FOLLOW of its left side.
 abbrev pub Predicts : Grammar → Production → Ahead → Type 0
 Predicts g q x = ComesFirst g q.items x ⊎ (AreNullable g q.items × InFollow g q.left x)
 
--- Two productions of one symbol, by their numbers and the first one first, predict one look-ahead.
+-- Two productions of one symbol, by their numbers and the lesser one first, predict the same look-ahead.
 pub record IsConflict (g : Grammar) (first second : ℕ) (x : Ahead) : Type 0 where
   pub one : Production
   pub other : Production
@@ -63,7 +63,7 @@ pub record IsConflict (g : Grammar) (first second : ℕ) (x : Ahead) : Type 0 wh
 abbrev pub HasNoConflict : Grammar → Type 0
 HasNoConflict g = (first second : ℕ) (x : Ahead) → IsConflict g first second x → ⊥
 
--- what comes next in a list of words
+-- the look-ahead of a list of words
 abbrev pub ahead_of : List Lexeme → Ahead
 ahead_of [] = ahead.End
 ahead_of (w ∷ ws) = ahead.Terminal w.0

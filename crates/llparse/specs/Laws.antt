@@ -1,4 +1,4 @@
--- What the laws of look-ahead and of parsing state.
+-- The statements of the laws of look-ahead and of parsing.
 use Rattle.std.specs.Prelude.{ℕ, ◌≡◌, ◌<◌, List}
 use Rattle.ag_grammar.specs.grammars.AttributeGrammar.{Grammar}
 use Rattle.ag_grammar.specs.grammars.Solution.{Valuation, NoRule, Solves}
@@ -8,14 +8,14 @@ use Rattle.llparse.specs.Ahead.{HasNoConflict}
 use Rattle.llparse.specs.sentence.Opened.{Open}
 use Rattle.llparse.specs.sentence.Sentences.{IsTreeWith, LeavesOnly}
 
--- A grammar without a conflict has at most one tree of a yield (the textbook).
+-- A grammar without a conflict has at most one tree with a given yield (the textbook).
 abbrev pub OneTree : Type 0
 OneTree = (g : Grammar) → HasNoConflict g → (t u : Tree) → IsTreeOf g t → IsTreeOf g u → yield_of g t ≡ yield_of g u → t ≡ u
 
--- Where words leave only trees beyond a limit, each tree of these words is beyond it.
+-- If words leave only trees beyond a limit, each tree of these words is beyond it.
 abbrev pub WhatIsLeftIsSo : Type 0
 WhatIsLeftIsSo = (g : Grammar) (words : List Lexeme) (size : Tree → ℕ) (begun : List Open → ℕ) (limit : ℕ) (t : Tree) → LeavesOnly g words size begun limit → IsTreeWith g words t → limit < size t
 
--- Each tree has values that give each of its leaves its text, so that its file of pass 0 is told.
+-- Each tree has values that give each of its leaves its text, so that its file of pass 0 is defined.
 abbrev pub TextsAreGiven : Type 0
 TextsAreGiven = (g : Grammar) (t : Tree) → (v : Valuation) × Solves NoRule g t v

@@ -1,16 +1,16 @@
--- How faults are printed: this project's.
+-- The printed form of faults: this project's.
 use Rattle.std.specs.Prelude.{ℕ, List, ◌++◌, codes, decimal}
 use Rattle.llparse.specs.declared.table.fault.TableFault.{TableFault}
 use Rattle.llparse.specs.declared.table.fault.TableFault.TheVariants as table_fault
 use Rattle.llparse.specs.declared.sentence.parse_fault.ParseFault.{ParseFault}
 use Rattle.llparse.specs.declared.sentence.parse_fault.ParseFault.TheVariants as fault
 
--- how a fault of a grammar is printed: its number
+-- the printed form of a fault of a grammar: its number
 abbrev pub printed_table : TableFault → List ℕ
 printed_table (table_fault.Conflict symbol first second ahead) = codes "L1"
 printed_table table_fault.NoMemory = codes "NoMemory"
 
--- how a fault of a sentence is printed: its number, and the offset in decimal
+-- the printed form of a fault of a sentence: its number, and the offset in decimal
 abbrev pub printed : ParseFault → List ℕ
 printed (fault.Unexpected at) = codes "P1 at " ++ decimal at
 printed fault.TooDeep = codes "P2"

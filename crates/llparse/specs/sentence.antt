@@ -1,4 +1,4 @@
--- Parsing a sentence: what it answers, and what a parser keeps true.
+-- Parsing a sentence: its result, and the invariants of a parser.
 pub mod Opened
 pub mod Parsing
 pub mod Refusals

@@ -1,4 +1,4 @@
--- Tables: the sets that they are made of, and which conflict is the least.
+-- Tables: the sets that they are made of, and the least conflict.
 pub mod Columns
 pub mod Comes
 pub mod Edges

@@ -1,8 +1,8 @@
-//! What a parser sees in front of it.
+//! The look-ahead of a parser.
 
 use ag_grammar::Terminal;
 
-/// What comes next in a sentence (the textbook's look-ahead of one token).
+/// The next token of a sentence, or its end (the textbook's look-ahead of one token).
 #[derive(Clone, Copy, Debug, PartialEq, Eq)]
 pub enum Ahead {
     /// A terminal.

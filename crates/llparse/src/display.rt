@@ -1,11 +1,11 @@
-//! How refusals of grammars and of sentences are printed.
+//! Printing the faults of grammars and of sentences.
 
 use crate::sentence::parse_fault::ParseFault;
 use crate::table::fault::TableFault;
 use std::error::Error;
 use std::fmt;
 
-/// The number of the fault: `L1`.
+/// Prints the number of the fault: `L1`.
 impl fmt::Display for TableFault {
     ghost use Rattle.std.specs.Prelude.{Some};
     ghost use Rattle.llparse.specs.Printed.{printed_table};
@@ -22,7 +22,7 @@ impl fmt::Display for TableFault {
 
 impl Error for TableFault {}
 
-/// The number of the fault, and where it has one its offset: `P1 at 1`, `P2`.
+/// Prints the number of the fault, and its offset in bytes if it has one: `P1 at 1`, `P2`.
 impl fmt::Display for ParseFault {
     ghost use Rattle.std.specs.Prelude.{Some};
     ghost use Rattle.llparse.specs.Printed.{printed};

@@ -1,5 +1,4 @@
-//! What is true of look-ahead and of trees by the definitions alone, each the contract of a function that does
-//! nothing.
+//! Laws about look-ahead and trees, each the contract of a function that does nothing.
 
 ghost use Rattle.std.specs.Prelude.{◌≡◌, ◌∷◌, [], Some, None};
 ghost use Rattle.ag_grammar.specs.declared.grammar.Terminal.TheVariants.{Class, Literal};
@@ -11,13 +10,13 @@ ghost use Rattle.llparse.specs.table.Tables.{choice_of, IsChoice, IsLeastConflic
 ghost use Rattle.llparse.specs.Worked.{left_recursive, small_tables};
 ghost use Rattle.llparse.specs.declared.ahead.Ahead.TheVariants as ahead;
 
-/// A grammar without a conflict has at most one tree of a yield.
+/// A grammar without a conflict has at most one tree with a given yield.
 pub fn one_tree()
     ensures { OneTree }
 {}
 
-/// Where words leave only trees beyond a limit, as behind P2 and P3, each tree of these words is
-/// beyond it.
+/// If words leave only trees beyond a limit, as P2 and P3 state, each tree of these words is beyond
+/// it.
 pub fn what_is_left_is_so()
     ensures { WhatIsLeftIsSo }
 {}
@@ -50,8 +49,8 @@ pub fn left_recursion_is_a_choice()
     ensures { IsChoice left_recursive 0 (ahead.Terminal (Literal 0)) 0 }
 {}
 
-/// How tables are read: a literal and the end that are there, a class without an entry, and a
-/// literal that is none of the grammar's.
+/// Looking up tables: entries at a literal and at the end, a class without an entry, and a literal
+/// that the grammar does not have.
 pub fn small_tables_are_read()
     ensures literal { choice_of small_tables 0 (ahead.Terminal (Literal 0)) ≡ Some 0 }
     ensures end { choice_of small_tables 0 ahead.End ≡ Some 1 }
@@ -59,7 +58,7 @@ pub fn small_tables_are_read()
     ensures unknown { choice_of small_tables 0 (ahead.Terminal (Literal 1)) ≡ None }
 {}
 
-/// The order of look-aheads where there are two literals.
+/// The order of look-aheads for two literals.
 pub fn indices_are_in_order()
     ensures literals { index_of 2 (ahead.Terminal (Literal 1)) ≡ 1 }
     ensures classes { index_of 2 (ahead.Terminal (Class 0)) ≡ 2 }

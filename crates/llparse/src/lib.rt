@@ -1,6 +1,6 @@
-//! Parsing sentences with one token of look-ahead: the sets that tell which production comes next,
-//! the tables that are made of them, why a grammar whose sets don't conflict has one tree of a
-//! sentence at most, and the parser, which writes that tree's file.
+//! Parsing sentences with one token of look-ahead: FIRST and FOLLOW, the tables that are made of
+//! them, the proof that a grammar without conflicts has at most one tree of a sentence, and the
+//! parser, which writes that tree's file.
 #![tactic(auto)]
 
 mod ahead;

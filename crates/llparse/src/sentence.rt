@@ -1,4 +1,4 @@
-//! Parsing a sentence by tables, and what could stand where one is refused.
+//! Parsing a sentence by tables, and the look-aheads expected where one is rejected.
 
 pub mod expected;
 pub mod parse_fault;

@@ -1,4 +1,4 @@
-//! The tables of a grammar: what may come first, what may follow, and which production each look-ahead chooses.
+//! The tables of a grammar: FIRST, FOLLOW, and the production that each look-ahead chooses.
 
 pub mod building;
 pub mod choosing;

@@ -1,4 +1,4 @@
--- Which fault is found, and that none is where the numbered grammar is accepted.
+-- The fault that is found, and that none is found if the numbered grammar is accepted.
 pub mod Apart
 pub mod First
 pub mod Founds

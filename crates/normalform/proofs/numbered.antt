@@ -1,4 +1,4 @@
--- What the numbers of a raw grammar stand for.
+-- The meaning of the numbers of a raw grammar.
 pub mod Accepting
 pub mod KindAt
 pub mod Keys

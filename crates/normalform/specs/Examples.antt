@@ -1,4 +1,4 @@
--- Small raw grammars, and the fault that is told of each: the symbols are S with the synthesized attribute `out`, from the
+-- Small raw grammars, and the fault of each: the symbols are S with the synthesized attribute `out`, from
 -- offset 16 on, and A with the inherited attribute i, from 34 on.
 use Rattle.std.specs.Prelude.{ℕ, ◌≡◌, Option, Some, None, List, [], ◌∷◌}
 use Rattle.ag_grammar.specs.declared.syntax.node.Node.{Node}
@@ -26,7 +26,7 @@ second_symbol = record { name = name_at 65 34; syn = []; inh = name_at 105 40 �
 abbrev the_symbols : List RawSymbol
 the_symbols = first_symbol ∷ second_symbol ∷ []
 
--- the start symbol stands at 6
+-- the start symbol is at offset 6
 abbrev with_symbols : ℕ → List RawSymbol → RawGrammar
 with_symbols start symbols = record { start = name_at start 6; symbols = symbols; productions = [] }
 
@@ -45,7 +45,7 @@ here attr at = record { place = 0; attr = attr; at = at }
 abbrev rule_at : Node → List ℕ → ℕ → List Occ → RawRule
 rule_at e attr at occurrences = record { target = here attr at; expr = (e, occurrences) }
 
--- What is told is told of the names, and else of the rules and limits.
+-- The first fault of the names; the other one is of the rules and limits.
 abbrev names_fault : RawGrammar → Option NormalFault
 names_fault raw = first_wrong (naming_checks raw)
 
@@ -58,8 +58,8 @@ WorkedNames = (names_fault (with_production 83 (raw_item.Name (name_at 84 50) �
     × (names_fault (with_symbols 83 (first_symbol ∷ record { name = name_at 83 34; syn = []; inh = [] } ∷ [])) ≡ Some (fault.DoubledName 34))
     × (names_fault (with_symbols 65 the_symbols) ≡ Some fault.BadStart)
 
--- N6: S = {}. N7: S = { $0.out = e; $0.out = e; }. N8: A = { $0.i = e; }. N9: S = { $0.out = e; }, where `$0.out` stands in e.
--- No fault: S = { $0.out = e; }.
+-- N6: S = {}. N7: S = { $0.out = e; $0.out = e; }. N8: A = { $0.i = e; }. N9: S = { $0.out = e; }, where
+-- `$0.out` occurs in e. No fault: S = { $0.out = e; }.
 abbrev pub WorkedRules : Type 0
 WorkedRules = (e : Node) →
     (rules_fault (with_production 83 [] []) ≡ Some (fault.RuleMissing 0 0 0))

@@ -1,4 +1,4 @@
--- What is true of raw grammars and their faults, and a worked example.
+-- Laws about raw grammars and their faults, and a worked example.
 use Rattle.std.specs.Prelude.{ℕ, ◌≡◌, [], ◌∷◌, All}
 use Rattle.ag_grammar.specs.declared.grammar.Item.TheVariants as item
 use Rattle.ag_grammar.specs.declared.grammar.Terminal.TheVariants.{Literal, Class}

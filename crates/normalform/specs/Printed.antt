@@ -1,9 +1,9 @@
--- How faults are printed: this project's.
+-- The printed form of faults: this project's.
 use Rattle.std.specs.Prelude.{ℕ, List, ◌++◌, codes, decimal}
 use Rattle.normalform.specs.declared.fault.NormalFault.{NormalFault}
 use Rattle.normalform.specs.declared.fault.NormalFault.TheVariants as fault
 
--- how a fault is printed: its number, and the offset in decimal
+-- the printed form of a fault: its number, and the offset in decimal
 abbrev pub printed : NormalFault → List ℕ
 printed (fault.UnknownName at) = codes "N1 at " ++ decimal at
 printed (fault.DoubledName at) = codes "N2 at " ++ decimal at

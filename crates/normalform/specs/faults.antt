@@ -1,4 +1,4 @@
--- The faults of a raw grammar, and what the search for them finds.
+-- The faults of a raw grammar, and the result of the search for them.
 pub mod Asking
 pub mod Clauses
 pub mod Faults

@@ -1,4 +1,4 @@
-//! The check of a raw grammar: the grammar that it is, or the first of its faults.
+//! Checking a raw grammar: the result is the numbered grammar, or the first fault.
 ghost use Rattle.std.specs.Prelude.{◌≡◌, map, All, Some, None, IfOk, IfErr, IfSome};
 ghost use Rattle.ag_grammar.specs.grammars.Accepted.{IsAccepted};
 ghost use Rattle.ag_grammar.specs.grammars.Order.{IsInOrder};
@@ -27,18 +27,19 @@ use ag_value::{Items, NoMemory, Text};
 use closure::{Clause, Clauses, Edge};
 use std::alloc::Global;
 
-/// What is wrong first: a fault, or a symbol by its number.
+/// The first fault that is found: a fault, or the number of a symbol.
 #[derive(Debug, Drop)]
 enum Found {
     /// This fault.
     Fault(NormalFault),
-    /// The symbol of this number is not productive.
+    /// N4: the symbol with this number is not productive.
     Unproductive(usize),
-    /// The symbol of this number is not reached.
+    /// N5: the symbol with this number is not reached.
     Unreachable(usize),
 }
 
-/// N3: the start symbol is not declared, or may not be one.
+/// Returns N3 if the start symbol is not declared, has an inherited attribute, or has no
+/// synthesized `out`.
 fn bad_start(declared: &Declared<'_>, name: &Named) -> Option<NormalFault>
     ensures { result ≡ first_wrong (start_checks declared.now name.now) }
 {
@@ -49,7 +50,7 @@ fn bad_start(declared: &Declared<'_>, name: &Named) -> Option<NormalFault>
     }
 }
 
-/// The first fault of the kinds before N4.
+/// Returns the first fault of N1 to N3.
 fn naming_fault(
     alloc: Global,
     raw: &RawGrammar,
@@ -67,7 +68,7 @@ fn naming_fault(
     Ok(bad_start(declared, &raw.start))
 }
 
-/// The first fault of rules.
+/// Returns the first fault of N6 to N9, those of rules.
 fn rule_fault(
     alloc: Global,
     declared: &Declared<'_>,
@@ -87,7 +88,7 @@ fn rule_fault(
     not_found(alloc, declared, productions)
 }
 
-/// The first fault of the kinds behind N5.
+/// Returns the first fault of N6 to N10.
 fn further_fault(
     alloc: Global,
     raw: &RawGrammar,
@@ -104,7 +105,7 @@ fn further_fault(
     exceeded(alloc, declared, symbols, productions)
 }
 
-/// N4: the number of the first symbol that is not productive.
+/// Returns the number of the first symbol that is not productive (N4).
 fn unproductive(
     alloc: Global,
     raw: &RawGrammar,
@@ -121,7 +122,7 @@ fn unproductive(
     first_left(alloc, &clauses, &[])
 }
 
-/// N5: the number of the first symbol that is not reached.
+/// Returns the number of the first symbol that is not reached (N5).
 fn unreachable(
     alloc: Global,
     raw: &RawGrammar,
@@ -142,7 +143,7 @@ fn unreachable(
     first_left(alloc, &clauses, &[start])
 }
 
-/// The first fault of the kinds from N4 on.
+/// Returns the first fault of N4 to N10.
 fn structure_fault(
     alloc: Global,
     raw: &RawGrammar,
@@ -167,7 +168,7 @@ fn structure_fault(
     Ok(None)
 }
 
-/// The first fault, if there is one.
+/// Returns the first fault, if there is one.
 fn first_fault(alloc: Global, raw: &RawGrammar) -> Result<Option<Found>, NoMemory>
     ensures { IfOk result (λ found. IsFound raw.now found) }
 {
@@ -178,7 +179,7 @@ fn first_fault(alloc: Global, raw: &RawGrammar) -> Result<Option<Found>, NoMemor
     structure_fault(alloc, raw, &declared)
 }
 
-/// The number of the start symbol, and productions by numbers; the expressions are moved.
+/// Returns the number of the start symbol, and the numbered productions; the expressions are moved.
 fn number_productions(
     alloc: Global,
     symbols: &[RawSymbol],
@@ -200,7 +201,7 @@ fn number_productions(
     Ok((start, productions))
 }
 
-/// The grammar that a raw one without fault is; names and expressions are moved.
+/// Returns the numbered grammar of a raw one without faults; names and expressions are moved.
 fn number(alloc: Global, raw: RawGrammar) -> Result<Grammar, NoMemory>
     requires right { HasNoFault raw }
     requires readable { IsReadable raw }
@@ -224,7 +225,7 @@ fn number(alloc: Global, raw: RawGrammar) -> Result<Grammar, NoMemory>
     Ok(Grammar::new(symbols, productions, literals, classes, start))
 }
 
-/// What is found as a fault; a symbol's name is moved into it.
+/// Returns a found fault; a symbol's name is moved into it.
 fn refusal(found: Found, raw: RawGrammar) -> NormalFault
     requires { IsFound raw (Some found) }
     ensures { IsFirstFault raw result }
@@ -236,14 +237,14 @@ fn refusal(found: Found, raw: RawGrammar) -> NormalFault
     }
 }
 
-/// Checks a raw grammar. Ok is the grammar that it is by numbers, which is accepted, with its classes
-/// ascending and its literals in the order of their first appearance; names and expressions are moved
-/// into it.
+/// Checks a raw grammar, and returns the numbered grammar, which is accepted, with its classes
+/// ascending and its literals in the order of their first appearance; names and expressions are
+/// moved into it.
 ///
-/// A refusal is the first fault: of the kinds in the order of `NormalFault` the first that has one,
-/// and within a kind the first in the order of the lists. Then the grammar by numbers is not
-/// accepted, and the raw grammar is given up. `NoMemory` comes only where a growth was refused.
-/// Takes memory.
+/// Fails with the first fault: of the kinds in the order of `NormalFault` the first that has one,
+/// and within a kind the first in the order of the lists. Then the numbered grammar is not
+/// accepted, and the raw grammar is dropped. Fails with NoMemory only if memory was refused. Takes
+/// memory.
 #[tactic(auto, using(crate::proofs::numbered::Accepting::refused))]
 pub fn check(alloc: Global, raw: RawGrammar) -> Result<Grammar, NormalFault>
     requires { IsReadable raw }

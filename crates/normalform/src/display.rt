@@ -1,11 +1,11 @@
-//! How a refusal of a raw grammar is printed.
+//! Printing the faults of raw grammars.
 
 use crate::fault::NormalFault;
 use std::error::Error;
 use std::fmt;
 
-/// The number of the fault, and where it has one its offset: `N9 at 100`, `N6`. That of a symbol is
-/// the offset of its declaration.
+/// Prints the number of the fault, and its offset in bytes if it has one: `N9 at 100`, `N6`. The
+/// offset of a symbol is that of its declaration.
 impl fmt::Display for NormalFault {
     ghost use Rattle.std.specs.Prelude.{Some};
     ghost use Rattle.normalform.specs.Printed.{printed};

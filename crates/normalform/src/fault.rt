@@ -1,11 +1,11 @@
-//! Why a raw grammar is refused.
+//! The reasons why a raw grammar is rejected.
 ghost use Rattle.std.specs.Prelude.{◌≡◌};
 ghost use Rattle.normalform.specs.declared.fault.NormalFault.TheVariants as fault;
 
 use ag_grammar::Named;
 use ag_value::NoMemory;
 
-/// A limit of a grammar. Several of them exceeded, the first in this order is told.
+/// A limit of a grammar. If several are exceeded, the first in this order is reported.
 #[derive(Clone, Copy, Debug, PartialEq, Eq)]
 pub enum LimitKind {
     /// More than 256 symbols.
@@ -24,28 +24,29 @@ pub enum LimitKind {
     Literals,
 }
 
-/// Why a raw grammar is refused. The kinds are looked for in this order, and within a kind the
-/// first in the order of the lists is told.
+/// The reasons why a raw grammar is rejected. The kinds are checked in this order, and within a
+/// kind the first fault in the order of the lists is reported. Offsets are in bytes.
 #[derive(Debug, Drop)]
 pub enum NormalFault {
-    /// N1: at this offset stands a symbol in a production that is not declared, or an occurrence
-    /// whose place or attribute is not there. A symbol declared twice counts by its first
-    /// declaration.
+    /// N1: the symbol at this offset in a production is not declared, or the occurrence at this
+    /// offset has a place or an attribute that does not exist. A symbol that is declared twice
+    /// counts by its first declaration.
     UnknownName(usize),
-    /// N2: at this offset a symbol is declared again, or an attribute named again in its symbol.
+    /// N2: at this offset a symbol is declared again, or an attribute is declared again in its
+    /// symbol.
     DoubledName(usize),
     /// N3: the start symbol is not declared, has an inherited attribute, or has no synthesized
     /// `out`.
     BadStart,
-    /// N4: this is the first declared symbol that derives no list of terminals.
+    /// N4: the first declared symbol that derives no list of terminals.
     Unproductive(Named),
-    /// N5: this is the first declared symbol that the start symbol does not reach.
+    /// N5: the first declared symbol that is not reached from the start symbol.
     Unreachable(Named),
-    /// N6: the production of this number has no rule for the attribute of this number (the third)
-    /// at this place (the second), a synthesized one at place 0 or an inherited one at a later
-    /// place.
+    /// N6: the production with this number (the first) has no rule for the attribute with this
+    /// number (the third) at this place (the second): a synthesized one at place 0, or an inherited
+    /// one at a later place.
     RuleMissing(usize, usize, usize),
-    /// N7: the target at this offset is one that an earlier rule of the production has.
+    /// N7: the target at this offset is that of an earlier rule of the production.
     RuleDoubled(usize),
     /// N8: the target at this offset is inherited at place 0, or synthesized at a later place.
     NotDefinedHere(usize),
@@ -53,7 +54,7 @@ pub enum NormalFault {
     NotNormal(usize),
     /// N10: this limit is exceeded.
     Limit(LimitKind),
-    /// A growth was refused.
+    /// The allocator refused memory.
     NoMemory,
 }
 

@@ -1,5 +1,5 @@
-//! Grammars whose names are numbered and which are accepted: complete, normal, reduced and within
-//! the limits.
+//! Numbering the names of a grammar, and checking that it is accepted: complete, normal, reduced
+//! and within the limits.
 #![tactic(auto)]
 
 mod checking;

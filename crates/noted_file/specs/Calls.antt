@@ -13,7 +13,7 @@ initial_event bytes = (0, 0, true, bytes)
 abbrev pub open_event : List ℕ → Event
 open_event path = (1, 0, true, path)
 
--- the length of the file was asked for, and this was the answer
+-- the length of the file was requested, and this was the result
 abbrev pub length_event : Bool → ℕ → Event
 length_event ok len = (2, len, ok, [])
 

@@ -1,4 +1,4 @@
--- What passes that are made one after the other give, and what they leave.
+-- The assignments that consecutive passes make, and the attributes that they leave open.
 pub mod Earliest
 pub mod Fewest
 pub mod Finally

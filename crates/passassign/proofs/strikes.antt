@@ -1,4 +1,4 @@
--- Lists of strikes: how they grow, and when they are good.
+-- Lists of strikes: adding to them, and good ones.
 pub mod Adding
 pub mod BothWays
 pub mod Chained

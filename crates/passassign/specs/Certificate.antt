@@ -1,4 +1,4 @@
--- What keeps attributes out of a pass, and a certificate that some can have none.
+-- Reasons that keep attributes out of a pass, and certificates that attributes can have none.
 use Rattle.std.specs.Prelude.{ℕ, ◌≡◌, ◌≤◌, ◌⊎◌, List, [], ◌∷◌, Option, Some, None, slice_get}
 use Rattle.ag_grammar.specs.Lists.{Has, Differ}
 use Rattle.ag_grammar.specs.declared.grammar.Item.TheVariants as item
@@ -17,11 +17,11 @@ use Rattle.passassign.specs.declared.stuck.Stuck.{Stuck}
 abbrev pub Attributes : Type 1
 Attributes = ℕ → ℕ → Type 0
 
--- those that a list has
+-- the attributes of a list
 abbrev pub Members : List (ℕ × ℕ) → ℕ → ℕ → Type 0
 Members set s a = Has set (s, a)
 
--- those that a list strikes
+-- the attributes that a list strikes
 abbrev pub IsStruckBy : List Strike → ℕ → ℕ → Type 0
 IsStruckBy [] s a = ⊥
 IsStruckBy (x ∷ xs) s a = ((x.symbol ≡ s) × (x.attr ≡ a)) ⊎ IsStruckBy xs s a
@@ -36,9 +36,10 @@ IsOneOf some (Some (item.Terminal t)) a = ⊥
 abbrev pub IsAhead : Direction → (j i : ℕ) → Type 0
 IsAhead d j i = (1 ≤ j) × (1 ≤ i) × ((i ≡ j) ⊎ IsBefore d j i)
 
--- Why an argument keeps a rule's target at place j out of a pass of this direction, whose candidates have no earlier pass: it
--- is struck itself; or it is a candidate at the target's child or at one that the pass visits later, so it is not there
--- before the pass enters the target's child (after Jazayeri and Walter 1975, where all that is at a later child is a reason).
+-- The reason why an argument keeps a rule's target at place j out of a pass of this direction, whose
+-- candidates have no earlier pass: the argument is struck itself; or it is a candidate at the target's child
+-- or at one that the pass visits later, so it is not computed before the pass enters the target's child
+-- (after Jazayeri and Walter 1975, where every argument at a later child is a reason).
 abbrev pub IsReasonWhere : Direction → (candidate struck : Attributes) → Production → ℕ → Target → Type 0
 IsReasonWhere d candidate struck q j o =
     IsOneOf struck (item_at q o.place) o.attr
@@ -48,8 +49,8 @@ IsReasonWhere d candidate struck q j o =
 abbrev pub IsReason : Direction → Attributes → List Strike → Production → ℕ → Target → Type 0
 IsReason d candidate struck q j o = IsReasonWhere d candidate (IsStruckBy struck) q j o
 
--- A strike that is good if these attributes are struck: what it names is there, the target of its rule is its attribute, and
--- the argument is a reason (this project's).
+-- A strike that is good if these attributes are struck: its production, rule and argument exist, the target
+-- of its rule is its attribute, and the argument is a reason (this project's).
 pub record IsGoodWhere (g : Grammar) (d : Direction) (candidate struck : Attributes) (x : Strike) : Type 0 where
   pub production : Production
   pub rule : Rule
@@ -71,26 +72,26 @@ AreGood g d candidate struck [] = Unit {0}
 AreGood g d candidate struck (x ∷ xs) =
     candidate x.symbol x.attr × (IsStruckBy struck x.symbol x.attr → ⊥) × IsGood g d candidate struck x × AreGood g d candidate (x ∷ struck) xs
 
--- One after the other, good strikes of each attribute of `later`, and of nothing else, in a pass of this direction with these
--- candidates: what the candidates of `later` can't have (this project's).
+-- Good strikes, one after the other, of each attribute of `later`, and of no others, in a pass of this
+-- direction with these candidates: the candidates of `later` can't have this pass (this project's).
 pub record StrikesExactly (g : Grammar) (d : Direction) (candidate later : Attributes) (xs : List Strike) : Type 0 where
   pub good : AreGood g d candidate [] xs
   pub all : (s a : ℕ) → later s a → IsStruckBy xs s a
   pub only : (s a : ℕ) → IsStruckBy xs s a → later s a
 
--- the same of all candidates: the pass gives none of them anything
+-- the same of all candidates: the pass is assigned to none of them
 abbrev pub StrikesAll : Grammar → Direction → Attributes → List Strike → Type 0
 StrikesAll g d candidate xs = StrikesExactly g d candidate candidate xs
 
--- A certificate: some attributes, none of them listed twice, all of which are struck in a pass of either direction (this
--- project's).
+-- A certificate: some attributes, none of them listed twice, all of which are struck in a pass of either
+-- direction (this project's).
 pub record IsCertificate (g : Grammar) (c : Stuck) : Type 0 where
   pub some : (x : ℕ × ℕ) × Has c.set x
   pub single : Differ c.set
   pub odd : StrikesAll g RightToLeft (Members c.set) c.odd
   pub even : StrikesAll g LeftToRight (Members c.set) c.even
 
--- the certificate of two passes one after the other, the first of this direction, that strike the same attributes
+-- the certificate of two consecutive passes, the first of this direction, that strike the same attributes
 abbrev pub stuck_of : Direction → List (ℕ × ℕ) → (first second : List Strike) → Stuck
 stuck_of RightToLeft set first second = record { set = set; odd = first; even = second }
 stuck_of LeftToRight set first second = record { set = set; odd = second; even = first }

@@ -29,7 +29,7 @@ pub record IsChainOf (g : Grammar) (d : Direction) (candidate : Attributes) (s a
   pub attr : first.attr ≡ a
   pub chain : IsChain g d candidate xs
 
--- What a strike names: a production, a rule of it, and an argument of that rule.
+-- The parts that a strike names: a production, a rule of it, and an argument of that rule.
 pub record Names (g : Grammar) (x : Strike) (q : Production) (u : Rule) (o : Target) : Type 0 where
   pub is_production : IsProduction g x.production q
   pub is_rule : slice_get q.rules x.rule ≡ Some u
@@ -82,6 +82,6 @@ abbrev pub AreLinked : Grammar → Direction → List Strike → Type 0
 AreLinked g d [] = Unit {0}
 AreLinked g d (x ∷ xs) = IsLink g d x xs × AreLinked g d xs
 
--- in a list, what a strike waits for is struck before it
+-- in a list, the attribute that a strike waits for is struck before it
 abbrev pub AreAwaitedBefore : Grammar → Direction → List Strike → Type 0
 AreAwaitedBefore g d xs = (i : ℕ) (x : Strike) → slice_get xs i ≡ Some x → (s a : ℕ) → WaitsFor g d x s a → IsStruckBy (take i xs) s a

@@ -1,4 +1,4 @@
--- What depends on what in a production: its rules' targets on their arguments (Knuth 1968).
+-- The dependencies in a production: of its rules' targets on their arguments (Knuth 1968).
 use Rattle.std.specs.Prelude.{ℕ, ◌≡◌, ◌<◌, ◌⊎◌, ◌↔◌, List, Option, Some, None, slice_get}
 use Rattle.ag_grammar.specs.Lists.{Has}
 use Rattle.ag_grammar.specs.declared.grammar.Item.TheVariants as item
@@ -39,19 +39,19 @@ abbrev pub table_slot : Option ℕ → ℕ → Option ℕ
 table_slot None a = None
 table_slot (Some s) a = Some (slot_of s a)
 
--- the dependency of a rule's target, which stands at place j, on argument i, which has slot k and stands at another place
+-- the dependency of a rule's target at place j on argument i, which has slot k and place `from`
 abbrev pub dependency_of : Strike → (j i k from : ℕ) → Dependency
 dependency_of head j i k from = record { strike = record head { arg = i }; place = j; argument = k; from = from }
 
--- y stands in a relation with some element and its index
+-- y is in a relation with some element and its index
 abbrev pub OfEach : {X Y : Type 0} → (ℕ → X → Y → Type 0) → List X → Y → Type 0
 OfEach {X} R xs y = (i : ℕ) × (x : X) × (slice_get xs i ≡ Some x) × R i x y
 
--- the same for the elements in front of index n
+-- the same for the elements before index n
 abbrev pub OfFront : {X Y : Type 0} → (ℕ → X → Y → Type 0) → List X → ℕ → Y → Type 0
 OfFront {X} R xs n y = (i : ℕ) × (x : X) × (i < n) × (slice_get xs i ≡ Some x) × R i x y
 
--- the members of a second list are those of a first one, and the others that are so
+-- the members of the second list are those of the first, and those with property P
 pub record Adds {X : Type 0} (P : X → Type 0) (old new : List X) : Type 0 where
   pub kept : (x : X) → Has old x → Has new x
   pub all : (x : X) → P x → Has new x
@@ -61,7 +61,7 @@ pub record Adds {X : Type 0} (P : X → Type 0) (old new : List X) : Type 0 wher
 abbrev pub IsByArgument : List Item → Strike → ℕ → ℕ → Target → Dependency → Type 0
 IsByArgument places head j i o u = (k : ℕ) × (table_slot (symbol_of (slice_get places o.place)) o.attr ≡ Some k) × (u ≡ dependency_of head j i k o.place)
 
--- a strike of a rule's target, where this symbol stands at its place, by argument 0
+-- a strike of a rule's target, whose place has this symbol, by argument 0
 abbrev pub head_of : ℕ → ℕ → Rule → ℕ → Strike
 head_of p r rule s = record { symbol = s; attr = rule.target.attr; production = p; rule = r; arg = 0 }
 
@@ -77,6 +77,6 @@ IsByProduction p q u = OfEach (IsByRule (places_of q) p) q.rules u
 abbrev pub IsDependency : List Production → Dependency → Type 0
 IsDependency productions u = OfEach IsByProduction productions u
 
--- a list has the dependencies of some productions, and nothing else
+-- a list has the dependencies of some productions, and no others
 abbrev pub AreDependencies : List Production → List Dependency → Type 0
 AreDependencies productions all = (u : Dependency) → Has all u ↔ IsDependency productions u

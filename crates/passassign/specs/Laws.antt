@@ -1,4 +1,4 @@
--- What the laws state.
+-- The statements of the laws.
 use Rattle.std.specs.Prelude.{ℕ, suc, ◌≡◌, ◌<◌, ◌≤◌, ◌↔◌, List, [], ◌∷◌, ◌++◌, Some, None, slice_get, length, Bool}
 use Rattle.ag_grammar.specs.Lists.{Has, Differ, Each}
 use Rattle.ag_grammar.specs.grammars.AttributeGrammar.{Grammar, symbol_kinds}
@@ -26,19 +26,19 @@ StuckIsRefused = (g : Grammar) (s a : ℕ) → IsAttribute g s a → IsStuck g s
 abbrev pub CertifiedIsRefused : Type 0
 CertifiedIsRefused = (g : Grammar) (c : Stuck) → Each (IsComplete g) g.productions → IsCertificate g c → IsAlternating g → ⊥
 
--- The passes before pass k give no attribute a later pass than a legal partial assignment does,
+-- The passes before pass k assign no attribute a later pass than a legal partial assignment does,
 abbrev pub MadeIsAtMost : Type 0
 MadeIsAtMost = (g : Grammar) (k : ℕ) (m n : Partial) → IsMade g k m → IsLegalPartial g n → (s a p q : ℕ) → m s a ≡ Some p → n s a ≡ Some q → p ≤ q
 
--- and what they leave has there no pass before k.
+-- and an attribute that they leave open has there no pass before k.
 abbrev pub LeftIsLater : Type 0
 LeftIsLater = (g : Grammar) (k : ℕ) (m n : Partial) → IsMade g k m → IsLegalPartial g n → (s a q : ℕ) → m s a ≡ None → n s a ≡ Some q → k ≤ q
 
--- What the passes make is legal, where each production is complete and normal.
+-- The assignment that the passes make is legal, if each production is complete and normal.
 abbrev pub MadeIsLegal : Type 0
 MadeIsLegal = (g : Grammar) (k : ℕ) (m : Partial) → Each (IsComplete g) g.productions → Each (IsNormal g) g.productions → IsMade g k m → IsLegalPartial g m
 
--- Where they then give every attribute a pass, that is the least assignment.
+-- If they assign a pass to every attribute, that is the least assignment.
 abbrev pub WholeIsLeast : Type 0
 WholeIsLeast = (g : Grammar) (k : ℕ) (n : Partial) (m : Passes) → Each (IsComplete g) g.productions → Each (IsNormal g) g.productions → IsMade g k n → ((s : ℕ) → length (m s) ≡ length (symbol_kinds (slice_get g.symbols s))) → ((s a : ℕ) → partial_of m s a ≡ n s a) → IsLeast g m
 
@@ -46,23 +46,24 @@ WholeIsLeast = (g : Grammar) (k : ℕ) (n : Partial) (m : Passes) → Each (IsCo
 abbrev pub LeastHasFewest : Type 0
 LeastHasFewest = (g : Grammar) (rows other : List (List ℕ)) (n k : ℕ) → IsLeast g (passes_of rows) → IsLegal g (passes_of other) → IsGreatest n rows → IsGreatest k other → n ≤ k
 
--- What two passes one after the other leave that give nothing is stuck,
+-- The attributes left open by two consecutive passes that assign nothing are stuck,
 abbrev pub RestIsStuck : Type 0
 RestIsStuck = (g : Grammar) (k : ℕ) (m : Partial) (first second : List Strike) → AreIdle g k m first second → (s a : ℕ) → IsOpen g m s a → IsStuck g s a
 
--- and nothing else is, where passes have made what was there before them, and each production is complete and normal.
+-- and no others are, if passes have made the assignment before them, and each production is complete and
+-- normal.
 abbrev pub StuckIsLeft : Type 0
 StuckIsLeft = (g : Grammar) (k : ℕ) (m : Partial) (first second : List Strike) → Each (IsComplete g) g.productions → Each (IsNormal g) g.productions → IsMade g k m → AreIdle g k m first second → (s a : ℕ) → IsAttribute g s a → (m s a ≡ None) ↔ IsStuck g s a
 
--- A list of what two such passes leave, where there is any, is certified by their strikes.
+-- A list of the attributes that two such passes leave open, if there are any, is certified by their strikes.
 abbrev pub RestIsCertified : Type 0
 RestIsCertified = (g : Grammar) (k : ℕ) (m : Partial) (first second : List Strike) → AreIdle g k m first second → (set : List (ℕ × ℕ)) → Differ set → ((x : ℕ × ℕ) × Has set x) → ((s a : ℕ) → Members set s a ↔ IsOpen g m s a) → IsCertificate g (stuck_of (direction_of k) set first second)
 
--- A list of good strikes goes on by a good one of a candidate that it does not strike.
+-- A list of good strikes is continued by a good one of a candidate that it does not strike.
 abbrev pub StrikesGrow : Type 0
 StrikesGrow = (g : Grammar) (d : Direction) (m : Partial) (xs : List Strike) (x : Strike) → AreGood g d (IsOpen g m) [] xs → IsOpen g m x.symbol x.attr → (IsStruckBy xs x.symbol x.attr → ⊥) → IsGood g d (IsOpen g m) xs x → AreGood g d (IsOpen g m) [] (xs ++ x ∷ [])
 
--- Good strikes to which no other can be added make a pass, where marks tell what they strike.
+-- Good strikes to which no other can be added make a pass, if marks are those of the struck attributes.
 abbrev pub MarksMakePass : Type 0
 MarksMakePass = (g : Grammar) (k : ℕ) (m after : Partial) (xs : List Strike) (hit : ℕ → ℕ → Bool) → IsOver g m → IsOver g after → AreGood g (direction_of k) (IsOpen g m) [] xs → AreFinished g (direction_of k) (IsOpen g m) xs → AreMarks hit xs → ((s a : ℕ) → IsAttribute g s a → after s a ≡ given_by k (m s a) (hit s a)) → IsPass g k m after xs
 

@@ -1,5 +1,5 @@
--- Assignments of passes to some attributes alone, the least assignment, and which attributes no assignment can give a pass
--- (after Jazayeri and Walter 1975).
+-- Assignments of passes to some of the attributes, the least assignment, and the attributes to which no
+-- assignment can assign a pass (after Jazayeri and Walter 1975).
 use Rattle.std.specs.Prelude.{ℕ, ◌≡◌, ◌≤◌, [], ◌∷◌, Option, Some, None, slice_get}
 use Rattle.ag_grammar.specs.Lists.{Each}
 use Rattle.ag_grammar.specs.declared.grammar.Item.TheVariants as item
@@ -10,8 +10,8 @@ use Rattle.ag_grammar.specs.declared.grammar.Terminal.TheVariants.{Literal, Clas
 use Rattle.ag_grammar.specs.grammars.AttributeGrammar.{Grammar, Kind, item_at, symbol_kinds}
 use Rattle.ag_grammar.specs.grammars.Passes.{Passes, IsLegalFor, IsLegal}
 
--- A partial assignment: the pass of an attribute, by the numbers of its symbol and of itself, where it has one (this
--- project's).
+-- A partial assignment: the pass of an attribute, by the numbers of its symbol and of itself, if it has one
+-- (this project's).
 abbrev pub Partial : Type 0
 Partial = ℕ → ℕ → Option ℕ
 
@@ -23,11 +23,11 @@ partial_of m s a = slice_get (m s) a
 abbrev pub IsAttribute : Grammar → ℕ → ℕ → Type 0
 IsAttribute g s a = (k : Kind) × (slice_get (symbol_kinds (slice_get g.symbols s)) a ≡ Some k)
 
--- it gives passes to attributes that there are, and to nothing else
+-- it assigns passes only to attributes that exist
 abbrev pub IsOver : Grammar → Partial → Type 0
 IsOver g n = (s a p : ℕ) → n s a ≡ Some p → IsAttribute g s a
 
--- The pass of an item's attribute, where it has one. A token's text has pass 0.
+-- The pass of an item's attribute, if it has one. A token's text has pass 0.
 abbrev pub pass_at : Partial → Option Item → ℕ → Option ℕ
 pass_at n None a = None
 pass_at n (Some (item.Symbol s)) a = n s a
@@ -38,23 +38,24 @@ pass_at n (Some (item.Terminal (Literal l))) a = None
 abbrev pub GivesPass : Partial → Production → Target → ℕ → Type 0
 GivesPass n q o p = pass_at n (item_at q o.place) o.attr ≡ Some p
 
--- A legal partial assignment: it gives passes of at least 1 to attributes that there are, and the arguments of their rules
--- have passes too, such as they may use (after Jazayeri and Walter 1975).
+-- A legal partial assignment: it assigns passes of at least 1 to attributes that exist, and the arguments of
+-- their rules have passes too, which the rules may use (after Jazayeri and Walter 1975).
 pub record IsLegalPartial (g : Grammar) (n : Partial) : Type 0 where
   pub known : IsOver g n
   pub positive : (s a p : ℕ) → n s a ≡ Some p → 1 ≤ p
   pub allowed : Each (IsLegalFor (GivesPass n)) g.productions
 
--- A stuck attribute: no legal partial assignment gives it a pass (this project's).
+-- A stuck attribute: no legal partial assignment assigns it a pass (this project's).
 abbrev pub IsStuck : Grammar → ℕ → ℕ → Type 0
 IsStuck g s a = (n : Partial) → IsLegalPartial g n → n s a ≡ None
 
--- The least assignment: it is legal, and gives no attribute a later pass than any legal one does (after Jazayeri and Walter
--- 1975).
+-- The least assignment: it is legal, and assigns no attribute a later pass than any legal one does (after
+-- Jazayeri and Walter 1975).
 pub record IsLeast (g : Grammar) (m : Passes) : Type 0 where
   pub legal : IsLegal g m
   pub least : (other : Passes) → IsLegal g other → (s a p q : ℕ) → partial_of m s a ≡ Some p → partial_of other s a ≡ Some q → p ≤ q
 
--- An alternating grammar: there is a legal assignment, with whatever number of passes (after Jazayeri and Walter 1975).
+-- An alternating grammar: there is a legal assignment, with any number of passes (after Jazayeri and Walter
+-- 1975).
 abbrev pub IsAlternating : Grammar → Type 0
 IsAlternating g = (m : Passes) × IsLegal g m

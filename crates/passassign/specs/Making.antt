@@ -1,4 +1,4 @@
--- How passes are made one after the other, each with as many attributes as it can give.
+-- Passes that are made one after the other, each with as many attributes as possible.
 use Rattle.std.specs.Prelude.{ℕ, suc, ◌≡◌, ◌↔◌, List, [], Option, Some, None, Bool, true, false}
 use Rattle.ag_grammar.specs.grammars.AttributeGrammar.{Grammar}
 use Rattle.ag_grammar.specs.declared.direction.Direction.{Direction}
@@ -15,7 +15,7 @@ IsOpen g m s a = IsAttribute g s a × (m s a ≡ None)
 abbrev pub AreFinished : Grammar → Direction → Attributes → List Strike → Type 0
 AreFinished g d candidate xs = (x : Strike) → candidate x.symbol x.attr → IsGood g d candidate xs x → IsStruckBy xs x.symbol x.attr
 
--- Pass k makes one partial assignment of another: of the attributes without a pass some are struck, one by one, until no
+-- Pass k extends a partial assignment: of the attributes without a pass some are struck, one by one, until no
 -- other can be, and the rest get pass k (after Jazayeri and Walter 1975).
 pub record IsPass (g : Grammar) (k : ℕ) (before after : Partial) (strikes : List Strike) : Type 0 where
   pub good : AreGood g (direction_of k) (IsOpen g before) [] strikes
@@ -24,12 +24,13 @@ pub record IsPass (g : Grammar) (k : ℕ) (before after : Partial) (strikes : Li
   pub given : (s a p : ℕ) → before s a ≡ None → after s a ≡ Some p → IsAttribute g s a × (p ≡ k) × (IsStruckBy strikes s a → ⊥)
   pub left : (s a : ℕ) → IsOpen g before s a → after s a ≡ None → IsStruckBy strikes s a
 
--- What the passes before pass k make, from the assignment that gives nothing on (after Jazayeri and Walter 1975).
+-- The assignments that the passes before pass k make, starting from the empty one (after Jazayeri and Walter
+-- 1975).
 pub data IsMade (g : Grammar) : ℕ → Partial → Type 0 where
   start : (m : Partial) → ((s a : ℕ) → m s a ≡ None) → IsMade g 1 m
   passed : (k : ℕ) (m after : Partial) (strikes : List Strike) → IsMade g k m → IsPass g k m after strikes → IsMade g (suc k) after
 
--- Two idle passes: pass k and the next one give no attribute a pass (this project's).
+-- Two idle passes: pass k and the next one assign no attribute a pass (this project's).
 pub record AreIdle (g : Grammar) (k : ℕ) (m : Partial) (first second : List Strike) : Type 0 where
   pub between : Partial
   pub last : Partial
@@ -37,11 +38,11 @@ pub record AreIdle (g : Grammar) (k : ℕ) (m : Partial) (first second : List St
   pub other : IsPass g (suc k) between last second
   pub idle : (s a : ℕ) → m s a ≡ None → last s a ≡ None
 
--- marks tell which attributes a list strikes
+-- marks are those of the attributes that a list strikes
 abbrev pub AreMarks : (ℕ → ℕ → Bool) → List Strike → Type 0
 AreMarks hit xs = (s a : ℕ) → (hit s a ≡ true) ↔ IsStruckBy xs s a
 
--- the pass of an attribute after pass k: the one that it had, else k where it is not marked as struck
+-- the pass of an attribute after pass k: its old one, else k if it is not marked as struck
 abbrev pub given_by : ℕ → Option ℕ → Bool → Option ℕ
 given_by k (Some p) hit = Some p
 given_by k None true = None

@@ -18,12 +18,13 @@ HasPassFrom m k s a = (p : ℕ) × (partial_of m s a ≡ Some p) × (k ≤ p)
 abbrev pub HasPassAfter : Passes → (k s a : ℕ) → Type 0
 HasPassAfter m k s a = (p : ℕ) × (partial_of m s a ≡ Some p) × (k < p)
 
--- The strikes of pass k of an assignment: good ones of each attribute that has a later pass, and of nothing else.
+-- The strikes of pass k of an assignment: good ones of each attribute that has a later pass, and of no
+-- others.
 abbrev pub AreStrikesAt : Grammar → Passes → ℕ → List Strike → Type 0
 AreStrikesAt g m k xs = StrikesExactly g (direction_of k) (HasPassFrom m k) (HasPassAfter m k) xs
 
--- The strikes of an assignment: one list for each of its passes, the first for pass 1, so that nothing is struck in the last
--- (this project's).
+-- The strikes of an assignment: one list for each of its passes, the first for pass 1, so that no attribute
+-- is struck in the last (this project's).
 pub record AreStrikesOf (g : Grammar) (rows : List (List ℕ)) (lists : List (List Strike)) : Type 0 where
   pub count : IsGreatest (length lists) rows
   pub each : (i : ℕ) (xs : List Strike) → slice_get lists i ≡ Some xs → AreStrikesAt g (passes_of rows) (i + 1) xs
@@ -51,6 +52,6 @@ pub record AreStrikesSoFar (g : Grammar) (next : ℕ) (m : Partial) (lists : Lis
   pub count : length lists + 1 ≡ next
   pub each : (i : ℕ) (xs : List Strike) → slice_get lists i ≡ Some xs → StrikesExactly g (direction_of (i + 1)) (HasNoPassBelow g m (i + 1)) (HasNoPassUpTo g m (i + 1)) xs
 
--- the pass before `next` gives some attribute its number
+-- some attribute has the pass before `next`
 abbrev pub IsLastInUse : ℕ → Partial → Type 0
 IsLastInUse next m = (k s a : ℕ) × (k + 1 ≡ next) × (m s a ≡ Some k)

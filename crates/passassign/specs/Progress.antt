@@ -1,4 +1,4 @@
--- What holds between two passes.
+-- The invariants between two passes.
 use Rattle.std.specs.Prelude.{ℕ, ◌≡◌, ◌<◌, List, count_by}
 use Rattle.ag_grammar.specs.declared.grammar.Production.{Production}
 use Rattle.ag_grammar.specs.declared.grammar.Symbol.{Symbol}
@@ -20,13 +20,13 @@ pub record IsWith (symbols : List Symbol) (productions : List Production) (g : G
   pub symbols_are : g.symbols ≡ symbols
   pub productions_are : g.productions ≡ productions
 
--- What passes have made of a grammar: a table of its attributes, for which the next pass has the direction that is told.
+-- The state of a grammar after passes: a table of its attributes, the next pass, and its direction.
 pub record IsProgress (g : Grammar) (all : List Dependency) (p : Progress) : Type 0 where
   pub of : AreOf g all p.states.items
   pub made : IsMade g p.next (table_passes p.states.items)
   pub turned : p.direction ≡ direction_of p.next
 
--- how many attributes have no pass
+-- the number of attributes without a pass
 abbrev pub open_count : List State → ℕ
 open_count states = count_by is_open states
 
@@ -39,7 +39,7 @@ pub record IsNext (g : Grammar) (all : List Dependency) (old new : Progress) (st
 abbrev pub AreOpenIn : List State → List State → Type 0
 AreOpenIn new old = (k : ℕ) → state_at new k ≡ Open → state_at old k ≡ Open
 
--- Both tell how many attributes have no pass, and the second fewer.
+-- The numbers of attributes without a pass: `after` is the current one, and less than `before`.
 pub record IsLeft (before after : ℕ) (p : Progress) : Type 0 where
   pub count : after ≡ open_count p.states.items
   pub less : after < before

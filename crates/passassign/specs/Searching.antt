@@ -1,4 +1,4 @@
--- What a search for a pass's strikes finds.
+-- The result of a search for a pass's strikes.
 use Rattle.std.specs.Prelude.{ℕ, ◌≡◌, ◌<◌, ◌↔◌, List, [], Option, Some, Bool, true, map, slice_get, length}
 use Rattle.ag_grammar.specs.Lists.{Has}
 use Rattle.ag_grammar.specs.grammars.Accepted.{IsAccepted}
@@ -21,7 +21,7 @@ use Rattle.passassign.specs.Dependencies.{AreDependencies}
 use Rattle.passassign.specs.Making.{IsOpen, AreFinished}
 use Rattle.passassign.specs.Tables.{slot_of, state_at, is_marked, table_passes, IsTable}
 
--- the slot of what a strike strikes
+-- the slot of a strike's attribute
 abbrev pub struck_slot : Strike → ℕ
 struck_slot x = slot_of x.symbol x.attr
 
@@ -29,11 +29,11 @@ struck_slot x = slot_of x.symbol x.attr
 abbrev pub target_of : Dependency → ℕ
 target_of u = struck_slot u.strike
 
--- A dependency as an edge: where the argument is struck, the target is.
+-- A dependency as an edge: if the argument is struck, the target is.
 abbrev pub edge_of : Dependency → Edge
 edge_of u = record { from = u.argument; to = target_of u }
 
--- dependencies as edges between so many slots
+-- dependencies as edges between `count` slots
 abbrev pub edges_of : List Dependency → ℕ → Clauses
 edges_of all count = over (map edge_of all) count
 
@@ -42,16 +42,17 @@ pub record AreReady (found : Dependencies) (count : ℕ) : Type 0 where
   pub edges : found.edges ≡ edges_of found.all.items count
   pub within : (u : Dependency) → Has found.all.items u → (u.argument < count) × (target_of u < count)
 
--- An argument keeps a dependency's target out of a pass, whatever is struck: it has no pass yet, and is at the target's own
--- child or at one that is visited later.
+-- A dependency keeps its target out of a pass, whatever is struck: the argument has no pass yet, and is at
+-- the target's own child or at one that is visited later.
 abbrev pub IsBarred : Direction → List State → Dependency → Type 0
 IsBarred d states u = IsAhead d u.place u.from × (state_at states u.argument ≡ Open)
 
--- a list has the dependencies that keep their targets out of a pass, and nothing else
+-- a list has the dependencies that keep their targets out of a pass, and no others
 abbrev pub AreBarred : Direction → List State → (all barred : List Dependency) → Type 0
 AreBarred d states all barred = (u : Dependency) → Has barred u ↔ (Has all u × IsBarred d states u)
 
--- the dependency by which a target is struck: seeds are the targets of those that keep them out, and clauses are all
+-- the dependency by which a target is struck: of the dependencies that keep their targets out for a seed, of
+-- all for a clause
 abbrev pub dependency_by : (all barred : List Dependency) → Reason → Option Dependency
 dependency_by all barred (reason.Seed i) = slice_get barred i
 dependency_by all barred (reason.Clause p) = slice_get all p
@@ -65,18 +66,20 @@ pub record AreStrikesOf (all barred : List Dependency) (added : List Addition) (
   pub len : length xs ≡ length added
   pub told : (i : ℕ) (x : Addition) → slice_get added i ≡ Some x → IsStrikeOf all barred xs i x
 
--- what a slot has is struck
+-- the attribute of a slot is struck
 abbrev pub IsStruckAt : List Strike → ℕ → Type 0
 IsStruckAt xs k = (x : Strike) × Has xs x × (struck_slot x ≡ k)
 
--- A list of dependencies and a table are those of a grammar, and what has a pass depends on nothing that has none.
+-- A list of dependencies and a table are those of a grammar, and an attribute with a pass does not depend on
+-- one without.
 pub record AreOf (g : Grammar) (all : List Dependency) (states : List State) : Type 0 where
   pub accepted : IsAccepted g
   pub dependencies : AreDependencies g.productions all
   pub table : IsTable g.symbols states
   pub led : (u : Dependency) → Has all u → state_at states u.argument ≡ Open → state_at states (target_of u) ≡ Open
 
--- What holds of the strikes of a pass and marks of what they strike: they are good, and no other attribute can be struck.
+-- The strikes of a pass and the marks of the struck attributes: the strikes are good, and no other attribute
+-- can be struck.
 pub record IsSearch (all : List Dependency) (d : Direction) (states : List State) (xs : List Strike) (marks : List Bool) : Type 0 where
   pub marked : (k : ℕ) → (is_marked marks k ≡ true) ↔ IsStruckAt xs k
   pub closed : (u : Dependency) → Has all u → is_marked marks u.argument ≡ true → is_marked marks (target_of u) ≡ true

@@ -1,4 +1,4 @@
--- The table in which the program notes what the passes made so far say of each attribute.
+-- The table in which the program records the passes of the attributes.
 use Rattle.std.specs.Prelude.{ℕ, ◌≡◌, ◌+◌, ◌*◌, ◌<◌, ◌↔◌, List, Option, Some, None, Bool, true, false, cond, nat_lt, slice_get, slice_index_or, length, unwrap_or}
 use Rattle.ag_grammar.specs.declared.grammar.Symbol.{Symbol}
 use Rattle.ag_grammar.specs.grammars.Accepted.{most_attributes, most_symbols}
@@ -8,29 +8,29 @@ use Rattle.passassign.specs.declared.table.State.TheVariants.{Absent, Open, Give
 use Rattle.passassign.specs.Least.{Partial}
 use Rattle.passassign.specs.Rows.{passes_of}
 
--- the slot in which a table has an attribute: each symbol has as many slots as it may have attributes
+-- the slot of an attribute: each symbol has as many slots as it may have attributes
 abbrev pub slot_of : ℕ → ℕ → ℕ
 slot_of s a = s * most_attributes + a
 
--- how many slots a table has at most
+-- the greatest number of slots of a table
 abbrev pub most_slots : ℕ
 most_slots = most_symbols * most_attributes
 
--- what a table has in a slot
+-- the state of a slot
 abbrev pub state_at : List State → ℕ → State
 state_at states k = slice_index_or states k Absent
 
--- what a table has of an attribute
+-- the state of an attribute
 abbrev pub state_of : List State → ℕ → ℕ → State
 state_of states s a = cond (nat_lt a most_attributes) (state_at states (slot_of s a)) Absent
 
--- the pass that a state gives
+-- the pass of a state
 abbrev pub given : State → Option ℕ
 given Absent = None
 given Open = None
 given (Given p) = Some p
 
--- the partial assignment that a table tells
+-- the partial assignment of a table
 abbrev pub table_passes : List State → Partial
 table_passes states s a = given (state_of states s a)
 
@@ -39,15 +39,15 @@ is_open Absent = false
 is_open Open = true
 is_open (Given p) = false
 
--- how many attributes a symbol has
+-- the number of attributes of a symbol
 abbrev pub attribute_count : Option Symbol → ℕ
 attribute_count s = length (symbol_names s)
 
--- the state at first of an attribute, where its symbol has so many
+-- the initial state of an attribute, if its symbol has `count` attributes
 abbrev pub first_state : ℕ → ℕ → State
 first_state count a = cond (nat_lt a count) Open Absent
 
--- the table of some symbols at first
+-- the initial table of some symbols
 pub record IsFirstTable (symbols : List Symbol) (states : List State) : Type 0 where
   pub len : length states ≡ length symbols * most_attributes
   pub at : (s a : ℕ) → a < most_attributes → s < length symbols → state_at states (slot_of s a) ≡ first_state (attribute_count (slice_get symbols s)) a
@@ -56,7 +56,7 @@ pub record IsFirstTable (symbols : List Symbol) (states : List State) : Type 0 w
 abbrev pub IsDeclared : List Symbol → ℕ → ℕ → Type 0
 IsDeclared symbols s a = (k : Kind) × (slice_get (symbol_kinds (slice_get symbols s)) a ≡ Some k)
 
--- A table of some symbols: it has a state for each of their attributes, and for nothing else.
+-- A table of some symbols: it has a state for each of their attributes, and for no others.
 pub record IsTable (symbols : List Symbol) (states : List State) : Type 0 where
   pub len : length states ≡ length symbols * most_attributes
   pub there : (s a : ℕ) → (state_of states s a ≡ Absent → ⊥) ↔ IsDeclared symbols s a
@@ -72,7 +72,8 @@ after_pass p Open true = Open
 after_pass p Open false = Given p
 after_pass p (Given q) struck = Given q
 
--- The rows of a table: there is one for each symbol, with the passes of its attributes, and 0 where one has none.
+-- The rows of a table: there is one for each symbol, with the passes of its attributes, and 0 if one has
+-- none.
 pub record AreRowsOfTable (symbols : List Symbol) (states : List State) (rows : List (List ℕ)) : Type 0 where
   pub count : length rows ≡ length symbols
   pub len : (s : ℕ) → length (passes_of rows s) ≡ attribute_count (slice_get symbols s)

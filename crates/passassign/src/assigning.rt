@@ -1,4 +1,4 @@
-//! The least assignment of passes, one pass after the other.
+//! Computing the least assignment of passes, one pass after the other.
 
 ghost use Rattle.std.specs.Prelude.{ℕ, ◌≡◌, ◌+◌, ◌^◌, ◌<◌, ◌≤◌, ◌↔◌, ◌++◌, [], ◌∷◌, true};
 ghost use Rattle.std.specs.Prelude.{IfErr, IfOk, OnOk, length};
@@ -25,12 +25,12 @@ use ag_grammar::{Direction, Grammar, Production, Symbol};
 use ag_value::{Items, NoMemory};
 use std::alloc::Global;
 
-/// Why there is no assignment.
+/// The reasons why there is no assignment.
 #[derive(Debug, Drop)]
 pub enum AssignFault {
     /// A1: no assignment is legal, with any number of passes.
     Stuck(Stuck),
-    /// A growth was refused.
+    /// The allocator refused memory.
     NoMemory,
 }
 
@@ -42,7 +42,7 @@ impl From<NoMemory> for AssignFault {
     }
 }
 
-/// The passes made so far: what the table of attributes says, the number of the next pass, and its
+/// The passes made so far: the states of the attributes, the number of the next pass, and its
 /// direction.
 #[derive(Debug, Drop)]
 pub(crate) struct Progress {
@@ -72,7 +72,7 @@ impl StrikeLog {
     }
 }
 
-/// Makes the next pass, and tells its strikes.
+/// Makes the next pass, and returns its strikes.
 fn make_pass(
     alloc: Global,
     dependencies: &Dependencies,
@@ -101,7 +101,8 @@ fn make_pass(
     Ok(struck.strikes)
 }
 
-/// What is left, with the strikes of two passes the first of which has the direction of the next.
+/// Returns the certificate of the attributes without a pass, with the strikes of two passes, the
+/// first of which has the direction of the next pass.
 fn left_of(
     alloc: Global,
     progress: &Progress,
@@ -132,9 +133,9 @@ fn left_of(
     }
 }
 
-/// Makes the next pass, and where that leaves as many attributes open, the one after it. Tells how
-/// many are left open, or, where that is none the fewer, that they are stuck. Appends the strikes of
-/// these passes, if they are wanted.
+/// Makes the next pass, and a second one if the first leaves as many attributes open. Returns the
+/// number of open attributes. Fails with A1 if the second pass assigns no pass either. Records the
+/// strikes of these passes, if they are wanted.
 fn advance(
     alloc: Global,
     dependencies: &Dependencies,
@@ -181,8 +182,8 @@ fn advance(
     Err(AssignFault::Stuck(left_of(alloc, progress, first, second)?))
 }
 
-/// The least legal assignment for symbols and productions, which are those of an accepted grammar,
-/// and its strikes, if they are wanted.
+/// Returns the least legal assignment for the symbols and productions of an accepted grammar, and
+/// its strikes, if they are wanted. Fails with A1 if there is none.
 pub(crate) fn assign_all(
     alloc: Global,
     symbols: &[Symbol],
@@ -224,13 +225,14 @@ pub(crate) fn assign_all(
     Ok((Assignment::of_rows(rows), strikes))
 }
 
-/// The least legal assignment of passes to the attributes of a grammar: it gives no attribute a
-/// later pass than any legal one does. No pass is above 8,192, which is two for each attribute that
-/// a grammar may have, and there is one row for each symbol.
+/// Returns the least legal assignment of passes to the attributes of a grammar: no attribute has a
+/// later pass than in any legal assignment. Passes are numbered from 1. No pass is above 8,192,
+/// which is two for each attribute that a grammar may have, and there is one row for each symbol.
 ///
-/// A1 where there is no legal one, with any number of passes. It tells all attributes that no legal
-/// assignment of some of the attributes gives a pass, in declared order, and why they can have
-/// none in a pass of either direction: the strikes of the last two passes tried, in their order.
+/// Fails with A1 Stuck if there is no legal assignment, with any number of passes. The certificate
+/// has all attributes that have no pass in any legal assignment of some of the attributes, in
+/// declared order, and shows why they can have none in a pass of either direction: the strikes of
+/// the last two passes tried, in their order.
 ///
 /// Takes memory for the dependencies of the rules and for the strikes of a pass.
 pub fn assign(alloc: Global, grammar: &Grammar) -> Result<Assignment, AssignFault>

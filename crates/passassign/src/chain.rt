@@ -55,7 +55,7 @@ fn waits_for(grammar: &Grammar, direction: Direction, strike: Strike) -> Option<
     awaited_attribute(direction, production, rule, *argument)
 }
 
-/// Whether a strike is of this attribute.
+/// Returns whether a strike is of this attribute.
 fn is_of(strike: Strike, symbol: u16, attr: u16) -> bool
     ensures { IsTrue result ↔ ((strike.symbol ≡ symbol) × (strike.attr ≡ attr)) }
 {

@@ -1,4 +1,4 @@
-//! What the targets of a production's rules depend on.
+//! The dependencies of the targets of a production's rules.
 
 ghost use Rattle.std.specs.Prelude.{◌≡◌, ◌≤◌, length, IfOk, OnOk, slice_get};
 ghost use Rattle.ag_grammar.specs.expressions.Occurrences.{AreDifferent};
@@ -29,7 +29,7 @@ pub(crate) struct Dependency {
     pub from: u16,
 }
 
-/// The symbol at a place, if one stands there.
+/// Returns the symbol at a place, if there is one.
 fn symbol_at(places: &[Item], place: u16) -> Option<u16>
     ensures { result ≡ symbol_of (slice_get places.now place) }
 {
@@ -42,7 +42,7 @@ fn symbol_at(places: &[Item], place: u16) -> Option<u16>
     }
 }
 
-/// The slot of an attribute at a place, if a symbol stands there.
+/// Returns the slot of an attribute at a place, if a symbol is there.
 fn slot_at(places: &[Item], attribute: Target) -> Option<usize>
     ensures { result
         ≡ table_slot (symbol_of (slice_get places.now attribute.place)) attribute.attr }
@@ -53,8 +53,8 @@ fn slot_at(places: &[Item], attribute: Target) -> Option<usize>
     }
 }
 
-/// Puts the dependency of a rule's target at a place on an argument at the end of a list, if the
-/// argument is an attribute of a symbol.
+/// Appends the dependency of a rule's target at a place on an argument, if the argument is an
+/// attribute of a symbol.
 fn put_argument(
     found: &mut Vec<Dependency>,
     places: &[Item],
@@ -86,7 +86,7 @@ fn put_argument(
     }
 }
 
-/// Puts the dependencies of a rule's target on the rule's arguments at the end of a list.
+/// Appends the dependencies of a rule's target on the rule's arguments.
 fn put_arguments(
     found: &mut Vec<Dependency>,
     places: &[Item],
@@ -114,7 +114,7 @@ fn arguments(rule: &Rule) -> &[Target]
     rule.args.as_slice()
 }
 
-/// Puts the dependencies of a rule at the end of a list.
+/// Appends the dependencies of a rule.
 fn put_rule(
     found: &mut Vec<Dependency>,
     places: &[Item],
@@ -143,7 +143,7 @@ fn put_rule(
     }
 }
 
-/// Puts the dependencies of rules of one production at the end of a list.
+/// Appends the dependencies of rules of one production.
 fn put_rules(
     found: &mut Vec<Dependency>,
     places: &[Item],
@@ -160,7 +160,7 @@ fn put_rules(
     Ok(())
 }
 
-/// Puts the dependencies of a production at the end of a list.
+/// Appends the dependencies of a production.
 fn put_production(
     alloc: Global,
     found: &mut Vec<Dependency>,
@@ -181,7 +181,7 @@ fn put_production(
     Ok(())
 }
 
-/// All dependencies of some productions.
+/// Returns all dependencies of some productions.
 pub(crate) fn all_dependencies(
     alloc: Global,
     productions: &[Production],

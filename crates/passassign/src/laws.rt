@@ -12,36 +12,37 @@ pub fn members_are_stuck()
     ensures { MembersAreStuck }
 {}
 
-/// Where an attribute is stuck there is no legal assignment.
+/// If an attribute is stuck there is no legal assignment.
 #[tactic(auto, using(crate::proofs::making::Whole::stuck_refused))]
 pub fn stuck_is_refused()
     ensures { StuckIsRefused }
 {}
 
-/// Where there is a certificate, and each production is complete, there is no legal assignment,
-/// with any number of passes.
+/// If there is a certificate, and each production is complete, there is no legal assignment, with
+/// any number of passes.
 #[tactic(auto, using(crate::proofs::making::Whole::certified_refused))]
 pub fn certified_is_refused()
     ensures { CertifiedIsRefused }
 {}
 
-/// What passes made one after the other give is at most what a legal partial assignment gives.
+/// Passes made one after the other assign no later pass than a legal partial assignment.
 pub fn made_is_at_most()
     ensures { MadeIsAtMost }
 {}
 
-/// What they have not given yet has in a legal partial assignment no earlier pass than the next.
+/// An attribute that they have not assigned yet has in a legal partial assignment no earlier pass
+/// than the next.
 pub fn left_is_later()
     ensures { LeftIsLater }
 {}
 
-/// What the passes make is legal, where each production is complete and normal.
+/// The assignment that the passes make is legal, if each production is complete and normal.
 #[tactic(auto, using(crate::proofs::making::Legal::made_legal))]
 pub fn made_is_legal()
     ensures { MadeIsLegal }
 {}
 
-/// Where they then give every attribute a pass, that is the least assignment.
+/// If they assign a pass to every attribute, that is the least assignment.
 pub fn whole_is_least()
     ensures { WholeIsLeast }
 {}
@@ -51,29 +52,31 @@ pub fn least_has_fewest()
     ensures { LeastHasFewest }
 {}
 
-/// What two passes one after the other leave that give nothing is stuck.
+/// The attributes left open by two consecutive passes that assign nothing are stuck.
 pub fn rest_is_stuck()
     ensures { RestIsStuck }
 {}
 
-/// Nothing else is stuck, where passes have made what was there before the two, and each production
-/// is complete and normal.
+/// No other attribute is stuck, if passes have made the assignment before the two, and each
+/// production is complete and normal.
 pub fn stuck_is_left()
     ensures { StuckIsLeft }
 {}
 
-/// The strikes of two such passes are a certificate for what they leave, where they leave any.
+/// The strikes of two such passes are a certificate for the attributes that they leave open, if
+/// there are any.
 pub fn rest_is_certified()
     ensures { RestIsCertified }
 {}
 
-/// A list of good strikes goes on by a good one of a candidate that it does not strike.
+/// A list of good strikes is continued by a good one of a candidate that it does not strike.
 #[tactic(auto, using(crate::proofs::strikes::Growing::strikes_grow))]
 pub fn strikes_grow()
     ensures { StrikesGrow }
 {}
 
-/// Good strikes to which no other can be added make a pass, where marks tell what they strike.
+/// Good strikes to which no other can be added make a pass, if marks are those of the struck
+/// attributes.
 #[tactic(auto, using(crate::proofs::making::Marked::pass_by_marks))]
 pub fn marks_make_pass()
     ensures { MarksMakePass }
@@ -100,7 +103,7 @@ pub fn chains_show_later()
     ensures { ChainsShowLater }
 {}
 
-/// Each attribute of a later pass has a chain.
+/// Each attribute of a later pass has a chain in the strikes of a pass.
 pub fn chains_are_there()
     ensures { ChainsAreThere }
 {}

@@ -1,4 +1,5 @@
-//! The least assignment of passes to the attributes of a grammar, and why there may be none.
+//! The least assignment of passes to the attributes of a grammar, and certificates that there is
+//! none.
 #![tactic(auto)]
 
 mod assigning;

@@ -7,7 +7,7 @@ ghost use Rattle.passassign.specs.Least.{partial_of, IsLeast, IsAlternating};
 ghost use Rattle.passassign.specs.Making.{IsMade};
 ghost use Rattle.passassign.specs.Sample.{both_ways_stuck, exchanged, rightward, third_passes};
 
-/// The first pass gives every attribute of the first sample its number,
+/// The first pass is assigned to every attribute of the first sample,
 #[tactic(auto, using(crate::proofs::making::Earliest::sample_made))]
 pub fn sample_made()
     ensures { IsMade sample 2 (partial_of sample_passes) }
@@ -19,14 +19,15 @@ pub fn sample_least()
     ensures { IsLeast sample sample_passes }
 {}
 
-/// The third pass for all attributes is legal too, and not least.
+/// Assigning the third pass to all attributes is legal too, and not least.
 #[tactic(auto, using(crate::proofs::making::Earliest::third_not_least))]
 pub fn third_not_least()
     ensures legal { IsLegal sample third_passes }
     ensures greater { IsLeast sample third_passes → ⊥ }
 {}
 
-/// What goes from left to right is struck in the first pass, and given in the second.
+/// Attributes that depend on a child to the left are struck in the first pass, and assigned to the
+/// second.
 #[tactic(auto, using(crate::proofs::making::Earliest::rightward_made))]
 pub fn rightward_made()
     ensures { IsMade rightward 3 (partial_of later_passes) }
@@ -44,7 +45,7 @@ pub fn both_ways_refused()
     ensures { IsAlternating both_ways → ⊥ }
 {}
 
-/// With its lists of strikes exchanged it is no certificate: a strike has its direction.
+/// With its lists of strikes exchanged it is not a certificate: a strike is for one direction.
 #[tactic(auto, using(crate::proofs::strikes::BothWays::exchanged_refused))]
 pub fn exchanged_refused()
     ensures { IsCertificate both_ways exchanged → ⊥ }

@@ -1,4 +1,5 @@
-//! What a pass can't give: attributes are struck one after the other, until no other can be.
+//! The attributes that a pass can't compute: they are struck one after the other, until no other
+//! can be.
 
 ghost use Rattle.std.specs.Prelude.{ℕ, ◌≡◌, ◌*◌, ◌↔◌, Some, IfOk, IsTrue, OnOk, length, map};
 ghost use Rattle.ag_grammar.specs.Lists.{Each};
@@ -18,7 +19,7 @@ use ag_value::NoMemory;
 use closure::{Addition, Clauses, Edge, Reason};
 use std::alloc::Global;
 
-/// All dependencies of a grammar, and the same as edges between the slots of a table: where an
+/// All dependencies of a grammar, and the same as edges between the slots of a table: if an
 /// argument is struck, the target is.
 #[derive(Drop)]
 pub(crate) struct Dependencies {
@@ -26,14 +27,14 @@ pub(crate) struct Dependencies {
     pub edges: Clauses,
 }
 
-/// The slot in which a table has the target of a dependency.
+/// Returns the slot of a dependency's target.
 fn target(one: Dependency) -> usize
     ensures { result ≡ target_of one }
 {
     slot(one.strike.symbol, one.strike.attr)
 }
 
-/// Dependencies as edges.
+/// Returns dependencies as edges.
 fn edges(alloc: Global, all: &[Dependency]) -> Result<Vec<Edge>, NoMemory>
     ensures { IfOk result (λ edges. edges.items ≡ map edge_of all.now) }
 {
@@ -48,7 +49,8 @@ fn edges(alloc: Global, all: &[Dependency]) -> Result<Vec<Edge>, NoMemory>
 }
 
 impl Dependencies {
-    /// The dependencies of the productions of an accepted grammar, for a table of so many slots.
+    /// Returns the dependencies of the productions of an accepted grammar, for a table of `count`
+    /// slots.
     pub(crate) fn of(
         alloc: Global,
         productions: &[Production],
@@ -66,15 +68,16 @@ impl Dependencies {
     }
 }
 
-/// The strikes of a pass, and marks of what they strike.
+/// The strikes of a pass, and marks of the struck attributes.
 #[derive(Debug, Drop)]
 pub(crate) struct Struck {
     pub strikes: Vec<Strike>,
     pub marks: Vec<bool>,
 }
 
-/// Whether the child at a second place is the one at the first, or a pass in a direction visits it
-/// later: what the pass gives there, a rule for the first one may not use. Place 0 is no child.
+/// Returns whether the child at the second place is the one at the first, or a pass in a direction
+/// visits it later: a rule for the first child can't use attributes that the pass computes there.
+/// Place 0 is not a child.
 pub fn is_ahead(direction: Direction, first: u16, second: u16) -> bool
     ensures { IsTrue result ↔ IsAhead direction first second }
 {
@@ -84,15 +87,15 @@ pub fn is_ahead(direction: Direction, first: u16, second: u16) -> bool
     second == first || direction.is_before(first, second)
 }
 
-/// A dependency keeps its target out of a pass, whatever is struck: the argument has no pass yet,
-/// and is at the target's own child or at one that is visited later.
+/// Returns whether a dependency keeps its target out of a pass, whatever is struck: the argument
+/// has no pass yet, and is at the target's own child or at one that is visited later.
 fn is_barred(direction: Direction, states: &[State], one: Dependency) -> bool
     ensures { IsTrue result ↔ IsBarred direction states.now one }
 {
     is_ahead(direction, one.place, one.from) && has_none(look_up(states, one.argument))
 }
 
-/// Puts a dependency at the end of a list if it keeps its target out of a pass.
+/// Appends a dependency if it keeps its target out of a pass.
 fn put_barred(
     barred: &mut Vec<Dependency>,
     direction: Direction,
@@ -108,7 +111,7 @@ fn put_barred(
     Ok(())
 }
 
-/// Those of the dependencies that keep their targets out of a pass, in the same order.
+/// Returns the dependencies that keep their targets out of a pass, in the same order.
 fn barred_ones(
     alloc: Global,
     direction: Direction,
@@ -124,7 +127,7 @@ fn barred_ones(
     Ok(barred)
 }
 
-/// The slots of the targets of dependencies.
+/// Returns the slots of the targets of dependencies.
 fn targets(alloc: Global, dependencies: &[Dependency]) -> Result<Vec<usize>, NoMemory>
     ensures { IfOk result (λ targets. targets.items ≡ map target_of dependencies.now) }
 {
@@ -135,7 +138,7 @@ fn targets(alloc: Global, dependencies: &[Dependency]) -> Result<Vec<usize>, NoM
     Ok(targets)
 }
 
-/// The dependency by which a target is struck.
+/// Returns the dependency by which a target is struck.
 fn by_reason(all: &[Dependency], barred: &[Dependency], reason: Reason) -> Dependency
     requires { (u : PlainDependency) × (dependency_by all.now barred.now reason ≡ Some u) }
     ensures { dependency_by all.now barred.now reason ≡ Some result }
@@ -146,7 +149,7 @@ fn by_reason(all: &[Dependency], barred: &[Dependency], reason: Reason) -> Depen
     }
 }
 
-/// The strikes by the dependencies that are the reasons of additions.
+/// Returns the strikes by the dependencies that are the reasons of additions.
 fn strikes_of(
     alloc: Global,
     all: &[Dependency],
@@ -164,9 +167,9 @@ fn strikes_of(
     Ok(strikes)
 }
 
-/// The strikes of a pass in a direction over a table: first of the targets that are kept out of it
-/// whatever is struck, in the order of the dependencies, and then of those that depend on what is
-/// struck, as that is in its turn.
+/// Returns the strikes of a pass in a direction over a table: first of the targets that are kept
+/// out of it whatever is struck, in the order of the dependencies, and then of those that depend on
+/// struck attributes, in the order in which these are struck.
 pub(crate) fn search(
     alloc: Global,
     dependencies: &Dependencies,

@@ -1,10 +1,10 @@
-//! What shows that a grammar has no legal assignment, or that one is the least, as plain data. When
-//! it does is defined over these types.
+//! Certificates that a grammar has no legal assignment, or that one is the least, as plain data.
+//! Their meaning is defined over these types.
 
 use ag_value::Items;
 
-/// Why an attribute can't have a pass of some direction: an argument of a rule that gives it its
-/// value.
+/// A reason why an attribute can't have a pass of some direction: an argument of a rule that
+/// defines it.
 #[derive(Clone, Copy, Debug, PartialEq, Eq)]
 pub struct Strike {
     /// The number of the attribute's symbol.
@@ -24,9 +24,9 @@ pub struct Strike {
 pub struct Stuck {
     /// The attributes, each by its symbol's number and its own.
     pub set: Items<(u16, u16)>,
-    /// The strikes of a pass from right to left, as the odd ones are.
+    /// The strikes of a pass from right to left, like the odd passes.
     pub odd: Items<Strike>,
-    /// The strikes of a pass from left to right, as the even ones are.
+    /// The strikes of a pass from left to right, like the even passes.
     pub even: Items<Strike>,
 }
 

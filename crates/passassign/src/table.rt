@@ -1,4 +1,4 @@
-//! A table of all attributes, and what the passes made so far say of each.
+//! A table of all attributes, with their passes so far.
 
 ghost use Rattle.std.specs.Prelude.{ℕ, ◌≡◌, ◌+◌, ◌*◌, ◌/◌, ◌%◌, ◌^◌, ◌<◌, ◌≤◌, ◌↔◌, ◌++◌};
 ghost use Rattle.std.specs.Prelude.{[], ◌∷◌, count_by, length};
@@ -17,10 +17,10 @@ use ag_grammar::limits::MOST_ATTRIBUTES;
 use ag_value::NoMemory;
 use std::alloc::Global;
 
-/// What is known of a slot of the table.
+/// The state of a slot of the table.
 #[derive(Clone, Copy, Debug, PartialEq, Eq)]
 pub(crate) enum State {
-    /// There is no attribute.
+    /// The slot has no attribute.
     Absent,
     /// The attribute has no pass yet.
     Open,
@@ -28,14 +28,14 @@ pub(crate) enum State {
     Given(u16),
 }
 
-/// The slot in which a table has an attribute.
+/// Returns the slot of an attribute.
 pub(crate) fn slot(symbol: u16, attr: u16) -> usize
     ensures { result ≡ slot_of symbol attr }
 {
     symbol as usize * MOST_ATTRIBUTES + attr as usize
 }
 
-/// What a table has in a slot.
+/// Returns the state of a slot.
 pub(crate) fn look_up(states: &[State], slot: usize) -> State
     ensures { result ≡ state_at states.now slot }
 {
@@ -46,7 +46,7 @@ pub(crate) fn look_up(states: &[State], slot: usize) -> State
     }
 }
 
-/// An attribute has no pass yet.
+/// Returns whether the slot has an attribute without a pass.
 pub(crate) fn has_none(state: State) -> bool
     ensures { result ≡ is_open state }
 {
@@ -57,7 +57,7 @@ pub(crate) fn has_none(state: State) -> bool
     }
 }
 
-/// What a table has first where a symbol has so many attributes.
+/// Returns the initial state of an attribute whose symbol has `count` attributes.
 fn state_at_first(attr: usize, count: usize) -> State
     ensures { result ≡ first_state count attr }
 {
@@ -68,7 +68,7 @@ fn state_at_first(attr: usize, count: usize) -> State
     }
 }
 
-/// Puts the slots of a symbol with so many attributes at the end of a table.
+/// Appends the slots of a symbol with `count` attributes.
 fn open_symbol(states: &mut Vec<State>, count: usize) -> Result<(), NoMemory>
     ensures len { OnOk result (length states.new.items ≡ length states.old.items + most_attributes) }
     ensures kept { OnOk result ((k : ℕ) → k < length states.old.items
@@ -82,7 +82,7 @@ fn open_symbol(states: &mut Vec<State>, count: usize) -> Result<(), NoMemory>
     Ok(())
 }
 
-/// The table of all attributes, none of which has a pass.
+/// Makes the table of all attributes, none of which has a pass.
 pub(crate) fn open_all(alloc: Global, symbols: &[Symbol]) -> Result<Vec<State>, NoMemory>
     requires { Each (λ s. length (attribute_names s) ≤ most_attributes) symbols.now }
     ensures { IfOk result (λ states. IsFirstTable symbols.now states.items) }
@@ -94,7 +94,7 @@ pub(crate) fn open_all(alloc: Global, symbols: &[Symbol]) -> Result<Vec<State>, 
     Ok(states)
 }
 
-/// The pass in a slot, 0 where there is none.
+/// Returns the pass in a slot, 0 if there is none.
 fn pass_at(states: &[State], slot: usize) -> u16
     ensures { result ≡ unwrap_or (given (state_at states.now slot)) 0 }
 {
@@ -105,7 +105,7 @@ fn pass_at(states: &[State], slot: usize) -> u16
     }
 }
 
-/// The passes of so many slots of a table from one on.
+/// Returns the passes of `count` slots of a table from slot `from` on.
 fn row(alloc: Global, states: &[State], from: usize, count: usize) -> Result<Vec<u16>, NoMemory>
     requires from { from < 2 ^ 32 }
     requires count { count ≤ most_attributes }
@@ -120,7 +120,7 @@ fn row(alloc: Global, states: &[State], from: usize, count: usize) -> Result<Vec
     Ok(row)
 }
 
-/// The passes of all attributes, by symbols.
+/// Returns the passes of all attributes, by symbols.
 pub(crate) fn rows(
     alloc: Global,
     symbols: &[Symbol],
@@ -142,7 +142,7 @@ pub(crate) fn rows(
     Ok(rows)
 }
 
-/// Puts an attribute at the end of a list if it has no pass.
+/// Appends an attribute if it has no pass.
 fn put_open(found: &mut Vec<(u16, u16)>, state: State, slot: usize) -> Result<(), NoMemory>
     requires { slot < 2 ^ 16 * most_attributes }
     ensures puts { OnOk result (is_open state ≡ true
@@ -159,7 +159,7 @@ fn put_open(found: &mut Vec<(u16, u16)>, state: State, slot: usize) -> Result<()
     Ok(())
 }
 
-/// The attributes that have no pass, in the order of the table.
+/// Returns the attributes that have no pass, in the order of the table.
 pub(crate) fn open_ones(alloc: Global, states: &[State]) -> Result<Vec<(u16, u16)>, NoMemory>
     requires { length states.now ≤ most_slots }
     ensures all { IfOk result (λ found. (s a : ℕ)
@@ -173,7 +173,7 @@ pub(crate) fn open_ones(alloc: Global, states: &[State]) -> Result<Vec<(u16, u16
     Ok(found)
 }
 
-/// What pass `pass` makes of an attribute's state.
+/// Returns the state of an attribute after pass `pass`.
 fn after(state: State, pass: u16, is_struck: bool) -> State
     ensures { result ≡ after_pass pass state is_struck }
 {
@@ -188,14 +188,14 @@ fn after(state: State, pass: u16, is_struck: bool) -> State
     }
 }
 
-/// A slot is marked.
+/// Returns whether a slot is marked.
 pub(crate) fn has_mark(marks: &[bool], slot: usize) -> bool
     ensures { result ≡ is_marked marks.now slot }
 {
     slot < marks.len() && marks[slot]
 }
 
-/// Gives a pass to each attribute that has none and is not marked.
+/// Assigns a pass to each attribute that has none and is not marked.
 pub(crate) fn give(states: &mut Vec<State>, marks: &[bool], pass: u16)
     ensures len { length states.new.items ≡ length states.old.items }
     ensures after { (k : ℕ) → state_at states.new.items k
@@ -207,7 +207,7 @@ pub(crate) fn give(states: &mut Vec<State>, marks: &[bool], pass: u16)
     }
 }
 
-/// How many attributes have no pass.
+/// Returns the number of attributes that have no pass.
 pub(crate) fn count_open(states: &[State]) -> usize
     ensures { result ≡ count_by is_open states.now }
 {

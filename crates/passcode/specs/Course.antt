@@ -1,4 +1,4 @@
--- How a pass treats a node, one instruction after the other: the states of a node, and which instruction may come next in each.
+-- The states of a node while a pass runs its list of instructions, and the instructions that may come next in each state.
 -- What a rule may use of its own pass, and when, is after Jazayeri and Walter 1975; the rest is this project's.
 use Rattle.std.specs.Prelude.{ℕ, zero, suc, ◌≡◌, ◌<◌, ◌≤◌, ◌⊎◌, List, [], ◌∷◌, Option, Some, None, length}
 use Rattle.ag_grammar.specs.Lists.{Has}
@@ -15,27 +15,27 @@ pub use Rattle.passcode.specs.declared.phase.Phase.{Phase}
 pub use Rattle.passcode.specs.declared.phase.Phase.TheVariants.{Between, Got, Gone, Ended}
 use Rattle.passcode.specs.Agreement.{IsRuleAt}
 
--- A state of a node: its phase, how many children are complete, and the numbers of the rules that were run.
+-- A state of a node: its phase, the number of its complete children, and the numbers of the rules that were run.
 pub record State : Type 0 where
   pub phase : Phase
   pub turn : ℕ
   pub done : List ℕ
 
--- how many children were read
+-- the number of children that were read
 abbrev pub read_count : Phase → ℕ → ℕ
 read_count Between t = t
 read_count Got t = suc t
 read_count Gone t = suc t
 read_count Ended t = t
 
--- in how many children the pass has run
+-- the number of children in which the pass has run
 abbrev pub run_count : Phase → ℕ → ℕ
 run_count Between t = t
 run_count Got t = t
 run_count Gone t = suc t
 run_count Ended t = t
 
--- how many children a node of a production has
+-- the number of children of a production's node
 abbrev pub arity : Production → ℕ
 arity q = length (stored_items q.items)
 
@@ -47,16 +47,16 @@ place_of q k t = suc (nth (direction_of k) (arity q) t)
 abbrev pub IsVisited : Production → ℕ → ℕ → ℕ → Type 0
 IsVisited q k n j = (t : ℕ) × (t < n) × (j ≡ place_of q k t)
 
--- A value of pass p at a place stays as it is from here on: it is of an earlier pass, or is on the left side, or at a child in
+-- A value of pass p at a place doesn't change any more: it is of an earlier pass, or is on the left side, or at a child in
 -- which the pass has run.
 abbrev pub IsFinal : Production → ℕ → State → ℕ → ℕ → Type 0
 IsFinal q k s j p = (p < k) ⊎ ((j ≡ 0) ⊎ IsVisited q k (run_count s.phase s.turn) j)
 
--- An attribute at a place is at hand: it is of no later pass, and its value is final.
+-- An attribute at a place is available: it has no later pass, and its value is final.
 abbrev pub IsAtHand : Passes → Production → ℕ → State → Target → Type 0
 IsAtHand m q k s o = (p : ℕ) × HasPass m q o p × (p ≤ k) × IsFinal q k s o.place p
 
--- Rule r gives an attribute at a place its value in pass k: its arguments are at hand, and it was not run before.
+-- Rule r may compute an attribute at a place in pass k: its arguments are available, and it was not run before.
 pub record MayGive (m : Passes) (q : Production) (k : ℕ) (s : State) (j a r : ℕ) : Type 0 where
   pub rule : Rule
   pub numbered : IsRuleAt q r rule
@@ -69,14 +69,14 @@ pub record MayGive (m : Passes) (q : Production) (k : ℕ) (s : State) (j a r : 
 abbrev pub AreGiven : Passes → Production → ℕ → State → ℕ → Type 0
 AreGiven m q k s j = (r : ℕ) (u : Rule) → IsRuleAt q r u → u.target.place ≡ j → HasPass m q u.target k → Has s.done r
 
--- a node is in a phase, and this is the place of the child whose turn it is
+-- a node is in a phase, and this is the place of its current child
 pub record IsTurnOf (q : Production) (k : ℕ) (s : State) (phase : Phase) (j : ℕ) : Type 0 where
   pub phase_is : s.phase ≡ phase
   pub within : s.turn < arity q
   pub place : j ≡ place_of q k s.turn
 
--- An instruction may come next: the `Get` of the next child, then the `Set`s of that child, its `Go` where all of them were
--- run, and its `Put`; a `Def` anywhere; and `End` where all children are complete and all rules of the pass were run.
+-- An instruction may come next: the `Get` of the next child, then the `Set`s of that child, its `Go` if all of them were
+-- run, and its `Put`; a `Def` anywhere; and `End` if all children are complete and all rules of the pass were run.
 abbrev pub MayRun : Passes → Production → ℕ → State → Instr → Type 0
 MayRun m q k s (instr.Get j) = IsTurnOf q k s Between j
 MayRun m q k s (instr.Set j a r) = IsTurnOf q k s Got j × MayGive m q k s j a r
@@ -85,7 +85,7 @@ MayRun m q k s (instr.Put j) = IsTurnOf q k s Gone j
 MayRun m q k s (instr.Def a r) = (s.phase ≡ Ended → ⊥) × MayGive m q k s 0 a r
 MayRun m q k s instr.End = (s.phase ≡ Between) × (s.turn ≡ arity q) × ((j : ℕ) → AreGiven m q k s j)
 
--- the phase in which the `Get` of an item leaves a node: the pass has nothing to do in a token
+-- the phase of a node after the `Get` of an item: the pass has nothing to do in a token
 abbrev pub after_get : Option Item → Phase
 after_get (Some (item.Symbol s)) = Got
 after_get (Some (item.Terminal t)) = Gone
@@ -104,12 +104,12 @@ after q s instr.End = record s { phase = Ended }
 abbrev pub start : State
 start = record { phase = Between; turn = 0; done = [] }
 
--- A list of instructions takes a node from a state to its end: each may come next in its turn.
+-- A list of instructions runs a node from a state to its end: each instruction may come next when it is reached.
 abbrev pub Runs : Passes → Production → ℕ → State → List Instr → Type 0
 Runs m q k s [] = s.phase ≡ Ended
 Runs m q k s (x ∷ xs) = MayRun m q k s x × Runs m q k (after q s x) xs
 
--- the state before an index of a list that is followed from a state
+-- the state before an index of a list that runs from a state
 abbrev pub state_at : Production → State → List Instr → ℕ → State
 state_at q s xs zero = s
 state_at q s [] (suc n) = s

@@ -1,4 +1,4 @@
--- What is left of the list for a production and a pass in a state of a node. At the start it is the list that `generate` makes.
+-- The rest of the list for a production and a pass in a state of a node. At the start it is the list that `generate` returns.
 use Rattle.std.specs.Prelude.{ℕ, suc, ◌≡◌, ◌-◌, Bool, false, cond, nat_eq, List, [], ◌∷◌, ◌++◌, Option, Some, None, length}
 use Rattle.std.specs.List.{flat_map, list_any, position, range_with_len}
 use Rattle.ag_grammar.specs.declared.grammar.Item.{Item}
@@ -18,7 +18,7 @@ use Rattle.passcode.specs.Course.{Phase, Between, Got, Gone, Ended, arity, place
 abbrev pub is_same : Target → Target → Bool
 is_same o w = cond (nat_eq o.place w.place) (nat_eq o.attr w.attr) false
 
--- the number of the rule that gives an attribute at a place its value, if one does
+-- the number of the rule that computes an attribute at a place, if there is one
 abbrev pub rule_for : Production → Target → Option ℕ
 rule_for q o = position (λ u. is_same u.target o) q.rules
 
@@ -27,11 +27,11 @@ abbrev pub instruction_left : List ℕ → Target → Option ℕ → List Instr
 instruction_left done o None = []
 instruction_left done o (Some r) = cond (list_any (nat_eq r) done) [] (giving o.place o.attr r ∷ [])
 
--- the instruction that gives an attribute of pass k its value
+-- the instruction that computes an attribute of pass k
 abbrev pub left_for : Passes → Production → ℕ → List ℕ → Target → List Instr
 left_for m q k done o = cond (is_pass k (pass_at m q o)) (instruction_left done o (rule_for q o)) []
 
--- those for the attributes at a place, in their order
+-- the instructions for the attributes at a place, in their order
 abbrev pub left_at : Passes → Production → ℕ → List ℕ → ℕ → List Instr
 left_at m q k done j = flat_map (λ a. left_for m q k done (record { place = j; attr = a }))
     (range_with_len 0 (length (item_passes m (item_at q j))))
@@ -46,19 +46,19 @@ visit m q k done j (Some (item.Symbol s)) = instr.Get j ∷ child_part m q k don
 visit m q k done j (Some (item.Terminal t)) = instr.Get j ∷ instr.Put j ∷ []
 visit m q k done j None = []
 
--- the places that come in n turns from a turn on
+-- the instructions of n places, beginning with the one that is visited after t others
 abbrev pub visits : Passes → Production → ℕ → List ℕ → (t n : ℕ) → List Instr
 visits m q k done t n = flat_map (λ t. visit m q k done (place_of q k t) (item_at q (place_of q k t))) (range_with_len t n)
 
--- the node's own attributes, and the `End`
+-- the instructions of the node's own attributes, and the `End`
 abbrev pub own_part : Passes → Production → ℕ → List ℕ → List Instr
 own_part m q k done = left_at m q k done 0 ++ instr.End ∷ []
 
--- all from a turn on
+-- all instructions beginning with the place that is visited after t others
 abbrev pub left_from : Passes → Production → ℕ → List ℕ → ℕ → List Instr
 left_from m q k done t = visits m q k done t (arity q - t) ++ own_part m q k done
 
--- what is left in a state
+-- the rest of the list in a state
 abbrev pub left_in : Passes → Production → ℕ → Phase → ℕ → List ℕ → List Instr
 left_in m q k Between t done = left_from m q k done t
 left_in m q k Got t done = child_part m q k done (place_of q k t) ++ left_from m q k done (suc t)

@@ -17,8 +17,8 @@ use ag_value::NoMemory;
 use passassign::Assignment;
 use std::alloc::Global;
 
-/// Returns the instruction that gives an attribute at a place its value, by a rule's number. Takes
-/// no memory.
+/// Returns the instruction that computes an attribute at a place by the rule with a number. Does not
+/// allocate.
 pub fn instruction(place: u16, attr: u16, rule: u16) -> Instr
     ensures { result ≡ giving place attr rule }
 {
@@ -29,7 +29,7 @@ pub fn instruction(place: u16, attr: u16, rule: u16) -> Instr
     }
 }
 
-/// Returns the number of children of a production's node. Takes no memory.
+/// Returns the number of children of a production's node. Does not allocate.
 pub fn arity(production: &Production) -> usize
     ensures { result ≡ arity production.now }
 {
@@ -42,14 +42,14 @@ pub fn arity(production: &Production) -> usize
     count
 }
 
-/// Whether two attributes at places are the same. Takes no memory.
+/// Returns whether two attributes at places are the same. Does not allocate.
 pub fn is_same(one: Target, other: Target) -> bool
     ensures { result ≡ is_same one other }
 {
     one.place == other.place && one.attr == other.attr
 }
 
-/// What a list of instructions is for: a production and a pass under an assignment.
+/// The production, the pass and the assignment of a list of instructions.
 #[derive(Clone, Copy)]
 pub struct Course<'a> {
     pub assignment: &'a Assignment,
@@ -66,7 +66,7 @@ impl<'a> Course<'a> {
         self.assignment.pass_at(self.production, target)
     }
 
-    /// Whether an attribute at a place has the pass.
+    /// Returns whether an attribute at a place has the pass.
     pub fn has_pass(&self, target: Target) -> bool
         ensures { IsTrue result ↔ HasPass (passes_of self.now.assignment.now)
             self.now.production.now target self.now.pass }
@@ -74,7 +74,7 @@ impl<'a> Course<'a> {
         self.pass_of(target) == Some(self.pass)
     }
 
-    /// Returns the number of the rule that gives an attribute at a place its value, if one does.
+    /// Returns the number of the rule that computes an attribute at a place, if there is one.
     fn rule_for(&self, target: Target) -> Option<u16>
         requires { length self.now.production.now.rules ≤ most_rules }
         ensures { result ≡ rule_for self.now.production.now target }
@@ -87,8 +87,8 @@ impl<'a> Course<'a> {
         None
     }
 
-    /// Adds the instruction that gives an attribute at a place its value, if it has the pass and a
-    /// rule gives it.
+    /// Appends the instruction that computes an attribute at a place, if the attribute has the pass and
+    /// a rule computes it.
     fn put_given(&self, list: &mut Vec<Instr>, target: Target) -> Result<(), NoMemory>
         requires { length self.now.production.now.rules ≤ most_rules }
         ensures { OnOk result (list.new.items ≡ list.old.items ++ left_for
@@ -102,7 +102,7 @@ impl<'a> Course<'a> {
         Ok(())
     }
 
-    /// Adds those for all attributes at a place, in their order.
+    /// Appends the instructions that compute the attributes at a place, in their order.
     fn put_all_given(&self, list: &mut Vec<Instr>, place: u16) -> Result<(), NoMemory>
         requires { IsPlanned (passes_of self.now.assignment.now) self.now.production.now }
         ensures { OnOk result (list.new.items ≡ list.old.items ++ left_at
@@ -120,7 +120,7 @@ impl<'a> Course<'a> {
         Ok(())
     }
 
-    /// Adds the instructions of a place of the right side.
+    /// Appends the instructions of a place of the right side.
     fn put_visit(&self, list: &mut Vec<Instr>, place: u16) -> Result<(), NoMemory>
         requires { IsPlanned (passes_of self.now.assignment.now) self.now.production.now }
         ensures { OnOk result (list.new.items ≡ list.old.items ++ visit

@@ -51,8 +51,8 @@ fn lists_of(
 /// this pass in the order of their attributes, the `Go` if a declared symbol is there, and
 /// the `Put`; then the `Def`s of this pass in the order of their attributes; then `End`.
 ///
-/// Fails with NoMemory if a growth was refused. Takes memory for the code alone. It looks at each
-/// attribute of each place once a pass, and looks for its rule once in all passes.
+/// Fails with NoMemory if a request for memory is refused. Takes memory only for the code. It looks at
+/// each attribute of each place once in each pass, and searches its rule once in all passes.
 pub fn generate(alloc: Global, grammar: &Grammar, assignment: &Assignment) -> Result<Code, NoMemory>
     requires { IsLegal grammar.now (passes_of assignment.now) }
     ensures agrees { IfOk result (Agrees grammar.now (passes_of assignment.now)) }

@@ -1,6 +1,6 @@
-//! Where a node is while a pass follows its list.
+//! The phase of a node between two instructions.
 
-/// Where a node is between two instructions of its list.
+/// The phase of a node between two instructions of its list.
 #[derive(Clone, Copy, Debug, PartialEq, Eq)]
 pub enum Phase {
     /// Between two children, or before the first or after the last.

@@ -1,4 +1,4 @@
--- Links of chains: a strike with the attribute that its argument is, and where a pass comes to both.
+-- Links of chains: a strike with the attribute that its argument is, and when a pass reaches both.
 use Rattle.std.specs.Prelude.{ℕ, ◌≡◌, List, [], ◌∷◌, ◌++◌, Option, Some, None}
 use Rattle.ag_grammar.specs.Lists.{AreRelated, Has}
 use Rattle.ag_grammar.specs.declared.direction.Direction.{Direction}

@@ -1,4 +1,4 @@
-//! Links of a chain: the rule and the argument that a strike names, and where a pass comes to both.
+//! Links of a chain: the rule and the argument that a strike names, and when a pass reaches both.
 
 ghost use Rattle.std.specs.Prelude.{◌≡◌, ◌⊎◌, IfOk, OnOk};
 ghost use Rattle.ag_grammar.specs.Lists.{AreRelated, Each, Has};

@@ -1,4 +1,4 @@
--- What the tests of all parts say of a plan.
+-- The meaning for a plan of the tests of all its parts.
 use Rattle.std.proofs.Common.{ℕ, ◌≡◌, ◌+◌, ◌-◌, ◌<◌, ◌≤◌, ◌⊎◌, List, [], Some, None, slice_get, get_or, length, inl, inr, refl}
 use Rattle.std.proofs.Common.{ap, ◌∙◌, sym, subst, arith}
 use Rattle.std.proofs.lemmas.Bool.{cases_lt}
@@ -69,7 +69,7 @@ lists_in_shape g rows code n greatest shape =
     let same = same_greatest rows shape.lists.passes n shape.lists.greatest greatest in
     record { productions_are = shape.lists.productions; lists = λ i row e. shape.lists.lists i row e ∙ same }
 
--- a number of passes in an assignment of the right shape
+-- a pass number in an assignment of the right shape
 most_of : (g : Grammar) (rows : List (List ℕ)) → HasNumbers g rows → (n : ℕ) → IsGreatest n rows → n ≤ most_passes
 most_of g rows numbers n greatest = go greatest.there
   where

@@ -1,4 +1,4 @@
--- What a list that was followed up to an index says of the lists that agree.
+-- The lists that agree with a list that was followed up to an index.
 use Rattle.std.proofs.Common.{ℕ, zero, suc, ◌≡◌, ◌+◌, ◌<◌, ◌≤◌, ◌⊎◌, inl, inr, List, [], ◌∷◌, ◌++◌, Some, slice_get, take, length}
 use Rattle.std.proofs.Common.{refl, ap, ◌∙◌, sym, subst, arith}
 use Rattle.std.proofs.lemmas.Option.{slice_get_within}
@@ -23,7 +23,7 @@ use Rattle.planchecker.specs.Agreeing.{BeginsAs, CanBegin, IsFirstWrong}
 use Rattle.planchecker.specs.Following.{IsOnWay, RunsRule, state_of}
 use Rattle.planchecker.specs.declared.following.Node.{Node}
 
--- a list goes on after its first n instructions in another way
+-- a list continues after its first n instructions in another way
 begins_as : (xs zs : List Instr) (n : ℕ) → BeginsAs n xs (take n xs ++ zs)
 begins_as xs zs zero i x less at = absurd (omega arith)
 begins_as [] zs (suc n) i x less at = absurd (let bad : ⊥ = cc in bad)
@@ -81,7 +81,7 @@ front_is_run q r (y ∷ xs) s (suc n) zero x less at runs = let same : x ≡ y =
 front_is_run q r (y ∷ xs) s (suc n) (suc i) x less at runs = front_is_run q r xs (after q s y) n i x (omega arith) at runs
 
 module _ (m : Passes) (q : Production) (k : ℕ) where
-  -- what was followed and then runs is a list that runs
+  -- instructions that were followed and others that run after them are a list that runs
   prefix_runs : (s : State) (xs zs : List Instr) (n : ℕ) → n ≤ length xs → MayRunTo m q k s xs n
       → Runs m q k (state_at q s xs n) zs → Runs m q k s (take n xs ++ zs)
   prefix_runs s xs zs zero most may runs = runs
@@ -115,7 +115,7 @@ module _ (m : Passes) (q : Production) (k : ℕ) (xs : List Instr) (n : ℕ) (ma
       let same = ap (λ p. read_count p t) phase ∙ ap (read_count (state_at q start xs n).phase) turn in
       omega arith
 
--- a node in the state before its index is on its way
+-- a node in the state before its index meets its invariant
 pub on_way : (node : Node) → node.phase ≡ (state_of node).phase → node.turn ≡ (state_of node).turn
     → node.index ≤ length node.list.now → node.children ≡ arity node.course.production.now → (m : Passes)
     → IsPlanned m node.course.production.now → (k : ℕ) → MayRunTo m node.course.production.now k start node.list.now node.index
@@ -136,7 +136,7 @@ on_way node phase turn within children m planned k may =
 
 module _ (m : Passes) (q : Production) (planned : IsPlanned m q) (k : ℕ) (one : 1 ≤ k) (xs : List Instr) (n : ℕ)
     (most : n ≤ length xs) (may : MayRunTo m q k start xs n) where
-  -- some list that agrees begins with what was followed
+  -- some list that agrees begins with the instructions that were followed
   begins : CanBegin m q k xs n
   begins =
       let here : IsReached m q k (state_at q start xs n) =
@@ -146,7 +146,7 @@ module _ (m : Passes) (q : Production) (planned : IsPlanned m q) (k : ℕ) (one 
       let runs = prefix_runs m q k start xs rest n most may (left_runs m q k one planned.single planned.allowed s here) in
       (take n xs ++ rest, agrees m q k (take n xs ++ rest) one runs, begins_as xs rest n)
 
-  -- and none goes on with an instruction that may not come next
+  -- and none continues with an instruction that may not come next
   goes_wrong : (x : Instr) → slice_get xs n ≡ Some x → (MayRun m q k (state_at q start xs n) x → ⊥) → CanBegin m q k xs (n + 1)
       → ⊥
   goes_wrong x at bad (ys, list, keeps) =
@@ -158,7 +158,7 @@ module _ (m : Passes) (q : Production) (planned : IsPlanned m q) (k : ℕ) (one 
   pub wrong_at : (x : Instr) → slice_get xs n ≡ Some x → (MayRun m q k (state_at q start xs n) x → ⊥) → IsFirstWrong m q k xs n
   wrong_at x at bad = record { right = begins; wrong = inl (slice_get_within xs n x at, goes_wrong x at bad) }
 
-  -- at its end a list agrees where the node is at its end, and else ends too early
+  -- at its end a list agrees if the node is at its end, and else ends too early
   pub whole : n ≡ length xs → (state_at q start xs n).phase ≡ Ended → IsListFor m q k xs
   whole same over = agrees m q k xs one
       (index_runs m q k start xs (subst (MayRunTo m q k start xs) same may)

@@ -1,4 +1,4 @@
--- What the laws state.
+-- The statements of the laws.
 use Rattle.std.specs.Prelude.{ℕ, ◌≤◌, List, length}
 use Rattle.ag_grammar.specs.grammars.Accepted.{IsAccepted}
 use Rattle.ag_grammar.specs.grammars.AttributeGrammar.{Grammar}
@@ -12,13 +12,14 @@ use Rattle.planchecker.specs.Plans.{IsPlan, IsPlanFault}
 use Rattle.planchecker.specs.courses.Settings.{setting_of}
 use Rattle.planchecker.specs.courses.Sound.{IsSound}
 
--- An assignment as `assign` makes it, and code as `generate` makes it for that, are refused for no reason.
+-- No fault of `check_plan` is justified for an assignment that `assign` makes with the code that `generate`
+-- makes for it.
 abbrev pub MadeIsTaken : Type 0
 MadeIsTaken = (g : Grammar) (rows : List (List ℕ)) (code : Lists) → IsLegal g (passes_of rows) → AreFew rows
     → length rows ≤ length g.symbols → Agrees g (passes_of rows) code → HasLists g rows code → (f : PlanFault)
     → IsPlanFault g rows code f → ⊥
 
--- A pass of a plan has what it asks of its grammar, its assignment and its code.
+-- A pass of a plan meets the conditions on its grammar, its assignment and its code.
 abbrev pub PlansAreSound : Type 0
 PlansAreSound = (g : Grammar) (rows : List (List ℕ)) (code : Lists) (passes k : ℕ) → IsAccepted g → IsPlan g rows code
     → IsGreatest passes rows → 1 ≤ k → k ≤ passes → IsSound (setting_of g (rows, code) k)

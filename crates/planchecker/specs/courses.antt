@@ -1,3 +1,3 @@
--- What a pass works by, and what it asks of it.
+-- The setting of a pass, and the conditions of a pass on it.
 pub mod Settings
 pub mod Sound

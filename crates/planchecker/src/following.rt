@@ -1,4 +1,4 @@
-//! Which instruction of a list is the first that can't come next.
+//! The first instruction of a list that can't come next.
 
 ghost use Rattle.std.specs.Prelude.{ℕ, ◌≡◌, ◌<◌, ◌≤◌, ◌↔◌, IsTrue, Some, length, slice_get};
 ghost use Rattle.ag_grammar.specs.Lists.{Has};
@@ -19,7 +19,7 @@ use ag_grammar::{Direction, Item, Production, Target};
 use passassign::Assignment;
 use passcode::{Course, Instr, Phase, arity, is_same};
 
-/// A node on its way along a list of instructions, of which it has run those before an index.
+/// The state of a node in a list of instructions, of which it has run those before an index.
 #[derive(Clone, Copy)]
 pub(crate) struct Node<'a> {
     pub course: Course<'a>,
@@ -30,7 +30,7 @@ pub(crate) struct Node<'a> {
     pub turn: usize,
 }
 
-/// Whether an instruction runs the rule with a number.
+/// Returns whether an instruction runs the rule with a number.
 fn runs_rule(one: Instr, number: u16) -> bool
     ensures { IsTrue result ↔ RunsRule one number }
 {
@@ -58,7 +58,7 @@ impl Node<'_> {
         1 + Direction::of_pass(self.course.pass).nth(self.children, turn) as u16
     }
 
-    /// Whether the node is in a phase, and this is the place of the child whose turn it is.
+    /// Returns whether the node is in a phase, and this is the place of the child whose turn it is.
     fn is_turn_of(&self, phase: Phase, place: u16) -> bool
         requires { IsOnWay self.now }
         ensures { IsTrue result ↔ IsTurnOf self.now.course.production.now self.now.course.pass
@@ -67,7 +67,7 @@ impl Node<'_> {
         self.phase == phase && self.turn < self.children && place == self.place(self.turn)
     }
 
-    /// Whether the rule with a number was run.
+    /// Returns whether the rule with a number was run.
     fn was_run(&self, number: u16) -> bool
         requires { IsOnWay self.now }
         ensures { IsTrue result ↔ Has (state_of self.now).done number }
@@ -94,7 +94,7 @@ impl Node<'_> {
         }
     }
 
-    /// Whether the pass has run in the child at a place.
+    /// Returns whether the pass has run in the child at a place.
     fn is_visited(&self, place: u16) -> bool
         requires { IsOnWay self.now }
         ensures { IsTrue result ↔ IsVisited self.now.course.production.now self.now.course.pass
@@ -108,7 +108,8 @@ impl Node<'_> {
         false
     }
 
-    /// Whether an attribute at a place is at hand.
+    /// Returns whether an attribute at a place is available: it is of an earlier pass, or of this
+    /// one at the left side or at a child in which the pass has run.
     fn is_at_hand(&self, target: Target) -> bool
         requires { IsOnWay self.now }
         ensures { IsTrue result ↔ IsAtHand (passes_of self.now.course.assignment.now)
@@ -123,7 +124,7 @@ impl Node<'_> {
         pass == self.course.pass && (target.place == 0 || self.is_visited(target.place))
     }
 
-    /// Whether all arguments of a rule are at hand.
+    /// Returns whether all arguments of a rule are available.
     fn are_at_hand(&self, arguments: &[Target]) -> bool
         requires { IsOnWay self.now }
         ensures { IsTrue result ↔ ((o : TheTarget) → Has arguments.now o → IsAtHand
@@ -138,7 +139,7 @@ impl Node<'_> {
         true
     }
 
-    /// Whether the rule with a number may give an attribute at a place its value.
+    /// Returns whether the rule with a number may compute an attribute at a place.
     fn may_give(&self, target: Target, number: u16) -> bool
         requires { IsOnWay self.now }
         ensures { IsTrue result ↔ MayGive (passes_of self.now.course.assignment.now)
@@ -156,7 +157,7 @@ impl Node<'_> {
         self.are_at_hand(rule.args.as_slice())
     }
 
-    /// Whether a rule was run, if its target is of the pass.
+    /// Returns whether a rule was run, or its target is not of the pass.
     fn is_given(&self, number: u16, target: Target) -> bool
         requires { IsOnWay self.now }
         ensures { IsTrue result ↔ (HasPass (passes_of self.now.course.assignment.now)
@@ -166,7 +167,7 @@ impl Node<'_> {
         !self.course.has_pass(target) || self.was_run(number)
     }
 
-    /// Whether each rule of the pass with a target at a place was run.
+    /// Returns whether each rule of the pass with a target at a place was run.
     fn are_given(&self, place: u16) -> bool
         requires { IsOnWay self.now }
         ensures { IsTrue result ↔ AreGiven (passes_of self.now.course.assignment.now)
@@ -180,7 +181,7 @@ impl Node<'_> {
         true
     }
 
-    /// Whether each rule of the pass was run.
+    /// Returns whether each rule of the pass was run.
     fn are_all_given(&self) -> bool
         requires { IsOnWay self.now }
         ensures { IsTrue result ↔ ((j : ℕ) → AreGiven (passes_of self.now.course.assignment.now)
@@ -194,7 +195,7 @@ impl Node<'_> {
         true
     }
 
-    /// Whether `End` may come next.
+    /// Returns whether `End` may come next.
     fn may_end(&self) -> bool
         requires { IsOnWay self.now }
         ensures { IsTrue result ↔ MayRun (passes_of self.now.course.assignment.now)
@@ -208,7 +209,7 @@ impl Node<'_> {
         }
     }
 
-    /// Whether an instruction may come next.
+    /// Returns whether an instruction may come next.
     fn may_run(&self, one: Instr) -> bool
         requires { IsOnWay self.now }
         ensures { IsTrue result ↔ MayRun (passes_of self.now.course.assignment.now)
@@ -271,7 +272,7 @@ impl Node<'_> {
     }
 }
 
-/// Returns the first index at which no list that agrees goes on as this one does.
+/// Returns the first index at which no list that agrees continues as this one does.
 fn first_wrong(course: &Course, list: &[Instr]) -> Option<usize>
     requires planned { IsPlanned (passes_of course.now.assignment.now) course.now.production.now }
     requires pass { 1 ≤ course.now.pass }
@@ -303,7 +304,7 @@ fn first_wrong(course: &Course, list: &[Instr]) -> Option<usize>
 }
 
 /// Returns the pass of the first list of a production that does not agree, and the first index at
-/// which no list that agrees goes on as it does.
+/// which no list that agrees continues as it does.
 pub(crate) fn first_list(
     assignment: &Assignment,
     production: &Production,

@@ -1,4 +1,4 @@
-//! Whether strikes show that an assignment is the least one.
+//! The check of strikes that show that an assignment is the least one.
 
 ghost use Rattle.std.specs.Prelude.{ℕ, ◌≡◌, ◌+◌, ◌^◌, ◌<◌, ◌≤◌, ◌↔◌, IsTrue, Some, length};
 ghost use Rattle.std.specs.Prelude.{slice_get};
@@ -18,8 +18,8 @@ use ag_value::Items;
 use passassign::laws::none_is_earlier;
 use passassign::{Assignment, Strike, Strikes};
 
-/// The candidates of a pass of an assignment: the attributes of this pass and of later ones. Those of
-/// later ones are to be struck.
+/// The candidates of a pass of an assignment: the attributes of this pass and of later ones. Those
+/// of later ones have to be struck.
 #[derive(Clone, Copy)]
 struct PassCandidates<'a> {
     assignment: &'a Assignment,
@@ -48,14 +48,14 @@ impl Candidates for PassCandidates<'_> {
     ghost within = { λ x s a h. later_from (passes_of x.assignment.now) x.pass s a h };
 }
 
-/// Whether an attribute is struck, if its own pass is a later one.
+/// Returns whether an attribute is struck, or its own pass is not a later one.
 fn is_struck_if_later(struck: &Marks, pass: u16, own: u16, symbol: usize, attr: usize) -> bool
     ensures { IsTrue result ↔ (pass < own → IsMarked struck.now symbol attr) }
 {
     own <= pass || struck.has(symbol, attr)
 }
 
-/// Whether each attribute of a later pass is struck, of a symbol with these passes.
+/// Returns whether each attribute of a later pass of a symbol with these passes is struck.
 fn is_row_struck(struck: &Marks, pass: u16, row: &[u16], symbol: usize) -> bool
     ensures { IsTrue result ↔ EachAt (λ a p. pass < p → IsMarked struck.now symbol a) row.now }
 {
@@ -67,7 +67,7 @@ fn is_row_struck(struck: &Marks, pass: u16, row: &[u16], symbol: usize) -> bool
     true
 }
 
-/// Whether each attribute of a later pass is struck.
+/// Returns whether each attribute of a later pass is struck.
 fn are_later_struck(rows: &[Vec<u16>], pass: u16, struck: &Marks) -> bool
     ensures { IsTrue result ↔ ((s a : ℕ) → HasPassAfter (passes_of (numbers_of rows.now)) pass s a
         → IsMarked struck.now s a) }
@@ -80,7 +80,7 @@ fn are_later_struck(rows: &[Vec<u16>], pass: u16, struck: &Marks) -> bool
     true
 }
 
-/// Whether a list has the strikes of a pass of an assignment.
+/// Returns whether a list has the strikes of a pass of an assignment.
 fn are_strikes_at(grammar: &Grammar, assignment: &Assignment, pass: u16, strikes: &[Strike]) -> bool
     ensures { IsTrue result
         ↔ AreStrikesAt grammar.now (passes_of assignment.now) pass strikes.now }
@@ -92,7 +92,7 @@ fn are_strikes_at(grammar: &Grammar, assignment: &Assignment, pass: u16, strikes
     }
 }
 
-/// Whether lists have the strikes of the passes of an assignment, from pass 1 on.
+/// Returns whether lists have the strikes of the passes of an assignment, from pass 1 on.
 fn are_all_strikes(grammar: &Grammar, assignment: &Assignment, lists: &[Items<Strike>]) -> bool
     requires { length lists.now < 2 ^ 16 }
     ensures { IsTrue result
@@ -107,16 +107,18 @@ fn are_all_strikes(grammar: &Grammar, assignment: &Assignment, lists: &[Items<St
 }
 
 /// Checks that lists are the strikes of an assignment's passes, one list for each pass. The list of
-/// pass k strikes each attribute that has a later pass, once, and nothing else. Each strike names a
-/// rule for its attribute and an argument of this rule that the pass can't use: it is struck before,
-/// or has pass k or a later one at the same child as the rule's target or at one visited later.
+/// pass k strikes each attribute that has a later pass, once, and no others. Each strike names a
+/// rule for its attribute and an argument of this rule that the pass can't use: it is struck
+/// before, or has pass k or a later one at the same child as the rule's target or at one visited
+/// later.
 ///
 /// If they are, no legal assignment gives any attribute an earlier pass than this one. So an
-/// assignment that `check_plan` takes too is the least one.
+/// assignment that `check_plan` also accepts is the least one.
 ///
-/// Takes no memory, whatever numbers the lists have. A good strike is of an attribute of the grammar
-/// that no earlier one strikes, so at most 4,097 strikes of each list are read. For each of them the
-/// items of a right side are read at most twice. Marks of what is struck take 4,096 bytes of stack.
+/// Takes no memory, whatever numbers the lists have. A good strike is of an attribute of the
+/// grammar that no earlier one strikes, so at most 4,097 strikes of each list are read. For each of
+/// them the items of a right side are read at most twice. Marks of struck attributes take 4,096
+/// bytes of stack.
 pub fn check_least(grammar: &Grammar, assignment: &Assignment, strikes: &Strikes) -> bool
     ensures strikes { IsTrue result
         ↔ AreStrikesOf grammar.now assignment.now strikes.now.passes }

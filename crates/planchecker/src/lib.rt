@@ -1,5 +1,5 @@
-//! Checks of a plan, which is an assignment of passes and code for them, and of what is said to
-//! show that a grammar has none.
+//! Checks of a plan, which is an assignment of passes and code for them, and of certificates that a
+//! grammar has none.
 #![tactic(auto)]
 
 mod certificate;

@@ -27,7 +27,7 @@ impl Marks {
         }
     }
 
-    /// Whether an attribute is marked. One that no grammar has is not.
+    /// Returns whether an attribute is marked; false for numbers beyond the limits of a grammar.
     pub(crate) fn has(&self, symbol: usize, attr: usize) -> bool
         ensures { IsTrue result ↔ IsMarked self.now symbol attr }
     {

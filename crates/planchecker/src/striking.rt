@@ -1,4 +1,5 @@
-//! Whether strikes are good in a pass, one after the other: shared by both kinds of certificate.
+//! The check that strikes are good in a pass, one after the other: shared by both kinds of
+//! certificate.
 
 ghost use Rattle.std.specs.Prelude.{ℕ, ◌≡◌, ◌↔◌, IfSome, IsSome, IsTrue, Some, slice_get, take};
 ghost use Rattle.ag_grammar.specs.declared.grammar.Item.TheVariants as item;
@@ -20,18 +21,18 @@ pub(crate) trait Candidates {
     /// Those of them that the pass has to strike.
     ghost later: { Self → ℕ → ℕ → Type 0 };
 
-    /// Whether an attribute is a candidate.
+    /// Returns whether an attribute is a candidate.
     fn is_candidate(&self, symbol: u16, attr: u16) -> bool
         ensures { IsTrue result ↔ candidates self.now symbol attr };
 
-    /// Whether the pass has to strike an attribute.
+    /// Returns whether the pass has to strike an attribute.
     fn is_later(&self, symbol: u16, attr: u16) -> bool
         ensures { IsTrue result ↔ later self.now symbol attr };
 
     ghost within: { (x : Self) (s a : ℕ) → later x s a → candidates x s a };
 }
 
-/// Whether an attribute of the item at a place is struck.
+/// Returns whether an attribute of the item at a place is struck.
 fn is_item_struck(struck: &Marks, item: Option<Item>, attr: u16) -> bool
     ensures { IsTrue result ↔ IsOneOf (IsMarked struck.now) item attr }
 {
@@ -42,7 +43,7 @@ fn is_item_struck(struck: &Marks, item: Option<Item>, attr: u16) -> bool
     }
 }
 
-/// Whether an attribute of the item at a place is a candidate.
+/// Returns whether an attribute of the item at a place is a candidate.
 fn is_item_candidate<C: Candidates>(candidates: &C, item: Option<Item>, attr: u16) -> bool
     ensures { IsTrue result ↔ IsOneOf (C.candidates candidates.now) item attr }
 {
@@ -53,7 +54,8 @@ fn is_item_candidate<C: Candidates>(candidates: &C, item: Option<Item>, attr: u1
     }
 }
 
-/// Whether a rule's argument strikes its target at a place from a pass.
+/// Returns whether an argument of a rule is a reason to strike the rule's target at a place from a
+/// pass.
 fn is_reason<C: Candidates>(
     direction: Direction,
     candidates: &C,
@@ -72,7 +74,7 @@ fn is_reason<C: Candidates>(
     is_ahead(direction, place, argument.place) && is_item_candidate(candidates, item, argument.attr)
 }
 
-/// Whether a declared symbol is at a place of a production.
+/// Returns whether a declared symbol is at a place of a production.
 fn is_symbol(production: &Production, place: u16, symbol: u16) -> bool
     ensures { IsTrue result ↔ (item_at production.now place ≡ Some (item.Symbol symbol)) }
 {
@@ -83,7 +85,8 @@ fn is_symbol(production: &Production, place: u16, symbol: u16) -> bool
     }
 }
 
-/// Whether a strike is good after others: what it names is there, and is a reason.
+/// Returns whether a strike is good after others: its production, rule and argument exist, and the
+/// argument is a reason.
 fn is_good<C: Candidates>(
     grammar: &Grammar,
     direction: Direction,
@@ -117,7 +120,7 @@ fn is_good<C: Candidates>(
     )
 }
 
-/// Whether a strike may come next after others.
+/// Returns whether a strike may come next after others.
 fn is_next<C: Candidates>(
     grammar: &Grammar,
     direction: Direction,
@@ -133,7 +136,8 @@ fn is_next<C: Candidates>(
         && is_good(grammar, direction, candidates, struck, strike)
 }
 
-/// Returns marks of what a list strikes, or `None` if a strike may not come after those before it.
+/// Returns the marks of the attributes that a list strikes, or `None` if a strike may not come
+/// after those before it.
 pub(crate) fn marks_of<C: Candidates>(
     grammar: &Grammar,
     direction: Direction,

@@ -59,28 +59,44 @@ all_read place at done content out h le =
 pub none_at_first : (at : ℕ) (content out : List ℕ) → HasRead 0 at 0 content out
 none_at_first at content out = record { within = omega arith; same = refl; reached = λ less. omega arith }
 
--- the own bytes before a splice, the splice and what comes after it
-pub record IsTurn (from place : ℕ) (own content : List ℕ) (g : Splice) (rest : List Splice) : Type 0 where
-  pub own_part : drop place content ≡ take (g.own - from) (drop from own) ++ (g.bytes ++ spliced g.own (drop g.own own) rest)
-  pub splice_at : place + length (take (g.own - from) (drop from own)) ≡ g.at
-  pub splice_part : drop g.at content ≡ g.bytes ++ spliced g.own (drop g.own own) rest
-  pub behind : drop (g.at + length g.bytes) content ≡ spliced g.own (drop g.own own) rest
+-- The own bytes before a splice, the splice, and what comes after it, where own byte number `base` is the first one of a body that
+-- begins at offset `at`. The own bytes from index `from` on are at offset `place` of the body.
+pub record IsTurn (base at from place : ℕ) (own content : List ℕ) (g : Splice) (rest : List Splice) : Type 0 where
+  pub from_here : base ≤ g.own
+  pub forward : from ≤ g.own - base
+  pub within : g.own - base ≤ length own
+  pub at_here : at ≤ g.at
+  pub own_part : drop place content ≡ take (g.own - base - from) (drop from own) ++ (g.bytes ++ spliced g.own (drop (g.own - base) own) rest)
+  pub splice_at : place + length (take (g.own - base - from) (drop from own)) ≡ g.at - at
+  pub splice_part : drop (g.at - at) content ≡ g.bytes ++ spliced g.own (drop (g.own - base) own) rest
+  pub behind : drop ((g.at - at) + length g.bytes) content ≡ spliced g.own (drop (g.own - base) own) rest
 
-pub turn : (from place total : ℕ) (own content : List ℕ) (gs : List Splice) (g : Splice) (rest : List Splice) → gs ≡ g ∷ rest → AreSplices from place (length own) total gs
-    → drop place content ≡ spliced from (drop from own) gs → IsTurn from place own content g rest
-turn from place total own content gs g rest e splices is =
-    let h : AreSplices from place (length own) total (g ∷ rest) = subst (λ (xs : List Splice). AreSplices from place (length own) total xs) e splices in
-    let s : drop place content ≡ spliced from (drop from own) (g ∷ rest) = is ∙ ap (λ (xs : List Splice). spliced from (drop from own) xs) e in
-    let d : drop (g.own - from) (drop from own) ≡ drop g.own own = drop-drop (g.own - from) from own ∙ ap (λ i. drop i own) (omega (arith, h.0)) in
-    let size : length (take (g.own - from) (drop from own)) ≡ g.own - from = length-take-le (g.own - from) (drop from own) (omega (arith, length-drop from own, h.0, h.1)) in
-    let own_part : drop place content ≡ take (g.own - from) (drop from own) ++ (g.bytes ++ spliced g.own (drop g.own own) rest) =
-    s ∙ ap (λ (t : List ℕ). take (g.own - from) (drop from own) ++ (g.bytes ++ spliced g.own t rest)) d in
-    let splice_at : place + length (take (g.own - from) (drop from own)) ≡ g.at = omega (arith, h.2) in
-    let splice_part : drop g.at content ≡ g.bytes ++ spliced g.own (drop g.own own) rest =
-    ap (λ i. drop i content) (sym splice_at) ∙ behind_piece place content (take (g.own - from) (drop from own)) (g.bytes ++ spliced g.own (drop g.own own) rest) own_part in
+pub turn : (base at from place total : ℕ) (own content : List ℕ) (gs : List Splice) (g : Splice) (rest : List Splice) → gs ≡ g ∷ rest
+    → AreSplices (base + from) (at + place) (base + length own) total gs → drop place content ≡ spliced (base + from) (drop from own) gs
+    → IsTurn base at from place own content g rest
+turn base at from place total own content gs g rest e splices is =
+    let h : AreSplices (base + from) (at + place) (base + length own) total (g ∷ rest) =
+    subst (λ (xs : List Splice). AreSplices (base + from) (at + place) (base + length own) total xs) e splices in
+    let s : drop place content ≡ spliced (base + from) (drop from own) (g ∷ rest) = is ∙ ap (λ (xs : List Splice). spliced (base + from) (drop from own) xs) e in
+    let n : g.own - (base + from) ≡ g.own - base - from = omega arith in
+    let d : drop (g.own - (base + from)) (drop from own) ≡ drop (g.own - base) own =
+    drop-drop (g.own - (base + from)) from own ∙ ap (λ i. drop i own) (omega (arith, h.0)) in
+    let a : take (g.own - (base + from)) (drop from own) ≡ take (g.own - base - from) (drop from own) = ap (λ i. take i (drop from own)) n in
+    let size : length (take (g.own - base - from) (drop from own)) ≡ g.own - base - from =
+    length-take-le (g.own - base - from) (drop from own) (omega (arith, length-drop from own, h.0, h.1)) in
+    let own_part : drop place content ≡ take (g.own - base - from) (drop from own) ++ (g.bytes ++ spliced g.own (drop (g.own - base) own) rest) =
+    s ∙ (ap (λ (t : List ℕ). take (g.own - (base + from)) (drop from own) ++ (g.bytes ++ spliced g.own t rest)) d
+    ∙ ap (λ (t : List ℕ). t ++ (g.bytes ++ spliced g.own (drop (g.own - base) own) rest)) a) in
+    let splice_at : place + length (take (g.own - base - from) (drop from own)) ≡ g.at - at = omega (arith, h.0, h.2) in
+    let splice_part : drop (g.at - at) content ≡ g.bytes ++ spliced g.own (drop (g.own - base) own) rest =
+    ap (λ i. drop i content) (sym splice_at) ∙ behind_piece place content (take (g.own - base - from) (drop from own)) (g.bytes ++ spliced g.own (drop (g.own - base) own) rest) own_part in
     record {
+      from_here = omega (arith, h.0);
+      forward = omega (arith, h.0);
+      within = omega (arith, h.0, h.1);
+      at_here = omega (arith, h.2);
       own_part = own_part;
       splice_at = splice_at;
       splice_part = splice_part;
-      behind = behind_piece g.at content g.bytes (spliced g.own (drop g.own own) rest) splice_part;
+      behind = behind_piece (g.at - at) content g.bytes (spliced g.own (drop (g.own - base) own) rest) splice_part;
     }

@@ -1,11 +1,12 @@
 //! Lent parts of such bytes.
 
-ghost use Rattle.std.specs.Prelude.{◌≡◌, ◌++◌, ◌+◌, ◌-◌, ◌≤◌, ℕ, List, length, take};
-ghost use Rattle.std.specs.Prelude.{IfOk, IfSome, IsTrue, OnOk};
+ghost use Rattle.std.specs.Prelude.{◌≡◌, ◌++◌, ◌+◌, ◌-◌, ◌≤◌, ℕ, List, drop, length, take};
+ghost use Rattle.std.specs.Prelude.{slice_range, IfOk, IfSome, IsTrue, OnOk};
 ghost use Rattle.ag_value.specs.Spelling.{spelling_of};
 ghost use Rattle.ag_value.specs.Well.{IsWell};
 ghost use Rattle.shared_bytes.specs.Spliced.{AreSplices, CutAt, IsBeforeSplice, spliced};
 
+use crate::copying::{copy_own, copy_shared};
 use crate::splice::Splice;
 use ag_carried::{Carried, Encoded};
 use ag_value::{NoMemory, ValueFault};
@@ -240,6 +241,56 @@ impl<'a> Body<'a> {
             at: self.at,
             end: self.end,
         }
+    }
+
+    /// Copies the bytes from an offset on into a slice, as many as it has. Takes no memory.
+    pub fn read_at(&self, offset: u64, out: &mut [u8])
+        requires { offset + length out.old ≤ length self.now }
+        ensures { out.new ≡ slice_range self.now offset (offset + length out.old) }
+    {
+        match self.from_last_shared(offset) {
+            Some((start, rest)) => rest.copy_from(offset - start, out),
+            None => self.copy_from(offset, out),
+        }
+    }
+
+    /// Lends the bytes from the last shared value on that begins before an offset, and the offset at which
+    /// it begins. Returns `None` if there is no such value.
+    fn from_last_shared(&self, offset: u64) -> Option<(u64, Body<'a>)>
+        ensures before { IfSome result (λ p. p.0 ≤ offset) }
+        ensures rest { IfSome result (λ p. p.1 ≡ drop p.0 self.now) }
+    {
+        let count = self.splices_before(offset).checked_sub(1)?;
+        let start = self.splices.get(count)?.at.checked_sub(self.at)?;
+        if offset < start {
+            return None;
+        }
+        let (_before, rest) = self.again().cut(start, count)?;
+        Some((start, rest))
+    }
+
+    /// Copies the bytes from an offset on into a slice, as many as it has. Looks at all shared values from
+    /// the first one on.
+    fn copy_from(&self, offset: u64, out: &mut [u8])
+        requires { offset + length out.old ≤ length self.now }
+        ensures { out.new ≡ slice_range self.now offset (offset + length out.old) }
+    {
+        let (own, splices, base, at) = (self.own, self.splices, self.base, self.at);
+        let mut from = 0;
+        let mut place = 0;
+        let mut done = 0;
+        for splice in splices {
+            if done == out.len() {
+                return;
+            }
+            let next = splice.own - base;
+            let start = splice.at - at;
+            done = copy_own(&own[from..next], place, offset, done, out);
+            done = copy_shared(&splice.bytes, start, offset, done, out);
+            place = start + splice.bytes.len() as u64;
+            from = next;
+        }
+        copy_own(&own[from..], place, offset, done, out);
     }
 
     /// Appends a copy of all bytes to a vector. Without memory some of them may be there.

@@ -2,6 +2,7 @@
 #![tactic(auto)]
 
 mod body;
+mod copying;
 mod shared_bytes;
 mod splice;
 

@@ -1,9 +1,8 @@
 //! Bytes that grow at their end, of which some are shared.
 
-ghost use Rattle.std.specs.Prelude.{◌≡◌, ◌++◌, ◌+◌, ◌-◌, ◌<◌, ◌≤◌, ◌^◌, ℕ, List, [], drop, length, map, slice_range, take};
-ghost use Rattle.std.specs.Prelude.{min, None, slice_index, IfOk, IfSome, IsTrue, OnErr, OnOk};
-ghost use Rattle.shared_bytes.specs.Reads.{HasRead};
-ghost use Rattle.shared_bytes.specs.Spliced.{AreSplices, shift, spliced};
+ghost use Rattle.std.specs.Prelude.{◌≡◌, ◌++◌, ◌+◌, ◌<◌, ◌≤◌, ◌^◌, ℕ, [], length, map, slice_range};
+ghost use Rattle.std.specs.Prelude.{slice_index, IfOk, IfSome, IsTrue, OnErr, OnOk};
+ghost use Rattle.shared_bytes.specs.Spliced.{shift};
 
 use crate::body::Body;
 use crate::splice::Splice;
@@ -165,13 +164,7 @@ impl SharedBytes {
         requires { at + length out.old ≤ length self.now }
         ensures { out.new ≡ slice_range self.now at (at + length out.old) }
     {
-        read_pieces(
-            self.own.as_slice(),
-            self.splices.as_slice(),
-            self.len,
-            at,
-            out,
-        );
+        self.lend().read_at(at, out);
     }
 
     /// Lends the bytes as a slice, if none of them are shared. Takes no memory.
@@ -218,78 +211,4 @@ fn shifted(
         };
     }
     Ok(moved)
-}
-
-/// Copies the bytes from offset `at` on into a slice, as many as it has: own ones, and the encodings
-/// between them. All bytes together end at offset `end`.
-fn read_pieces(own: &[u8], splices: &[Splice], end: u64, at: u64, out: &mut [u8])
-    requires splices { AreSplices 0 0 (length own.now) end splices.now }
-    requires there { at + length out.old ≤ end }
-    ensures { out.new ≡ take (length out.old) (drop at (spliced 0 own.now splices.now)) }
-{
-    let mut from = 0;
-    let mut place = 0;
-    let mut done = 0;
-    for splice in splices {
-        done = copy_own(&own[from..splice.own], place, at, done, out);
-        done = copy_shared(&splice.bytes, splice.at, at, done, out);
-        place = splice.at + splice.bytes.len() as u64;
-        from = splice.own;
-    }
-    copy_own(&own[from..], place, at, done, out);
-}
-
-/// A slice of `size` bytes is filled from offset `at` on, and has `done` of them. Returns which part of
-/// the `len` bytes at offset `place` comes next, by its index and length, or `None` if none of them does.
-fn lacking(place: u64, len: usize, at: u64, done: usize, size: usize) -> Option<(usize, usize)>
-    requires within { done ≤ size }
-    requires room { at + size < 2 ^ 64 }
-    ensures here { IfSome result (λ part. at + done ≡ place + part.0) }
-    ensures there { IfSome result (λ part. part.0 ≤ len) }
-    ensures count { IfSome result (λ part. part.1 ≡ min (len - part.0) (size - done)) }
-    ensures none { result ≡ None → done < size → place ≤ at + done → place + len ≤ at + done }
-{
-    let here = at + done as u64;
-    if done == size || here < place {
-        return None;
-    }
-    let skip = here - place;
-    if len as u64 <= skip {
-        return None;
-    }
-    let skip = skip as usize;
-    Some((skip, (len - skip).min(size - done)))
-}
-
-/// Copies the next bytes of a slice that is filled from offset `at` on, and has `done` of them, out of a
-/// piece at offset `place`. Returns how many it then has.
-fn copy_own(piece: &[u8], place: u64, at: u64, done: usize, out: &mut [u8]) -> usize
-    requires within { done ≤ length out.old }
-    requires room { at + length out.old < 2 ^ 64 }
-    ensures within { result ≤ length out.old }
-    ensures read { (content rest : List ℕ) → drop place content ≡ piece.now ++ rest
-        → HasRead place at done content out.old
-        → HasRead (place + length piece.now) at result content out.new }
-{
-    let Some((skip, count)) = lacking(place, piece.len(), at, done, out.len()) else {
-        return done;
-    };
-    out[done..done + count].copy_from_slice(&piece[skip..skip + count]);
-    done + count
-}
-
-/// Copies them out of an encoding, as `copy_own` does.
-fn copy_shared(piece: &Encoded, place: u64, at: u64, done: usize, out: &mut [u8]) -> usize
-    requires within { done ≤ length out.old }
-    requires room { at + length out.old < 2 ^ 64 }
-    ensures within { result ≤ length out.old }
-    ensures read { (content rest : List ℕ) → drop place content ≡ piece.now ++ rest
-        → HasRead place at done content out.old
-        → HasRead (place + length piece.now) at result content out.new }
-{
-    let Some((skip, count)) = lacking(place, piece.len(), at, done, out.len()) else {
-        return done;
-    };
-    piece.copy_part(skip, &mut out[done..done + count]);
-    done + count
 }

@@ -23,6 +23,6 @@ cut_out version content frame behind rest last before body at len e el f fl n g 
     ap (λ (t : List ℕ). slice_range t (at - 4 - len) (at - 4 - len + len)) b ∙ slice_of before body (last ++ behind) (at - 4 - len) (at - 4 - len + len) gl (omega arith) in
     read_at version content body at len number whole (omega arith) fits
 
--- what is left of bytes is bytes
+-- a suffix of bytes has bytes
 pub dropped_bytes : (n : ℕ) (xs : List ℕ) → IsBytes xs → IsBytes (drop n xs)
 dropped_bytes n xs h i = rw (get_or-drop n xs i 0) (h (n + i))

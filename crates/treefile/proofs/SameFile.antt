@@ -16,7 +16,7 @@ use Rattle.treefile.specs.records.TreeFile.{Version, body_of, file}
 use Rattle.treefile.specs.declared.body.Kind.TheVariants.{Node}
 use Rattle.treefile.proofs.records.Copies.{synthesized_is}
 
--- values of a record
+-- the values of a record
 same_values : (k : ℕ) (ps : List ℕ) (e f : ℕ → Value) → SameAt (λ p. p ≤ k) ps e f → values_up_to k ps e ≡ values_up_to k ps f
 same_values k [] e f s = refl
 same_values k (p ∷ ps) e f s = by_test (nat_le p k) refl (same_values k ps (λ a. e (suc a)) (λ a. f (suc a)) (λ a q is le. s (suc a) q is le))

@@ -19,7 +19,7 @@ worked_2 = simp spellings
 pub worked_iffy : (v : Valuation) → file_of_tree version_one token_sample iffy_passes 0 token_tree v ≡ file_of_iffy
 worked_iffy v = simp spellings
 
--- and in version 2
+-- in version 2
 pub copied_1 : file_of_tree version_two binary binary_passes 1 tree_of_one values_of_one ≡ copies_1_of_one
 copied_1 = simp spellings
 

@@ -1,4 +1,4 @@
--- Trees that stand in records, passes over a file, and the values of records, worked out.
+-- Recorded trees, passes over a file, and the values of records, worked out.
 use Rattle.std.proofs.Common.{◌≡◌, ℕ, zero, suc, ◌^◌, ◌<◌, ◌≤◌, pos, All, List, [], ◌∷◌, ◌++◌, length, Option, Some, None, Ok, IsUtf8, codes, lit<, refl, ap, sym, subst, ◌∙◌, arith}
 use Rattle.std.proofs.lemmas.Bool.{lt-ltb}
 use Rattle.std.proofs.lemmas.List.Elements.{All-cons, All-nil}
@@ -50,7 +50,7 @@ binary_fits = record { tokens = omega arith; nodes = λ p q is. few q.left }
     few (suc (suc (suc zero))) = omega arith
     few (suc (suc (suc (suc s)))) = omega arith
 
--- what is asked of the tree of `1` and of its values
+-- the premises on the tree of `1` and on its values
 one_fits : IsTreeOf binary tree_of_one
 one_fits = (
   production_of 0 (item.Symbol 2 ∷ item.Symbol 1 ∷ []),
@@ -104,7 +104,7 @@ iffy_recorded = record {
   well = ((λ a p is le. well_text iffy token_text.utf8 (omega arith)), ((λ a p is le. well_text iffy token_text.utf8 (omega arith)), tt));
 }
 
--- where the text of the leaf is empty, it is not the leaf's
+-- an empty text is not the leaf's
 pub iffy_unrecorded : IsRecorded token_sample iffy_passes 0 (item.Symbol 0) token_tree (λ path a. Text []) → ⊥
 iffy_unrecorded is = let same : [] ≡ iffy = text_same [] iffy is.texts.1.0 in cc
 
@@ -131,7 +131,7 @@ sample_file k = record {
   well = ((λ a p is le. well_number 2 (omega arith)), (((λ a p is le. well_of_a 2 1 a (omega arith) (omega arith)), tt), (((λ a p is le. well_of_a 1 0 a (omega arith) (omega arith)), tt), tt)));
 }
 
--- the first one is that of no other tree
+-- the first one is the file of no other tree
 sample_alone : (t : Tree) (u : Valuation) → IsTreeOf sample t → IsFileOfTree version_one sample sample_passes 0 t u (file_of_x_x 0) → sample_tree ≡ t
 sample_alone t u tree is = (one_file version_one sample sample_passes 0 sample_tree t (sample_values 2) u (file_of_x_x 0) version_one_usable sample_fit sample_numbered sample_fits tree (sample_file 0) is).0
 

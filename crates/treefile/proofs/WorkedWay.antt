@@ -1,4 +1,4 @@
--- On the way from the end of the file of pass 0 of `1`, worked out.
+-- Reading the file of pass 0 of `1` from its end, worked out.
 use Rattle.std.proofs.Common.{◌≡◌, ℕ, inl, inr, pos, false, List, [], ◌∷◌, Some, None, Ok, slice_get, refl, ap, sym, subst, ◌∙◌, arith}
 use Rattle.std.proofs.lemmas.Option.{same_Some}
 use Rattle.ag_value.specs.declared.value.Value.{Value, Num}
@@ -40,7 +40,7 @@ t_is_record = recorded 1 4 3 (production_of 3 []) record_of_t refl refl (simp sp
 pub iffy_is_record : IsRecordOf version_one token_sample iffy_passes 0 (item.Terminal (Class 0), None) record_of_iffy []
 iffy_is_record = (iffy, token_text, simp spellings, refl, tt)
 
--- Q's record is none of N
+-- Q's record is not one of N
 pub q_is_none : IsNoRecord version_one binary binary_passes 0 (item.Symbol 0, None) (0 ∷ 0 ∷ 1 ∷ [])
 q_is_none ys is =
     let one = same_node version_one binary binary_passes 0 0 1 is.0 1 (0 ∷ 0 ∷ 1 ∷ []) is.1 (production_of 1 []) is.2 numbers binary_numbered is.3 (known 0 1 1 (production_of 1 []) (0 ∷ 0 ∷ 1 ∷ []) refl refl refl) in
@@ -64,7 +64,7 @@ one_is_deep awaited =
     let low = are.4 in
     omega arith
 
--- what is found before three offsets
+-- the results of reading before three offsets
 at_end : next_before version_one pass_0_of_one 41 ≡ Ok (Some (0 ∷ 0 ∷ 0 ∷ []))
 unfolding next_before body_before fits_before
 at_end = refl

@@ -1,4 +1,4 @@
--- What records tell of their tree.
+-- Records determine their tree.
 pub mod Copies
 pub mod FirstFile
 pub mod Fitting

@@ -1,4 +1,4 @@
--- Reading from the end of a file, and writing behind it.
+-- Reading from the end of a file, and appending to it.
 pub mod Backward
 pub mod Beginning
 pub mod Coming

@@ -1,4 +1,4 @@
--- What the laws on the files of trees state.
+-- The statements of the laws on the files of trees.
 use Rattle.std.specs.Prelude.{ℕ, suc, ◌≡◌, ◌^◌, ◌<◌, ◌≤◌, ◌++◌, ◌↔◌, List, [], ◌∷◌, Some, None, Ok, slice_get, drop, length, true}
 use Rattle.ag_value.specs.declared.value.Value.{Value}
 use Rattle.ag_grammar.specs.Lists.{Each}
@@ -21,22 +21,23 @@ use Rattle.treefile.specs.records.Records.{FitsVersion, IsFileOfTree, bodies_of,
 use Rattle.treefile.specs.Runs.{RunsPass, RunsPasses}
 use Rattle.treefile.specs.records.TreeFile.{Version}
 
--- A body is the record of a node of one production at most, with one value of each attribute up to the pass, and with one list of
--- copies.
+-- A body is the record of a node of at most one production, with one value of each attribute up to the pass,
+-- and with one list of copies.
 abbrev pub OneNode : Type 0
 OneNode = (version : Version) (g : Grammar) (m : Passes) (k s z p r : ℕ) (body : List ℕ) (q w : Production) (e f : ℕ → Value) → IsNumbered g → (a : IsNodeRecord version g m k s body p q e) (b : IsNodeRecord version g m k z body r w f) → (p ≡ r) × SameAt (λ n. n ≤ k) (m s) e f × (a.copies ≡ b.copies)
 
--- A list begins with the records of one tree of an item at most, and of one valuation of it up to the pass: each node before
--- its children, these in a direction.
+-- A list begins with the records of at most one tree of an item, and of one valuation of it up to the pass:
+-- each node before its children, these in a direction.
 abbrev pub OneTreeInFront : Type 0
 OneTreeInFront = (version : Version) (g : Grammar) (m : Passes) (k : ℕ) (d : Direction) (x : Item) (t s : Tree) (u w : Valuation) (rest others : List (List ℕ)) → IsNumbered g → IsRecorded g m k x t u → IsRecorded g m k x s w → prefix d (bodies_of version g m k t u) ++ rest ≡ prefix d (bodies_of version g m k s w) ++ others → (t ≡ s) × Same (λ p. p ≤ k) g m t u w × (rest ≡ others)
 
--- A list ends with the records of one tree of an item at most, and of one valuation of it up to the pass: each node behind its
--- children.
+-- A list ends with the records of at most one tree of an item, and of one valuation of it up to the pass:
+-- each node after its children.
 abbrev pub OneTreeAtEnd : Type 0
 OneTreeAtEnd = (version : Version) (g : Grammar) (m : Passes) (k : ℕ) (d : Direction) (x : Item) (t s : Tree) (u w : Valuation) (front others : List (List ℕ)) → IsNumbered g → IsRecorded g m k x t u → IsRecorded g m k x s w → front ++ postfix d (bodies_of version g m k t u) ≡ others ++ postfix d (bodies_of version g m k s w) → (t ≡ s) × Same (λ p. p ≤ k) g m t u w × (front ≡ others)
 
--- A content is the file of pass k of one tree of the grammar at most, and of one valuation of it up to the pass.
+-- A content is the file of pass k of at most one tree of the grammar, and of one valuation of it up to the
+-- pass.
 abbrev pub OneReading : Type 0
 OneReading = (version : Version) (g : Grammar) (m : Passes) (k : ℕ) (t s : Tree) (u w : Valuation) (content : List ℕ) → IsUsable version → FitsVersion version g m → IsNumbered g → IsTreeOf g t → IsTreeOf g s → IsFileOfTree version g m k t u content → IsFileOfTree version g m k s w content → (t ≡ s) × Same (λ p. p ≤ k) g m t u w
 
@@ -44,78 +45,79 @@ OneReading = (version : Version) (g : Grammar) (m : Passes) (k : ℕ) (t s : Tre
 abbrev pub SameFile : Type 0
 SameFile = (version : Version) (g : Grammar) (m : Passes) (k : ℕ) (t : Tree) (u w : Valuation) (content : List ℕ) → Same (λ p. p ≤ k) g m t u w → IsFileOfTree version g m k t u content → IsFileOfTree version g m k t w content
 
--- A record can number the productions of an accepted grammar, and under a legal assignment it has no more values than the version
--- allows.
+-- A record can number the productions of an accepted grammar, and under a legal assignment it has no more
+-- values than the version allows.
 abbrev pub FitsAccepted : Version → Type 0
 FitsAccepted version = (g : Grammar) (m : Passes) → IsAccepted g → IsLegal g m → IsNumbered g × FitsVersion version g m
 
--- No pass was run: the values are as before.
+-- No pass was run: the content and the values are unchanged.
 abbrev pub StartsRun : Type 0
 StartsRun = (version : Version) (g : Grammar) (m : Passes) (k : ℕ) (start before : List ℕ) → RunsPasses version g m k k start start before
 
--- One pass more was run, from the file of the last one to another content.
+-- One more pass was run, from the file of the last one to another content.
 abbrev pub GoesOnRun : Type 0
 GoesOnRun = (version : Version) (g : Grammar) (m : Passes) (k last : ℕ) (start now before next : List ℕ) → IsLegal g m → k ≤ last → RunsPasses version g m k last start now before → RunsPass version g m last now next → RunsPasses version g m k (suc last) start next now
 
--- What is the file of no tree behind some passes was that of none before them,
+-- If the file after some passes is of no tree, so was the file before them,
 abbrev pub RefusalGoesBack : Type 0
 RefusalGoesBack = (version : Version) (g : Grammar) (m : Passes) (k last : ℕ) (start now before : List ℕ) → RunsPasses version g m k last start now before → HasNoTree version g m last now → HasNoTree version g m k start
 
--- within limits too.
+-- also within limits.
 abbrev pub RefusalWithinGoesBack : Type 0
 RefusalWithinGoesBack = (depth nodes : ℕ) (version : Version) (g : Grammar) (m : Passes) (k last : ℕ) (start now before : List ℕ) → RunsPasses version g m k last start now before → HasNoTreeWithin depth nodes version g m last now → HasNoTreeWithin depth nodes version g m k start
 
--- A body is the record of a child with one list of its own children at most.
+-- A body is the record of a child with at most one list of its own children.
 abbrev pub OneRecord : Type 0
 OneRecord = (version : Version) (g : Grammar) (m : Passes) (k : ℕ) (x : Child) (body : List ℕ) (ys zs : List Child) → IsNumbered g → IsRecordOf version g m k x body ys → IsRecordOf version g m k x body zs → ys ≡ zs
 
--- A body is a record of a symbol exactly where it has a production of it and as many well values as it should. Those behind its own
--- are the copies.
+-- A body is a record of a symbol exactly if it has a production of the symbol and the right number of well
+-- values. Those after its own values are the copies.
 abbrev pub ListedRecord : Type 0
 ListedRecord = (version : Version) (g : Grammar) (m : Passes) (k s : ℕ) (body : List ℕ) (ys : List Child) → IsRecordOf version g m k (item.Symbol s, None) body ys ↔ ((p : ℕ) × (q : Production) × (vs : List Value) × IsListedRecord version g m k s body p q vs × (ys ≡ told version.has_copies g m k (stored_items q.items) (drop (count_up_to k (m s)) vs)))
 
--- Where fewer values were read of some bytes than there should be, and no other begins behind them, the bytes spell not so
--- many;
+-- If fewer values were read from some bytes than there should be, and no other value begins after them, the
+-- bytes don't spell that number of values;
 abbrev pub ValueIsMissing : Type 0
 ValueIsMissing = (bytes : List ℕ) (vs : List Value) (rest : List ℕ) (n : ℕ) → HasRead bytes vs rest → length vs < n → BeginsNoValue rest → AreSpelled n bytes → ⊥
 
--- nor do they where all were read and bytes are left.
+-- nor do they if all were read and bytes are left over.
 abbrev pub BytesAreLeft : Type 0
 BytesAreLeft = (bytes : List ℕ) (vs : List Value) (rest : List ℕ) (n : ℕ) → HasRead bytes vs rest → length vs ≡ n → 0 < length rest → AreSpelled n bytes → ⊥
 
--- At the end of a content the root is to come,
+-- At the end of a content the root is expected,
 abbrev pub WayBegins : Type 0
 WayBegins = (version : Version) (g : Grammar) (m : Passes) (k : ℕ) (content : List ℕ) → IsUsable version → FitsVersion version g m → IsOnTheWay version g m k content (length content) 0 (root_to_come g)
 
--- and behind a record of the first child that is to come its own children are, before the others.
+-- and after a record of the first expected child its own children are, before the others.
 abbrev pub WayGoesOn : Type 0
 WayGoesOn = (version : Version) (g : Grammar) (m : Passes) (k : ℕ) (content body : List ℕ) (at count level : ℕ) (x : Child) (ys : List Child) (todo : ToCome) → IsNumbered g → IsOnTheWay version g m k content at count ((level, x) ∷ todo) → next_before version content at ≡ Ok (Some body) → IsRecordOf version g m k x body ys → IsOnTheWay version g m k content (before_frame at body) (suc count) (before_others (other (direction_of k)) (suc level) ys todo)
 
--- Behind i visited members of a right side the next one is to come, and the others of that right side behind it;
+-- After i visited members of a right side the next one is expected, and then the others of that right side;
 abbrev pub NextToCome : Type 0
 NextToCome = (d : Direction) (level i : ℕ) (xs : List Child) (x : Child) (todo : ToCome) → i < length xs → slice_get xs (nth d (length xs) i) ≡ Some x → before_others d level (unvisited d xs i) todo ≡ (level, x) ∷ before_others d level (unvisited d xs (suc i)) todo
 
--- before the first one all of them are, and behind the last one none.
+-- before the first one all of them are, and after the last one none.
 abbrev pub AllToCome : Type 0
 AllToCome = (d : Direction) (level : ℕ) (xs : List Child) (todo : ToCome) → (unvisited d xs 0 ≡ xs) × (before_others d level (unvisited d xs (length xs)) todo ≡ todo)
 
--- Bodies are awaited exactly where they are the records of such trees.
+-- Bodies are expected exactly if they are the records of such trees.
 abbrev pub AwaitedAreThere : Type 0
 AwaitedAreThere = (version : Version) (g : Grammar) (m : Passes) (k deepest : ℕ) (d : Direction) (todo : ToCome) (bodies : List (List ℕ)) → Awaits version g m k d deepest todo bodies ↔ AreThere version g m k d deepest todo bodies
 
--- Where nothing is to come and the content is the file of a tree, everything was read: the header ends there.
+-- If nothing is expected and the content is the file of a tree, everything was read: the header ends there.
 abbrev pub WayEnds : Type 0
 WayEnds = (version : Version) (g : Grammar) (m : Passes) (k : ℕ) (content : List ℕ) (at count : ℕ) (t : Tree) (v : Valuation) → IsOnTheWay version g m k content at count [] → IsTreeOf g t → IsFileOfTree version g m k t v content → next_before version content at ≡ Ok None
 
--- Where what is found before an offset is not what is to come, the content is the file of no tree;
+-- If the body found before an offset is not the expected one, the content is the file of no tree;
 abbrev pub WayBreaks : Type 0
 WayBreaks = (version : Version) (g : Grammar) (m : Passes) (k : ℕ) (content : List ℕ) (at count : ℕ) (todo : ToCome) → IsOnTheWay version g m k content at count todo → Breaks version g m k todo (next_before version content at) → HasNoTree version g m k content
 
--- where a tree at too deep a level, or one record too many, is to come, it is that of none within the limits;
+-- if a tree at too deep a level, or one record too many, is expected, it is the file of no tree within the
+-- limits;
 abbrev pub WayIsTooLong : Type 0
 WayIsTooLong = (version : Version) (g : Grammar) (m : Passes) (k : ℕ) (content : List ℕ) (at count level depth nodes : ℕ) (x : Child) (todo : ToCome) → IsOnTheWay version g m k content at count ((level, x) ∷ todo) → IsTooLarge depth nodes level count → HasNoTreeWithin depth nodes version g m k content
 
--- and it is that of none where it begins otherwise than a tree file of the pass.
+-- and it is the file of no tree if it does not begin as a tree file of the pass.
 abbrev pub NoFileHasNoTree : Type 0
 NoFileHasNoTree = (version : Version) (g : Grammar) (m : Passes) (k : ℕ) (content : List ℕ) → IsUsable version → k < 2 ^ 16 → ((is_tree_file version content ≡ true) × (pass_of content ≡ k) → ⊥) → HasNoTree version g m k content
 

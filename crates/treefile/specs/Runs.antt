@@ -1,5 +1,5 @@
--- Passes over files one after the other: each reads the file of the pass before it and leaves its own, of the same tree (after
--- Jazayeri and Walter 1975).
+-- Passes over files one after the other: each reads the file of the previous pass and leaves its own, of the
+-- same tree (after Jazayeri and Walter 1975).
 use Rattle.std.specs.Prelude.{ℕ, suc, ◌≡◌, ◌<◌, ◌≤◌, List}
 use Rattle.ag_grammar.specs.grammars.AttributeGrammar.{Grammar}
 use Rattle.ag_grammar.specs.grammars.Passes.{Passes}
@@ -9,29 +9,29 @@ use Rattle.ag_grammar.specs.grammars.Tree.{IsTreeOf, Tree}
 use Rattle.treefile.specs.records.Records.{IsFileOfTree}
 use Rattle.treefile.specs.records.TreeFile.{Version}
 
--- What pass k + 1 does to a tree with values u, whose file of pass k was read: the content is then the file of pass k + 1, with
--- values that keep all that u has of the passes before, and meet each equation whose target is of the pass (after Jazayeri and
--- Walter 1975).
+-- The effect of pass k + 1 on a tree with values u, whose file of pass k was read: the content is then the
+-- file of pass k + 1, with values that keep all values of u of the earlier passes, and meet each equation
+-- whose target is of the pass (after Jazayeri and Walter 1975).
 pub record RanPass (version : Version) (g : Grammar) (m : Passes) (k : ℕ) (t : Tree) (u : Valuation) (to : List ℕ) : Type 0 where
   pub values : Valuation
   pub file : IsFileOfTree version g m (suc k) t values to
   pub kept : Same (λ p. p < suc k) g m t u values
   pub solved : Solves (OfPass m (suc k)) g t values
 
--- Pass k + 1 ran from one content to another: of whichever tree and values the one is the file of pass k, the pass did this to
--- them (this project's).
+-- Pass k + 1 ran from one content to another: for every tree and values whose file of pass k the first
+-- content is, the pass had its effect on them (this project's).
 abbrev pub RunsPass : Version → Grammar → Passes → ℕ → (from to : List ℕ) → Type 0
 RunsPass version g m k from to = (t : Tree) (u : Valuation) → IsTreeOf g t → IsFileOfTree version g m k t u from → RanPass version g m k t u to
 
--- Passes from `first` to `last` ran through a tree that had the values u. One content is the file of the last pass; and where a
--- pass ran, the other is that of the pass before the last, with the same values (this project's).
+-- Passes from `first` to `last` ran through a tree that had the values u. `now` is the file of the last pass;
+-- and if a pass ran, `before` is that of the pass before the last, with the same values (this project's).
 pub record HasRun (version : Version) (g : Grammar) (m : Passes) (t : Tree) (u : Valuation) (first last : ℕ) (now before : List ℕ) : Type 0 where
   pub values : Valuation
   pub ran : RanThrough g m t u first (suc last) values
   pub file : IsFileOfTree version g m last t values now
   pub other : (k : ℕ) → first ≤ last → last ≡ suc k → IsFileOfTree version g m k t values before
 
--- The passes behind pass k ran, up to the last: of whichever tree and values the start is the file of pass k, they ran through
--- it and left these two contents (this project's).
+-- The passes after pass k ran, up to the last: for every tree and values whose file of pass k the start is,
+-- they ran through it and left these two contents (this project's).
 abbrev pub RunsPasses : Version → Grammar → Passes → (k last : ℕ) → (start now before : List ℕ) → Type 0
 RunsPasses version g m k last start now before = (t : Tree) (u : Valuation) → IsTreeOf g t → IsFileOfTree version g m k t u start → HasRun version g m t u (suc k) last now before

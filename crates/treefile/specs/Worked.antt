@@ -1,4 +1,5 @@
--- A grammar and sentences whose files are worked out by hand. The grammar gives a binary fraction its value in 65536ths:
+-- A grammar and sentences whose files are worked out by hand. The grammar computes the value of a binary
+-- fraction in units of 1/65536:
 --   start N; symbol N syn out; symbol Q syn v; symbol L syn p, v inh w; symbol T syn p, v inh w; symbol B syn bit;
 --   N = L Q   Q =   Q = "." L   L = B T   T =   T = B T   B = "0"   B = "1"
 -- Symbols and productions are numbered from 0 in this order. The rules are left out, since no file depends on them.
@@ -35,7 +36,7 @@ binary = record {
   start = 0;
 }
 
--- `p` and `bit` are of pass 1, and all else is of pass 2
+-- `p` and `bit` are of pass 1, and all others of pass 2
 abbrev pub binary_passes : Passes
 binary_passes zero = 2 ∷ []
 binary_passes (suc zero) = 2 ∷ []

@@ -1,4 +1,4 @@
--- How far the reading or the writing of a file has come.
+-- The progress of reading or writing a file.
 pub mod Awaited
 pub mod Backward
 pub mod Beginning

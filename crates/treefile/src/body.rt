@@ -5,7 +5,7 @@ ghost use Rattle.std.specs.Prelude.{slice_index};
 ghost use Rattle.treefile.specs.records.TreeFile.{body_from};
 ghost use Rattle.treefile.specs.declared.body.Kind.{Kind};
 
-/// What a record of a tree file stands for.
+/// The kind of a record of a tree file.
 #[derive(Clone, Copy, Debug, PartialEq, Eq)]
 pub enum Kind {
     /// A node of a tree; its number is that of its production.
@@ -17,7 +17,7 @@ pub enum Kind {
 impl Kind {
     ghost use Rattle.treefile.specs.records.TreeFile.{kind_byte};
 
-    /// The first byte of a body of this kind.
+    /// Returns the first byte of a body of this kind.
     pub(crate) fn byte(self) -> u8
         ensures { result ≡ kind_byte self }
     {
@@ -28,15 +28,15 @@ impl Kind {
     }
 }
 
-/// The kind, the number and the spellings of the values of a body, or `None` where it has fewer
-/// than three bytes or its first byte is neither 0 (a node) nor 1 (a token). Whether spellings
-/// follow isn't looked at. Takes no memory.
+/// Splits a body into its kind, its number and the spellings of its values. Returns `None` if the
+/// body has fewer than three bytes or its first byte is neither 0 (a node) nor 1 (a token). The
+/// spellings are not checked. Takes no memory.
 pub fn split_body(body: &[u8]) -> Option<(Kind, u16, &[u8])>
-    // What is given stands there,
+    // The body has the returned parts,
     ensures fields { IfSome result (λ fields. body.now ≡ body_from fields.0 fields.1 fields.2.now) }
     ensures none { IfNone result ((length body.now < 3) ⊎ (1 < slice_index body.now 0)) }
 
-    // and what stands there is given.
+    // and the parts of a body are returned.
     ensures only { (kind : Kind) (number : ℕ) (spellings : List ℕ) → number < 2 ^ 16 →
         body.now ≡ body_from kind number spellings →
         IsSomeAnd result (λ fields. (fields.0 ≡ kind) × (fields.1 ≡ number)

@@ -1,4 +1,4 @@
-//! A device over a file, which gathers what is appended.
+//! A device over a file, which buffers appended bytes.
 
 ghost use Rattle.std.specs.Prelude.{◌≡◌, ◌≤◌, ◌+◌, ◌++◌, ◌⊎◌, [], length, slice_range};
 ghost use Rattle.std.specs.Prelude.{Ok, Err, IfErr, IfOk, IsErrOf, OnErr, OnOk};
@@ -16,35 +16,35 @@ use std::io::{self, Read, Seek, Write};
 use std::marker::Model;
 use std::rt::Files;
 
-/// The greatest number of bytes that are gathered before they are written to the file.
+/// The greatest number of bytes that are buffered before they are written to the file.
 const GATHERED_BYTES: usize = 65_536;
 
-/// Why a file is no device.
+/// The reason why a device over a file can't be made.
 #[derive(Clone, Copy, Debug, PartialEq, Eq)]
 pub enum FileFault {
-    /// F1: the file can't be made or opened.
+    /// F1: the file can't be created or opened.
     File,
 }
 
-/// What may be done with the file of a device.
+/// The access that a device has to its file.
 #[derive(Clone, Copy, Debug, PartialEq, Eq)]
 pub enum Access {
-    /// It is read alone.
+    /// The file is only read.
     Reading,
-    /// It is read, and written at its end.
+    /// The file is read, and appended to.
     Writing,
-    /// Nothing: a write to it failed.
+    /// None: a write to the file failed.
     Broken,
 }
 
-/// A device over a file. It gathers appended bytes in memory, at most 65,536 of them, and writes
+/// A device over a file. It buffers appended bytes in memory, at most 65,536 of them, and writes
 /// them to the file when more arrive, before `len` and `read_at` use the file, and in `finish`: a
-/// device that is dropped without `finish` loses the bytes that it has gathered. After a failed
+/// device that is dropped without `finish` loses the bytes that it has buffered. After a failed
 /// write every call fails.
 ///
-/// A record, which occupies no memory, has each call on the file with its answer. The model reads
-/// the content of the file and its honesty off that record: the file is honest if each length and
-/// each byte that it returned agrees with what was written to it.
+/// A record, which occupies no memory, has each call on the file with its result. The model derives
+/// the content of the file and its honesty from that record: the file is honest if each length and
+/// each byte that it returned agrees with the bytes that were written to it.
 #[derive(Drop)]
 pub struct FileDevice<F> {
     file: NotedFile<F>,
@@ -68,7 +68,7 @@ impl<F> Model for FileDevice<F> {
 }
 
 impl<F> FileDevice<F> {
-    /// A device over an open file. Takes no memory.
+    /// Makes a device over an open file. Takes no memory.
     fn over(alloc: Global, file: NotedFile<F>, access: Access) -> FileDevice<F>
         ensures file { result.file ≡ file.file }
         ensures events { result.events ≡ file.events }
@@ -84,7 +84,7 @@ impl<F> FileDevice<F> {
         }
     }
 
-    /// Counts a failed call.
+    /// Counts a failed call and returns `Failed`.
     fn fail(&mut self) -> DeviceFault
         ensures fault { result ≡ DeviceFault.Failed }
         ensures rest { self.new ≡ record self.old { failures = self.new.failures } }
@@ -116,7 +116,7 @@ impl<F: Read + Write + Seek + OpenFile> FileDevice<F> {
         }
     }
 
-    /// Writes the gathered bytes to the file, so that the file has the whole content of the device.
+    /// Writes the buffered bytes to the file, so that the file has the whole content of the device.
     /// Fails with `Failed` (D1) if that write or an earlier one failed. Takes no memory.
     pub fn finish(&mut self) -> Result<(), DeviceFault>
         ensures taken { OnOk result
@@ -142,7 +142,7 @@ impl<F: Read + Write + Seek + OpenFile> FileDevice<F> {
         Ok(())
     }
 
-    /// Gathers bytes, for which there is room. Takes memory for them.
+    /// Buffers bytes, for which the buffer has room. Takes memory for them. Fails with NoMemory.
     fn gather(&mut self, bytes: &[u8]) -> Result<(), DeviceFault>
         ensures ok { OnOk result (self.new
             ≡ record self.old { gathered = self.old.gathered ++ bytes.now }) }
@@ -155,7 +155,7 @@ impl<F: Read + Write + Seek + OpenFile> FileDevice<F> {
         }
     }
 
-    /// Appends bytes, also where there is no room to gather them.
+    /// Appends bytes, also if the buffer has no room for them.
     #[cold]
     #[inline(never)]
     fn append_slowly(&mut self, bytes: &[u8]) -> Result<(), DeviceFault>

@@ -1,4 +1,4 @@
-//! A device that fails at one of its calls, to see what a failure leaves.
+//! A device that fails at one chosen call, to test the effects of a failure.
 
 ghost use Rattle.std.specs.Prelude.{◌≡◌, ◌≤◌, ◌+◌, ◌-◌, ◌↔◌, length, slice_range, IfOk, IsErrOf};
 ghost use Rattle.std.specs.Prelude.{IsTrue, IsFalse, OnOk};
@@ -9,8 +9,8 @@ ghost use Rattle.treefile.specs.devices.Fuse.{Burns, Fuse, FusePersists, failure
 use crate::device::{Device, DeviceFault};
 use std::marker::Model;
 
-/// A device that hands its calls on to another one, but for one of them: that one answers `Failed`
-/// and does nothing. It is honest where the other one is.
+/// A device that forwards its calls to another one, except one of them: that call fails and does
+/// nothing. It is honest if the other device is.
 #[derive(Drop)]
 pub struct FuseDevice<D> {
     inner: D,
@@ -27,8 +27,8 @@ impl<D> Model for FuseDevice<D> {
 }
 
 impl<D: Device> FuseDevice<D> {
-    /// A device whose k-th call from now on fails, counted from 1; with 0 none does. It has the
-    /// content and the honesty of the other one. Takes no memory.
+    /// Makes a device whose k-th call from now on fails, counted from 1. With 0 no call fails.
+    /// Content and honesty are those of `inner`. Takes no memory.
     pub fn new(inner: D, k: u64) -> FuseDevice<D>
         ensures inner { result.inner ≡ inner }
         ensures left { result.left ≡ k }
@@ -49,7 +49,7 @@ impl<D: Device> FuseDevice<D> {
         &self.inner
     }
 
-    /// Counts a call. Whether it is the one that fails.
+    /// Counts a call, and returns whether it is the one that fails.
     fn burns(&mut self) -> bool
         ensures inner { self.new.inner ≡ self.old.inner }
         ensures left { self.new.left ≡ self.old.left - 1 }

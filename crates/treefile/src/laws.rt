@@ -1,4 +1,4 @@
-//! What is true of the definitions of tree files alone, in every version.
+//! Laws about the definitions of tree files, in every version.
 
 ghost use Rattle.std.specs.Prelude.{◌≡◌, ◌≤◌, ◌<◌, ◌^◌, ◌++◌, ◌∷◌, ◌↔◌, ℕ, List, [], All};
 ghost use Rattle.std.specs.Prelude.{Ok, Err, length, reverse, take, true};
@@ -12,8 +12,8 @@ ghost use Rattle.treefile.specs.records.TreeFile.{Version, body_of, file, frame}
 ghost use Rattle.treefile.specs.declared.body.Kind.{Kind};
 ghost use Rattle.treefile.specs.declared.reading.FrameFault.TheVariants.{Damaged};
 
-/// A content is a tree file exactly where there is room for a header and the first bytes are those
-/// of the version.
+/// A content is a tree file exactly if it has room for a header and begins with the magic of the
+/// version.
 pub fn headers_are_told()
     ensures { (version : Version) (content : List ℕ) →
         (is_tree_file version content ≡ true)
@@ -21,8 +21,8 @@ pub fn headers_are_told()
         × (take (length version.magic) content ≡ version.magic)) }
 {}
 
-/// Of a content of bytes, a body is read exactly where its frame ends at the offset, and the offset
-/// is told as damaged exactly where no frame ends there.
+/// In a content of bytes, a body is read exactly if its frame ends at the offset, and the offset is
+/// reported as damaged exactly if no frame ends there.
 pub fn frames_are_read()
     ensures read { (version : Version) (content body : List ℕ) (at : ℕ) → IsUsable version →
         IsBodyBefore version content at body → body_before version content at ≡ Ok body }
@@ -35,8 +35,9 @@ pub fn frames_are_read()
         body_before version content at ≡ Err (Damaged at) }
 {}
 
-/// A file grows by the frame of a body. Its last body is the one whose frame was put last, and
-/// behind a header alone there is none. Where there is none, the end of the content is told.
+/// A file grows by the frame of a body. Its last body is the one whose frame was appended last, and
+/// after a header alone there is none. If there is none, the error has the offset of the end of the
+/// content.
 pub fn last_is_read()
     ensures grows { (version : Version) (pass : ℕ) (bodies : List (List ℕ)) (body : List ℕ) →
         file version pass (bodies ++ body ∷ []) ≡ file version pass bodies ++ frame body }
@@ -49,9 +50,9 @@ pub fn last_is_read()
         last_body_of version content ≡ Err (Damaged at) → at ≡ length content }
 {}
 
-/// A file begins as a tree file of its pass does, and is read back from its end to its header as
-/// its bodies, the last one first. A content of bytes that begins so and is read back so is the
-/// file of these bodies.
+/// A file begins as a tree file of its pass, and is read back from its end to its header as its
+/// bodies, the last one first. A content of bytes that begins so and is read back so is the file of
+/// these bodies.
 pub fn files_are_read_back()
     ensures begins { (version : Version) (pass : ℕ) (bodies : List (List ℕ)) → IsUsable version →
         pass < 2 ^ 16 → (is_tree_file version (file version pass bodies) ≡ true)
@@ -65,8 +66,8 @@ pub fn files_are_read_back()
         content ≡ file version (pass_of content) (reverse bodies) }
 {}
 
-/// The body of a record of well values, at most as many as the version allows, is neither shorter
-/// than the least nor longer than the greatest that is read.
+/// The body of a record of well values, at most as many as the version allows, has a length within
+/// the limits of the version.
 pub fn records_fit()
     ensures least { (kind : Kind) (number : ℕ) (values : List Value) →
         least_body ≤ length (body_of kind number values) }

@@ -1,4 +1,4 @@
-//! The versions of tree files, their numbers and their first bytes.
+//! The versions of tree files, and the layout of their headers and frames.
 
 ghost use Rattle.std.specs.Prelude.{◌≡◌};
 ghost use Rattle.treefile.specs.ways.Ending.{greatest_body};
@@ -7,38 +7,39 @@ ghost use Rattle.treefile.specs.records.TreeFile.{header, version_of, version_tw
 use ag_grammar::limits::{MOST_ATTRIBUTES, MOST_STORED};
 use ag_value::MAX_WEIGHT;
 
-/// How many bytes a header has: those four, and the number of the pass in two.
+/// The number of bytes of a header: four of the magic, and two of the pass number.
 pub const HEADER_BYTES: u64 = 6;
 
-/// How many bytes the length behind a body has.
+/// The number of bytes of the length that follows a body.
 pub const LENGTH_BYTES: u64 = 4;
 
-/// How many bytes a body has at least: a kind and a number.
+/// The least number of bytes of a body: one of the kind, and two of the number.
 pub const LEAST_BODY: u64 = 3;
 
-/// How many values a record has at most: as many as a symbol has attributes, and as many besides for
-/// each child.
+/// The greatest number of values of a record: those of all attributes of its symbol, and as many
+/// for each child.
 pub const MOST_VALUES: usize = MOST_ATTRIBUTES + MOST_STORED * MOST_ATTRIBUTES;
 
-/// How many bytes a body of version 1 has at most: those, and the greatest values of all attributes of
-/// a symbol.
+/// The greatest number of bytes of a body of version 1: the least body, and the greatest values of
+/// all attributes of a symbol.
 const GREATEST_OLD_BODY: u64 = LEAST_BODY + MOST_ATTRIBUTES as u64 * MAX_WEIGHT;
 
-/// How many a body of version 2 has at most: those, and the greatest values of as many as a record has.
+/// The greatest number of bytes of a body of version 2: the least body, and the greatest values of
+/// a full record.
 const GREATEST_BODY: u64 = LEAST_BODY + MOST_VALUES as u64 * MAX_WEIGHT;
 
 /// A version of tree files.
 #[derive(Clone, Copy, Debug, PartialEq, Eq)]
 pub enum FileVersion {
-    /// Version 1: its files begin with `AGT1`, and the record of a node has its own values alone.
+    /// Version 1: its files begin with `AGT1`, and the record of a node has only its own values.
     One,
-    /// Version 2: its files begin with `AGT2`, and the record of a node has copies of its children's
-    /// values behind its own. All files that are written are of this version.
+    /// Version 2: its files begin with `AGT2`, and the record of a node has copies of its
+    /// children's values after its own. All files that are written have this version.
     Two,
 }
 
 impl FileVersion {
-    /// The first four bytes of its files.
+    /// Returns the first four bytes of the files of this version.
     pub(crate) fn magic(self) -> [u8; 4]
         ensures { result ≡ (version_of self).magic }
     {
@@ -48,7 +49,8 @@ impl FileVersion {
         }
     }
 
-    /// How many bytes a body has at most: 16,777,219 in version 1, 285,212,675 in version 2.
+    /// Returns the greatest number of bytes of a body: 16,777,219 in version 1, 285,212,675 in
+    /// version 2.
     pub fn greatest_body(self) -> u64
         ensures { result ≡ greatest_body (version_of self) }
     {
@@ -59,7 +61,7 @@ impl FileVersion {
     }
 }
 
-/// The header of the file of a pass.
+/// Returns the header of the file of a pass.
 pub(crate) fn header_of(pass: u16) -> [u8; 6]
     ensures { result ≡ header version_two pass }
 {

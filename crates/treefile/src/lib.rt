@@ -1,5 +1,5 @@
-//! Tree files: devices that keep bytes, the frames of a file of records, writing them and reading
-//! the last one.
+//! Tree files: devices that keep bytes, the frames of a file, writing records, and reading the last
+//! one.
 #![tactic(auto)]
 
 mod body;

@@ -1,4 +1,4 @@
-//! A device in memory, which stands for a file.
+//! A device in memory.
 
 ghost use Rattle.std.specs.Prelude.{◌≡◌, [], true};
 
@@ -6,7 +6,7 @@ use crate::device::{Device, DeviceFault};
 use std::alloc::Global;
 use std::marker::Model;
 
-/// A device in memory, seen as its bytes. It is honest, and never fails.
+/// A device in memory. Contracts see its bytes. It is honest, and never fails.
 #[derive(Drop)]
 pub struct MemDevice {
     bytes: Vec<u8>,
@@ -21,7 +21,7 @@ impl Model for MemDevice {
 }
 
 impl MemDevice {
-    /// A device without bytes, which grows by the allocator. Takes no memory.
+    /// Makes an empty device, which grows by the allocator. Takes no memory.
     pub fn new(alloc: Global) -> MemDevice
         ensures { result ≡ [] }
     {
@@ -30,14 +30,14 @@ impl MemDevice {
         }
     }
 
-    /// A device that has these bytes. Takes no memory.
+    /// Makes a device that has these bytes. Takes no memory.
     pub fn from_bytes(bytes: Vec<u8>) -> MemDevice
         ensures { result ≡ bytes.items }
     {
         MemDevice { bytes }
     }
 
-    /// Lends the bytes that it has.
+    /// Lends the bytes of the device.
     pub fn bytes(&self) -> &[u8]
         ensures { result.now ≡ self.now }
     {

@@ -1,4 +1,4 @@
-//! Reading the last record of a tree file: where the file ends, the length of the last body stands.
+//! Reading the last record of a tree file. The length of the last body is at the end of the file.
 
 ghost use Rattle.std.specs.Prelude.{◌≡◌, ◌+◌, ◌<◌, ◌≤◌, ◌⊎◌, ◌^◌, length, take, IfErr, IfOk};
 ghost use Rattle.std.specs.Prelude.{IsErrOf, IsTrue, OnOk, nat_eq, slice_range};
@@ -16,17 +16,17 @@ use crate::device::{Device, DeviceFault};
 use crate::layout::{FileVersion, HEADER_BYTES, LEAST_BODY, LENGTH_BYTES};
 use std::alloc::{AllocError, Global};
 
-/// Why a tree file gave no body.
+/// The reasons why no body can be read from a tree file.
 #[derive(Clone, Copy, Debug, PartialEq, Eq)]
 pub enum FrameFault {
-    /// B1: there are fewer than 6 bytes, or the first four are not those of the version that is read,
-    /// `AGT1` or `AGT2`.
+    /// B1: there are fewer than 6 bytes, or the first four are not the magic of the expected
+    /// version, `AGT1` or `AGT2`.
     NotATreeFile,
-    /// B2: no frame ends at this offset in bytes, where one should.
+    /// B2: no frame ends at this offset (in bytes), where one is expected.
     Damaged(u64),
     /// D1: a call of the device failed.
     Device,
-    /// A growth was refused.
+    /// The allocator refused memory.
     NoMemory,
 }
 
@@ -49,15 +49,15 @@ impl From<AllocError> for FrameFault {
     }
 }
 
-/// The number of the pass in the header of a tree file of a version, which a device with so many bytes
-/// may have. Takes no memory.
+/// Returns the number of the pass in the header of a tree file of a version. `end` is the number of
+/// bytes of the device. Takes no memory.
 ///
-/// B1 NotATreeFile where there are fewer than 6 bytes or the first four are not the version's. D1
-/// Device where the call of the device failed.
+/// Fails with B1 NotATreeFile if there are fewer than 6 bytes or the first four are not the
+/// version's, and with D1 Device if the call of the device failed.
 #[tactic(auto, unfolding(crate::specs::ways::Ending::is_tree_file))]
 pub fn pass_in<D: Device>(version: FileVersion, device: &mut D, end: u64) -> Result<u16, FrameFault>
     requires { WhenHonest (D.is_honest device.old) (end ≡ length (D.content device.old)) }
-    // The number, and B1, exactly as the content has them
+    // The number and B1 agree with the content.
     ensures told { WhenHonest (D.is_honest device.new)
         (Told (λ pass. pass) result (pass_in (version_of version) (D.content device.old))) }
     ensures bytes { WhenHonest (D.is_honest device.new)
@@ -81,7 +81,7 @@ pub fn pass_in<D: Device>(version: FileVersion, device: &mut D, end: u64) -> Res
     Ok(u16::from_be_bytes([high, low]))
 }
 
-/// Whether bytes begin as those of a tree file of a version.
+/// Returns whether bytes begin with the magic of a version.
 fn has_magic(version: FileVersion, bytes: &[u8]) -> bool
     ensures found { result ≡ starts_with nat_eq bytes.now (version_of version).magic }
     ensures bytes { IsBytes bytes.now }
@@ -89,7 +89,8 @@ fn has_magic(version: FileVersion, bytes: &[u8]) -> bool
     bytes.starts_with(&version.magic())
 }
 
-/// The number in the four bytes before an offset.
+/// Reads the big-endian number in the four bytes before offset `at`. Fails with D1 if the device
+/// fails.
 fn number_before<D: Device>(device: &mut D, at: u64) -> Result<u32, DeviceFault>
     requires room { length_bytes ≤ at }
     requires within { WhenHonest (D.is_honest device.old) (at ≤ length (D.content device.old)) }
@@ -105,8 +106,8 @@ fn number_before<D: Device>(device: &mut D, at: u64) -> Result<u32, DeviceFault>
     Ok(u32::from_be_bytes(bytes))
 }
 
-/// Whether a frame with a body of so many bytes may end at an offset in a file of a version. Takes no
-/// memory.
+/// Returns whether a frame with a body of `length` bytes may end at offset `at` in a file of a
+/// version. Takes no memory.
 #[tactic(auto, unfolding(crate::specs::ways::Ending::fits_before))]
 pub fn fits_before(version: FileVersion, at: u64, length: u64) -> bool
     requires { length < 2 ^ 32 }
@@ -120,7 +121,8 @@ pub fn fits_before(version: FileVersion, at: u64, length: u64) -> bool
         && HEADER_BYTES + length + LENGTH_BYTES <= at
 }
 
-/// Fills a vector with `count` bytes of a device from offset `at` on. What the vector had is dropped.
+/// Fills a vector with `count` bytes of a device from offset `at` on. The old content of the vector
+/// is dropped.
 #[tactic(auto, using(std::proofs::lemmas::List::take_at))]
 fn fill_from<D: Device>(
     device: &mut D,
@@ -144,23 +146,23 @@ fn fill_from<D: Device>(
     Ok(())
 }
 
-/// Reads the body of the frame that ends at offset `at`, of version 2, into `body`, and drops what
-/// that vector had. The header of the file is not read.
+/// Reads the body of the frame of version 2 that ends at offset `at` into `body`, and drops the old
+/// content of `body`. The header of the file is not read.
 ///
-/// Asks for an offset within the device's content, if the device is honest.
+/// Requires an offset within the device's content, if the device is honest.
 ///
-/// Fails with B2 Damaged and that offset if no frame ends there: if fewer than 4 bytes are between the
-/// header and it, or if the number in the last four of them is below 3, above 285,212,675 or more than
-/// what is between the header and those four. Fails with D1 Device if a call of the device failed, and
-/// with NoMemory if the body is longer than `body` has room for and memory is refused. After a failure
-/// `body` has any bytes.
+/// Fails with B2 Damaged and that offset if no frame ends there: if fewer than 4 bytes are between
+/// the header and the offset, or if the number in the last four of them is below 3, above
+/// 285,212,675 or greater than the number of bytes between the header and those four. Fails with D1
+/// Device if a call of the device failed, and with NoMemory if the body is longer than `body` has
+/// room for and memory is refused. After a failure `body` has arbitrary bytes.
 #[tactic(auto, unfolding(crate::specs::ways::Ending::body_before))]
 pub fn read_body<D: Device>(device: &mut D, at: u64, body: &mut Vec<u8>) -> Result<(), FrameFault>
     requires { WhenHonest (D.is_honest device.old) (at ≤ length (D.content device.old)) }
-    // The body and B2, exactly as the content has them
+    // The body and B2 agree with the content.
     ensures exact { WhenHonest (D.is_honest device.new)
         (Told (λ _. body.new.items) result (body_before version_two (D.content device.old) at)) }
-    // Whatever the device is, a body is read that may be in a frame, and has room before the offset
+    // On any device: the body may be in a frame, and its frame fits before the offset.
     ensures body { OnOk result (IsBody version_two body.new.items) }
     ensures room { OnOk result (header_bytes + length body.new.items + length_bytes ≤ at) }
     ensures content { LeavesContent (D.is_honest device.new)
@@ -179,22 +181,22 @@ pub fn read_body<D: Device>(device: &mut D, at: u64, body: &mut Vec<u8>) -> Resu
     fill_from(device, at - LENGTH_BYTES - length, length as usize, body)
 }
 
-/// The body of the last frame of the tree file that a device has: the one that ends where the
-/// device does.
+/// Reads the body of the last frame of the tree file on a device: the one that ends at the end of
+/// the file.
 ///
-/// B1 NotATreeFile where there are fewer than 6 bytes or the first four are not `AGT2`. Else B2
-/// Damaged, with the number of bytes as its offset, where fewer than 4 bytes stand behind the
-/// header, or where the number in the last four is below 3, above 285,212,675 or more than what
-/// stands between the header and those four. D1 Device where a call of the device failed. Takes
-/// memory for the body.
+/// Fails with B1 NotATreeFile if there are fewer than 6 bytes or the first four are not `AGT2`.
+/// Fails with B2 Damaged, and the number of bytes as its offset, if fewer than 4 bytes follow the
+/// header, or if the number in the last four is below 3, above 285,212,675 or greater than the
+/// number of bytes between the header and those four. Fails with D1 Device if a call of the device
+/// failed. Takes memory for the body.
 #[tactic(auto, unfolding(crate::specs::ways::Ending::last_body_of))]
 pub fn last_body<D: Device>(alloc: Global, device: &mut D) -> Result<Vec<u8>, FrameFault>
-    // The body, B1 and B2, exactly as the content has it
+    // The body, B1 and B2 agree with the content.
     ensures told { WhenHonest (D.is_honest device.new)
         (Told (λ body. body.items) result (last_body_of version_two (D.content device.old))) }
     ensures content { LeavesContent (D.is_honest device.new)
         (D.content device.old) (D.content device.new) }
-    // D1 only where the number of failures rose
+    // D1 only if the number of failures rose
     ensures persists { Persists (D.is_honest device.old) (D.is_honest device.new)
         (D.failures device.old) (D.failures device.new) (IsErrOf result FrameFault.Device) }
 {

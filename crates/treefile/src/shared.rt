@@ -28,7 +28,7 @@ impl Model for SharedDevice {
 }
 
 impl SharedDevice {
-    /// Returns a device without bytes, which grows by the allocator. Takes no memory.
+    /// Returns an empty device, which grows by the allocator. Takes no memory.
     pub fn new(alloc: Global) -> SharedDevice
         ensures { result ≡ [] }
     {
@@ -98,7 +98,8 @@ impl Device for SharedDevice {
     }
 }
 
-/// Lends the body of the frame that ends at an offset of a content without shared values.
+/// Lends the body of the frame that ends at offset `at` of a content without shared values. Returns
+/// `None` if no frame ends there.
 fn own_body_before(content: &[u8], at: u64) -> Option<Body<'_>>
     ensures body { IfSome result (λ body. body_before version_two content.now at ≡ Ok body) }
     ensures bytes { IfSome result
@@ -107,7 +108,8 @@ fn own_body_before(content: &[u8], at: u64) -> Option<Body<'_>>
     Some(Body::from_slice(slice_before(content, at)?))
 }
 
-/// Lends the body of the frame that ends at an offset of a content, as a slice.
+/// Lends the body of the frame that ends at offset `at` of a content, as a slice. Returns `None` if
+/// no frame ends there.
 fn slice_before(content: &[u8], at: u64) -> Option<&[u8]>
     ensures body { IfSome result (λ body. body_before version_two content.now at ≡ Ok body.now) }
     ensures bytes { IfSome result
@@ -126,13 +128,14 @@ fn slice_before(content: &[u8], at: u64) -> Option<&[u8]>
     Some(body)
 }
 
-/// Lends the body of the frame that ends at an offset of a content.
+/// Lends the body of the frame that ends at offset `at` of a content. Returns `None` if no frame
+/// ends there.
 fn body_between(bytes: &SharedBytes, at: u64) -> Option<Body<'_>>
     ensures body { IfSome result (λ body. body_before version_two bytes.now at ≡ Ok body) }
     ensures bytes { IfSome result
         (λ body. IsBytes (drop (at - length_bytes - length body) bytes.now)) }
 {
-    // so that the prover knows that these are bytes
+    // for the prover: the parts of `bytes` are bytes
     let _count = bytes.len();
     if at < HEADER_BYTES + LENGTH_BYTES {
         return None;
@@ -151,7 +154,8 @@ fn body_between(bytes: &SharedBytes, at: u64) -> Option<Body<'_>>
     Some(body)
 }
 
-/// Returns the number in four bytes, none of which are shared.
+/// Returns the big-endian number in four bytes, or `None` if the part has another length or shared
+/// bytes.
 fn number_of(part: &Body<'_>) -> Option<u32>
     ensures { IfSome result (λ n. n ≡ from_be_bytes w32 part.now) }
 {
@@ -161,7 +165,7 @@ fn number_of(part: &Body<'_>) -> Option<u32>
     }
 }
 
-/// Returns the number in four bytes.
+/// Returns the big-endian number in four bytes, or `None` for another length.
 #[inline(always)]
 fn number_in(bytes: &[u8]) -> Option<u32>
     ensures { IfSome result (λ n. n ≡ from_be_bytes w32 bytes.now) }

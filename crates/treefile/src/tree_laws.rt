@@ -1,4 +1,4 @@
-//! What is true of the definitions of trees of bodies and of their files alone.
+//! Laws about the definitions of trees of bodies and of their files.
 
 ghost use Rattle.std.specs.Prelude.{◌≡◌, ◌≤◌, ◌++◌, ◌∷◌, ℕ, List, [], Option, None, All, Ok, length, pos};
 ghost use Rattle.std.specs.Prelude.{reverse};
@@ -36,15 +36,15 @@ ghost use Rattle.treefile.specs.Worked.{file_of_x_x, iffy_passes, pass_0_of_one,
 ghost use Rattle.treefile.specs.Worked.{pass_2_of_one, production_of, record_of_iffy, record_of_n};
 ghost use Rattle.treefile.specs.Worked.{record_of_t, spelled_number, tree_of_one, values_of_one};
 
-/// Read from its end, the postfix list of a direction is the prefix list of the other one.
+/// The reverse of the postfix list of a direction is the prefix list of the other direction.
 pub fn orders_turn_round()
     ensures { (direction : Direction) (tree : BodyTree) →
         reverse (postfix direction tree) ≡ prefix (other direction) tree }
 {}
 
-/// Where each body tells how many children its node has, a list begins with the prefix list of one
-/// tree at most, and ends with the postfix list of one at most. So no prefix list is a proper
-/// beginning of another, and a list is that of one tree at most.
+/// If each body determines the number of children of its node, a list begins with the prefix list
+/// of at most one tree, and ends with the postfix list of at most one. So no prefix list is a
+/// proper prefix of another, and a list is that of at most one tree.
 pub fn lists_tell_trees()
     ensures begins { (rank : List ℕ → Option ℕ) (direction : Direction) (tree another : BodyTree)
         (rest others : List (List ℕ)) → IsRanked rank tree → IsRanked rank another →
@@ -56,8 +56,8 @@ pub fn lists_tell_trees()
         (tree ≡ another) × (front ≡ others) }
 {}
 
-/// Each record of a tree's file is neither shorter nor longer than a body is, and the file is read
-/// back as the tree's prefix list in the other direction: each node before its children.
+/// Each record of a tree's file has the length of a body, and the file is read back as the tree's
+/// prefix list in the other direction: each node before its children.
 pub fn trees_are_read_back()
     ensures bodies { (version : Version) (grammar : Grammar) (passes : Passes) (pass : ℕ)
         (tree : Tree) (values : Valuation) (content : List ℕ) →
@@ -72,8 +72,8 @@ pub fn trees_are_read_back()
         (prefix (other (direction_of pass)) (bodies_of version grammar passes pass tree values)) }
 {}
 
-/// The files of `1` in the grammar of binary fractions, byte for byte, and the one of `iffy if`. Of
-/// pass 0 no value stands in them but the text of a token. In version 2 a record has copies too.
+/// The files of `1` in the grammar of binary fractions, byte for byte, and the one of `iffy if`. In
+/// pass 0 the only values are the texts of tokens. In version 2 a record has copies too.
 pub fn worked_files()
     ensures first { (values : Valuation) →
         file_of_tree version_one binary binary_passes 0 tree_of_one values ≡ pass_0_of_one }
@@ -91,18 +91,18 @@ pub fn worked_files()
         file_of_tree version_two token_sample iffy_passes 0 token_tree values ≡ copies_of_iffy }
 {}
 
-/// A record tells its node's production and values. A list begins with the records of one tree of an
-/// item at most, and of one valuation of it, each node before its children; and it ends with those of
-/// one at most, each node behind its children.
+/// A record determines its node's production and values. A list begins with the records of at most
+/// one tree of an item, and of one valuation of it, each node before its children; and it ends with
+/// those of at most one, each node after its children.
 pub fn records_tell_trees()
     ensures node { OneNode }
     ensures front { OneTreeInFront }
     ensures end { OneTreeAtEnd }
 {}
 
-/// A content is the file of a pass of one tree of the grammar at most, and of one valuation of it up to
-/// the pass; and values that are the same up to the pass have the same file. What is asked of the
-/// grammar and of the version is so of accepted grammars in versions 1 and 2.
+/// A content is the file of a pass of at most one tree of the grammar, and of one valuation of it
+/// up to the pass. Values that are the same up to the pass have the same file. Accepted grammars
+/// meet the conditions on grammar and version in versions 1 and 2.
 pub fn files_have_one_tree()
     ensures reading { OneReading }
     ensures same { SameFile }
@@ -110,9 +110,10 @@ pub fn files_have_one_tree()
     ensures two { FitsAccepted version_two }
 {}
 
-/// Passes over files, one after the other. Where none has run the file is as it was, and one more has
-/// run where it read the file that the last one left. If that file is of no tree of the grammar, nor was
-/// the first one, within limits too: so what a later pass refuses is refused of the first file.
+/// Passes over files, one after the other. Before the first pass the file is unchanged, and each
+/// further pass reads the file that the previous one left. If that file is of no tree of the
+/// grammar, neither was the first one, also within limits: what a later pass refuses is refused of
+/// the first file.
 pub fn passes_follow_files()
     ensures begins { StartsRun }
     ensures goes { GoesOnRun }
@@ -120,10 +121,10 @@ pub fn passes_follow_files()
     ensures within { RefusalWithinGoesBack }
 {}
 
-/// On the way from the end of a content to its header the root is to come first, and behind a record
-/// its children are, which it tells in one way, one by one in the direction of the next pass. What is
-/// awaited are the records of trees of these. Where nothing is to come of the file of a tree, everything
-/// was read.
+/// Reading a content from its end to its header: the root is expected first, and after a record its
+/// children, which the record determines, one by one in the direction of the next pass. The
+/// expected bodies are the records of their trees. If nothing more is expected of the file of a
+/// tree, all of it was read.
 pub fn ways_are_followed()
     ensures one { OneRecord }
     ensures begins { WayBegins }
@@ -134,17 +135,17 @@ pub fn ways_are_followed()
     ensures ends { WayEnds }
 {}
 
-/// Where a content begins as no tree file of the pass, or what is found on the way is not what is to
-/// come, it is the file of no tree; and where too much is to come it is that of none of so few levels, or
-/// of so few nodes.
+/// If a content does not begin as a tree file of the pass, or a body found in reading is not the
+/// expected one, it is the file of no tree. If too much is expected, it is the file of no tree within
+/// the limits of levels and nodes.
 pub fn refusals_are_true()
     ensures breaks { WayBreaks }
     ensures long { WayIsTooLong }
     ensures header { NoFileHasNoTree }
 {}
 
-/// A record has its values one behind the other: a body is one exactly where it has as many well values
-/// as it should, and has not so many where one is missing or bytes are left.
+/// The values of a record follow one another: a body is a record exactly if it has the right number
+/// of well values, and it is none if a value is missing or bytes are left over.
 pub fn records_are_read()
     ensures listed { ListedRecord }
     ensures missing { ValueIsMissing }
@@ -157,11 +158,11 @@ pub fn root_is_last()
     ensures values { ValuesAreWhole }
 {}
 
-/// The tree of `1` with its values can stand in records, and so can that of `iffy if`, but not with an
-/// empty text for the name. The file of pass 2 of `1` is that of no other tree, and its last record is
-/// that of N. Pass 1 ran from the file of pass 0 of `x x` to that of pass 1, and so did the passes from 1
-/// to 1. T's record in pass 1 has the number 65536, which is spelled in nine bytes; behind these a 9
-/// begins no value, so that there are not two.
+/// The tree of `1` with its values can be recorded, and so can that of `iffy if`, but not with an
+/// empty text for the name. The file of pass 2 of `1` is that of no other tree, and its last record
+/// is that of N. Pass 1 ran from the file of pass 0 of `x x` to that of pass 1, and so did the
+/// passes from 1 to 1. T's record in pass 1 has the number 65536, which is spelled in nine bytes. A
+/// following byte 9 begins no value, so there are not two.
 pub fn worked_records()
     ensures numbered { IsNumbered binary }
     ensures recorded { IsRecorded binary binary_passes 2 (item.Symbol 0) tree_of_one values_of_one }
@@ -185,10 +186,10 @@ pub fn worked_records()
     ensures missing { AreSpelled 2 (spelled_number ++ 9 ∷ []) → ⊥ }
 {}
 
-/// On the way from the end of the file of pass 0 of `1`, which is read from right to left. First N is to
-/// come, and behind its record Q and then L, one level further down. The bodies are those of a tree of
-/// three levels, and of none of two; nor is the file that of a tree of three nodes at most. A header
-/// alone is the file of no tree, nor is a file with Q's record alone, nor is this one a file of pass 1.
+/// Reading the file of pass 0 of `1` from its end, from right to left. N is expected first, and
+/// after its record Q and then L, one level deeper. The bodies are those of a tree of three levels,
+/// and of none of two; nor is the file that of a tree of at most three nodes. A header alone is the
+/// file of no tree, nor is a file with only Q's record, nor is this one a file of pass 1.
 pub fn worked_way()
     ensures one { IsRecordOf version_one binary binary_passes 1 (item.Symbol 3, None)
         record_of_t [] }
@@ -216,8 +217,8 @@ pub fn worked_way()
     ensures other_pass { HasNoTree version_one binary binary_passes 1 pass_0_of_one }
 {}
 
-/// A tree of a grammar has exactly one file of pass 0 in each version, whichever passes its attributes
-/// are of.
+/// A tree of a grammar has exactly one file of pass 0 in each version, whatever passes its
+/// attributes have.
 pub fn first_files_are_one()
     ensures there { (version : Version) (grammar : Grammar) (tree : Tree) →
         IsTreeOf grammar tree → IsFirstFile version grammar tree (first_file version tree) }

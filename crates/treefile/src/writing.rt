@@ -1,4 +1,4 @@
-//! Writing a tree file: its header, and then the frame of one record after another.
+//! Writing a tree file: its header, and then the frames of its records.
 
 ghost use Rattle.std.specs.Prelude.{◌≡◌, ◌++◌, ◌∷◌, ◌+◌, ◌-◌, ◌<◌, ◌≤◌, ◌^◌, ◌⊎◌, [], length};
 ghost use Rattle.std.specs.Prelude.{true, false, All, IfOk, IfSome, IsErrOf, Ok, OnOk};
@@ -20,9 +20,9 @@ use shared_bytes::SharedBytes;
 use std::alloc::{AllocError, Global};
 use std::marker::Model;
 
-/// Writes the records of a tree file, each as one frame at the end of a device. It holds no device:
-/// each call takes the one that it was begun on. It is seen as how many frames were put, and
-/// whether it is broken.
+/// Writes the records of a tree file, each as one frame at the end of a device. The writer holds no
+/// device: each call takes the device that the writer was begun on. Contracts see the number of
+/// frames that were appended, and whether the writer is broken.
 #[derive(Drop)]
 pub struct Writer {
     buffer: Vec<u8>,
@@ -40,16 +40,17 @@ impl Model for Writer {
 }
 
 impl Writer {
-    /// A writer of a file of a pass: takes away what the device has, and appends the header.
+    /// Begins a file of a pass: clears the device, and appends the header.
     ///
-    /// D1 Failed where the device failed: it has what it had, or a beginning of the header. Takes
-    /// memory for the header where the device does, and for want of it leaves the device empty.
+    /// Fails with D1 Failed if the device failed: the device has its old content, or a prefix of
+    /// the header. Takes memory for the header if the device does. After NoMemory the device is
+    /// empty.
     pub fn begin<D: Device>(alloc: Global, device: &mut D, pass: u16) -> Result<Writer, DeviceFault>
         ensures header { OnOk result
             (WhenHonest (D.is_honest device.new)
             (D.content device.new ≡ header version_two pass)) }
         ensures fresh { IfOk result (λ writer. writer ≡ record { written = 0; is_broken = false }) }
-        // D1: what the device had, or a beginning of the header
+        // D1: the old content of the device, or a prefix of the header
         ensures device { IsErrOf result DeviceFault.Failed → WhenHonest (D.is_honest device.new)
             ((D.content device.new ≡ D.content device.old)
             ⊎ AppendsFront (header version_two pass) [] (D.content device.new)) }
@@ -68,15 +69,15 @@ impl Writer {
         })
     }
 
-    /// Appends the frame of a record by one call of the device. Takes memory for the frame, where
-    /// there are more than three values, or one that is no number.
+    /// Appends the frame of a record by one call of the device. Takes memory for the frame if there
+    /// are more than three values, or one that is not a number.
     ///
-    /// Asks for at most 272 values, each of them well, and for fewer than u64::MAX frames put
+    /// Requires at most 272 values, each of them well, and fewer than u64::MAX frames appended
     /// before.
     ///
-    /// D1 Failed where the device failed: it has a beginning of the frame more, and the writer is
-    /// broken. A broken writer answers this for good, and doesn't touch the device. For want of
-    /// memory nothing changes.
+    /// Fails with D1 Failed if the device failed: the device has a prefix of the frame more, and
+    /// the writer is broken. A broken writer always fails with D1, and doesn't touch the device.
+    /// After NoMemory nothing has changed.
     #[inline(always)]
     pub fn put<D: Device>(
         &mut self,
@@ -95,7 +96,7 @@ impl Writer {
         ensures counted { OnOk result
             (self.new ≡ record self.old { written = self.old.written + 1 }) }
 
-        // D1: a beginning of the frame, and a broken writer
+        // D1: a prefix of the frame, and a broken writer
         ensures device { IsErrOf result DeviceFault.Failed → WhenHonest (D.is_honest device.new)
             (AppendsFront (frame (body_of kind number values.now))
             (D.content device.old) (D.content device.new)) }
@@ -104,7 +105,7 @@ impl Writer {
         ensures broken { self.old.is_broken ≡ true →
             IsErrOf result DeviceFault.Failed × (device.new ≡ device.old) }
 
-        // no memory: nothing changes
+        // NoMemory: nothing changes
         ensures memory { IsErrOf result DeviceFault.NoMemory →
             LeavesContent (D.is_honest device.new) (D.content device.old) (D.content device.new) }
         ensures unchanged { IsErrOf result DeviceFault.NoMemory → self.new ≡ self.old }
@@ -138,8 +139,8 @@ impl Writer {
         self.settle(answer)
     }
 
-    /// Appends the frame of a record of carried values, as `put` does with values. If some of them are
-    /// shared, the device may share them too (`Device::append_parts`).
+    /// Appends the frame of a record of carried values, as `put` does with values. If some of them
+    /// are shared, the device may share them too (`Device::append_parts`).
     #[inline(always)]
     pub fn put_carried<D: Device>(
         &mut self,
@@ -158,7 +159,7 @@ impl Writer {
         ensures counted { OnOk result
             (self.new ≡ record self.old { written = self.old.written + 1 }) }
 
-        // D1: a beginning of the frame, and a broken writer
+        // D1: a prefix of the frame, and a broken writer
         ensures device { IsErrOf result DeviceFault.Failed → WhenHonest (D.is_honest device.new)
             (AppendsFront (frame (body_of kind number values.now))
             (D.content device.old) (D.content device.new)) }
@@ -167,7 +168,7 @@ impl Writer {
         ensures broken { self.old.is_broken ≡ true →
             IsErrOf result DeviceFault.Failed × (device.new ≡ device.old) }
 
-        // no memory: nothing changes
+        // NoMemory: nothing changes
         ensures memory { IsErrOf result DeviceFault.NoMemory →
             LeavesContent (D.is_honest device.new) (D.content device.old) (D.content device.new) }
         ensures unchanged { IsErrOf result DeviceFault.NoMemory → self.new ≡ self.old }
@@ -176,7 +177,6 @@ impl Writer {
             (D.failures device.old) (D.failures device.new)
             (IsErrOf result DeviceFault.Failed × (self.old.is_broken ≡ false)) }
     {
-        // The device of a broken writer stays as it is.
         if self.is_broken {
             return Err(DeviceFault::Failed);
         }
@@ -200,8 +200,8 @@ impl Writer {
         self.settle(answer)
     }
 
-    /// Appends the frame of a record of carried values by one call of the device: of parts, if some of the
-    /// values are shared.
+    /// Appends the frame of a record of carried values by one call of the device: `append_parts` if
+    /// some of the values are shared, else `append`.
     #[inline(never)]
     fn append_row<D: Device>(
         &mut self,
@@ -227,12 +227,11 @@ impl Writer {
         device.append(self.buffer.as_slice())
     }
 
-    /// Appends the frame of a body as it stands, by one call of the device. Takes memory for the
-    /// frame.
+    /// Appends the frame of a given body by one call of the device. Takes memory for the frame.
     ///
-    /// Asks for a body of 3 to 285,212,675 bytes, and for fewer than u64::MAX frames put before.
+    /// Requires a body of 3 to 285,212,675 bytes, and fewer than u64::MAX frames appended before.
     ///
-    /// Refuses as `put` does.
+    /// Fails as `put` does.
     pub fn put_body<D: Device>(&mut self, device: &mut D, body: &[u8]) -> Result<(), DeviceFault>
         requires body { IsBody version_two body.now }
         requires room { self.old.written < 2 ^ 64 - 1 }
@@ -240,11 +239,11 @@ impl Writer {
             (D.content device.new ≡ D.content device.old ++ frame body.now)) }
         ensures writer { SettlesPut device.old device.new self.old self.new result }
 
-        // D1: a beginning of the frame
+        // D1: a prefix of the frame
         ensures device { IsErrOf result DeviceFault.Failed → WhenHonest (D.is_honest device.new)
             (AppendsFront (frame body.now) (D.content device.old) (D.content device.new)) }
 
-        // no memory: nothing changes
+        // NoMemory: nothing changes
         ensures memory { IsErrOf result DeviceFault.NoMemory →
             LeavesContent (D.is_honest device.new) (D.content device.old) (D.content device.new) }
         ensures persists { Persists (D.is_honest device.old) (D.is_honest device.new)
@@ -261,8 +260,8 @@ impl Writer {
         self.settle(answer)
     }
 
-    /// What a device's answer to an append of a frame means: the frame is counted, or the writer is
-    /// broken, or nothing.
+    /// Records the result of appending a frame: counts the frame, or marks the writer as broken
+    /// after `Failed`. Returns the result.
     #[inline(always)]
     fn settle(&mut self, answer: Result<(), DeviceFault>) -> Result<(), DeviceFault>
         requires { self.old.written < 2 ^ 64 - 1 }
@@ -280,7 +279,7 @@ impl Writer {
         answer
     }
 
-    /// How many frames were put.
+    /// Returns the number of frames that were appended.
     pub fn written(&self) -> u64
         ensures { result ≡ self.now.written }
     {
@@ -288,7 +287,7 @@ impl Writer {
     }
 }
 
-/// The frame of a record without values.
+/// Returns the frame of a record without values.
 fn bare_frame(kind: Kind, number: u16) -> [u8; 7]
     ensures { result ≡ frame (body_of kind number []) }
 {
@@ -296,7 +295,7 @@ fn bare_frame(kind: Kind, number: u16) -> [u8; 7]
     [kind.byte(), high, low, 0, 0, 0, 3]
 }
 
-/// The frame of a record whose one value is a number.
+/// Returns the frame of a record whose one value is a number.
 #[tactic(auto, using(ag_value::proofs::Layers::spellings))]
 fn number_frame(kind: Kind, number: u16, only: i64) -> [u8; 16]
     ensures { result ≡ frame (body_of kind number (Value.Num only ∷ [])) }
@@ -307,7 +306,7 @@ fn number_frame(kind: Kind, number: u16, only: i64) -> [u8; 16]
     [kind, high, low, tag, a, b, c, d, e, f, g, h, 0, 0, 0, 12]
 }
 
-/// The frame of a record whose two values are numbers, none where others stand there.
+/// Returns the frame of a record whose two values are numbers, or `None` for other values.
 #[inline(always)]
 fn pair_frame(kind: Kind, number: u16, values: &[Value]) -> Option<[u8; 25]>
     ensures { IfSome result (λ it. it ≡ frame (body_of kind number values.now)) }
@@ -320,7 +319,7 @@ fn pair_frame(kind: Kind, number: u16, values: &[Value]) -> Option<[u8; 25]>
     }
 }
 
-/// The frame of a record with these two numbers.
+/// Returns the frame of a record with these two numbers.
 #[tactic(auto, using(ag_value::proofs::Layers::spellings))]
 #[inline(always)]
 fn frame_of_pair(kind: Kind, number: u16, first: i64, second: i64) -> [u8; 25]
@@ -335,7 +334,7 @@ fn frame_of_pair(kind: Kind, number: u16, first: i64, second: i64) -> [u8; 25]
     ]
 }
 
-/// The frame of a record whose three values are numbers, none where others stand there.
+/// Returns the frame of a record whose three values are numbers, or `None` for other values.
 #[inline(always)]
 fn triple_frame(kind: Kind, number: u16, values: &[Value]) -> Option<[u8; 34]>
     ensures { IfSome result (λ it. it ≡ frame (body_of kind number values.now)) }
@@ -348,7 +347,7 @@ fn triple_frame(kind: Kind, number: u16, values: &[Value]) -> Option<[u8; 34]>
     }
 }
 
-/// The frame of a record with these three numbers.
+/// Returns the frame of a record with these three numbers.
 #[tactic(auto, using(ag_value::proofs::Layers::spellings))]
 #[inline(always)]
 fn frame_of_triple(kind: Kind, number: u16, first: i64, second: i64, third: i64) -> [u8; 34]
@@ -366,7 +365,7 @@ fn frame_of_triple(kind: Kind, number: u16, first: i64, second: i64, third: i64)
     ]
 }
 
-/// The spelling of a number.
+/// Returns the spelling of a number.
 #[tactic(auto, using(ag_value::proofs::Layers::spellings))]
 fn number_spelling(n: i64) -> [u8; 9]
     ensures { result ≡ spelling_of (Value.Num n) }
@@ -375,7 +374,7 @@ fn number_spelling(n: i64) -> [u8; 9]
     [0, a, b, c, d, e, f, g, h]
 }
 
-/// Makes the buffer the frame of a record.
+/// Fills the buffer with the frame of a record.
 fn fill_frame(
     buffer: &mut Vec<u8>,
     kind: Kind,
@@ -391,7 +390,7 @@ fn fill_frame(
     Ok(())
 }
 
-/// Makes a buffer that has a body have its frame.
+/// Completes the body in the buffer to its frame, by its length.
 fn close_frame(buffer: &mut Vec<u8>) -> Result<(), AllocError>
     requires { IsBody version_two buffer.old.items }
     ensures { OnOk result (buffer.new.items ≡ frame buffer.old.items) }
@@ -401,7 +400,7 @@ fn close_frame(buffer: &mut Vec<u8>) -> Result<(), AllocError>
     Ok(())
 }
 
-/// Makes the buffer the body of a record.
+/// Fills the buffer with the body of a record.
 fn fill_body(
     buffer: &mut Vec<u8>,
     kind: Kind,
@@ -428,7 +427,7 @@ fn append_values(buffer: &mut Vec<u8>, values: &[Value]) -> Result<(), NoMemory>
     Ok(())
 }
 
-/// Appends the spelling of a value, a number's in one step.
+/// Appends the spelling of a value; a number's in one step.
 fn append_value(buffer: &mut Vec<u8>, value: &Value) -> Result<(), NoMemory>
     requires { IsWell value.now }
     ensures { OnOk result (buffer.new.items ≡ buffer.old.items ++ spelling_of value.now) }
@@ -495,7 +494,7 @@ fn fill_carried(
     Ok(())
 }
 
-/// Fills the buffer with the body of such a record.
+/// Fills the buffer with the body of a record of carried values.
 fn fill_carried_body(
     buffer: &mut Vec<u8>,
     kind: Kind,
@@ -511,7 +510,7 @@ fn fill_carried_body(
     append_carried_values(buffer, values)
 }
 
-/// Appends the encodings of carried values.
+/// Appends the spellings of carried values.
 fn append_carried_values(buffer: &mut Vec<u8>, values: &[Carried]) -> Result<(), NoMemory>
     requires { All IsWell values.now }
     ensures { OnOk result (buffer.new.items ≡ buffer.old.items ++ flat_map spelling_of values.now) }
@@ -522,7 +521,7 @@ fn append_carried_values(buffer: &mut Vec<u8>, values: &[Carried]) -> Result<(),
     Ok(())
 }
 
-/// Appends the encoding of a carried value: a number's in one step.
+/// Appends the spelling of a carried value; a number's in one step.
 fn append_carried(buffer: &mut Vec<u8>, value: &Carried) -> Result<(), NoMemory>
     requires { IsWell value.now }
     ensures { OnOk result (buffer.new.items ≡ buffer.old.items ++ spelling_of value.now) }
@@ -534,8 +533,8 @@ fn append_carried(buffer: &mut Vec<u8>, value: &Carried) -> Result<(), NoMemory>
     Ok(())
 }
 
-/// Makes bytes the frame of a record of carried values, which shares those that are shared. `buffer` is
-/// for the others.
+/// Fills `parts` with the frame of a record of carried values, and shares those that are shared.
+/// `buffer` is used for the others.
 fn fill_parts(
     parts: &mut SharedBytes,
     buffer: &mut Vec<u8>,
@@ -551,7 +550,7 @@ fn fill_parts(
     close_parts(parts)
 }
 
-/// Makes bytes that are a body its frame.
+/// Completes the body in `parts` to its frame, by its length.
 fn close_parts(parts: &mut SharedBytes) -> Result<(), NoMemory>
     requires { IsBody version_two parts.old }
     ensures { OnOk result (parts.new ≡ frame parts.old) }
@@ -560,7 +559,7 @@ fn close_parts(parts: &mut SharedBytes) -> Result<(), NoMemory>
     parts.append(&length.to_be_bytes())
 }
 
-/// Makes bytes the body of such a record.
+/// Fills `parts` with the body of a record of carried values.
 fn fill_parts_of_body(
     parts: &mut SharedBytes,
     buffer: &mut Vec<u8>,
@@ -577,7 +576,7 @@ fn fill_parts_of_body(
     append_values_to_parts(parts, buffer, values)
 }
 
-/// Appends the encodings of carried values: those that are shared as one more owner.
+/// Appends the spellings of carried values: shared ones without copying, as one more owner.
 fn append_values_to_parts(
     parts: &mut SharedBytes,
     buffer: &mut Vec<u8>,
@@ -592,7 +591,7 @@ fn append_values_to_parts(
     Ok(())
 }
 
-/// Appends the encoding of a carried value: of a shared one as one more owner.
+/// Appends the spelling of a carried value: a shared one without copying, as one more owner.
 fn append_to_parts(
     parts: &mut SharedBytes,
     buffer: &mut Vec<u8>,

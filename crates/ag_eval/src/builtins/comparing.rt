@@ -7,7 +7,7 @@ ghost use Rattle.ag_grammar.specs.values.Operators.{compared, ordered};
 
 use ag_value::{ErrorCode, Value, same};
 
-/// What a test gives: 1 where it holds, else 0.
+/// Returns the value of a test: 1 if it holds, else 0.
 pub fn truth(holds: bool) -> Value
     ensures value { result ≡ truth holds }
     ensures well { IsWell result }
@@ -15,7 +15,7 @@ pub fn truth(holds: bool) -> Value
     if holds { Value::Num(1) } else { Value::Num(0) }
 }
 
-/// `a == b`
+/// Computes `a == b`.
 pub fn equal(left: &Value, right: &Value) -> Value
     requires left { IsWell left.now }
     requires right { IsWell right.now }
@@ -25,7 +25,7 @@ pub fn equal(left: &Value, right: &Value) -> Value
     truth(same(left, right))
 }
 
-/// `a < b`
+/// Computes `a < b`.
 pub fn less(left: &Value, right: &Value) -> Value
     ensures value { result ≡ ordered left.now right.now }
     ensures well { IsWell result }

@@ -5,7 +5,7 @@ ghost use Rattle.ag_grammar.specs.values.Arguments.{fault_of, leftmost};
 
 use ag_value::{ErrorCode, Value};
 
-/// The error that a value is, if it is one.
+/// Returns the error that a value is, if it is one.
 pub fn fault_of(value: &Value) -> Option<ErrorCode>
     ensures { result ≡ fault_of value.now }
 {
@@ -15,7 +15,7 @@ pub fn fault_of(value: &Value) -> Option<ErrorCode>
     }
 }
 
-/// The leftmost error of two arguments, if one is an error.
+/// Returns the leftmost error of two arguments, if one is an error.
 #[tactic(auto, unfolding(ag_grammar::specs::values::Arguments::leftmost))]
 pub fn fault_of_two(first: &Value, second: &Value) -> Option<ErrorCode>
     ensures { result ≡ leftmost (first.now ∷ second.now ∷ []) }
@@ -26,7 +26,7 @@ pub fn fault_of_two(first: &Value, second: &Value) -> Option<ErrorCode>
     }
 }
 
-/// The leftmost error of three arguments, if one is an error.
+/// Returns the leftmost error of three arguments, if one is an error.
 #[tactic(auto, unfolding(ag_grammar::specs::values::Arguments::leftmost))]
 pub fn fault_of_three(first: &Value, second: &Value, third: &Value) -> Option<ErrorCode>
     ensures { result ≡ leftmost (first.now ∷ second.now ∷ third.now ∷ []) }

@@ -16,7 +16,7 @@ use crate::measured::Measured;
 use crate::operand::Held;
 use ag_value::{ErrorCode, Items, NoMemory, Value};
 
-/// `len(a)`
+/// Computes `len(a)`.
 #[tactic(auto, using(ag_grammar::proofs::values::Wells::short))]
 pub fn length(value: &Value) -> Value
     requires { IsWell value.now }
@@ -39,8 +39,8 @@ fn count(length: usize) -> Value
     Value::Num(length as i64)
 }
 
-/// `a ++ b` where b is no text: the left argument grows by what is in the right one. Takes memory
-/// for the growth.
+/// Computes `a ++ b` if b is not a text: the left argument is extended by the contents of the right
+/// one. Takes memory for the growth.
 pub fn extend_list(left: Measured, right: Measured) -> Result<Measured, NoMemory>
     requires { is_text right ≡ false }
     ensures { IfOk result (λ m. m ≡ concatenated left right) }
@@ -53,7 +53,7 @@ pub fn extend_list(left: Measured, right: Measured) -> Result<Measured, NoMemory
     }
 }
 
-/// Two lists, one behind the other, from the sum of their weights and the greater of their depths.
+/// Concatenates two lists, given the sum of their weights and the greater of their depths.
 fn extended(
     items: Items<Value>,
     more: Items<Value>,
@@ -71,7 +71,7 @@ fn extended(
     Ok(Measured::fit(Value::List(Items::from_vec(items)), weight - 5, depth))
 }
 
-/// `append(l, v)`: the list grows by the item. Takes memory for the growth.
+/// Computes `append(l, v)`: the list is extended by the item. Takes memory for the growth.
 pub fn append(list: Measured, item: Measured) -> Result<Measured, NoMemory>
     requires { fault_of item ≡ None }
     ensures { IfOk result (λ m. m ≡ appended list item) }
@@ -84,7 +84,7 @@ pub fn append(list: Measured, item: Measured) -> Result<Measured, NoMemory>
     }
 }
 
-/// A list with one item more, from the sum of their weights and the depth of what comes of it.
+/// Appends an item to a list, given the sum of their weights and the depth of the result.
 fn pushed(items: Items<Value>, item: Value, weight: u64, depth: u32) -> Result<Measured, NoMemory>
     requires list { IsWell (value.List items) }
     requires item { IsWell item }
@@ -98,7 +98,7 @@ fn pushed(items: Items<Value>, item: Value, weight: u64, depth: u32) -> Result<M
     Ok(Measured::fit(Value::List(Items::from_vec(items)), weight, depth))
 }
 
-/// `nth(l, i)`: the item, lent.
+/// Computes `nth(l, i)`: the item, lent.
 pub fn nth<'a>(list: &'a Value, index: &Value) -> Held<'a>
     requires { IsWell list.now }
     ensures { held_value result ≡ nth_of list.now index.now }

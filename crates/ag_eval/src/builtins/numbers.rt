@@ -68,7 +68,7 @@ pub fn remainder_of(dividend: i64, divisor: i64) -> Scalar
     Scalar::Number(dividend.wrapping_rem(divisor))
 }
 
-/// `a + b`
+/// Computes `a + b`.
 #[inline(always)]
 pub fn sum(left: &Value, right: &Value) -> Value
     ensures value { result ≡ of_numbers (λ m n. number_value (m +ℤ n)) left.now right.now }
@@ -80,7 +80,7 @@ pub fn sum(left: &Value, right: &Value) -> Value
     sum_of(*m, *n).into_value()
 }
 
-/// `a - b`
+/// Computes `a - b`.
 #[inline(always)]
 pub fn difference(left: &Value, right: &Value) -> Value
     ensures value { result ≡ of_numbers (λ m n. number_value (m -ℤ n)) left.now right.now }
@@ -92,7 +92,7 @@ pub fn difference(left: &Value, right: &Value) -> Value
     difference_of(*m, *n).into_value()
 }
 
-/// `a * b`
+/// Computes `a * b`.
 #[inline(always)]
 pub fn product(left: &Value, right: &Value) -> Value
     ensures value { result ≡ of_numbers (λ m n. number_value (m *ℤ n)) left.now right.now }
@@ -104,7 +104,7 @@ pub fn product(left: &Value, right: &Value) -> Value
     product_of(*m, *n).into_value()
 }
 
-/// `a div b`
+/// Computes `a div b`.
 pub fn quotient(left: &Value, right: &Value) -> Value
     ensures value { result ≡ of_numbers quotient left.now right.now }
     ensures well { IsWell result }
@@ -115,7 +115,7 @@ pub fn quotient(left: &Value, right: &Value) -> Value
     quotient_of(*m, *n).into_value()
 }
 
-/// `a mod b`
+/// Computes `a mod b`.
 pub fn remainder(left: &Value, right: &Value) -> Value
     ensures value { result ≡ of_numbers remainder left.now right.now }
     ensures well { IsWell result }
@@ -126,7 +126,7 @@ pub fn remainder(left: &Value, right: &Value) -> Value
     remainder_of(*m, *n).into_value()
 }
 
-/// `text(n)`. Takes memory for the text.
+/// Computes `text(n)`. Takes memory for the text.
 pub fn decimal(alloc: Global, value: &Value) -> Result<Value, NoMemory>
     ensures value { IfOk result (λ v. v ≡ decimal_of value.now) }
     ensures well { IfOk result (λ v. IsWell v) }
@@ -134,14 +134,14 @@ pub fn decimal(alloc: Global, value: &Value) -> Result<Value, NoMemory>
     let Value::Num(number) = value else {
         return Ok(Value::Fault(ErrorCode::Kind));
     };
-    // a read tells the prover the range of i64, and a look that a text is UTF-8
+    // for the prover: the range of i64, and that a text is UTF-8
     let number = *number;
     let text = Text::from_string(number.to_string(alloc)?);
     let _utf8 = text.as_str();
     Ok(Value::Text(text))
 }
 
-/// `number(t)`
+/// Computes `number(t)`.
 pub fn number(value: &Value) -> Value
     ensures value { result ≡ number_of value.now }
     ensures well { IsWell result }
@@ -155,12 +155,12 @@ pub fn number(value: &Value) -> Value
     }
 }
 
-/// The number that a text spells.
+/// Returns the number that a text spells, if it spells one.
 #[tactic(auto, using(crate::proofs::Spelled::parses))]
 fn spelled(text: &str) -> Option<i64>
     ensures { result ≡ spelled text.now }
 {
-    // what the standard library takes besides
+    // the standard library also accepts a plus sign
     if text.starts_with('+') {
         return None;
     }

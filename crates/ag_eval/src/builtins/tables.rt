@@ -18,7 +18,7 @@ use crate::operand::Held;
 use ag_value::{ErrorCode, Items, NoMemory, Text, Value};
 use std::alloc::Global;
 
-/// The index of a key among those of a table: how many come before it.
+/// Returns the number of keys before a key, which is its index in a table.
 fn index_of(pairs: &[(Text, Value)], key: &str) -> usize
     requires { is_rising (map key_of pairs.now) ≡ true }
     ensures within { result ≤ length pairs.now }
@@ -27,7 +27,7 @@ fn index_of(pairs: &[(Text, Value)], key: &str) -> usize
     pairs.partition_point(|pair| pair.0.as_str() < key)
 }
 
-/// The pair with a key.
+/// Returns the pair with a key, if there is one.
 fn pair_with<'a>(pairs: &'a [(Text, Value)], key: &str) -> Option<&'a (Text, Value)>
     requires { is_rising (map key_of pairs.now) ≡ true }
     ensures { option_copied result ≡ pair_with key.now pairs.now }
@@ -39,7 +39,7 @@ fn pair_with<'a>(pairs: &'a [(Text, Value)], key: &str) -> Option<&'a (Text, Val
     }
 }
 
-/// `get(t, k)`: the key's value, lent.
+/// Computes `get(t, k)`: the key's value, lent.
 pub fn get<'a>(table: &'a Value, key: &Value) -> Held<'a>
     requires { IsWell table.now }
     ensures { held_value result ≡ got_from table.now key.now }
@@ -55,7 +55,7 @@ pub fn get<'a>(table: &'a Value, key: &Value) -> Held<'a>
     }
 }
 
-/// `has(t, k)`
+/// Computes `has(t, k)`.
 pub fn has(table: &Value, key: &Value) -> Value
     requires { IsWell table.now }
     ensures value { result ≡ had_by table.now key.now }
@@ -72,8 +72,8 @@ pub fn has(table: &Value, key: &Value) -> Value
     }
 }
 
-/// `put(t, k, v)`: the table grows by the pair, or the key has the value from then on. Takes memory
-/// for the growth.
+/// Computes `put(t, k, v)`: the table gets the pair, or the key a new value. Takes memory for the
+/// growth.
 #[tactic(auto, using(ag_grammar::proofs::values::Wells::short))]
 pub fn put(
     alloc: Global,
@@ -95,7 +95,7 @@ pub fn put(
     }
 }
 
-/// Whether the pair at an index has the key.
+/// Returns whether the pair at an index has the key.
 fn has_at(pairs: &[(Text, Value)], index: usize, key: &str) -> bool
     ensures { result ≡ has_key key.now (slice_get pairs.now index) }
 {
@@ -105,7 +105,8 @@ fn has_at(pairs: &[(Text, Value)], index: usize, key: &str) -> bool
     }
 }
 
-/// A table with a pair more, or another value beside a key, from its weight and depth.
+/// Adds a pair to a table, or replaces the value of its key, given the weight and the depth of the
+/// table.
 fn put_pair(
     alloc: Global,
     pairs: Items<(Text, Value)>,
@@ -131,7 +132,7 @@ fn put_pair(
     Ok(Measured::fit(Value::Table(pairs), weight, depth))
 }
 
-/// A table with another value at an index, weighed anew.
+/// Replaces the value at an index of a table, and computes its weight and depth anew.
 fn replaced(pairs: Items<(Text, Value)>, index: usize, item: Value) -> Measured
     requires table { IsWell (value.Table pairs) }
     requires item { is_item item ≡ true }
@@ -145,7 +146,7 @@ fn replaced(pairs: Items<(Text, Value)>, index: usize, item: Value) -> Measured
     Measured::weighed(Value::Table(Items::from_vec(pairs)))
 }
 
-/// Gives the pair at an index another value.
+/// Sets the value of the pair at an index.
 fn set_value(pairs: &mut Vec<(Text, Value)>, index: usize, item: Value)
     requires { index < length pairs.old.items }
     ensures { (p : _) → slice_get pairs.old.items index ≡ Some p
@@ -154,7 +155,7 @@ fn set_value(pairs: &mut Vec<(Text, Value)>, index: usize, item: Value)
     pairs[index].1 = item;
 }
 
-/// The pairs with one more at an index.
+/// Inserts a pair at an index.
 fn inserted(
     alloc: Global,
     pairs: Items<(Text, Value)>,
@@ -170,7 +171,7 @@ fn inserted(
     Ok(Items::from_vec(pairs))
 }
 
-/// `keys(t)`. Takes memory for the list.
+/// Computes `keys(t)`. Takes memory for the list.
 pub fn keys(alloc: Global, table: &Value) -> Result<Value, NoMemory>
     requires { IsWell table.now }
     ensures value { IfOk result (λ v. v ≡ keys_of table.now) }

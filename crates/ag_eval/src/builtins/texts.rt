@@ -12,7 +12,7 @@ use crate::measured::Measured;
 use ag_value::{ErrorCode, MAX_WEIGHT, NoMemory, Text, Value};
 use std::alloc::Global;
 
-/// `join(l, s)`. Takes memory for the text, where it is within the limits.
+/// Computes `join(l, s)`. Takes memory for the text, if it is within the limits.
 pub fn join(alloc: Global, list: &Value, separator: &Value) -> Result<Measured, NoMemory>
     ensures { IfOk result (λ m. m ≡ joined_by list.now separator.now) }
 {
@@ -36,12 +36,12 @@ fn join_items(alloc: Global, items: &[Value], separator: &str) -> Result<Measure
         return Ok(Measured::new(Value::Fault(ErrorCode::Big)));
     }
     let text = Text::from_string(joined(alloc, items, separator)?);
-    // a look tells the prover that a text is UTF-8
+    // for the prover: a text is UTF-8
     let _utf8 = text.as_str();
     Ok(Measured::fit(Value::Text(text), weight, 0))
 }
 
-/// Whether all are texts.
+/// Returns whether all items are texts.
 fn are_texts(items: &[Value]) -> bool
     ensures { result ≡ list_all is_text items.now }
 {
@@ -53,7 +53,7 @@ fn are_texts(items: &[Value]) -> bool
     true
 }
 
-/// The bytes of a text, and none of another value.
+/// Returns the text, or an empty one for another value.
 fn bytes_of(value: &Value) -> &str
     ensures { result.now ≡ bytes_of value.now }
 {
@@ -63,8 +63,8 @@ fn bytes_of(value: &Value) -> &str
     }
 }
 
-/// How many bytes the texts have with the separator between neighbours, or `u64::MAX` where they
-/// have more.
+/// Returns the number of bytes of the texts with the separator between neighbours, saturated at
+/// `u64::MAX`.
 fn joined_length(items: &[Value], separator: &str) -> u64
     ensures { result ≡ min (length (join_by bytes_of separator.now items.now)) (2 ^ 64 - 1) }
 {
@@ -79,7 +79,7 @@ fn joined_length(items: &[Value], separator: &str) -> u64
     total
 }
 
-/// The texts with the separator between neighbours.
+/// Concatenates the texts with the separator between neighbours.
 fn joined(alloc: Global, items: &[Value], separator: &str) -> Result<String, NoMemory>
     ensures { IfOk result (λ text. string_bytes text
         ≡ join_by bytes_of separator.now items.now) }
@@ -96,7 +96,8 @@ fn joined(alloc: Global, items: &[Value], separator: &str) -> Result<String, NoM
     Ok(text)
 }
 
-/// `a ++ b` where b is a text: the left argument grows by it. Takes memory for the growth.
+/// Computes `a ++ b` if b is a text: the left argument is extended by it. Takes memory for the
+/// growth.
 pub fn extend_text(alloc: Global, left: Measured, right: &str) -> Result<Measured, NoMemory>
     ensures { IfOk result (λ m. m ≡ concatenated left (value.Text right.now)) }
 {
@@ -106,7 +107,7 @@ pub fn extend_text(alloc: Global, left: Measured, right: &str) -> Result<Measure
     }
 }
 
-/// Two texts, one behind the other.
+/// Concatenates two texts.
 #[tactic(auto, using(ag_value::proofs::Layers::items, ag_value::proofs::Utf8::utf8))]
 fn extended(alloc: Global, left: Text, right: &str) -> Result<Measured, NoMemory>
     ensures { IfOk result (λ m. m ≡ fit (value.Text (left ++ right.now))) }
@@ -114,7 +115,7 @@ fn extended(alloc: Global, left: Text, right: &str) -> Result<Measured, NoMemory
     let mut string = left.into_string(alloc)?;
     string.push_str(right)?;
     let text = Text::from_string(string);
-    // a look tells the prover that a text is UTF-8
+    // for the prover: a text is UTF-8
     let weight = 5u64.saturating_add(text.as_str().len() as u64);
     Ok(Measured::fit(Value::Text(text), weight, 0))
 }

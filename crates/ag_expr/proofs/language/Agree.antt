@@ -1,4 +1,4 @@
--- Reading agrees with the syntax.
+-- The parser agrees with the syntax.
 use Rattle.std.proofs.Common.{rules, ◌≡◌, ℕ, zero, suc, Bool, true, false, not, ◌||◌, if◌then◌else◌, ◌&&◌, List, [], ◌∷◌, ◌++◌, length, ◌<◌, Option, Some, None, Ok, Err, is_some, refl, ap, sym, ◌∙◌, subst, append-nil, ◌↔◌, codes, arith}
 use denote.Enum.Bare.{same_true}
 use Rattle.std.proofs.lemmas.Bool.{and_parts}
@@ -78,7 +78,7 @@ pub ranked_starts : {test : Token → Bool} {L : List Token → Node → Type 0}
 ranked_starts x [] = x
 ranked_starts x (k ∷ ks) = then_starts (ranked_starts x ks)
 
--- ---- which tokens are apart
+-- ---- disjoint sets of tokens
 
 abbrev pub operators : Token → Bool
 operators = in_precedences precedences
@@ -86,7 +86,7 @@ operators = in_precedences precedences
 sign_apart : (s : Sign) (stops : Token → Bool) → stops (sign_token s) ≡ false → Apart (is_sign s) stops
 sign_apart s stops no_stop t h = ap stops (sign_is s t h) ∙ no_stop
 
--- a call is no operand, since its name is reserved
+-- a call is not an operand, since its name is reserved
 call_apart : (listed : List Occ) (scope : Names) → Apart is_call (is_operand listed scope)
 call_apart listed scope t h = grind arith
 
@@ -104,7 +104,7 @@ module _ (listed : List Occ) (inner : Names → List Token → Node → Type 0) 
   comma : Apart (is_sign (mark punctuation.Comma)) operators
   comma = sign_apart (mark punctuation.Comma) operators refl
 
-  -- an expression and the parenthesis that closes the form
+  -- an expression and the closing parenthesis of its form
   closed : {R : List Token → Node → Type 0} {r : Parser Node} (f : Node → Node) → Exact operators R r
       → Exact nowhere (syntax.◌>>=◌ R (λ e. syntax.◌>>◌ (spelled (mark punctuation.Close)) (gives (f e)))) (reading.◌>>=◌ r (λ e. reading.◌>>◌ (expect (mark punctuation.Close)) (pure (f e))))
   closed f y = start_then y (λ e. ends_exact (λ u. f e) (sign_exact (mark punctuation.Close))) (λ e. starts_with (mark punctuation.Close)) (sign_apart (mark punctuation.Close) operators refl)
@@ -192,7 +192,7 @@ next_shortens listed levels scope = shortens (next_exact listed (IsExprIn listed
 end_left : (e : Ending) (ps : List Placed) → is_end e ps ≡ true → (at : ℕ) × (e ≡ ending.EndsAt at) × (ps ≡ [])
 end_left e ps h = grind arith
 
--- what is read to the end of a text is an expression
+-- tokens that are parsed to the end of a text are an expression
 pub whole_is : (listed : List Occ) (levels : ℕ) (i j : Input) (e : Node) → expr_from listed levels i ≡ Ok (e, j) → is_end j.ending j.left ≡ true → (at : ℕ) × (i.ending ≡ ending.EndsAt at) × IsExpr listed levels (tokens i.left) e
 whole_is listed levels i j e h ends =
     let found = (expr_exact listed levels []).sound i j e h in
@@ -200,7 +200,7 @@ whole_is listed levels i j e h ends =
     let all : i.left ≡ found.0 = ap (λ (k : Input). k.left) found.1 ∙ ap (λ ps. found.0 ++ ps) last.2 ∙ append-nil found.0 in
     (last.0, ap (λ (k : Input). k.ending) found.1 ∙ last.1, subst (λ us. IsExpr listed levels (tokens us) e) (sym all) found.2)
 
--- and an expression is read to the end
+-- and an expression is parsed to the end
 pub read_whole : (listed : List Occ) (levels at : ℕ) (ps : List Placed) (e : Node) → IsExpr listed levels (tokens ps) e → expr_of listed levels (record { left = ps; ending = ending.EndsAt at }) ≡ Ok (e, record { left = []; ending = ending.EndsAt at })
 unfolding expr_of
 read_whole listed levels at ps e is =
@@ -208,7 +208,7 @@ read_whole listed levels at ps e is =
     let read = ap (λ us. expr_from listed levels (record { left = us; ending = ending.EndsAt at })) (sym (append-nil ps)) ∙ (expr_exact listed levels []).complete ps end e is refl in
     rw read refl
 
--- what reading a text comes to
+-- the result of parsing a whole text
 pub read_of : (listed : List Occ) (levels : ℕ) (i j : Input) (e : Node) → expr_from listed levels i ≡ Ok (e, j) → is_end j.ending j.left ≡ true → expr_of listed levels i ≡ Ok (e, j)
 unfolding expr_of
 read_of listed levels i j e read ends = rw (read, ends) refl

@@ -1,4 +1,5 @@
--- The numbers in the tree of an expression: those of occurrences are of the list, and those of bound names of the scope.
+-- The numbers in the tree of an expression are in range: those of occurrences for the list, and those of
+-- bound names for the scope.
 use Rattle.std.proofs.lemmas.Bool.{lt-ltb}
 use Rattle.std.proofs.Common.{◌≡◌, ◌<◌, ◌+◌, ℕ, zero, suc, length, Option, Some, None, IfSome, subst, List, [], ◌∷◌, ◌++◌, Bool, true, false, cond, inl, inr, refl, sym, arith, length-append, bytes_eq}
 use Rattle.std.specs.Prelude.{option_map}
@@ -21,7 +22,7 @@ use Rattle.ag_grammar.specs.expressions.Trees.{is_below}
 use Rattle.ag_expr.proofs.language.Numbered.{within}
 use Rattle.ag_grammar.proofs.expressions.Within.{Each, Within, both, rolled, in_chain, in_list, literal_within, occurrence_within}
 
--- ---- what holds of all that a language spells
+-- ---- properties of everything that a language relates to tokens
 
 pub record Holds {A : Type 0} (P : A → Type 0) (L : List Token → A → Type 0) : Type 0 where
   pub of : (ts : List Token) (a : A) → L ts a → P a

@@ -1,4 +1,4 @@
--- A chain of operators by its first atom, and by what stands behind that.
+-- A chain of operators, parsed as its first atom and the rest after it.
 use Rattle.std.proofs.Common.{◌≡◌, Bool, true, false, ◌||◌, not, List, [], ◌∷◌, Option, Some, None, Ok, Err, refl, ap, ◌∙◌, arith, is_some}
 use Rattle.ag_tokens.specs.Parsing.{and_then, front_is, front, sees}
 use Rattle.ag_tokens.specs.Placed.{Input}
@@ -12,7 +12,7 @@ use Rattle.ag_expr.specs.language.Chains.{chain_behind, is_among, is_operator_am
 use Rattle.ag_expr.specs.language.Reading.{Outcome, Parser, chain_from, is_operator_of, other_from, ranked_from}
 use Rattle.ag_expr.specs.language.Syntax.{binary_operator, closer, precedences, same_precedence, takes_one}
 
--- ---- which operators are closer
+-- ---- operators that bind more strongly
 
 pub others_closer : (other : Precedence) → is_among (closer precedence.Comparison) other ≡ not (same_precedence other precedence.Comparison)
 others_closer precedence.Comparison = refl
@@ -51,7 +51,7 @@ same_outcome : (o : Outcome Node) → o ≡ and_then o (λ a j. Ok (a, j))
 same_outcome (Ok p) = refl
 same_outcome (Err e) = refl
 
--- chains are their first atom and what stands behind it
+-- nested chains are their first atom and the rest after it
 pub by_atom : (atom : Parser Node) (ks : List Precedence) (i : Input) → ranked_from atom ks i ≡ and_then (atom i) (ranked_behind atom ks)
 unfolding ranked_from ranked_behind chain_from chain_behind
 by_atom atom [] i = same_outcome (atom i)
@@ -61,7 +61,7 @@ neither : (a b : Token → Bool) (o : Option Token) → front_is (λ t. a t || b
 neither a b None none = (refl, refl)
 neither a b (Some t) none = grind arith
 
--- and where no operator of them stands behind it, nothing does
+-- and if none of their operators follows, the rest is empty
 only_atom : (atom : Parser Node) (ks : List Precedence) (first : Node) (j : Input) → sees (is_operator_among ks) j ≡ false → ranked_behind atom ks first j ≡ Ok (first, j)
 unfolding ranked_behind chain_behind
 only_atom atom [] first j none = refl
@@ -72,7 +72,7 @@ only_atom atom (k ∷ ks) first j none =
 pub atom_alone : (atom : Parser Node) (ks : List Precedence) (i j : Input) (first : Node) → atom i ≡ Ok (first, j) → sees (is_operator_among ks) j ≡ false → ranked_from atom ks i ≡ Ok (first, j)
 atom_alone atom ks i j first is none = by_atom atom ks i ∙ ap (λ o. and_then o (ranked_behind atom ks)) is ∙ only_atom atom ks first j none
 
--- the same of an operand behind which no operator of its precedence stands
+-- the same for an operand that no operator of the precedence follows
 pub operand_alone : (atom : Parser Node) (k : Precedence) (i j : Input) (first operand : Node) → ranked_behind atom (closer k) first i ≡ Ok (operand, j) → sees (is_operator_of k) j ≡ false → ranked_behind atom (k ∷ closer k) first i ≡ Ok (operand, j)
 unfolding ranked_behind chain_behind
 operand_alone atom k i j first operand is none = rw (is, none_further (takes_one k) (is_operator_of k) (other_from k (ranked_from atom (closer k))) [] j none) refl

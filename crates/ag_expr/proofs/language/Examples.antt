@@ -1,4 +1,4 @@
--- Examples worked out by hand.
+-- Worked examples.
 use Rattle.std.proofs.Common.{◌≡◌, List, [], ◌∷◌, Ok, pos, codes, lit<, refl, subst}
 use Rattle.std.proofs.lemmas.Str.{encode_ascii}
 use Rattle.std.specs.Str.{chars}

@@ -1,4 +1,4 @@
--- Listing occurrences one after the other gives the different ones.
+-- Listing occurrences one after the other results in the distinct ones.
 use Rattle.std.proofs.Common.{◌≡◌, Bool, true, not, List, [], ◌∷◌, ◌++◌, filter, refl, ap, sym, ◌∙◌, append_assoc, append-nil, arith}
 use Rattle.std.proofs.lemmas.Bool.Decides.{nat_tests}
 use Rattle.std.proofs.lemmas.List.Folds.{list_any-append}
@@ -10,20 +10,20 @@ use Rattle.ag_expr.specs.language.Occurrences.{is_of, different, listed_with_all
 abbrev pub is_listed : List Occ → Occ → Bool
 is_listed xs y = list_any (is_of y.place y.attr) xs
 
--- those that are not listed
+-- the occurrences that are not listed
 abbrev unlisted : List Occ → List Occ → List Occ
 unlisted xs ys = filter (λ y. not (is_listed xs y)) ys
 
--- one of the same place and name is listed where the other is
+-- of two occurrences with the same place and name, either both are listed or neither is
 pub listed_alike : (xs : List Occ) (x y : Occ) → is_of y.place y.attr x ≡ true → is_listed xs x ≡ is_listed xs y
 listed_alike xs x y h = let same = bytes_eq-Decides x.attr y.attr in let place : x.place ≡ y.place = grind (arith, nat_tests) in let attr : x.attr ≡ y.attr = grind arith in rw (place, attr) refl
 
--- an occurrence that is listed already takes no other out
+-- filtering out an occurrence that is already listed changes nothing
 unlisted-old : (xs : List Occ) (x : Occ) (ys : List Occ) → is_listed xs x ≡ true → unlisted xs (filter (λ y. not (is_of y.place y.attr x)) ys) ≡ unlisted xs ys
 unlisted-old xs x [] old = refl
 unlisted-old xs x (y ∷ ys) old = let more = unlisted-old xs x ys in let alike = listed_alike xs x y in grind (arith, more, alike)
 
--- and a new one takes out those like it
+-- filtering out a new one is the same as adding it to the list
 unlisted-new : (xs : List Occ) (x : Occ) (ys : List Occ) → unlisted xs (filter (λ y. not (is_of y.place y.attr x)) ys) ≡ unlisted (xs ++ x ∷ []) ys
 unlisted-new xs x [] = refl
 unlisted-new xs x (y ∷ ys) = let more = unlisted-new xs x ys in grind (arith, list_any-append, more)

@@ -1,4 +1,4 @@
--- Expressions as a language of tokens that a parser reads, and the signs in it.
+-- Expressions as a language that a parser reads: faults of the parser, and single signs.
 use Rattle.std.proofs.Common.{◌||◌, rules, arith, ℕ, bytes_eq, ◌≡◌, ◌==◌, ◌&&◌, Bool, true, false, List, Option, Some, is_some, refl}
 use denote.Enum.Bare.{same_true, true_same}
 use Rattle.std.proofs.lemmas.Bool.Decides.{nat_tests}
@@ -20,7 +20,7 @@ use Rattle.ag_expr.specs.language.Expression.{begins_expression}
 use Rattle.ag_expr.specs.language.Reading.{Parser, as_sign, expect, refusal, token_as}
 use Rattle.ag_expr.specs.language.Syntax.{spelled}
 
--- told of a token with which an expression begins: that it is too deep
+-- the fault states of this token, which can begin an expression, that it is too deep
 abbrev is_deep : ExprFault → Placed → Bool
 is_deep (fault.TooDeep at) p = at == p.at && begins_expression p.token
 is_deep _ p = false
@@ -56,7 +56,7 @@ token_steady meaning = one_steady (λ at. meaning) meaning (λ p. refl)
 
 -- ---- one sign
 
--- a token that is a sign is written so
+-- a token that is a sign has the spelling of the sign
 pub sign_is : (s : Sign) (t : Token) → is_sign s t ≡ true → t ≡ sign_token s
 sign_is s t h = grind (arith, mark_is, name_is)
   where
@@ -87,7 +87,7 @@ starts_with s = then_starts (record { leads = λ us a e. (one_starts {m = manner
 pub sign_steady : (s : Sign) → Steady (spelled s) (expect s) (expect s)
 sign_steady s = wider_steady (spelled_is s) (token_steady (as_sign s) (sign_token s) tt (means_sign s))
 
--- ---- a form with its first tokens
+-- ---- a form by its first token
 
 pub record First {A : Type 0} (test stops : Token → Bool) (L : List Token → A → Type 0) (r : Parser A) : Type 0 where
   pub starts : Starts test L

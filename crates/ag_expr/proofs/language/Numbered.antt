@@ -1,4 +1,4 @@
--- A map that follows a list follows it on with one more occurrence in both.
+-- A map that follows a list still follows it after one more occurrence in both.
 use Rattle.std.proofs.Common.{ℕ, ◌≡◌, ◌+◌, Bool, true, false, cond, List, [], ◌∷◌, ◌++◌, length, Some, None, position, get_or, is_some, IfSome, ◌<◌, refl, ap, sym, ◌∙◌, arith}
 use Rattle.std.proofs.lemmas.Bool.{eq-eqb}
 use Rattle.std.proofs.lemmas.Bool.Decides.{nat_tests}
@@ -14,17 +14,17 @@ use Rattle.ag_expr.specs.language.Occurrences.{is_of, position_of, listed_with, 
 use Rattle.ag_expr.specs.language.Numbers.{Key, same_key, Follows}
 use Rattle.ag_expr.proofs.language.Listing.{listed_alike}
 
--- where one is found, one passes
+-- a member is found if and only if one satisfies the test
 found_from : {X : Type 0} (p : X → Bool) (i : ℕ) (xs : List X) → is_some (position_from p i xs) ≡ list_any p xs
 found_from p i [] = refl
 found_from p i (x ∷ xs) = let more = found_from p (i + 1) xs in grind arith
 
--- the one more is found, where it passes and no other does
+-- a new member is found if it is the only one that satisfies the test
 new_from : {X : Type 0} (p : X → Bool) (i : ℕ) (xs : List X) (x : X) → p x ≡ true → list_any p xs ≡ false → position_from p i (xs ++ x ∷ []) ≡ Some (i + length xs)
 new_from p i [] x h none = rw h (ap Some (omega arith))
 new_from p i (y ∷ ys) x h none = let more = new_from p (i + 1) ys x h in grind (arith, more)
 
--- and changes nothing where it does not pass
+-- and changes nothing if it does not satisfy the test
 old_from : {X : Type 0} (p : X → Bool) (i : ℕ) (xs : List X) (x : X) → p x ≡ false → position_from p i (xs ++ x ∷ []) ≡ position_from p i xs
 old_from p i [] x h = rw h refl
 old_from p i (y ∷ ys) x h = ap (λ n. cond (p y) (Some i) n) (old_from p (i + 1) ys x h)
@@ -38,11 +38,11 @@ new_at p xs x h none = position_from-zero p (xs ++ x ∷ []) ∙ new_from p 0 xs
 old_at : {X : Type 0} (p : X → Bool) (xs : List X) (x : X) → p x ≡ false → position p (xs ++ x ∷ []) ≡ position p xs
 old_at p xs x h = position_from-zero p (xs ++ x ∷ []) ∙ old_from p 0 xs x h ∙ sym (position_from-zero p xs)
 
--- what is found stands in the list
+-- the index that is found is below the length of the list
 pub within : {X : Type 0} (p : X → Bool) (xs : List X) → IfSome (position p xs) (λ k. k < length xs)
 within p xs = grind (arith, nat_tests)
 
--- one is listed where a number is found, and none where none is
+-- an occurrence is listed if it has an index, and is not if it has none
 pub listed_where : (listed : List Occ) (place : ℕ) (attr : List ℕ) (k : ℕ) → position_of listed place attr ≡ Some k → list_any (is_of place attr) listed ≡ true
 listed_where listed place attr k e = sym (found (is_of place attr) listed) ∙ ap is_some e
 
@@ -53,7 +53,7 @@ unlisted_where listed place attr e = sym (found (is_of place attr) listed) ∙ a
 is_own : (place : ℕ) (attr : List ℕ) (at : ℕ) → is_of place attr (record { place = place; attr = attr; at = at }) ≡ true
 is_own place attr at = rw (eq-eqb place place refl, (bytes_eq-Decides attr attr).1 refl) refl
 
--- the number of one that is new
+-- the index of a new occurrence
 pub number_pushed : (listed kept pushed : List Occ) (place number at : ℕ) (attr name : List ℕ) → position_of listed place attr ≡ None → kept ≡ listed → number ≡ length kept
     → pushed ≡ kept ++ record { place = place; attr = name; at = at } ∷ [] → name ≡ attr → position_of pushed place attr ≡ Some number
 number_pushed listed kept pushed place number at attr name none same count more called =
@@ -69,20 +69,20 @@ stays_from p i k (y ∷ ys) x e = let more = stays_from p (i + 1) k ys x in grin
 stays_with : (listed : List Occ) (place : ℕ) (attr : List ℕ) (k : ℕ) (x : Occ) → position_of listed place attr ≡ Some k → position_of (listed_with listed x) place attr ≡ Some k
 stays_with listed place attr k x e = let zero = position_from-zero (is_of place attr) in let stays = stays_from (is_of place attr) 0 k listed x in grind (arith, zero, stays)
 
--- a number stays where more are listed
+-- an index stays the same when more occurrences are listed
 pub position_stays : (listed : List Occ) (place : ℕ) (attr : List ℕ) (k : ℕ) (more : List Occ) → position_of listed place attr ≡ Some k → position_of (listed_with_all listed more) place attr ≡ Some k
 position_stays listed place attr k [] e = e
 position_stays listed place attr k (x ∷ more) e = position_stays (listed_with listed x) place attr k more (stays_with listed place attr k x e)
 
--- one that is listed has a number
+-- a listed occurrence has an index
 pub has_number : (listed : List Occ) (x : Occ) → (k : ℕ) × (position_of (listed_with listed x) x.place x.attr ≡ Some k)
 has_number listed x = (position_or_len (is_of x.place x.attr) (listed_with listed x), let own = is_own x.place x.attr x.at in let is = found (is_of x.place x.attr) (listed_with listed x) in grind (arith, list_any-append))
 
--- an occurrence of a key
+-- an occurrence with this key
 abbrev at_key : Key → ℕ → Occ
 at_key key at = record { place = key.0; attr = key.1.now; at = at }
 
--- the map with the number of one more follows the list with it
+-- the map with the index of one more occurrence follows the list with that occurrence
 follows_on : {S : Type 0} (numbers new : HashMap Key ℕ S) (listed : List Occ) (key : Key) (at : ℕ) → list_any (is_of key.0 key.1.now) listed ≡ false → Follows numbers listed
     → Updates same_key numbers new key (Some (length listed)) → Follows new (listed ++ at_key key at ∷ [])
 follows_on numbers new listed key at none follows updates q =
@@ -93,13 +93,13 @@ follows_on numbers new listed key at none follows updates q =
     let as_before = old_at (is_of q.0 q.1.now) listed (at_key key at) in
     grind (arith, alike, one_more, as_before)
 
--- the same in the words of the code
+-- the same for the values of the code
 pub follows_pushed : {S : Type 0} (numbers new : HashMap Key ℕ S) (listed kept pushed : List Occ) (key : Key) (number at : ℕ) (attr : List ℕ) → list_any (is_of key.0 key.1.now) listed ≡ false → Follows numbers listed → kept ≡ listed → number ≡ length kept
     → Updates same_key numbers new key (Some number) → pushed ≡ kept ++ record { place = key.0; attr = attr; at = at } ∷ [] → attr ≡ key.1.now → Follows new pushed
 follows_pushed numbers new listed kept pushed key number at attr none follows same count updates more name =
     rw (more, same, name) (follows_on numbers new listed key at none follows (rw (count, same) at updates))
 
--- one of a place and a name that are not listed is another one than each that is
+-- an occurrence whose place and name are not listed differs from each listed one
 pub pushed_apart : (listed kept pushed : List Occ) (place at : ℕ) (attr name : List ℕ) → list_any (is_of place attr) listed ≡ false → AreDifferent listed → kept ≡ listed → pushed ≡ kept ++ record { place = place; attr = name; at = at } ∷ [] → name ≡ attr
     → AreDifferent pushed
 pushed_apart listed kept pushed place at attr name none different same more is =

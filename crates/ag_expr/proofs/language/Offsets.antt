@@ -1,4 +1,5 @@
--- The first token that can't be taken: what stands before it is the beginning of an expression, and with it of none.
+-- The first token that cannot be accepted: the tokens before it are a prefix of an expression, and together
+-- with it they are not.
 use Rattle.std.proofs.Common.{◌≡◌, ℕ, zero, suc, ◌+◌, pos, Bool, true, false, if◌then◌else◌, ◌||◌, List, [], ◌∷◌, ◌++◌, Option, Some, None, is_some, Ok, Err, ◌⊎◌, inl, inr, refl, ap, sym, ◌∙◌, subst, append_assoc, append-nil, arith, codes}
 use Rattle.ag_expr.specs.declared.fault.ExprFault.{ExprFault}
 use Rattle.ag_expr.specs.declared.fault.ExprFault.TheVariants as fault
@@ -121,7 +122,7 @@ module _ (listed : List Occ)
   unfolding whole_from
   whole_steady = or_steady let_steady (or_steady if_steady (ranked_steady atom_steady (atom_exact listed inner r y scope) (atom_exact listed outer q z scope) precedences (all_apart precedences refl)))
 
--- ---- words, and words for each first token
+-- ---- languages that have a word, and a word for each first token
 
 pub record Word {A : Type 0} (L : List Token → A → Type 0) : Type 0 where
   pub ts : List Token
@@ -216,7 +217,7 @@ begun : (listed : List Occ) (levels : ℕ) (scope : Names) → Covers (begins li
 unfolding IsExprIn
 begun listed levels scope = whole_covers listed (IsExprIn listed (suc levels)) (a_number listed levels) scope
 
--- ---- what is refused at its first token
+-- ---- parsers that fail at their first token
 
 pub record Refuses {A : Type 0} (test : Token → Bool) (r : Parser A) : Type 0 where
   pub at : (k : Input) → sees test k ≡ false → r k ≡ Err (refusal k)
@@ -232,18 +233,18 @@ unfolding ranked_from chain_from
 ranked_refuses x [] = x
 ranked_refuses x (k ∷ ks) = record { at = λ i h. let one = (ranked_refuses x ks).at i h in rw one refl }
 
--- what an expression can't begin with is refused
+-- the parser fails at a token that cannot begin an expression
 refused_first : (listed : List Occ) (levels : ℕ) (scope : Names) → Refuses (begins listed scope) (expr_in listed (suc levels) scope)
 unfolding expr_in whole_from atom_from
 refused_first listed levels scope = choose_refuses (choose_refuses (ranked_refuses (choose_refuses (choose_refuses (choose_refuses (choose_refuses (token_refuses (operand_of listed scope)))))) precedences))
 
--- what one begins with among these occurrences and names, one can begin with
+-- a token that begins an expression with these occurrences and names can begin an expression in general
 begins_one : (listed : List Occ) (scope : Names) (t : Token) → begins listed scope t ≡ true → begins_expression t ≡ true
 begins_one listed scope t h = grind arith
 
 -- ---- by levels
 
--- some levels more, and at least two
+-- more levels, and at least two
 abbrev above : ℕ → ℕ → ℕ
 above d zero = suc (suc d)
 above d (suc n) = suc (above d n)
@@ -284,7 +285,8 @@ abbrev NotDeep : Outcome Node → Type 0
 NotDeep (Ok x) = Unit {0}
 NotDeep (Err f) = (at : ℕ) → f ≡ fault.TooDeep at → ⊥
 
--- The number of levels changes nothing but what is too deep.
+-- If the parser succeeds with some number of levels, it returns the same with any other number, unless it
+-- fails with `TooDeep`.
 one_outcome : (listed : List Occ) (m n : ℕ) (i j : Input) (e : Node) → expr_from listed m i ≡ Ok (e, j) → (o : Outcome Node) → expr_from listed n i ≡ o → NotDeep o → o ≡ Ok (e, j)
 one_outcome listed m n i j e h (Ok (a, k)) is sure = sym (up listed m n i k a is) ∙ ap (λ l. expr_from listed l i) (meet m n) ∙ up listed n m i j e h
 one_outcome listed m n i j e h (Err f) is sure = let x = ((expr_steady listed m n []).at i).err f refl is in go x x.how
@@ -308,7 +310,7 @@ not_deep : (e : Ending) (ps : List Placed) (at : ℕ) → refusal_of e ps ≡ fa
 not_deep e ps at h = let bad : ⊥ = grind arith in bad
 
 module _ (listed : List Occ) (n : ℕ) (us : List Placed) where
-  -- where reading settles, nothing else is an expression
+  -- if the parser succeeds, the tokens are not any other expression
   settled : (m : ℕ) (k : Input) (e : Node) → IsExpr listed m (tokens us ++ tokens k.left) e → (o : Outcome Node) → expr_from listed n (before us k) ≡ o → NotDeep o → o ≡ Ok (e, record { left = []; ending = k.ending })
   settled m k e is o read sure =
       let end : Input = record { left = []; ending = k.ending } in
@@ -316,7 +318,7 @@ module _ (listed : List Occ) (n : ℕ) (us : List Placed) where
       let found = (expr_exact listed m []).complete (us ++ k.left) end e whole refl in
       one_outcome listed m n (before us k) end e (ap (λ ys. expr_from listed m (record { left = ys; ending = k.ending })) (sym (append-nil (us ++ k.left))) ∙ found) o read sure
 
-  -- an expression that goes on with a token, with offsets that don't matter
+  -- an expression that continues with a token; the offsets of the tokens after it are irrelevant
   going_on : (p : Placed) (m : ℕ) (more : List Token) (e : Node) → IsExpr listed m ((tokens us ++ p.token ∷ []) ++ more) e → IsExpr listed m (tokens us ++ p.token ∷ tokens (placed more)) e
   going_on p m more e is = subst (λ ts. IsExpr listed m ts e) (append_assoc (tokens us) (p.token ∷ []) more ∙ ap (λ ts. tokens us ++ p.token ∷ ts) (sym (tokens-placed more))) is
 

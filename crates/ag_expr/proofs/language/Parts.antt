@@ -1,4 +1,4 @@
--- Parts of an expression that are read one after the other; and one level more.
+-- Parts of an expression that are parsed one after the other, and one level more.
 use Rattle.std.proofs.Common.{◌≡◌, ◌≢◌, ℕ, zero, suc, ◌-◌, ◌<◌, Bool, true, false, List, [], ◌∷◌, ◌++◌, length, Result, Ok, Err, ap, sym, ◌∙◌, subst, arith}
 use Rattle.ag_tokens.specs.Parsing.{sees}
 use Rattle.ag_tokens.specs.Placed.{Input}
@@ -14,7 +14,7 @@ use Rattle.ag_expr.specs.language.Names.{Names}
 use Rattle.ag_expr.specs.language.Reading.{Outcome, Parser, whole_from, expr_in}
 use Rattle.ag_expr.specs.language.State.{State, Keeps, Reads, ReadsAs, everything, input}
 
--- a fault that is answered
+-- a fault of a part that is passed on
 pub answered : {X Y : Type 0} (view : X → Y) (read : List Occ → Names → Parser Y) (old new : State) (r : Result X ExprFault) (e : ExprFault) → IsErrAnd r (λ x. x ≡ e) → (e ≢ fault.NoMemory → read (everything old) old.scope (input old) ≡ Err e) → ReadsAs view read old r new
 answered view read old new (Ok x) e is refuses = absurd is
 answered view read old new (Err x) e is refuses = subst (λ x. x ≢ fault.NoMemory → read (everything old) old.scope (input old) ≡ Err x) (sym is) refuses
@@ -25,9 +25,10 @@ unfolding expr_in
 one_level zero some old new r is = let bad : ⊥ = omega arith in absurd bad
 one_level (suc n) some old new r is = subst (λ k. Reads (λ all names. whole_from (expr_in all k) names all) old r new) (let one : suc n - 1 ≡ n = omega arith in one) is
 
--- ---- beside a loop
+-- ---- for the proofs of loops
 
--- Parts are read one after the other from where a reader stood first: what the further ones add to those that were found is the whole.
+-- A loop invariant: parts are parsed one after the other from the state `first`, and the parts found so far,
+-- with the further ones, are the whole.
 pub record Looping {A : Type 0} (single : Bool) (begins : Token → Bool) (item : List Occ → Names → Parser A) (whole : List Occ → Names → Parser (List A)) (first s : State) (found : List A) : Type 0 where
   pub keeps : Keeps first s
   pub going : Going single begins (item (everything first) first.scope) found (input s) (whole (everything first) first.scope (input first))

@@ -1,4 +1,4 @@
--- A reader's state, by the token in front.
+-- The state of a reader, by the next token.
 use Rattle.std.proofs.Common.{◌≡◌, ◌&&◌, ℕ, Bool, true, false, cond, List, [], ◌++◌, Option, Some, None, is_some, refl, ap, sym, ◌∙◌, arith}
 use Rattle.ag_tokens.specs.declared.fault.TokenFault.{TokenFault}
 use Rattle.ag_tokens.specs.declared.fault.TokenFault.TheVariants as token_fault
@@ -20,12 +20,12 @@ use Rattle.ag_expr.proofs.language.Numbered.{position_stays, has_number}
 abbrev pub is_semicolon : Token → Bool
 is_semicolon = is_sign (mark punctuation.Semicolon)
 
--- the token in front is that of the cursor, where that is no end
+-- the next token is that of the cursor, unless it ends the tokens
 pub front_is : (s : State) → front (input s) ≡ kept s.is_statement (front s.tokens)
 unfolding input
 front_is s = grind arith
 
--- why it can't be taken
+-- the fault for it
 abbrev pub told : Option TokenFault → ℕ → ExprFault
 told None at = fault.Unexpected at
 told (Some token_fault.Nothing) at = fault.NoToken at
@@ -34,12 +34,12 @@ told (Some token_fault.TooLarge) at = fault.NumberTooLarge at
 pub told_is : (i : Input) (f : Option TokenFault) → f ≡ fault_of i.ending i.left → told f (offset i) ≡ refusal i
 told_is i f is = grind arith
 
--- it is the same where the tokens end at a `;`
+-- the fault is the same if the tokens end at a `;`
 pub refusal_is : (s : State) → refusal (input s) ≡ refusal s.tokens
 unfolding input
 refusal_is s = grind arith
 
--- the tokens end at a `;` or where the text does
+-- whether the tokens end: at a `;` of a statement, or at the end of the text
 abbrev pub stops : Bool → Option Token → Bool → Bool
 stops is_statement (Some t) ends = is_statement && is_semicolon t
 stops is_statement None ends = ends
@@ -48,7 +48,7 @@ pub ends_is : (s : State) → is_end (input s).ending (input s).left ≡ stops s
 unfolding input
 ends_is s = grind arith
 
--- a token stands in front
+-- there is a next token
 pub record Stands (s : State) (t : Token) : Type 0 where
   pub is : input s ≡ one_before (offset s.tokens) t (input (passed s))
   pub behind : from_end s.is_statement (next s.tokens) ≡ from_end s.is_statement s.tokens
@@ -68,7 +68,7 @@ module _ (s : State) (t : Token) (h : front (input s) ≡ Some t) where
   unfolding everything
   all_is = ap (λ (i : Input). listed_with_all s.listed (all_occurrences i.left)) (stands s t h).is
 
-  -- a token that is no occurrence lists nothing
+  -- a token that is not an occurrence lists nothing
   pub passed_keeps : PassesOther s → Keeps s (passed s)
   unfolding everything
   passed_keeps other = record { occurrences = sym (all_is ∙ ap (λ os. listed_with_all s.listed (os ++ all_occurrences (input (passed s)).left)) (none t (sym (ap is_occurrence h) ∙ other))); names = refl; kind = refl; behind = (stands s t h).behind }
@@ -76,7 +76,7 @@ module _ (s : State) (t : Token) (h : front (input s) ≡ Some t) where
       none : (t : Token) → is_occurrence (Some t) ≡ false → occurrence_in t (offset s.tokens) ≡ []
       none t h = grind arith
 
-  -- an expression begins with it where it begins with it among all occurrences
+  -- whether an expression begins with the token is the same with all occurrences as in `begins_here`
   begins_same : begins (everything s) s.scope t ≡ begins_here s.scope t
   begins_same = go t all_is
     where
@@ -91,7 +91,7 @@ module _ (s : State) (t : Token) (h : front (input s) ≡ Some t) where
           rw number refl
       go (token.Punctuation m) all = refl
 
-  -- why none begins where no level is left
+  -- the fault for the token if no level is left
   level_is : no_level s ≡ cond (begins_here s.scope t) (fault.TooDeep (offset s.tokens)) (fault.Unexpected (offset s.tokens))
   level_is = ap (λ (i : Input). no_level_of (everything s) s.scope i.ending i.left) (stands s t h).is ∙ rw begins_same (grind arith)
 
@@ -104,7 +104,7 @@ module _ (s : State) (t : Token) (h : front (input s) ≡ Some t) where
 pub none_begun : (s : State) → front (input s) ≡ None → no_level s ≡ refusal (input s)
 none_begun s h = grind arith
 
--- an occurrence that is passed is listed
+-- an occurrence that is read is listed
 module _ (s : State) (p : ℕ) (attr : List ℕ) (listed : List Occ) (h : front (input s) ≡ Some (token.Occurrence p attr)) (is : listed ≡ listed_with s.listed (record { place = p; attr = attr; at = offset s.tokens })) where
   all_listed : everything s ≡ listed_with_all listed (all_occurrences (input (passed s)).left)
   all_listed = all_is s (token.Occurrence p attr) h ∙ ap (λ os. listed_with_all os (all_occurrences (input (passed s)).left)) (sym is)
@@ -120,7 +120,7 @@ module _ (s : State) (p : ℕ) (attr : List ℕ) (listed : List Occ) (h : front 
   unfolding input
   taken_tokens = passed_input s (token.Occurrence p attr) h
 
--- at the end all are listed
+-- at the end of the tokens all occurrences are listed
 pub all_at_end : (s : State) → is_end (input s).ending (input s).left ≡ true → everything s ≡ s.listed
 unfolding everything
 all_at_end s h = ap (λ ps. listed_with_all s.listed (all_occurrences ps)) (none (input s).ending (input s).left h)

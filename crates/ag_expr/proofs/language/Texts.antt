@@ -1,4 +1,4 @@
--- What is answered is what reading the tokens of the text gives, and what follows of the text.
+-- The results are those of parsing the tokens of the text; and what follows for the text.
 use Rattle.std.proofs.Common.{◌≡◌, ◌≢◌, ℕ, true, false, List, [], ◌∷◌, ◌++◌, length, Result, Ok, Err, IfOk, IfErr, chars, drop, IsUtf8, inl, inr, refl, ap, sym, ◌∙◌, subst, arith, append_assoc, append-nil, length-append}
 use Rattle.std.specs.Result.{IsErrAnd}
 use Rattle.ag_expr.specs.declared.fault.ExprFault.{ExprFault}
@@ -22,21 +22,21 @@ use Rattle.ag_tokens.proofs.Lexes.{ends_wide, one_input, same_input}
 use Rattle.ag_expr.proofs.language.Listing.{listed_are_different}
 use Rattle.ag_expr.proofs.language.Offsets.{refuses_at_the_first}
 
--- what reading the tokens of a text gives is the answer, since it has no others
+-- the result of parsing the tokens of a text is the answer, since the text has no other tokens
 pub read_to : (text : List ℕ) (from : ℕ) (j : Input) → Lexes from (chars (drop from text)) j → (r : Result (Node × List Occ) ExprFault) → IsReadToEnd (start false j) r → IsReadFrom text from r
 unfolding everything input
 read_to text from j lexed r is i lexes memory =
     ap read_from (same_input from (chars (drop from text)) i j lexes lexed) ∙ ap (λ os. answer_of os (expr_of os max_levels j)) (sym (listed_are_different (all_occurrences j.left))) ∙ is memory
 
--- ---- what the parts of reading come to
+-- ---- the results of the parts of parsing
 
--- what holds of a fault holds of the answer that passes it on
+-- what holds for a fault holds for the result that passes it on
 pub passed_on : {X : Type 0} (P : Result X ExprFault → Type 0) (r : Result X ExprFault) (e : ExprFault) → IsErrAnd r (λ x. x ≡ e) → P (Err e) → P r
 passed_on P (Ok x) e is holds = absurd is
 passed_on P (Err x) e is holds = subst (λ y. P (Err y)) (sym is) holds
 
 module _ (s : State) where
-  -- where no names are bound
+  -- the case with no names in scope
   pub unnamed : s.scope ≡ [] → (o : Outcome Node) → expr_in (everything s) max_levels s.scope (input s) ≡ o → expr_from (everything s) max_levels (input s) ≡ o
   unnamed none o is = subst (λ names. expr_in (everything s) max_levels names (input s) ≡ o) none is
 
@@ -53,7 +53,7 @@ module _ (s : State) where
   pub read_all : (f : Node) (j : Input) (listed : List Occ) → expr_from (everything s) max_levels (input s) ≡ Ok (f, j) → is_end j.ending j.left ≡ true → listed ≡ everything s → IsReadToEnd s (Ok (f, listed))
   read_all f j listed read ends same = λ memory. ap (answer_of (everything s)) (read_of (everything s) max_levels (input s) j f read ends) ∙ ap (λ os. Ok (f, os)) (sym same)
 
--- ---- what follows of the text
+-- ---- what follows for the text
 
 answered_tree : (listed : List Occ) (o : Outcome Node) (x : Node × List Occ) → answer_of listed o ≡ Ok x → (j : Input) × (o ≡ Ok (x.0, j)) × (x.1 ≡ listed)
 answered_tree listed (Ok (e, j)) x h = (j, cc, cc)
@@ -62,7 +62,7 @@ answered_tree listed (Err f) x h = let bad : ⊥ = cc in absurd bad
 answered_fault : (listed : List Occ) (o : Outcome Node) (e : ExprFault) → answer_of listed o ≡ Err e → o ≡ Err e
 answered_fault listed o e h = grind arith
 
--- what reading answers of tokens that end a text
+-- The tokens end with the text and spell the result.
 pub record Spells (i : Input) (x : Node × List Occ) : Type 0 where
   pub at : ℕ
   pub ends : i.ending ≡ ending.EndsAt at
@@ -93,7 +93,7 @@ pub reads_as : (text : List ℕ) (r : Result (Node × List Occ) ExprFault) → I
 reads_as text (Ok x) utf8 is = reads_of text x utf8 is
 reads_as text (Err e) utf8 is = tt
 
--- and what reads as an expression is read
+-- and the tokens of an expression are parsed to it
 pub spelled_back : (placed : List Placed) (at : ℕ) (x : Node × List Occ) → x.1 ≡ different (all_occurrences placed) → IsExpr x.1 max_levels (tokens placed) x.0 → read_from (record { left = placed; ending = ending.EndsAt at }) ≡ Ok x
 spelled_back placed at x listed spells =
     let i : Input = record { left = placed; ending = ending.EndsAt at } in
@@ -110,7 +110,7 @@ refuses_of text (Ok x) is = tt
 refuses_of text (Err fault.NoMemory) is = tt
 refuses_of text (Err e) is = none_of text _ (λ e. cc) is
 
--- a fault that reading answers is told of the first token that can't be taken
+-- a fault of the parser is at the first token that cannot be accepted
 pub told_of : (i : Input) (e : ExprFault) → read_from i ≡ Err e → IsToldFirst (occurrences_of i) max_levels i e
 told_of i e is = refuses_at_the_first (occurrences_of i) max_levels i e (answered_fault (occurrences_of i) (expr_of (occurrences_of i) max_levels i) e is)
 
@@ -121,13 +121,13 @@ pub first_of : (text : List ℕ) (r : Result (Node × List Occ) ExprFault) → I
 first_of text (Ok x) is = tt
 first_of text (Err e) is = first_fault text e is
 
--- ---- what stands at the offset
+-- ---- the token at the offset of a fault
 
 placed_inner : (us : List Placed) (p : Placed) (ps : List Placed) → all_within (us ++ p ∷ ps) ≡ true → is_within p.token ≡ true
 placed_inner [] p ps h = grind arith
 placed_inner (u ∷ us) p ps h = let more = placed_inner us p ps in grind arith
 
--- a token of the text stands at its offset
+-- a token of the text is at its offset
 token_at : {from : ℕ} {cs : List ℕ} {qs : List Placed} {end : ℕ} {rest : List ℕ} → AreTokens from cs qs end rest → (us : List Placed) (p : Placed) (ps : List Placed) → qs ≡ us ++ p ∷ ps → (there : AnyTokenAt from cs p.at) × (there.token ≡ p.token)
 token_at (ended at cs) us p ps e = let bad : ⊥ = omega (arith, ap length e, length-append us (p ∷ ps)) in absurd bad
 token_at (separator at c cs qs end rest h are) us p ps e =
@@ -153,7 +153,7 @@ module _ (from : ℕ) (cs : List ℕ) (i : Input) (lexes : Lexes from cs i) wher
   pub stands_at : (us : List Placed) (p : Placed) (ps : List Placed) → i.left ≡ us ++ p ∷ ps → (there : TokenAt from cs p.at) × (there.0.token ≡ p.token)
   stands_at us p ps cut = let one = token_at lexes.before us p ps cut in ((one.0, ap is_within one.1 ∙ placed_inner us p ps (sym (ap all_within cut) ∙ lexes.within)), one.1)
 
-  -- where the tokens end
+  -- the ending of the tokens is at its offset
   pub ends_at : Says from cs (ending_fault i.ending)
   ends_at = go i.left i.ending lexes
     where
@@ -168,7 +168,7 @@ module _ (from : ℕ) (cs : List ℕ) (i : Input) (lexes : Lexes from cs i) wher
           let t = is.stops in
           (record { word = t.word; token = t.token; rest = t.behind; reaches = record { placed = ps; before = subst (AreTokens from cs ps at) t.split is.before }; is = t.is; longest = t.longest }, t.large)
 
-  -- A fault is told of the first of the tokens in front, which end where it says.
+  -- A fault for a prefix of the tokens is right about the text, if that for the ending of the prefix is.
   pub told_before : (part : Input) (behind : List Placed) → i.left ≡ part.left ++ behind → Says from cs (ending_fault part.ending) → (listed : List Occ) (levels : ℕ) (f : ExprFault) → IsToldFirst listed levels part f → Says from cs f
   told_before part behind cut ends listed levels f told = go told
     where
@@ -183,11 +183,11 @@ module _ (from : ℕ) (cs : List ℕ) (i : Input) (lexes : Lexes from cs i) wher
       go (inl w) = subst (Says from cs) (sym w.says) (says w.before w.rest w.cut)
       go (inr d) = let one = stands_at d.before d.first (d.rest ++ behind) (further d.before (d.first ∷ d.rest) d.cut) in subst (Says from cs) (sym d.says) (one.0, ap begins_expression one.1 ∙ d.begins_one)
 
-  -- and of all of them
+  -- and the same for all tokens
   pub told_at : (listed : List Occ) (levels : ℕ) (f : ExprFault) → IsToldFirst listed levels i f → Says from cs f
   told_at = told_before i [] (sym (append-nil i.left)) ends_at
 
--- of memory nothing is said
+-- the fault `NoMemory` states nothing
 pub unless_memory : (from : ℕ) (cs : List ℕ) (e : ExprFault) → (e ≢ fault.NoMemory → Says from cs e) → Says from cs e
 unless_memory from cs fault.NoMemory says = tt
 unless_memory from cs e says = says (λ e. cc)
@@ -198,7 +198,7 @@ offsets_of text (Err e) is =
     let i = one_input (chars text) in
     unless_memory 0 (chars text) e (λ memory. told_at 0 (chars text) i.0 i.1 (occurrences_of i.0) max_levels e (first_fault text e is i.0 i.1 memory))
 
--- a text reads as one expression at most
+-- a text reads as at most one expression
 pub one_expression : (text : List ℕ) (one other : Node × List Occ) → ReadsAsExpr text one → ReadsAsExpr text other → one ≡ other
 one_expression text one other is also =
     let same = same_input 0 (chars text) _ _ is.lexes also.lexes in

@@ -1,4 +1,4 @@
--- An expression that is read up to a semicolon: what is read on the tokens in front of it, and what follows of the text.
+-- An expression up to a semicolon: the result of parsing the tokens before it, and what follows for the text.
 use Rattle.std.proofs.Common.{◌≡◌, ℕ, Bool, true, false, List, [], ◌∷◌, ◌++◌, drop, Option, Some, None, Result, Ok, Err, IfOk, IfErr, chars, inl, inr, refl, ap, sym, ◌∙◌, subst, arith}
 use Rattle.ag_tokens.specs.declared.token.Punctuation.TheVariants as punctuation
 use Rattle.ag_tokens.specs.Ending.{Ending}
@@ -29,35 +29,35 @@ use Rattle.ag_expr.proofs.language.Texts.{spells_of, spelled_back, told_of, stan
 abbrev is_semicolon : Token → Bool
 is_semicolon = is_sign (mark punctuation.Semicolon)
 
--- where there is one, the tokens are those before it, it, and those behind it
+-- if there is a first semicolon, the tokens are those before it, the semicolon, and those after it
 pub split_first : (qs : List Placed) (at : ℕ) → first_semicolon qs ≡ Some at → (qs ≡ before_semicolon qs ++ semicolon at ∷ behind_semicolon qs) × (first_semicolon (before_semicolon qs) ≡ None)
 split_first [] at h = let bad : ⊥ = cc in absurd bad
 split_first (q ∷ qs) at h = let more = split_first qs at in let is = sign_is (mark punctuation.Semicolon) q.token in (grind (arith, is), grind arith)
 
--- and what stands behind tokens without one
+-- and a semicolon after tokens without one is the first
 pub found_first : (us : List Placed) (at : ℕ) (ps : List Placed) → first_semicolon us ≡ None
     → (first_semicolon (us ++ semicolon at ∷ ps) ≡ Some at) × (before_semicolon (us ++ semicolon at ∷ ps) ≡ us) × (behind_semicolon (us ++ semicolon at ∷ ps) ≡ ps)
 found_first [] at ps none = (refl, refl, refl)
 found_first (u ∷ us) at ps none = let more = found_first us at ps in (grind arith, grind arith, grind arith)
 
--- where there is none all stand before it
+-- if there is none, all tokens are before it
 none_first : (qs : List Placed) → first_semicolon qs ≡ None → (before_semicolon qs ≡ qs) × (from_semicolon qs ≡ [])
 none_first [] h = (refl, refl)
 none_first (q ∷ qs) h = let more = none_first qs in (grind arith, grind arith)
 
--- and where it stands some do
+-- and if there is one, the tokens from it on are not empty
 never : (qs : List Placed) (at : ℕ) → first_semicolon qs ≡ Some at → from_semicolon qs ≡ [] → ⊥
 never [] at h none = cc
 never (q ∷ qs) at h none = let more = never qs at in grind arith
 
--- from it on it and those behind it stand
+-- the tokens from the semicolon on are the semicolon and those after it
 from_first : (qs : List Placed) (p : Placed) (ps : List Placed) → from_semicolon qs ≡ p ∷ ps → (first_semicolon qs ≡ Some p.at) × (behind_semicolon qs ≡ ps)
 from_first [] p ps h = let bad : ⊥ = cc in absurd bad
 from_first (q ∷ qs) p ps h = let more = from_first qs p ps in (grind arith, grind arith)
 
--- ---- reading on the tokens up to it
+-- ---- parsing the tokens before the semicolon
 
--- the answer by that of the tokens up to it
+-- the result, from that of the tokens before the semicolon
 abbrev by_end : Option ℕ → Ending → Result (Node × List Occ) ExprFault → Result Ended ExprFault
 by_end (Some at) e r = with_offset at r
 by_end None e r = or_fault (ending_fault e) r
@@ -69,7 +69,7 @@ module _ (i : Input) where
   abbrev all : List Occ
   all = everything (start true i)
 
-  -- what reading a whole text of the tokens up to it gives
+  -- the result of parsing the tokens before the semicolon as a whole text
   whole : (o : Result (Node × Input) ExprFault) → expr_of all max_levels (input (start true i)) ≡ o → read_from (up_to true i) ≡ answer_of all o
   unfolding everything input
   whole o h = ap (λ os. answer_of os (expr_of os max_levels (up_to true i))) (sym (listed_are_different (all_occurrences (up_to true i).left))) ∙ ap (answer_of all) h
@@ -108,7 +108,7 @@ module _ (i : Input) where
             rw all_read (let here = rest in let same = ending_is in grind (arith, no_first))
         by false more = ap (by_end (first_semicolon i.left) i.ending) (whole (Err (refusal (up_to true c))) (refused_at more)) ∙ grind arith
 
--- by where a reader stands that has read an expression
+-- the result, from the state of a reader that has parsed an expression
 module _ (i : Input) (s : State) (e : Node) (read : expr_from (all i) max_levels (input (start true i)) ≡ Ok (e, input s)) (kept : Keeps (start true i) s) where
   tokens_are : input s ≡ up_to true s.tokens
   unfolding input
@@ -126,7 +126,7 @@ module _ (i : Input) (s : State) (e : Node) (read : expr_from (all i) max_levels
   pub all_of : sees is_semicolon s.tokens ≡ true → s.listed ≡ all i
   all_of h = sym (all_at_end s (ap (λ (j : Input). is_end j.ending j.left) tokens_are ∙ grind arith)) ∙ kept.occurrences
 
--- ---- what a fault is told of
+-- ---- the token of a fault
 
 module _ (i : Input) (f : ExprFault) where
   told_until : (o : Option ℕ) → until_by o i ≡ Err f → IsToldUntil o i f
@@ -152,7 +152,7 @@ pub first_until : (text : List ℕ) (from : ℕ) (r : Result Ended ExprFault) �
 first_until text from (Ok x) is = tt
 first_until text from (Err f) is = λ i lexes memory. told_until i f (first_semicolon i.left) (is i lexes (λ q. memory cc))
 
--- ---- what follows of the text
+-- ---- what follows for the text
 
 module _ (text : List ℕ) (from : ℕ) (j : Input) (lexes : Lexes from (chars (drop from text)) j) where
   pub is_read : (r : Result Ended ExprFault) (new : Input) → IsReadEnded j r new → IsReadUntil text from r

@@ -1,4 +1,4 @@
--- A parser that reads exactly a language, and what keeps this: one lemma for each way to put parsers together.
+-- Parsers that accept exactly a language, and one lemma for each combinator.
 use Rattle.std.proofs.Common.{◌≡◌, ℕ, zero, suc, ◌≤◌, ◌<◌, Bool, true, false, ◌||◌, if◌then◌else◌, List, [], ◌∷◌, ◌++◌, map, length, Option, Some, Ok, Err, ◌⊎◌, inl, inr, refl, ap, sym, ◌∙◌, subst, append_assoc, append-nil, arith, length-append}
 use Rattle.std.proofs.lemmas.List.{map-append}
 use Rattle.ag_tokens.specs.Ending.{Ending}
@@ -9,8 +9,9 @@ use Rattle.ag_tokens.specs.Parsing.{front_of, sees, Outcome, Parser, and_then, p
 use Rattle.ag_tokens.specs.Words as words
 use Rattle.ag_tokens.specs.Words.{gives, one, Many, none, more, IsFew, further}
 
--- How a language is read: what a placed token is in its words, what is told of one that can't be taken, which faults are told of a token, and of which
--- token it is told that it could be taken with more levels.
+-- What the theory needs to know about a language: the item for a token with its offset, the fault for an
+-- input that cannot be accepted, the faults that are about a token, and whether a fault means that this token
+-- needs more levels.
 pub record Manner (T Fault : Type 0) : Type 0 where
   pub item : Placed → T
   pub wrong : Input → Fault
@@ -21,15 +22,15 @@ pub record Manner (T Fault : Type 0) : Type 0 where
 abbrev pub before : List Placed → Input → Input
 before us i = record i { left = us ++ i.left }
 
--- whether the first token is so
+-- whether the first token satisfies the test
 abbrev pub first_is : (Token → Bool) → List Placed → Bool
 first_is test ps = parsing.front_is test (front_of ps)
 
--- each word begins with such a token
+-- each word of the language begins with a token that satisfies the test
 pub record Starts {T Fault A : Type 0} (m : Manner T Fault) (test : Token → Bool) (L : List T → A → Type 0) : Type 0 where
   pub leads : (us : List Placed) (a : A) → L (map m.item us) a → first_is test us ≡ true
 
--- what is read is spelled at the front, and what is spelled at the front is read, where none of the tokens `stops` comes behind it
+-- the parser is sound for the language, and complete if no token of `stops` follows
 pub record Exact {T Fault A : Type 0} (m : Manner T Fault) (stops : Token → Bool) (L : List T → A → Type 0) (r : Parser Fault A) : Type 0 where
   pub sound : (i j : Input) (a : A) → r i ≡ Ok (a, j) → (us : List Placed) × (i ≡ before us j) × L (map m.item us) a
   pub complete : (us : List Placed) (j : Input) (a : A) → L (map m.item us) a → first_is stops j.left ≡ false → r (before us j) ≡ Ok (a, j)
@@ -44,7 +45,7 @@ split item us [] ws e = ([], us, refl, refl, e)
 split item [] (v ∷ vs) ws e = let bad : ⊥ = cc in absurd bad
 split item (u ∷ us) (v ∷ vs) ws e = let cut = split item us vs ws (cc) in (u ∷ cut.0, cut.1, ap (λ ys. u ∷ ys) cut.2, cc, cut.4)
 
--- a word of two parts over placed tokens, and a list of words with one in front
+-- a word of two parts over tokens with offsets, and a list of words with one more at its head
 module _ {T A : Type 0} (item : Placed → T) (us : List Placed) where
   pub parts : {B : Type 0} (R : List T → A → Type 0) (S : A → List T → B → Type 0) (b : B) → words.◌>>=◌ R S (map item us) b → (xs : List Placed) × (ys : List Placed) × (a : A) × (us ≡ xs ++ ys) × R (map item xs) a × S a (map item ys) b
   parts R S b (vs, ws, a, e, is, later) = let cut = split item us vs ws e in (cut.0, cut.1, a, cut.2, subst (λ ts. R ts a) (sym cut.3) is, subst (λ ts. S a ts b) (sym cut.4) later)
@@ -77,7 +78,7 @@ anywhere ps = grind arith
 leading : (test : Token → Bool) (ps : List Placed) → first_is test ps ≡ true → 1 ≤ length ps
 leading test ps h = grind arith
 
--- tokens of one kind are none of the other
+-- no token satisfies both tests
 abbrev pub Apart : (Token → Bool) → (Token → Bool) → Type 0
 Apart these those = (t : Token) → these t ≡ true → those t ≡ false
 
@@ -90,11 +91,11 @@ led these those apart ps h = grind (arith, apart)
 pub neither : (a b : Bool) → (a || b) ≡ false → (a ≡ false) × (b ≡ false)
 neither a b h = (grind arith, grind arith)
 
--- where none of either kind comes first
+-- the first token satisfies neither test
 pub both_without : (these those : Token → Bool) (ps : List Placed) → first_is (λ t. these t || those t) ps ≡ false → (first_is these ps ≡ false) × (first_is those ps ≡ false)
 both_without these those ps h = (grind arith, grind arith)
 
--- where one of either comes first
+-- the first token satisfies one of the tests
 either : (these those : Token → Bool) (ps : List Placed) → first_is these ps ≡ true ⊎ first_is those ps ≡ true → first_is (λ t. these t || those t) ps ≡ true
 either these those ps h = grind arith
 
@@ -107,7 +108,7 @@ opened (Ok p) f y e = (p, refl, e)
 pub answered : {Fault A : Type 0} (a b : A) (i j : Input) → (let o : Outcome Fault A = Ok (a, i) in o ≡ Ok (b, j)) → (b ≡ a) × (i ≡ j)
 answered {Fault} {A} a b i j e = let same : ◌≡◌ {A = A × Input} (a, i) (b, j) = cc in (ap (λ p. p.0) (sym same), ap (λ p. p.1) same)
 
--- what is behind the first part
+-- a word of L, followed by no token of `outer`, does not begin with a token of `inner`
 abbrev pub Before : {T Fault B : Type 0} → Manner T Fault → (Token → Bool) → (Token → Bool) → (List T → B → Type 0) → Type 0
 Before {T} {Fault} {B} m outer inner L = (vs rest : List Placed) (b : B) → L (map m.item vs) b → first_is outer rest ≡ false → first_is inner (vs ++ rest) ≡ false
 
@@ -139,7 +140,7 @@ module _ {T Fault : Type 0} {m : Manner T Fault} where
           let one = x.complete vs (before ws j) a first (behind a ws j.left b later h) in
           rw (cut, append_assoc, one) ((y a).complete ws j b later h)
 
-  -- one of two, by the first token
+  -- one of two languages, chosen by the first token
   pub or_exact : {A : Type 0} {test those stops : Token → Bool} {L M : List T → A → Type 0} {l n : Parser Fault A}
       → Exact m stops L l → Exact m stops M n → Starts m test L → Starts m those M → Apart test those → Exact m stops (words.◌or◌ L M) (choose test l n)
   or_exact {A} {test} {those} {stops} {L} {M} {l} {n} x y starts others apart = record { sound = λ i j a. found (sees test i) i j a; complete = read }
@@ -152,7 +153,7 @@ module _ {T Fault : Type 0} {m : Manner T Fault} where
       read us j a (inl is) h = rw (leads-append test us j.left (starts.leads us a is)) (x.complete us j a is h)
       read us j a (inr is) h = rw (led those test (apart_back test those apart) (us ++ j.left) (leads-append those us j.left (others.leads us a is))) (y.complete us j a is h)
 
-  -- one of them, or nothing
+  -- a language, or nothing
   pub maybe_exact : {A : Type 0} {test stops : Token → Bool} {L : List T → A → Type 0} {l : Parser Fault A} (a : A) → Exact m stops L l → Starts m test L → Exact m (λ t. test t || stops t) (words.◌or◌ L (gives a)) (choose test l (pure a))
   maybe_exact {A} {test} {stops} {L} {l} a x starts = record { sound = λ i j b. found (sees test i) i j b; complete = read }
     where
@@ -165,7 +166,7 @@ module _ {T Fault : Type 0} {m : Manner T Fault} where
       read [] j b (inr (empty, same)) h = rw (same, (both_without test stops j.left h).0) refl
       read (u ∷ us) j b (inr (empty, same)) h = let bad : ⊥ = cc in absurd bad
 
-  -- one token, for what it stands for
+  -- one token, with its meaning
   pub one_exact : {A : Type 0} {stops : Token → Bool} (sign : ℕ → Token → Option A) (meaning : T → Option A) → ((p : Placed) → sign p.at p.token ≡ meaning (m.item p)) → Exact m stops (one meaning) (one_from m.wrong sign)
   one_exact {A} {stops} sign meaning agree = record { sound = λ i j a. found i.left i.ending j a; complete = read }
     where
@@ -229,7 +230,7 @@ module _ {T Fault : Type 0} {m : Manner T Fault} where
       let two = many_complete begins stops L r x starts apart n (found ++ y ∷ []) ws ys others j h g (omega arith) in
       rw yes (rw (cut, append_assoc, one) (two ∙ ap (λ zs. Ok (zs, j)) (append_assoc found (y ∷ []) ys)))
 
-  -- further ones behind those that were found
+  -- further items after those found
   pub further_exact : {A : Type 0} (single : Bool) (found : List A) {begins stops : Token → Bool} {L : List T → A → Type 0} {r : Parser Fault A} → Exact m stops L r → Starts m begins L → Apart begins stops
       → Exact m (λ t. begins t || stops t) (further single found L) (further_from single begins r found)
   further_exact {A} single found {begins} {stops} {L} {r} x starts apart = record { sound = λ i j. read_as single i j; complete = λ us j all is. spelled_as single us j all is }
@@ -247,13 +248,13 @@ module _ {T Fault : Type 0} {m : Manner T Fault} where
           let short = many_short begins L starts us xs are in
           rw same (turn (length (us ++ j.left)) us j xs are (omega (arith, length-append us j.left)) h)
 
-  -- any number of them
+  -- any number of items
   pub many_exact : {A : Type 0} {begins stops : Token → Bool} {L : List T → A → Type 0} {r : Parser Fault A} → Exact m stops L r → Starts m begins L → Apart begins stops → Exact m (λ t. begins t || stops t) (Many L) (further_from false begins r [])
   many_exact {A} {L = L} x starts apart =
       let y = further_exact false [] x starts apart in
       record { sound = λ i j all h. (let f = y.sound i j all h in (f.0, f.1, subst (Many L (map m.item f.0)) (sym f.2.3) f.2.1)); complete = λ us j all are. y.complete us j all (all, are, tt, refl) }
 
-  -- what stands behind a part before them, with what goes on behind them
+  -- items, followed by something else
   pub further_then : {A B : Type 0} (single : Bool) (found : List A) (begins inner outer : Token → Bool) {those : Token → Bool} {L : List T → A → Type 0} {S : List A → List T → B → Type 0} → Starts m begins L → Apart begins inner
       → ((xs : List A) → Starts m those (S xs)) → Apart those inner → Before m outer inner (words.◌>>=◌ (further single found L) S)
   further_then {A} {B} single found begins inner outer {those} {L} {S} starts apart behind away vs rest b word h =
@@ -261,7 +262,7 @@ module _ {T Fault : Type 0} {m : Manner T Fault} where
       let next = led those inner away (ws ++ rest) (leads-append those ws rest ((behind all).leads ws b later)) in
       rw (cut, append_assoc us ws rest) (many_leads begins inner L starts apart us xs are (ws ++ rest) next)
 
-  -- and with nothing behind them
+  -- and items followed by nothing
   pub further_behind : {A B : Type 0} (single : Bool) (found : List A) (begins stops : Token → Bool) {L : List T → A → Type 0} (f : List A → B) → Starts m begins L → Apart begins stops → Before m (λ t. begins t || stops t) stops (words.◌>>=◌ (further single found L) (λ xs. gives (f xs)))
   further_behind single found begins stops {L} f starts apart vs rest b (us, ws, all, e, (xs, are, le, is), (no_more, same)) h =
       let whole : map m.item vs ≡ us = e ∙ ap (λ ys. us ++ ys) no_more ∙ append-nil us in
@@ -286,7 +287,7 @@ module _ {T Fault : Type 0} {m : Manner T Fault} where
       first us a (inl is) = either these those us (inl (x.leads us a is))
       first us a (inr is) = either these those us (inr (y.leads us a is))
 
-  -- one of them, or nothing, and behind it what begins with another
+  -- a language or nothing, followed by what begins with another token
   pub maybe_starts : {A B : Type 0} {these those : Token → Bool} {L : List T → A → Type 0} {S : A → List T → B → Type 0} (c : A) → Starts m these L → ((a : A) → Starts m those (S a)) → Starts m (λ t. these t || those t) (words.◌>>=◌ (words.◌or◌ L (gives c)) S)
   maybe_starts {A} {B} {these} {those} {L} {S} c x y = record { leads = go }
     where
@@ -296,9 +297,9 @@ module _ {T Fault : Type 0} {m : Manner T Fault} where
           either these those us (inl (subst (λ qs. first_is these qs ≡ true) (sym cut.2) (leads-append these cut.0 cut.1 (x.leads cut.0 a (subst (λ ts. L ts a) (sym cut.3) is)))))
       go us b (vs, ws, a, e, inr (empty, same), later) = let all : map m.item us ≡ ws = rw (e, empty) refl in either these those us (inr ((y a).leads us b (subst (λ ts. S a ts b) (sym all) later)))
 
-  -- ---- what stands behind a part
+  -- ---- the rest after a part
 
-  -- an end
+  -- the end of a form
   pub ends_exact : {A B : Type 0} {stops : Token → Bool} {R : List T → A → Type 0} {r : Parser Fault A} (f : A → B) → Exact m stops R r → Exact m stops (words.◌>>=◌ R (λ a. gives (f a))) (parsing.◌>>=◌ r (λ a. pure (f a)))
   ends_exact {A} {B} {stops} f x = then_exact x (λ a. pure_exact (f a)) nothing
     where
@@ -306,17 +307,17 @@ module _ {T Fault : Type 0} {m : Manner T Fault} where
       nothing a [] rest b is h = h
       nothing a (v ∷ vs) rest b (e, is) h = let bad : ⊥ = cc in absurd bad
 
-  -- anything
+  -- any continuation
   pub any_then : {A B : Type 0} {stops : Token → Bool} {R : List T → A → Type 0} {S : A → List T → B → Type 0} {r : Parser Fault A} {s : A → Parser Fault B}
       → Exact m nowhere R r → ((a : A) → Exact m stops (S a) (s a)) → Exact m stops (words.◌>>=◌ R S) (parsing.◌>>=◌ r s)
   any_then x y = then_exact x y (λ a vs rest b is h. anywhere (vs ++ rest))
 
-  -- what begins with a token that doesn't go on with the part
+  -- a continuation that begins with a token that cannot continue the part
   pub start_then : {A B : Type 0} {these inner stops : Token → Bool} {R : List T → A → Type 0} {S : A → List T → B → Type 0} {r : Parser Fault A} {s : A → Parser Fault B}
       → Exact m inner R r → ((a : A) → Exact m stops (S a) (s a)) → ((a : A) → Starts m these (S a)) → Apart these inner → Exact m stops (words.◌>>=◌ R S) (parsing.◌>>=◌ r s)
   start_then {these = these} {inner = inner} x y starts apart = then_exact x y (λ a vs rest b is h. led these inner apart (vs ++ rest) (leads-append these vs rest ((starts a).leads vs b is)))
 
-  -- ---- what is read shortens what is left
+  -- ---- a parser that succeeds shortens the input
 
   pub shortens : {A : Type 0} {stops test : Token → Bool} {L : List T → A → Type 0} {r : Parser Fault A} → Exact m stops L r → Starts m test L → (i j : Input) (a : A) → r i ≡ Ok (a, j) → length j.left < length i.left
   shortens {A} {stops} {test} {L} {r} x starts i j a h =

@@ -1,4 +1,5 @@
--- Where a parser stops: what stands before is a beginning, and the token there decides, whatever comes behind it.
+-- Where a parser fails: the tokens before are a prefix of a word, and the next token alone decides, whatever
+-- follows it.
 use Rattle.std.proofs.Common.{◌≡◌, ℕ, zero, suc, ◌<◌, ◌≤◌, Bool, true, false, if◌then◌else◌, List, [], ◌∷◌, ◌++◌, map, length, Option, Some, None, Ok, Err, ◌⊎◌, inl, inr, refl, ap, sym, ◌∙◌, subst, append_assoc, append-nil, arith}
 use Rattle.std.proofs.lemmas.List.{map-append}
 use Rattle.ag_tokens.specs.Ending.{Ending}
@@ -22,11 +23,11 @@ Heads t [] = ⊥
 Heads t (u ∷ us) = u ≡ t
 
 module _ {T Fault : Type 0} (m : Manner T Fault) where
-  -- the next token can't be taken, whatever comes behind it
+  -- the parser cannot accept the next token, whatever follows it
   abbrev pub Stuck : {A : Type 0} → Parser Fault A → List Placed → Input → Fault → Type 0
   Stuck r us j f = (f ≡ m.wrong j) × ((k : Input) → first k ≡ first j → r (before us k) ≡ Err (m.wrong k))
 
-  -- it could be taken with more levels, and with these is not, whatever comes behind it
+  -- the parser could accept the next token with more levels, and fails with this number, whatever follows it
   abbrev pub Deep : {A : Type 0} → Parser Fault A → List Placed → Input → Fault → List T → Type 0
   Deep r us j f rest = (p : Placed) × (ps : List Placed) × (j.left ≡ p ∷ ps) × (m.is_deep f p ≡ true) × Heads (m.item p) rest × ((k : Input) → first k ≡ first j → (g : Fault) × (r (before us k) ≡ Err g))
 
@@ -39,12 +40,14 @@ module _ {T Fault : Type 0} (m : Manner T Fault) where
     pub begins : L (map m.item us ++ rest) a
     pub how : Stuck q us j f ⊎ Deep r us j f rest
 
-  -- What `r` reads at `i` both read, by the next token behind it alone; and where `r` is stuck `q` is.
+  -- If `r` succeeds on the input i, both parsers do, depending only on the next token after the part. If `r`
+  -- fails, the tokens before the fault are a prefix of a word, and `q` fails there, depending only on the
+  -- next token.
   pub record SteadyAt {A : Type 0} (L : List T → A → Type 0) (r q : Parser Fault A) (i : Input) : Type 0 where
     pub ok : (j : Input) (a : A) → r i ≡ Ok (a, j) → (us : List Placed) × (i ≡ before us j) × L (map m.item us) a × ((k : Input) → first k ≡ first j → (r (before us k) ≡ Ok (a, k)) × (q (before us k) ≡ Ok (a, k)))
     pub err : (f : Fault) → m.is_told f ≡ true → r i ≡ Err f → Refused L r q i f
 
-  -- and the language has a word
+  -- the same for all inputs, and the language has a word
   pub record Steady {A : Type 0} (L : List T → A → Type 0) (r q : Parser Fault A) : Type 0 where
     pub at : (i : Input) → SteadyAt L r q i
     pub word : (w : List T) × (a : A) × L w a
@@ -63,7 +66,7 @@ heads-append : {T : Type 0} (t : T) (us vs : List T) → Heads t us → Heads t 
 heads-append t us vs h = grind arith
 
 module _ {T Fault : Type 0} {m : Manner T Fault} where
-  -- from a part to the whole, behind what was read before
+  -- from a part to the whole, after the tokens read before
   lift : {A B : Type 0} {L : List T → A → Type 0} {M : List T → B → Type 0} {r q : Parser Fault A} {s t : Parser Fault B} (vs : List Placed) (i j : Input) (f : Fault) → i ≡ before vs j → Refused m L r q j f
       → ((ts : List T) (a : A) → L ts a → (w : List T) × (b : B) × M (map m.item vs ++ (ts ++ w)) b) → ((x : Input) (g : Fault) → first x ≡ first j → (r x ≡ Err g → s (before vs x) ≡ Err g) × (q x ≡ Err g → t (before vs x) ≡ Err g)) → Refused m M s t i f
   lift {A} {B} {L} {M} {r} {q} {s} {t} vs i j f e x embed keeps =
@@ -131,16 +134,16 @@ module _ {T Fault : Type 0} {m : Manner T Fault} where
   pure_at : {A : Type 0} (a : A) (i : Input) → SteadyAt m (gives a) (pure a) (pure a) i
   pure_at a i = record { ok = λ j b h. let same = answered a b i j h in ([], same.1, (refl, same.0), λ k e. (ap (λ x. Ok (x, k)) (sym same.0), ap (λ x. Ok (x, k)) (sym same.0))); err = λ f told h. (let bad : ⊥ = cc in absurd bad) }
 
-  -- a wider language, and parsers that are the same
+  -- a larger language, and equal parsers
   as_well : {A : Type 0} {L M : List T → A → Type 0} {r r' q q' : Parser Fault A} {i : Input} → ((ts : List T) (a : A) → L ts a → M ts a) → ((k : Input) → r' k ≡ r k) → ((k : Input) → q' k ≡ q k) → SteadyAt m L r q i → SteadyAt m M r' q' i
   as_well {A} {L} {M} {r} {r'} {q} {q'} {i} wider same all x = record {
     ok = λ j a h. let one = x.ok j a (sym (same i) ∙ h) in (one.0, one.1, wider (map m.item one.0) a one.2, λ k e. (same (before one.0 k) ∙ (one.3 k e).0, all (before one.0 k) ∙ (one.3 k e).1));
     err = λ f told h. lift [] i i f refl (x.err f told (sym (same i) ∙ h)) (λ ts a is. ([], a, wider (ts ++ []) a (subst (λ us. L us a) (sym (append-nil ts)) is))) (λ z g fr. (λ e. same z ∙ e, λ e. all z ∙ e));
   }
 
-  -- ---- the same of whole parsers
+  -- ---- the same for all inputs
 
-  -- a wider language
+  -- a larger language
   pub wider_steady : {A : Type 0} {L M : List T → A → Type 0} {r q : Parser Fault A} → ((ts : List T) (a : A) → L ts a → M ts a) → Steady m L r q → Steady m M r q
   wider_steady wider x = record { at = λ i. as_well wider (λ k. refl) (λ k. refl) (x.at i); word = let w = x.word in (w.0, w.1, wider w.0 w.1 w.2) }
 
@@ -176,7 +179,7 @@ module _ {T Fault : Type 0} {m : Manner T Fault} where
           let same : (f ≡ m.wrong i) × (sign_of sign (offset i) (front i) ≡ None) = (grind arith, grind arith) in
           record { us = []; j = i; cut = refl; rest = w ∷ []; a = v; begins = (w, refl, means); how = inl (same.0, λ k e. rw (same_sign sign k i e ∙ same.1) refl) }
 
--- ---- as often as there is a further one
+-- ---- repetition
 
 abbrev pub Shortens : {Fault A : Type 0} → Parser Fault A → Type 0
 Shortens {Fault} {A} r = (i j : Input) (a : A) → r i ≡ Ok (a, j) → length j.left < length i.left
@@ -200,7 +203,7 @@ many_enough {Fault} {A} begins r short (suc n) (suc m) found i e d = go (sees be
 abbrev Step : {Fault A : Type 0} → (Token → Bool) → Parser Fault A → List A → Parser Fault (List A)
 Step begins r found = choose begins (parsing.◌>>=◌ r (λ a. further_from false begins r (found ++ a ∷ []))) (pure found)
 
--- one turn, and then as many as there are
+-- one step, and then as many as there are
 pub many_turn : {Fault A : Type 0} (begins : Token → Bool) (r : Parser Fault A) → Shortens r → (found : List A) (i : Input) → further_from false begins r found i ≡ Step begins r found i
 unfolding many_from
 many_turn {Fault} {A} begins r short found i = many_enough begins r short (length i.left) (suc (length i.left)) found i (omega arith) (omega arith) ∙ go (sees begins i) (r i) refl
@@ -211,7 +214,7 @@ many_turn {Fault} {A} begins r short found i = many_enough begins r short (lengt
     go true (Err f) is = refl
     go true (Ok (a, j)) is = let less = short i j a is in many_enough begins r short (length i.left) (length j.left) (found ++ a ∷ []) j (omega arith) (omega arith)
 
--- a turn as a language
+-- a step as a language
 abbrev Turn : {T A : Type 0} → (List T → A → Type 0) → (A → List T → List A → Type 0) → List A → List T → List A → Type 0
 Turn L behind found = words.◌or◌ (words.◌>>=◌ L behind) (gives found)
 
@@ -241,6 +244,6 @@ module _ {T Fault : Type 0} {m : Manner T Fault} where
       all ts xs (inl (us, vs, a, e, is, (no_more, same))) = let whole : ts ≡ us ++ [] = e ∙ ap (λ ys. us ++ ys) no_more in rw whole (a ∷ [], more us [] a [] is none, omega arith, same)
       all ts xs (inr (empty, same)) = rw empty ([], none, omega arith, same ∙ sym (append-nil found))
 
-  -- any number of them
+  -- any number of items
   pub many_steady : {A : Type 0} (begins : Token → Bool) {L : List T → A → Type 0} {r : Parser Fault A} → Steady m L r r → Shortens r → Steady m (Many L) (further_from false begins r []) (further_from false begins r [])
   many_steady {A} begins {L} x short = wider_steady (λ ts xs (ys, are, le, same). subst (Many L ts) (sym same) are) (further_steady false begins [] x short short)

@@ -1,16 +1,17 @@
--- Parts that are read one after the other, beside a loop.
+-- Parts that are parsed one after the other, for the proofs of loops.
 use Rattle.std.proofs.Common.{◌≡◌, ◌<◌, ℕ, zero, suc, Bool, true, false, List, [], ◌∷◌, ◌++◌, length, Ok, Err, refl, sym, ◌∙◌, arith}
 use Rattle.ag_tokens.specs.Placed.{Input}
 use Rattle.ag_tokens.specs.Parsing.{Outcome, Parser, sees, turns, many_from, further_from}
 use Rattle.ag_tokens.specs.Token.{Token}
 use Rattle.ag_expr.proofs.reading.Steady.{Shortens, many_turn}
 
--- What the further parts add to those that were found is the whole; and each of them takes a token.
+-- A loop invariant: the parts found so far, with the further ones, are the whole; and each part takes a
+-- token.
 pub record Going {Fault A : Type 0} (single : Bool) (begins : Token → Bool) (item : Parser Fault A) (found : List A) (i : Input) (whole : Outcome Fault (List A)) : Type 0 where
   pub same : further_from single begins item found i ≡ whole
   pub short : Shortens item
 
--- where none stands in front there are no more
+-- if the next token begins no further part, there are none
 pub none_further : {Fault A : Type 0} (single : Bool) (begins : Token → Bool) (item : Parser Fault A) (found : List A) (i : Input) → sees begins i ≡ false → further_from single begins item found i ≡ Ok (found, i)
 unfolding many_from
 none_further {Fault} {A} single begins item found i none = go (turns single i.left)
@@ -34,6 +35,6 @@ module _ {Fault A : Type 0} (single : Bool) (begins : Token → Bool) (item : Pa
   unfolding many_from
   failed e so_far leads is = let turn = many_turn begins item so_far.short found i in let same = so_far.same in grind arith
 
-  -- what is left is shorter
+  -- the remaining input is shorter
   pub shorter : (j : Input) (x : A) → Going single begins item found i whole → item i ≡ Ok (x, j) → length j.left < length i.left
   shorter j x so_far is = so_far.short i j x is

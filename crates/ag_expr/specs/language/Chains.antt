@@ -1,4 +1,4 @@
--- Reading chains of operators in another order: the first atom, and then what stands behind it, chain by chain.
+-- Chains of operators, parsed in another order: first the first atom, then the rest of each chain.
 use Rattle.std.specs.Prelude.{Bool, false, ◌||◌, List, [], ◌∷◌}
 use Rattle.ag_grammar.specs.declared.syntax.node.Node.{Node}
 use Rattle.ag_expr.specs.declared.parser.Precedence.{Precedence}
@@ -7,25 +7,25 @@ use Rattle.ag_tokens.specs.Token.{Token}
 use Rattle.ag_expr.specs.language.Reading.{Parser, is_operator_of, other_from, ranked_from}
 use Rattle.ag_expr.specs.language.Syntax.{chained, same_precedence, takes_one}
 
--- what stands behind the first operand of a chain
+-- the rest of a chain after its first operand
 unfoldable pub chain_behind : Precedence → Parser Node → Node → Parser Node
 chain_behind k operand first = do
   others ← further_from (takes_one k) (is_operator_of k) (other_from k operand) []
   pure (chained first others)
 
--- what stands behind the first atom of chains, the last of them the closest
+-- the rest of nested chains after their first atom; the last precedence binds most strongly
 unfoldable pub ranked_behind : Parser Node → List Precedence → Node → Parser Node
 ranked_behind atom [] first = pure first
 ranked_behind atom (k ∷ ks) first = do
   operand ← ranked_behind atom ks first
   chain_behind k (ranked_from atom ks) operand
 
--- whether it is one of the precedences
+-- whether a precedence is one of these
 abbrev pub is_among : List Precedence → Precedence → Bool
 is_among [] other = false
 is_among (k ∷ ks) other = same_precedence k other || is_among ks other
 
--- whether the token is an operator of one of them
+-- whether a token is an operator of one of these precedences
 abbrev pub is_operator_among : List Precedence → Token → Bool
 is_operator_among [] t = false
 is_operator_among (k ∷ ks) t = is_operator_of k t || is_operator_among ks t

@@ -1,4 +1,4 @@
--- Which texts read as which expressions: this project's language.
+-- The texts that read as expressions (this project's language).
 use Rattle.std.specs.Prelude.{◌≡◌, ◌⊎◌, ℕ, Bool, true, false, not, ◌||◌, is_some, bytes_eq, codes, List, length, chars}
 use Rattle.ag_expr.specs.declared.fault.ExprFault.{ExprFault}
 use Rattle.ag_expr.specs.declared.fault.ExprFault.TheVariants as fault
@@ -15,32 +15,33 @@ use Rattle.ag_expr.specs.language.Occurrences.{all_occurrences, different}
 use Rattle.ag_expr.specs.language.Names.{call_of, is_reserved}
 use Rattle.ag_expr.specs.language.Syntax.{IsExpr}
 
--- how many levels an expression has at most
+-- the maximum number of levels of an expression
 abbrev pub max_levels : ℕ
 max_levels = MOST_LEVELS
 
--- The text reads as the expression, which is a tree and a list of occurrences: the text is separators and longest tokens, each number within
--- its limit; the list has the different occurrences among them; and they spell the tree.
+-- The text reads as the expression, which is a tree and a list of occurrences: the text is separators and
+-- longest tokens, with each number within its limit; the list has the distinct occurrences among the tokens;
+-- and the tokens spell the tree.
 pub record ReadsAsExpr (text : List ℕ) (expr : Node × List Occ) : Type 0 where
   pub placed : List Placed
   pub lexes : Lexes 0 (chars text) (record { left = placed; ending = ending.EndsAt (length text) })
   pub listed : expr.1 ≡ different (all_occurrences placed)
   pub spells : IsExpr expr.1 max_levels (tokens placed) expr.0
 
--- the text reads as no expression
+-- the text does not read as an expression
 abbrev pub ReadsAsNone : List ℕ → Type 0
 ReadsAsNone text = (expr : Node × List Occ) → ReadsAsExpr text expr → ⊥
 
--- what a refusal says of the text: that it reads as no expression, unless memory ran out
+-- a fault means that the text does not read as an expression, unless memory ran out
 abbrev pub IsRefused : List ℕ → ExprFault → Type 0
 IsRefused text fault.NoMemory = Unit {0}
 IsRefused text e = ReadsAsNone text
 
--- an expression begins with a name that is not reserved, and with the name of a form or a call
+-- an expression can begin with a name that is not reserved, a keyword of a form, or the name of a call,
 abbrev pub begins_with : List ℕ → Bool
 begins_with name = not (is_reserved name) || (bytes_eq name (codes "let") || (bytes_eq name (codes "if") || is_some (call_of name)))
 
--- and with a number, a text, an occurrence, `(`, `[` and `{`
+-- and with a number, a text, an occurrence, `(`, `[` or `{`
 abbrev pub begins_expression : Token → Bool
 begins_expression (token.Number n) = true
 begins_expression (token.Text bytes) = true
@@ -51,9 +52,9 @@ begins_expression (token.Punctuation punctuation.OpenList) = true
 begins_expression (token.Punctuation punctuation.OpenTable) = true
 begins_expression _ = false
 
--- What a fault says of its offset, where these characters stand from the offset `from` on: X1, no token begins there; X3, the
--- token there has a number above its limit; X2, a token stands there, or the text ends there; X4, a token stands there with
--- which an expression begins.
+-- What a fault states about its offset, if the characters `cs` begin at the offset `from`: X1, no token
+-- begins there; X3, the token there has a number above its limit; X2, there is a token, or the text ends
+-- there; X4, an expression can begin with the token there.
 abbrev pub Says : ℕ → List ℕ → ExprFault → Type 0
 Says from cs (fault.NoToken at) = NoTokenAt from cs at
 Says from cs (fault.NumberTooLarge at) = TooLargeAt from cs at
@@ -61,6 +62,6 @@ Says from cs (fault.Unexpected at) = TokenAt from cs at ⊎ EndsAt from cs at
 Says from cs (fault.TooDeep at) = (t : TokenAt from cs at) × (begins_expression t.0.token ≡ true)
 Says from cs fault.NoMemory = Unit {0}
 
--- the same of a whole text
+-- the same for a whole text
 abbrev pub IsAt : List ℕ → ExprFault → Type 0
 IsAt text e = Says 0 (chars text) e

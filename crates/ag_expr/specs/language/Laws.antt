@@ -1,4 +1,4 @@
--- What the laws of the expression language state.
+-- Statements of the laws of the expression language.
 use Rattle.std.specs.Prelude.{◌≡◌, ◌↔◌, List, [], ℕ, Ok, Err}
 use Rattle.ag_grammar.specs.declared.syntax.node.Node.{Node}
 use Rattle.ag_grammar.specs.declared.syntax.occurrence.Occ.{Occ}
@@ -10,15 +10,16 @@ use Rattle.ag_expr.specs.language.Offsets.{IsToldFirst}
 use Rattle.ag_expr.specs.language.Reading.{expr_of}
 use Rattle.ag_expr.specs.language.Syntax.{IsExpr}
 
--- What is read from tokens, to their end, is what the syntax relates to them, and the other way round.
+-- The parser returns a tree for tokens, read to their end, if and only if the syntax relates the tokens to
+-- the tree.
 abbrev pub ReadingAgrees : Type 0
 ReadingAgrees = (listed : List Occ) (levels at : ℕ) (placed : List Placed) (tree : Node)
     → (expr_of listed levels (record { left = placed; ending = ending.EndsAt at }) ≡ Ok (tree, record { left = []; ending = ending.EndsAt at })) ↔ IsExpr listed levels (tokens placed) tree
 
--- Placed tokens that are no expression are refused at the first that can't be taken.
+-- The parser rejects tokens that are not an expression at the first token that cannot be accepted.
 abbrev pub RefusesAtTheFirst : Type 0
 RefusesAtTheFirst = (listed : List Occ) (levels : ℕ) (i : Input) (f : ExprFault) → expr_of listed levels i ≡ Err f → IsToldFirst listed levels i f
 
--- A text reads as one expression at most.
+-- A text reads as at most one expression.
 abbrev pub OneExpression : Type 0
 OneExpression = (text : List ℕ) (one other : Node × List Occ) → ReadsAsExpr text one → ReadsAsExpr text other → one ≡ other

@@ -1,4 +1,4 @@
--- The names that can't be bound, and those of calls: this project's language.
+-- The reserved names, which cannot be bound, and those of calls (this project's language).
 use Rattle.std.specs.Prelude.{ℕ, Bool, ◌||◌, ◌+◌, List, [], ◌∷◌, Option, Some, None, cond, bytes_eq, codes, is_some}
 use Rattle.ag_expr.specs.declared.names.Call.{Call}
 use Rattle.ag_expr.specs.declared.names.Call.TheVariants as call
@@ -7,7 +7,7 @@ use Rattle.ag_grammar.specs.declared.syntax.node.BinaryCall.TheVariants as binar
 
 -- ---- the table of calls
 
--- the call that a name is, by the number of its arguments
+-- the call of a name, by the number of its arguments
 abbrev pub call_of : List ℕ → Option Call
 call_of name =
     cond (bytes_eq name (codes "len")) (Some (call.Unary unary.Len)) (cond (bytes_eq name (codes "text")) (Some (call.Unary unary.Text))
@@ -17,14 +17,14 @@ call_of name =
     (cond (bytes_eq name (codes "get")) (Some (call.Binary binary.Get)) (cond (bytes_eq name (codes "has")) (Some (call.Binary binary.Has))
     (cond (bytes_eq name (codes "orelse")) (Some (call.Binary binary.OrElse)) (cond (bytes_eq name (codes "put")) (Some call.Put) None)))))))))))
 
--- ---- what can be bound
+-- ---- the names that can be bound
 
--- the names with which forms are written, and two operators
+-- the keywords of forms, and the names of two operators
 abbrev pub is_keyword : List ℕ → Bool
 is_keyword name =
     bytes_eq name (codes "let") || (bytes_eq name (codes "in") || (bytes_eq name (codes "if") || (bytes_eq name (codes "then") || (bytes_eq name (codes "else") || (bytes_eq name (codes "div") || bytes_eq name (codes "mod"))))))
 
--- they and the calls are reserved
+-- keywords and the names of calls are reserved
 abbrev pub is_reserved : List ℕ → Bool
 is_reserved name = is_keyword name || is_some (call_of name)
 
@@ -32,16 +32,17 @@ is_reserved name = is_keyword name || is_some (call_of name)
 abbrev pub Names : Type 0
 Names = List (List ℕ)
 
--- the number of the last name of which the test holds, behind so many others
+-- the index of the last member that satisfies the test; the list continues one whose length is `at` and whose
+-- result is `found`
 abbrev pub last_from : {A : Type 0} → (A → Bool) → ℕ → Option ℕ → List A → Option ℕ
 last_from test at found [] = found
 last_from test at found (y ∷ ys) = last_from test (at + 1) (cond (test y) (Some at) found) ys
 
--- the number of a bound name: of the last with this name, so that an inner binding hides an outer one
+-- the index of the innermost binding of a name: an inner binding hides an outer one
 abbrev pub number_in : Names → List ℕ → Option ℕ
 number_in scope name = last_from (λ y. bytes_eq y name) 0 None scope
 
--- those around the innermost
+-- all names but the innermost
 abbrev pub outer : Names → Names
 outer [] = []
 outer (x ∷ []) = []

@@ -1,4 +1,4 @@
--- The different occurrences of attributes in a text. All of this is this project's.
+-- The distinct occurrences of attributes in a text. All definitions are this project's.
 use Rattle.std.specs.Prelude.{ℕ, Bool, not, ◌&&◌, ◌==◌, cond, List, [], ◌∷◌, ◌++◌, filter, Option, position, bytes_eq}
 use Rattle.std.specs.List.{list_any}
 use Rattle.ag_tokens.specs.Placed.{Placed}
@@ -10,30 +10,30 @@ use Rattle.ag_grammar.specs.declared.syntax.occurrence.Occ.{Occ}
 abbrev pub is_of : ℕ → List ℕ → Occ → Bool
 is_of place attr occurrence = occurrence.place == place && bytes_eq occurrence.attr attr
 
--- the number of the first occurrence with this place and this name
+-- the index of the first occurrence with this place and this name
 abbrev pub position_of : List Occ → ℕ → List ℕ → Option ℕ
 position_of listed place attr = position (is_of place attr) listed
 
--- the occurrence that a token at an offset is
+-- the occurrence for a token at an offset, if the token is one
 abbrev pub occurrence_in : Token → ℕ → List Occ
 occurrence_in (token.Occurrence place attr) at = record { place = place; attr = attr; at = at } ∷ []
 occurrence_in _ at = []
 
--- every occurrence among tokens, in order
+-- all occurrences among tokens, in order
 abbrev pub all_occurrences : List Placed → List Occ
 all_occurrences [] = []
 all_occurrences (p ∷ ps) = occurrence_in p.token p.at ++ all_occurrences ps
 
--- the first of each place and name: what stands behind it has another place or another name
+-- the first occurrence of each place and name, in order
 abbrev pub different : List Occ → List Occ
 different [] = []
 different (x ∷ xs) = x ∷ filter (λ y. not (is_of y.place y.attr x)) (different xs)
 
--- the list of those so far, with one more unless its place and name are listed
+-- the list with one more occurrence, unless its place and name are listed already
 abbrev pub listed_with : List Occ → Occ → List Occ
 listed_with so_far x = cond (list_any (is_of x.place x.attr) so_far) so_far (so_far ++ x ∷ [])
 
--- the list of those so far, with further ones
+-- the list with further occurrences
 abbrev pub listed_with_all : List Occ → List Occ → List Occ
 listed_with_all so_far [] = so_far
 listed_with_all so_far (x ∷ xs) = listed_with_all (listed_with so_far x) xs

@@ -1,4 +1,5 @@
--- Reading an expression from the front of placed tokens: what is read, and what is left; or the fault of the first token that can't be taken.
+-- The parser of expressions as a plain function on tokens with offsets: it returns a result and the remaining
+-- input, or the fault at the first token that cannot be accepted.
 use Rattle.std.specs.Prelude.{◌≡◌, cond, ℕ, zero, suc, Bool, true, false, ◌||◌, if◌then◌else◌, List, [], ◌∷◌, ◌++◌, Option, Some, None, Err, is_some, codes}
 use Rattle.ag_tokens.specs.declared.token.Punctuation.TheVariants as punctuation
 use Rattle.ag_expr.specs.declared.fault.ExprFault.{ExprFault}
@@ -25,15 +26,15 @@ use Rattle.ag_tokens.specs.Token as token
 use Rattle.ag_tokens.specs.Parsing as parsing
 use Rattle.ag_tokens.specs.Parsing.{◌>>=◌, ◌>>◌, pure, choose, one_from, further_from, end_from, is_sign, sees}
 
--- ---- why reading stops
+-- ---- faults
 
--- why a text can't go on behind its last token
+-- the fault for a text that cannot continue after its last token
 abbrev pub ending_fault : Ending → ExprFault
 ending_fault (ending.EndsAt at) = fault.Unexpected at
 ending_fault (ending.NoTokenAt at) = fault.NoToken at
 ending_fault (ending.TooLargeAt at) = fault.NumberTooLarge at
 
--- why the next token can't be taken, or why there is none
+-- the fault for the next token, or for the ending if there is none
 abbrev pub refusal_of : Ending → List Placed → ExprFault
 refusal_of e [] = ending_fault e
 refusal_of e (p ∷ ps) = fault.Unexpected p.at
@@ -49,7 +50,7 @@ Outcome = parsing.Outcome ExprFault
 abbrev pub Parser : Type 0 → Type 0
 Parser = parsing.Parser ExprFault
 
--- takes the next token for what it stands for, where it stands for something
+-- accepts the next token with its meaning, if it has one
 abbrev pub token_as : {A : Type 0} → (Token → Option A) → Parser A
 token_as meaning = one_from refusal (λ at. meaning)
 
@@ -83,7 +84,7 @@ ranked_from atom (k ∷ ks) = chain_from k (ranked_from atom ks)
 
 -- ---- expressions
 
--- whether one begins with the token: an operand, or any
+-- whether the token begins an operand, a call, an atom, or an expression
 abbrev pub is_call : Token → Bool
 is_call t = is_some (call_in t)
 
@@ -96,7 +97,7 @@ begins_atom listed scope t = is_sign (mark punctuation.Open) t || (is_sign (mark
 abbrev pub begins : List Occ → Names → Token → Bool
 begins listed scope t = is_sign (word (codes "let")) t || (is_sign (word (codes "if")) t || begins_atom listed scope t)
 
--- which of its forms one begins with the token
+-- the form of the atom that begins with the token
 abbrev pub marked_atom : Punctuation → Atom
 marked_atom punctuation.Open = atom.Parenthesized
 marked_atom punctuation.OpenList = atom.List
@@ -108,7 +109,7 @@ atom_of (token.Punctuation m) = marked_atom m
 atom_of (token.Name name) = cond (is_call (token.Name name)) atom.Call atom.Operand
 atom_of _ = atom.Operand
 
--- that form alone begins with what stands in front
+-- the next token begins an atom of this form, and of no earlier one
 abbrev pub BeginsAtom : Atom → Input → Type 0
 BeginsAtom atom.Parenthesized i = sees (is_sign (mark punctuation.Open)) i ≡ true
 BeginsAtom atom.List i = (sees (is_sign (mark punctuation.Open)) i ≡ false) × (sees (is_sign (mark punctuation.OpenList)) i ≡ true)
@@ -218,12 +219,12 @@ module _ (inner : Names → Parser Node) (scope : Names) where
     unfoldable pub whole_from : Parser Node
     whole_from = choose (is_sign (word (codes "let"))) let_from (choose (is_sign (word (codes "if"))) if_from (ranked_from atom_from precedences))
 
--- why an expression that has no level left can't begin
+-- the fault for an expression that would begin here with no level left
 abbrev pub no_level_of : List Occ → Names → Ending → List Placed → ExprFault
 no_level_of listed scope e [] = ending_fault e
 no_level_of listed scope e (p ∷ ps) = if begins listed scope p.token then fault.TooDeep p.at else fault.Unexpected p.at
 
--- an expression of at most so many levels, where these names are bound around it
+-- an expression of at most `levels` levels, with these names in scope
 unfoldable pub expr_in : List Occ → ℕ → Names → Parser Node
 expr_in listed zero scope = λ i. Err (no_level_of listed scope i.ending i.left)
 expr_in listed (suc levels) scope = whole_from (expr_in listed levels) scope listed

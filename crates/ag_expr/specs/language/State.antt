@@ -1,4 +1,5 @@
--- Where a reader of an expression stands, and what a function that passes tokens of it answers. All of this is this project's.
+-- The state of a reader of an expression, and the contracts of the parser's functions. All definitions are
+-- this project's.
 use Rattle.std.specs.Prelude.{◌≡◌, ◌≢◌, ℕ, Bool, true, false, List, [], cond, Option, Some, None, Result, Ok, Err}
 use Rattle.ag_tokens.specs.declared.token.Punctuation.TheVariants as punctuation
 use Rattle.ag_tokens.specs.Ending.{Ending}
@@ -20,60 +21,61 @@ use Rattle.ag_expr.specs.language.Until.{Ended, before_semicolon, behind_semicol
 
 -- ---- the tokens of a statement
 
--- a `;` ends them as the end of a text does
+-- the ending of the tokens: the first `;`, or that of the text
 abbrev pub ended_by : Ending → Option ℕ → Ending
 ended_by e None = e
 ended_by e (Some at) = ending.EndsAt at
 
--- the tokens up to the first `;`, where that ends them
+-- the tokens before the first `;` for a statement, else all of them
 abbrev pub up_to : Bool → Input → Input
 up_to false i = i
 up_to true i = record { left = before_semicolon i.left; ending = ended_by i.ending (first_semicolon i.left) }
 
--- and from it on
+-- and the tokens from the `;` on
 abbrev pub from_end : Bool → Input → Input
 from_end false i = record i { left = [] }
 from_end true i = record i { left = from_semicolon i.left }
 
--- the token in front, where it does not end them
+-- the next token, unless it is a `;` that ends a statement
 abbrev pub kept : Bool → Option Token → Option Token
 kept false o = o
 kept true None = None
 kept true (Some t) = cond (is_sign (mark punctuation.Semicolon) t) None (Some t)
 
--- ---- where a reader stands
+-- ---- the state of a reader
 
--- The different occurrences before; the names that are bound around; whether a `;` ends the tokens; and the tokens that are left, and what stands behind them.
+-- The distinct occurrences read so far, the names in scope, whether a `;` ends the tokens, and the remaining
+-- input.
 pub record State : Type 0 where
   pub listed : List Occ
   pub scope : Names
   pub is_statement : Bool
   pub tokens : Input
 
--- at the front of tokens
+-- the state at the beginning of the tokens
 abbrev pub start : Bool → Input → State
 start is_statement i = record { listed = []; scope = []; is_statement = is_statement; tokens = i }
 
--- the tokens that are left, as far as they go
+-- the remaining input up to the end of the tokens
 unfoldable pub input : State → Input
 input s = up_to s.is_statement s.tokens
 
--- the different occurrences before, and then those that are left
+-- the distinct occurrences: those read so far, followed by the remaining ones
 unfoldable pub everything : State → List Occ
 everything s = listed_with_all s.listed (all_occurrences (input s).left)
 
--- one token further
+-- the state after the next token
 abbrev pub passed : State → State
 passed s = record s { tokens = next s.tokens }
 
--- reading goes on in the same tokens, with the same names
+-- the occurrences of the whole, the names in scope, and the input after the end of the tokens are unchanged
 pub record Keeps (old new : State) : Type 0 where
   pub occurrences : everything new ≡ everything old
   pub names : new.scope ≡ old.scope
   pub kind : new.is_statement ≡ old.is_statement
   pub behind : from_end new.is_statement new.tokens ≡ from_end old.is_statement old.tokens
 
--- only the names are others
+-- everything but the names in scope is unchanged
 pub record Stays (old new : State) : Type 0 where
   pub occurrences : everything new ≡ everything old
   pub tokens : input new ≡ input old
@@ -85,25 +87,26 @@ abbrev pub is_occurrence : Option Token → Bool
 is_occurrence (Some (token.Occurrence place attr)) = true
 is_occurrence _ = false
 
--- no occurrence stands in front
+-- the next token is not an occurrence
 abbrev pub PassesOther : State → Type 0
 PassesOther s = is_occurrence (front (input s)) ≡ false
 
--- the occurrence of a place and name has this number among all of them
+-- the occurrence with this place and name has this index among all of them
 abbrev pub HasNumber : State → ℕ → List ℕ → ℕ → Type 0
 HasNumber s place attr k = position_of (everything s) place attr ≡ Some k
 
--- why an expression that has no level left can't begin here
+-- the fault for an expression that would begin here with no level left
 abbrev pub no_level : State → ExprFault
 no_level s = no_level_of (everything s) s.scope (input s).ending (input s).left
 
--- whether one begins with the token among the occurrences of its own text
+-- whether an expression can begin with the token; any occurrence can begin one
 abbrev pub begins_here : Names → Token → Bool
 begins_here scope (token.Occurrence place attr) = true
 begins_here scope t = begins [] scope t
 
--- What a function that passes tokens answers, seen by view: what is read from the tokens that are left, and then those behind are left; or the fault
--- that reading gives, unless memory ran out.
+-- The contract of a function that parses: its result, seen through `view`, is that of the plain parser, and
+-- the reader has advanced over the same tokens; or it fails with the fault of the plain parser, unless memory
+-- ran out.
 abbrev pub ReadsAs : {X Y : Type 0} → (X → Y) → (List Occ → Names → Parser Y) → State → Result X ExprFault → State → Type 0
 ReadsAs view read old (Ok x) new = (read (everything old) old.scope (input old) ≡ Ok (view x, input new)) × Keeps old new
 ReadsAs view read old (Err e) new = e ≢ fault.NoMemory → read (everything old) old.scope (input old) ≡ Err e
@@ -111,11 +114,12 @@ ReadsAs view read old (Err e) new = e ≢ fault.NoMemory → read (everything ol
 abbrev pub Reads : {X : Type 0} → (List Occ → Names → Parser X) → State → Result X ExprFault → State → Type 0
 Reads = ReadsAs (λ x. x)
 
--- The answer is what reading the tokens that are left gives, to their end, or that memory ran out.
+-- The answer is the result of parsing the remaining tokens to their end, or memory ran out.
 abbrev pub IsReadToEnd : State → Result (Node × List Occ) ExprFault → Type 0
 IsReadToEnd s answer = answer ≢ Err fault.NoMemory → answer_of (everything s) (expr_of (everything s) max_levels (input s)) ≡ answer
 
--- What is read from the tokens up to a `;`, which is passed too; or the fault that reading gives, unless memory ran out.
+-- The result of parsing the tokens up to a `;`, with the input after the `;`; or the fault of the plain
+-- parser, unless memory ran out.
 abbrev pub IsReadEnded : Input → Result Ended ExprFault → Input → Type 0
 IsReadEnded old (Ok x) new = (read_until_from old ≡ Ok x) × (new ≡ record old { left = behind_semicolon old.left })
 IsReadEnded old (Err e) new = e ≢ fault.NoMemory → read_until_from old ≡ Err e

@@ -1,4 +1,5 @@
--- Which tokens spell an expression, and of which tree, by levels and by precedences of operators: this project's grammar.
+-- The syntax of expressions: the tokens that spell a tree, by levels and by precedences of operators (this
+-- project's grammar).
 use Rattle.std.specs.Prelude.{◌≡◌, ℕ, zero, suc, Bool, true, false, List, [], ◌∷◌, ◌++◌, Option, Some, None, cond, bytes_eq, codes, option_map}
 use denote.Enum.Bare.{sameb}
 use Rattle.ag_expr.specs.contracts.parser.Precedence.{the_type}
@@ -28,7 +29,7 @@ use Rattle.ag_tokens.specs.Words.{◌>>=◌, ◌>>◌, gives, one, ◌or◌, fur
 abbrev pub spelled : Sign → List Token → Unit {0} → Type 0
 spelled s ts u = ts ≡ sign_token s ∷ []
 
--- ---- the table of operators: the precedence of each, and what it does
+-- ---- the table of operators with their precedences
 
 abbrev pub marked_operator : Punctuation → Option (Precedence × Operator)
 marked_operator punctuation.EqualEqual = Some (precedence.Comparison, operator.Equal)
@@ -48,7 +49,7 @@ binary_operator (token.Punctuation m) = marked_operator m
 binary_operator (token.Name name) = named_operator name
 binary_operator _ = None
 
--- those that bind more closely than a precedence, and all of them, the weakest first
+-- the precedences that bind more strongly than this one; and all precedences, the weakest first
 abbrev pub closer : Precedence → List Precedence
 closer precedence.Comparison = precedence.Join ∷ precedence.Sum ∷ precedence.Product ∷ []
 closer precedence.Join = precedence.Sum ∷ precedence.Product ∷ []
@@ -58,7 +59,7 @@ closer precedence.Product = []
 abbrev pub precedences : List Precedence
 precedences = precedence.Comparison ∷ closer precedence.Comparison
 
--- what was compared is not compared again
+-- a chain of comparisons has at most one operator
 abbrev pub takes_one : Precedence → Bool
 takes_one precedence.Comparison = true
 takes_one _ = false
@@ -70,7 +71,7 @@ abbrev pub of_precedence : Precedence → Option (Precedence × Operator) → Op
 of_precedence k None = None
 of_precedence k (Some p) = cond (same_precedence k p.0) (Some p.1) None
 
--- the operator of a precedence that a token is
+-- the operator of this precedence that a token spells
 abbrev pub operator_of : Precedence → Token → Option Operator
 operator_of k t = of_precedence k (binary_operator t)
 
@@ -81,12 +82,12 @@ abbrev pub new_name : Token → Option (List ℕ)
 new_name (token.Name name) = cond (is_reserved name) None (Some name)
 new_name _ = None
 
--- a name means its binding where it is not reserved
+-- a name that is not reserved refers to its binding
 abbrev pub bound_operand : List ℕ → Option ℕ → Option Node
 bound_operand name number = cond (is_reserved name) None (option_map node.Bound number)
 
--- The operand that one token is: a number, a text, an occurrence by its number among the different ones of the whole text, and a name by that of
--- its binding.
+-- The operand that one token spells: a number, a text, an occurrence by its index among the distinct ones of
+-- the whole text, or a name by the index of its binding.
 abbrev pub operand_of : List Occ → Names → Token → Option Node
 operand_of listed scope (token.Number n) = Some (node.Literal (value.Num n))
 operand_of listed scope (token.Text bytes) = Some (node.Literal (value.Text bytes))
@@ -101,33 +102,33 @@ call_in _ = None
 
 -- ---- chains of operators
 
--- one operand is itself, and more are a chain, kept flat
+-- one operand is itself; more operands are a flat chain
 abbrev pub chained : Node → List (Operator × Node) → Node
 chained first [] = first
 chained first (x ∷ xs) = node.Chain first (x ∷ xs)
 
--- an operator of a precedence and the operand behind it
+-- an operator of the precedence, followed by an operand
 abbrev pub IsOther : Precedence → (List Token → Node → Type 0) → List Token → Operator × Node → Type 0
 IsOther k operand = do
   o ← one (operator_of k)
   e ← operand
   gives (o, e)
 
--- operands with operators of a precedence between them
+-- operands with operators of the precedence between them
 abbrev pub IsChain : Precedence → (List Token → Node → Type 0) → List Token → Node → Type 0
 IsChain k operand = do
   first ← operand
   others ← further (takes_one k) [] (IsOther k operand)
   gives (chained first others)
 
--- by precedences, with what stands between the operators that bind most closely
+-- nested chains, one for each precedence, over atoms
 abbrev pub IsRanked : (List Token → Node → Type 0) → List Precedence → List Token → Node → Type 0
 IsRanked atom [] = atom
 IsRanked atom (k ∷ ks) = IsChain k (IsRanked atom ks)
 
--- ---- forms without parts
+-- ---- forms without subexpressions
 
--- what stands behind the opening sign of an empty list
+-- the rest of an empty list after its opening bracket
 abbrev pub AreNone : List Token → Node → Type 0
 AreNone = do
   spelled (mark punctuation.CloseList)
@@ -139,7 +140,7 @@ IsTable = do
   spelled (mark punctuation.CloseTable)
   gives node.EmptyTable
 
--- ---- expressions, where `inner` is what one that is one level further in may be, by the names that are bound around it
+-- ---- expressions; `inner` is the language of expressions of one level less, by the names in scope
 
 module _ (inner : Names → List Token → Node → Type 0) (scope : Names) where
   abbrev pub IsParenthesized : List Token → Node → Type 0
@@ -149,13 +150,13 @@ module _ (inner : Names → List Token → Node → Type 0) (scope : Names) wher
     spelled (mark punctuation.Close)
     gives e
 
-  -- one more behind a comma
+  -- a comma, followed by one more expression
   abbrev pub IsNext : List Token → Node → Type 0
   IsNext = do
     spelled (mark punctuation.Comma)
     inner scope
 
-  -- what stands behind the opening sign of a list that has items: these, with commas between them
+  -- the rest of a list with items after its opening bracket: the items, separated by commas
   abbrev pub AreSome : List Token → Node → Type 0
   AreSome = do
     first ← inner scope
@@ -201,7 +202,7 @@ module _ (inner : Names → List Token → Node → Type 0) (scope : Names) wher
     spelled (mark punctuation.Open)
     AreArguments c
 
-  -- a definition is not in the scope of its own name, and a body is
+  -- the name of a `let` is in scope in its body, but not in its definition
   abbrev pub IsLet : List Token → Node → Type 0
   IsLet = do
     spelled (word (codes "let"))
@@ -229,11 +230,11 @@ module _ (inner : Names → List Token → Node → Type 0) (scope : Names) wher
     abbrev pub IsWhole : List Token → Node → Type 0
     IsWhole = IsLet or IsIf or IsRanked IsAtom precedences
 
--- The tokens are an expression of at most so many levels, with this tree, where these names are bound around it.
+-- The tokens are an expression of at most `levels` levels with this tree, with these names in scope.
 unfoldable pub IsExprIn : List Occ → ℕ → Names → List Token → Node → Type 0
 IsExprIn listed zero scope ts e = ⊥
 IsExprIn listed (suc levels) scope ts e = IsWhole (IsExprIn listed levels) scope listed ts e
 
--- and so where none is
+-- the same with no name in scope
 abbrev pub IsExpr : List Occ → ℕ → List Token → Node → Type 0
 IsExpr listed levels = IsExprIn listed levels []

@@ -1,4 +1,4 @@
--- Reading an expression up to a semicolon: this project's language.
+-- Expressions that end at a semicolon (this project's language).
 use Rattle.std.specs.Prelude.{◌≡◌, ◌≢◌, ℕ, cond, List, [], ◌∷◌, ◌++◌, drop, Option, Some, None, Result, Ok, Err, ◌⊎◌, chars}
 use Rattle.ag_expr.specs.declared.fault.ExprFault.{ExprFault}
 use Rattle.ag_expr.specs.declared.fault.ExprFault.TheVariants as fault
@@ -18,7 +18,7 @@ use Rattle.ag_tokens.specs.Token.{mark}
 use Rattle.ag_tokens.specs.Token as token
 use Rattle.ag_tokens.specs.Tokens.{Lexes}
 
--- an expression that was read, with the offset of the semicolon behind it
+-- an expression, with the offset of the semicolon after it
 abbrev pub Ended : Type 0
 Ended = (Node × List Occ) × ℕ
 
@@ -35,7 +35,7 @@ abbrev pub before_semicolon : List Placed → List Placed
 before_semicolon [] = []
 before_semicolon (p ∷ ps) = cond (is_sign (mark punctuation.Semicolon) p.token) [] (p ∷ before_semicolon ps)
 
--- those from it on, and those behind it
+-- the tokens from the first semicolon on, and the tokens after it
 abbrev pub from_semicolon : List Placed → List Placed
 from_semicolon [] = []
 from_semicolon (p ∷ ps) = cond (is_sign (mark punctuation.Semicolon) p.token) (p ∷ ps) (from_semicolon ps)
@@ -48,13 +48,13 @@ abbrev pub with_offset : ℕ → Result (Node × List Occ) ExprFault → Result 
 with_offset at (Ok x) = Ok (x, at)
 with_offset at (Err f) = Err f
 
--- no answer but a fault: the one that there is, or else this
+-- always a fault: that of the result if it is one, else e
 abbrev pub or_fault : ExprFault → Result (Node × List Occ) ExprFault → Result Ended ExprFault
 or_fault e (Ok x) = Err e
 or_fault e (Err f) = Err f
 
--- The tokens before the first semicolon are read as those of a text that ends there. Where no semicolon stands the fault is that of all tokens, or
--- that of their end.
+-- The tokens before the first semicolon are parsed as a text that ends there. Without a semicolon, the fault
+-- is that of parsing all tokens, or that of their ending.
 abbrev pub until_by : Option ℕ → Input → Result Ended ExprFault
 until_by (Some at) i = with_offset at (read_from (record { left = before_semicolon i.left; ending = ending.EndsAt at }))
 until_by None i = or_fault (ending_fault i.ending) (read_from i)
@@ -62,12 +62,13 @@ until_by None i = or_fault (ending_fault i.ending) (read_from i)
 abbrev pub read_until_from : Input → Result Ended ExprFault
 read_until_from i = until_by (first_semicolon i.left) i
 
--- The answer is what reading the tokens of the text gives from the offset `from` on up to a semicolon, or that memory ran out.
+-- The answer is the result of parsing the tokens of the text from the offset `from` up to a semicolon, or
+-- memory ran out.
 abbrev pub IsReadUntil : List ℕ → ℕ → Result Ended ExprFault → Type 0
 IsReadUntil text from answer = (i : Input) → Lexes from (chars (drop from text)) i → answer ≢ Err fault.NoMemory → read_until_from i ≡ answer
 
--- From the offset `from` on the text reads as the expression up to its first semicolon: the tokens before it spell the tree, and the list has the
--- different occurrences among them.
+-- From the offset `from` on, the text reads as the expression up to its first semicolon: the tokens before it
+-- spell the tree, and the list has the distinct occurrences among them.
 pub record ReadsUntil (text : List ℕ) (from : ℕ) (x : Ended) : Type 0 where
   pub placed : List Placed
   pub rest : List Placed
@@ -77,11 +78,11 @@ pub record ReadsUntil (text : List ℕ) (from : ℕ) (x : Ended) : Type 0 where
   pub listed : x.0.1 ≡ different (all_occurrences placed)
   pub spells : IsExpr x.0.1 max_levels (tokens placed) x.0.0
 
--- what a refusal says of the text: that no expression stands there up to a semicolon, unless memory ran out
+-- a fault means that no expression followed by a semicolon begins at `from`, unless memory ran out
 abbrev pub IsRefusedUntil : List ℕ → ℕ → ExprFault → Type 0
 IsRefusedUntil text from e = e ≢ fault.NoMemory → (x : Ended) → ReadsUntil text from x → ⊥
 
--- The tokens are an expression, and the fault is that of the text's end, where a semicolon had to stand.
+-- The tokens are an expression, and the fault is at the end of the text, where a semicolon is missing.
 pub record IsUnended (i : Input) (f : ExprFault) : Type 0 where
   pub at : ℕ
   pub ends : i.ending ≡ ending.EndsAt at
@@ -89,12 +90,13 @@ pub record IsUnended (i : Input) (f : ExprFault) : Type 0 where
   pub tree : Node
   pub spells : IsExpr (occurrences_of i) max_levels (tokens i.left) tree
 
--- The fault is told of the first token up to the first semicolon that can't be taken. Where no semicolon stands it is told of the first of all tokens, or
--- of the text's end.
+-- The fault is at the first token, before the first semicolon, that cannot be accepted. If there is no
+-- semicolon, it is at the first of all tokens that cannot be accepted, or at the end of the text.
 abbrev pub IsToldUntil : Option ℕ → Input → ExprFault → Type 0
 IsToldUntil (Some at) i f = IsToldFirst (different (all_occurrences (before_semicolon i.left))) max_levels (record { left = before_semicolon i.left; ending = ending.EndsAt at }) f
 IsToldUntil None i f = IsToldFirst (occurrences_of i) max_levels i f ⊎ IsUnended i f
 
--- A fault other than for memory is told of the first token from the offset `from` on, up to a semicolon, that can't be taken.
+-- A fault other than `NoMemory` is at the first token from the offset `from` on, up to a semicolon, that
+-- cannot be accepted.
 abbrev pub IsFirstUntil : List ℕ → ℕ → ExprFault → Type 0
 IsFirstUntil text from f = (i : Input) → Lexes from (chars (drop from text)) i → f ≢ fault.NoMemory → IsToldUntil (first_semicolon i.left) i f

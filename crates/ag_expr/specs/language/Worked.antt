@@ -9,7 +9,7 @@ use Rattle.ag_grammar.specs.declared.syntax.node.Node.{Node}
 use Rattle.ag_grammar.specs.declared.syntax.node.Node.TheVariants as node
 use Rattle.ag_value.specs.declared.value.Value.TheVariants as value
 
--- the least number
+-- the smallest number
 abbrev pub least : ℤ
 least = negsuc 9223372036854775807
 

@@ -1,4 +1,4 @@
--- The value of a tree depends on what is lent for the occurrences in it alone.
+-- The value of a tree depends only on the values of the occurrences in it.
 use Rattle.std.proofs.Common.{ℕ, zero, suc, ◌≡◌, ◌<◌, Bool, true, false, ◌||◌, nat_eq, List, [], ◌∷◌, ◌++◌, Some, map, slice_get, get_or, length, refl, ap, ap₂, ◌∙◌, sym, subst, arith}
 use Rattle.std.proofs.lemmas.Bool.{eq-eqb, ne_eqb, or_left, or_right}
 use Rattle.std.proofs.lemmas.Option.{slice_get-get_or}
@@ -18,7 +18,7 @@ use Rattle.ag_grammar.specs.values.Operators.{applied}
 use Rattle.ag_grammar.proofs.expressions.Occurring.{alone, has_in, has_layer, has_sum, occurrences_are_listed, stands}
 use Rattle.ag_grammar.proofs.expressions.Worked.{value_layer}
 
--- the meaning of the operand in a step of a chain
+-- the meaning of the operand in one step of a chain
 abbrev gives : Operator × Node → Operator × Meaning
 gives p = (p.0, value_in p.1)
 
@@ -26,7 +26,7 @@ gives p = (p.0, value_in p.1)
 abbrev IsSettled : Node → Type 0
 IsSettled e = (env other : ℕ → Value) → AgreeOn e env other → (bound : List Value) → value_in e env bound ≡ value_in e other bound
 
--- a part of a tree for which that is known
+-- a subtree with this property
 abbrev Settled : Type 0
 Settled = (e : Node) × IsSettled e
 
@@ -36,7 +36,7 @@ tree e = e.0
 abbrev bare : Operator × Settled → Operator × Node
 bare p = (p.0, tree p.1)
 
--- what is lent for the occurrences of some operands, or items, is the same
+-- the two environments agree on the occurrences of these operands, or of these items
 abbrev SameOperands : (env other : ℕ → Value) → List (Operator × Settled) → Type 0
 SameOperands env other xs = (k : ℕ) → some_operand (map (has_in k) (map bare xs)) ≡ true → env k ≡ other k
 
@@ -101,7 +101,7 @@ settled = ind-Node IsSettled (λ x y is. subst (λ z. IsSettled (roll-Node z)) i
 pub value_of_occurrences : ValueOfOccurrences
 value_of_occurrences e env other bound same = settled e env other same bound
 
--- an argument stands at each number below how many there are
+-- there is an argument at each index below the number of arguments
 argument : (xs : List Target) (k : ℕ) → k < length xs → (o : Target) × (slice_get xs k ≡ Some o)
 argument [] k less = absurd (omega arith)
 argument (o ∷ xs) k less = (get_or (o ∷ xs) k o, slice_get-get_or (o ∷ xs) k o less)
@@ -119,7 +119,7 @@ rule_has_one_value g q r e env other named lends also = settled r.expr.0 env oth
 pub rule_holds_by_one : RuleHoldsByOne
 rule_holds_by_one g q r e env named lends is other also = is ∙ rule_has_one_value g q r e env other named lends also
 
--- `$0.i + 1` has one value where its occurrence has one
+-- `$0.i + 1` has the same value in two environments with the same value for its occurrence
 pub same : (env other : ℕ → Value) → env 0 ≡ other 0 → value_of rule_s.expr.0 env ≡ value_of rule_s.expr.0 other
 same env other e = value_of_occurrences rule_s.expr.0 env other [] at
   where

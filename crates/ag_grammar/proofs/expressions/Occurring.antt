@@ -1,4 +1,4 @@
--- Which occurrences stand in a tree: their numbers are those of the listed ones, and an example.
+-- The occurrences in a tree: their numbers are those of the listed ones. With an example.
 use Rattle.std.proofs.Common.{ℕ, suc, ◌≡◌, ◌<◌, Bool, true, false, ◌||◌, ◌&&◌, nat_eq, List, [], ◌∷◌, map, inl, inr, ap, ◌∙◌, sym, subst, pos, arith}
 use Rattle.std.proofs.lemmas.Bool.{and_parts, eqb-true, ltb-true, or_cases}
 use Rattle.ag_value.specs.declared.value.Value.{Value, Num}
@@ -18,19 +18,19 @@ use Rattle.ag_grammar.proofs.expressions.Within.{layer}
 pub has_layer : (k : ℕ) (x : Node-F Node) → has_occurrence k (roll-Node x) ≡ has_step k (map-Node Node Bool (has_occurrence k) x)
 has_layer k x = fold-roll-Node Bool (has_step k) x
 
--- what is asked of the operand in a step of a chain
+-- whether the operand in one step of a chain contains occurrence k
 abbrev pub has_in : ℕ → Operator × Node → Operator × Bool
 has_in k p = (p.0, has_occurrence k p.1)
 
 abbrev within_in : ℕ → Operator × Node → Operator × (ℕ → Bool)
 within_in n p = (p.0, is_within n p.1)
 
--- The number of an occurrence in a tree is below n, where those of all are.
+-- The number of an occurrence in a tree is below n, if the tree is within n.
 module _ (n k : ℕ) where
   abbrev IsListed : Node → Type 0
   IsListed e = (bound : ℕ) → is_within n e bound ≡ true → has_occurrence k e ≡ true → k < n
 
-  -- a part of a tree for which that is known
+  -- a subtree with this property
   abbrev Listed : Type 0
   Listed = (e : Node) × IsListed e
 
@@ -59,13 +59,13 @@ module _ (n k : ℕ) where
         | inr h ↦ listed_items bound xs parts.1 h
       ]
 
-  -- of two parts
+  -- for two subtrees
   either : (a b : Listed) (at within : ℕ) → (is_within n a.0 at && is_within n b.0 within) ≡ true → (has_occurrence k a.0 || has_occurrence k b.0) ≡ true → k < n
   either a b at within below has =
       let parts = and_parts (is_within n a.0 at) (is_within n b.0 within) below in
       elim (or_cases (has_occurrence k a.0) (has_occurrence k b.0) has) [ inl h ↦ a.1 at parts.0 h | inr h ↦ b.1 within parts.1 h ]
 
-  -- of three
+  -- for three subtrees
   any_of : (a b c : Listed) (bound : ℕ) → (is_within n a.0 bound && (is_within n b.0 bound && is_within n c.0 bound)) ≡ true → (has_occurrence k a.0 || (has_occurrence k b.0 || has_occurrence k c.0)) ≡ true → k < n
   any_of a b c bound below has =
       let parts = and_parts (is_within n a.0 bound) (is_within n b.0 bound && is_within n c.0 bound) below in

@@ -1,4 +1,4 @@
--- The parts of a tree, a variant at a time.
+-- The parts of a tree, one lemma for each variant.
 use Rattle.std.proofs.Common.{◌≡◌, ℕ, zero, suc, ◌<◌, Bool, get_or, slice_get, drop, arith, true, ◌&&◌, List, [], ◌∷◌, ◌++◌, length, map, refl, sym, ap, ◌∙◌, subst}
 use Rattle.std.proofs.lemmas.Bool.{and_parts}
 use Rattle.ag_value.specs.declared.value.Value.{Value}
@@ -55,7 +55,7 @@ body_below n tree e f outer inner v is h more =
     ap (λ (s : List Value). is_within n f (length s)) more ∙ ap (is_within n f) (longer outer v)
     ∙ (and_parts (is_within n e (length outer)) (is_within n f (suc (length outer))) (sym (within-Let n (length outer) e f) ∙ ap (λ (t : Node). is_within n t (length outer)) (sym is) ∙ h)).1
 
--- an operand of a chain, where those from its place on are below
+-- an operand of a chain, if the operands from its index on are within n
 pub operand_below : (n bound bound' : ℕ) (others : List (Operator × Node)) (i : ℕ) (p : Operator × Node) → i < length others → p ≡ get_or others i p → bound ≡ bound' → all_below n bound (drop i others) ≡ true → is_within n p.1 bound' ≡ true
 operand_below n bound bound' [] i p lt is same below = absurd (omega arith)
 operand_below n bound bound' (x ∷ xs) zero p lt is same below =

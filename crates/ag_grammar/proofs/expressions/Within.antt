@@ -1,4 +1,4 @@
--- The numbers in a tree are within what they number, a level at a time.
+-- The numbers in a tree are in range, a level at a time.
 use Rattle.std.proofs.Common.{◌≡◌, ℕ, nat_lt, List, [], ◌∷◌, Bool, true, ◌&&◌, map, refl, ap, sym, ◌∙◌}
 use Rattle.ag_value.specs.declared.value.Value.{Value}
 use Rattle.ag_grammar.specs.declared.syntax.node.Operator.{Operator}
@@ -8,7 +8,7 @@ use Rattle.ag_grammar.specs.declared.syntax.node.Node.TheOpen.{Node-F}
 use Rattle.ag_grammar.specs.declared.syntax.node.Node.TheFolds.{fold-roll-Node, map-Node}
 use Rattle.ag_grammar.specs.expressions.Trees.{is_within, below_step, all_pass, each_passes}
 
--- of each of a list
+-- P holds for each member of the list
 abbrev pub Each : {A : Type 0} → (A → Type 0) → List A → Type 0
 Each P [] = Unit {0}
 Each P (x ∷ xs) = P x × Each P xs

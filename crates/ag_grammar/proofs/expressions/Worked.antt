@@ -1,4 +1,4 @@
--- What the expressions of the sample grammars give.
+-- The values of the expressions of the sample grammars.
 use Rattle.std.proofs.Common.{ℕ, ℤ, ◌≡◌, List, [], ◌∷◌, refl, ap, ap₂, ◌∙◌, ◌+ℤ◌, sym, pos}
 use Rattle.ag_value.specs.declared.value.Value.{Value, Num}
 use Rattle.ag_value.specs.declared.value.Value.TheVariants.{outs-Num}

@@ -1,4 +1,4 @@
--- The children of a tree by their numbers.
+-- The children of a tree, by index.
 use Rattle.std.proofs.Common.{ℕ, zero, suc, ◌≡◌, List, [], ◌∷◌, Option, Some, None, slice_get, refl, ap, ◌∙◌, subst, ◌<◌, arith}
 use Rattle.ag_value.specs.declared.value.Value.{Value}
 use Rattle.ag_grammar.specs.declared.grammar.Item.TheVariants as item
@@ -11,18 +11,18 @@ use Rattle.ag_grammar.specs.grammars.Tree.{Tree, Forest, leaf, node, none, more,
 use Rattle.ag_grammar.specs.grammars.Passes.{Passes, item_passes}
 use Rattle.ag_grammar.specs.grammars.Solution.{Valuation, rest, Solves, SolvesAll, AtEachNode, AtEachNodeOf, left_passes}
 
--- the child of a number
+-- the child with index i
 abbrev pub child : Forest → ℕ → Option Tree
 child none i = None
 child (more t ts) zero = Some t
 child (more t ts) (suc i) = child ts i
 
--- how many children there are
+-- the number of children
 abbrev pub size : Forest → ℕ
 size none = 0
 size (more t ts) = suc (size ts)
 
--- induction on a tree, where each child is reached by its number
+-- induction on a tree; the hypothesis covers each child by its index
 mutual
   pub tree_ind : (P : Tree → Type 0) → ((c : ℕ) (x : List ℕ) → P (leaf c x)) → ((p : ℕ) (ts : Forest) → ((i : ℕ) (t : Tree) → child ts i ≡ Some t → P t) → P (node p ts)) → (t : Tree) → P t
   tree_ind P l n (leaf c x) = l c x
@@ -66,7 +66,7 @@ pub children_each : (R : List ℕ → (ℕ → Value) → (ℕ → Value) → Ty
 children_each R g m none vs ws h = tt
 children_each R g m (more s ts) vs ws h = (h 0 s refl, children_each R g m ts (rest vs) (rest ws) (λ i t e. h (suc i) t e))
 
--- the values at the root of a tree that fits an item
+-- what holds at each node holds at the root of a tree that fits an item, with the passes of the item
 pub root_each : (R : List ℕ → (ℕ → Value) → (ℕ → Value) → Type 0) (g : Grammar) (m : Passes) (x : Item) (t : Tree) (v w : Valuation) → Fits g x t → AtEachNode R g m t v w → R (item_passes m (Some x)) (v []) (w [])
 root_each R g m (item.Terminal (Class c)) (leaf d x) v w f h = h
 root_each R g m (item.Terminal (Literal l)) (leaf d x) v w f h = elim f [ ]

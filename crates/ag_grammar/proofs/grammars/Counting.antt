@@ -13,7 +13,7 @@ use Rattle.ag_grammar.specs.grammars.Passes.{Passes}
 use Rattle.ag_grammar.specs.grammars.Tree.{Tree, Forest, leaf, node, none, more}
 use Rattle.ag_grammar.proofs.grammars.Running.{pass_within, target_pass}
 
--- a count with one member more in front
+-- the count of a list with one more member at its head
 pub count_more : {X : Type 0} (f : X → Bool) (x : X) (xs : List X) → count_by f (x ∷ xs) ≡ cond (f x) 1 0 + count_by f xs
 count_more f x xs = sum_by-cons (λ x. cond (f x) 1 0) x xs
 
@@ -48,12 +48,12 @@ module _ (g : Grammar) where
       totals_same none = refl
       totals_same (more t ts) = omega (arith, total_same t, totals_same ts)
 
-  -- the sum over passes of what a tree has is what the sums over passes of its productions give
+  -- summing over the passes and over the nodes commutes
   sum_total : (f : ℕ → Option Production → ℕ) (first count : ℕ) (t : Tree) → sum_of_passes (λ k. total (f k) g t) first count ≡ total (λ o. sum_of_passes (λ k. f k o) first count) g t
   sum_total f first zero t = sym (total_none t)
   sum_total f first (suc n) t = ap (λ x. x + total (f (suc (first + n))) g t) (sum_total f first n t) ∙ total_add (λ o. sum_of_passes (λ k. f k o) first n) (f (suc (first + n))) t
 
--- the sums over passes
+-- sums over passes
 sum_none : (first count : ℕ) → sum_of_passes (λ k. 0) first count ≡ 0
 sum_none first zero = refl
 sum_none first (suc n) = omega (arith, sum_none first n)
@@ -62,7 +62,7 @@ sum_add : (f h : ℕ → ℕ) (first count : ℕ) → sum_of_passes (λ k. f k +
 sum_add f h first zero = refl
 sum_add f h first (suc n) = omega (arith, sum_add f h first n)
 
--- 1 where two numbers are the same, else 0: a pass is met once among the first so many
+-- 1 if two numbers are equal, else 0: each pass is counted once in the sum over passes
 hits : ℕ → ℕ → ℕ
 hits p k = cond (nat_eq p k) 1 0
 

@@ -1,4 +1,4 @@
--- The direction of a pass by its parity.
+-- The direction of a pass, from its parity.
 use Rattle.std.proofs.Common.{ℕ, zero, suc, ◌≡◌, ◌%◌, ◌⊎◌, inl, inr, refl, ap, sym, arith}
 use Rattle.ag_grammar.specs.grammars.Passes.{LeftToRight, RightToLeft, direction_of, other}
 

@@ -1,5 +1,5 @@
--- What holds at each node of a tree: that values are the same or well, that leaves have their texts, and that the rules of a kind
--- are met.
+-- What holds at each node of a tree: values are the same, values are well, leaves have their texts, and the
+-- rules that satisfy a predicate hold.
 use Rattle.std.proofs.Common.{◌≡◌, ℕ, ◌≤◌, List, [], ◌∷◌, Option, Some, None, slice_get, refl, sym, subst, ◌∙◌, arith}
 use Rattle.ag_value.specs.declared.value.Value.{Value}
 use Rattle.ag_value.specs.Well.{IsWell}
@@ -10,8 +10,8 @@ use Rattle.ag_grammar.specs.grammars.Passes.{Passes, HasPass}
 use Rattle.ag_grammar.specs.grammars.Solution.{AtEachNode, AtEachNodeOf, IsWellOn, NoRule, OfPass, RulesHold, Same, SameAt, Solves, SolvesAll, Valuation, WellAt, at, children, left_passes, rest}
 use Rattle.ag_grammar.specs.grammars.Tree.{Tree, Forest, leaf, node, none, more}
 
--- From what holds at each node between a first valuation and a second one, and between the second and a third, follows at each
--- what follows at one between the first and the third.
+-- If R relates the first and the second valuation at each node, S the second and the third, and both imply T
+-- at a node, then T relates the first and the third at each node.
 module _ (R S T : List ℕ → (ℕ → Value) → (ℕ → Value) → Type 0) (g : Grammar) (m : Passes) (h : (ps : List ℕ) (d e f : ℕ → Value) → R ps d e → S ps e f → T ps d f) where
   mutual
     pub each_on : (t : Tree) (u v w : Valuation) → AtEachNode R g m t u v → AtEachNode S g m t v w → AtEachNode T g m t u w
@@ -22,7 +22,7 @@ module _ (R S T : List ℕ → (ℕ → Value) → (ℕ → Value) → Type 0) (
     each_on_all none us vs ws r s = tt
     each_on_all (more t ts) us vs ws r s = (each_on t (us 0) (vs 0) (ws 0) r.0 s.0, each_on_all ts (rest us) (rest vs) (rest ws) r.1 s.1)
 
--- From what holds at each node between two valuations follows at each what follows from it at one.
+-- If R relates two valuations at each node, and implies T at a node, then T relates them at each node.
 module _ (R T : List ℕ → (ℕ → Value) → (ℕ → Value) → Type 0) (g : Grammar) (m : Passes) (h : (ps : List ℕ) (d e : ℕ → Value) → R ps d e → T ps d e) where
   mutual
     pub each_map : (t : Tree) (u v : Valuation) → AtEachNode R g m t u v → AtEachNode T g m t u v
@@ -44,21 +44,21 @@ module _ (W : ℕ → Type 0) (g : Grammar) (m : Passes) where
     same_themselves none us = tt
     same_themselves (more t ts) us = (same_itself t (us 0), same_themselves ts (rest us))
 
--- what is the same at the attributes of some passes is so at those of fewer
+-- valuations that are the same at the attributes of some passes are the same at those of fewer passes
 pub same_weaker : (W X : ℕ → Type 0) (g : Grammar) (m : Passes) → ((p : ℕ) → X p → W p) → (t : Tree) (u v : Valuation) → Same W g m t u v → Same X g m t u v
 same_weaker W X g m h t u v s = each_map (SameAt W) (SameAt X) g m (λ ps d e r a p is x. r a p is (h p x)) t u v s
 
--- what is the same as a second valuation, which is the same as a third one, is the same as the third
+-- sameness of valuations is transitive
 pub same_on : (W : ℕ → Type 0) (g : Grammar) (m : Passes) (t : Tree) (u v w : Valuation) → Same W g m t u v → Same W g m t v w → Same W g m t u w
 same_on W g m t u v w r s = each_on (SameAt W) (SameAt W) (SameAt W) g m (λ ps d e f r s a p is x. r a p is x ∙ s a p is x) t u v w r s
 
--- where no rule is asked for, nothing is left to meet
+-- the predicate of no rule leaves nothing to prove
 pub no_rules : (o : Option Production) (e : ℕ → ℕ → Value) → RulesHold NoRule o e
 no_rules None e = tt
 no_rules (Some q) e = λ r rule bad. absurd bad
 
--- Two valuations are the same up to a pass. Where the first gives each leaf its text, so does the second; and where what the
--- first gives up to the pass is well, so is what the second gives.
+-- For two valuations that are the same up to pass k: if the first gives each leaf its text, so does the
+-- second; if the values of the first up to pass k are well, so are those of the second.
 module _ (g : Grammar) (m : Passes) (k : ℕ) where
   mutual
     pub same_texts : (t : Tree) (u w : Valuation) → Same (λ p. p ≤ k) g m t u w → Solves NoRule g t u → Solves NoRule g t w
@@ -78,7 +78,8 @@ module _ (g : Grammar) (m : Passes) (k : ℕ) where
     each_well_all none us ws s well = tt
     each_well_all (more t ts) us ws s well = (each_well t (us 0) (ws 0) s.0 well.0, each_well_all ts (rest us) (rest ws) s.1 well.1)
 
--- Values that meet the rules of one kind meet those of another, where each rule of the grammar that is of the other is of the one.
+-- Values that solve the rules that satisfy W also solve those that satisfy X, if X implies W for the rules of
+-- the grammar.
 module _ (W X : Production → Rule → Type 0) (g : Grammar) (h : (p : ℕ) (q : Production) (r : Rule) → IsProduction g p q → IsRule q r → X q r → W q r) where
   wider_at : (p : ℕ) (o : Option Production) (e : ℕ → ℕ → Value) → slice_get g.productions p ≡ o → RulesHold W o e → RulesHold X o e
   wider_at p None e is s = tt
@@ -93,11 +94,11 @@ module _ (W X : Production → Rule → Type 0) (g : Grammar) (h : (p : ℕ) (q 
     solve_wider none vs s = tt
     solve_wider (more t ts) vs s = (solves_wider t (vs 0) s.0, solve_wider ts (rest vs) s.1)
 
--- the rules whose target is of a pass of a kind
+-- the rules whose target belongs to a pass that satisfies Y
 abbrev pub OfPasses : Passes → (ℕ → Type 0) → Production → Rule → Type 0
 OfPasses m Y q r = (k : ℕ) × Y k × HasPass m q r.target k
 
--- values that meet the rules of each pass of a kind meet those of all of them
+-- values that solve the rules of each pass that satisfies Y solve the rules of all these passes together
 module _ (m : Passes) (Y : ℕ → Type 0) (g : Grammar) where
   each_pass_at : (o : Option Production) (e : ℕ → ℕ → Value) → ((k : ℕ) → Y k → RulesHold (OfPass m k) o e) → RulesHold (OfPasses m Y) o e
   each_pass_at None e s = tt

@@ -15,7 +15,7 @@ use Rattle.ag_grammar.proofs.grammars.EachNode.{OfPasses, solves_each, solves_wi
 use Rattle.ag_grammar.proofs.grammars.OneSolution.{may_le}
 use Rattle.ag_grammar.proofs.grammars.Rules.{holds_same}
 
--- what is the same at each child's root is the same at its place
+-- values that are the same at the root of each child are the same at its place
 pub at_places : (W : ℕ → Type 0) (g : Grammar) (m : Passes) (q : Production) (ts : Forest) (v w : Valuation) → FitsAll g (stored_items q.items) ts → SameAt W (m q.left) (v []) (w []) → AtEachNodeOf (SameAt W) g m ts (children v) (children w) → (j : ℕ) → SameAt W (item_passes m (item_at q j)) (at v j) (at w j)
 at_places W g m q ts v w f root below' zero = root
 at_places W g m q ts v w f root below' (suc i) = go (slice_get (stored_items q.items) i) refl
@@ -57,11 +57,11 @@ module _ (g : Grammar) (m : Passes) (k j : ℕ) (legal : Each (IsLegalFor (HasPa
   kept : (t : Tree) → Kept g m k j t
   kept t = tree_ind (Kept g m k j) leaf_kept node_kept t
 
--- the equations of a pass stay true where the values of the passes so far are kept
+-- the equations of a pass stay true as long as the values of this pass and of the earlier ones are kept
 pub equations_kept : (g : Grammar) (m : Passes) (k j : ℕ) (x : Item) (t : Tree) (v w : Valuation) → Each (IsLegalFor (HasPass m)) g.productions → k ≤ j → Fits g x t → Same (λ p. p ≤ j) g m t v w → Solves (OfPass m k) g t v → Solves (OfPass m k) g t w
 equations_kept g m k j x t v w legal le fits s h = kept g m k j legal le t x v w fits s h
 
--- a solution, where each target has a pass
+-- values that satisfy the equations of every pass are a solution, if each target has a pass
 pub passes_solve : (g : Grammar) (m : Passes) (t : Tree) (v : Valuation) → Each (λ q. Each (λ r. (k : ℕ) × HasPass m q r.target k) q.rules) g.productions → ((k : ℕ) → Solves (OfPass m k) g t v) → Solves AnyRule g t v
 passes_solve g m t v has solves =
     let texts : Solves NoRule g t v = solves_wider (OfPass m 0) NoRule g (λ p q r production rule bad. absurd bad) t v (solves 0) in

@@ -1,4 +1,4 @@
--- Facts about each member of a list, a member at a time.
+-- Predicates on all members of a list, a member at a time.
 use Rattle.std.proofs.Common.{ℕ, zero, suc, ◌≡◌, List, [], ◌∷◌, Some, slice_get, refl, ap, ◌∙◌, sym, subst}
 use Rattle.ag_grammar.specs.Lists.{AreRelated, Each, DifferIn}
 
@@ -18,21 +18,21 @@ differ_more f x xs h hs zero (suc j) y z ey ez e = absurd (let e' : x ≡ y = cc
 differ_more f x xs h hs (suc i) zero y z ey ez e = absurd (let e' : x ≡ z = cc in h i y ey (ap f e' ∙ sym e))
 differ_more f x xs h hs (suc i) (suc j) y z ey ez e = ap suc (hs i j y z ey ez e)
 
--- what holds of one member, and of two
+-- a predicate on all members of a list of one member, or of two
 pub only : {A : Type 0} (P : A → Type 0) (x : A) → P x → Each P (x ∷ [])
 only P x h = each_more P x [] h (each_none P)
 
 pub both : {A : Type 0} (P : A → Type 0) (x y : A) → P x → P y → Each P (x ∷ y ∷ [])
 both P x y h k = each_more P x (y ∷ []) h (only P y k)
 
--- a list of one differs, and one of two that do
+-- the members of a list of one member differ; so do those of a list of two different members
 pub alone : {A B : Type 0} (f : A → B) (x : A) → DifferIn f (x ∷ [])
 alone f x = differ_more f x [] (each_none (λ y. f x ≡ f y → ⊥)) (differ_none f)
 
 pub pair : {A B : Type 0} (f : A → B) (x y : A) → (f x ≡ f y → ⊥) → DifferIn f (x ∷ y ∷ [])
 pair f x y h = differ_more f x (y ∷ []) (only (λ y. f x ≡ f y → ⊥) y h) (alone f y)
 
--- lists whose members are related, with none and with one
+-- related lists with no member and with one
 pub related_none : {A B : Type 0} (R : A → B → Type 0) → AreRelated R [] []
 related_none R = record { equally_long = refl; each = λ i x y ex ey. cc }
 

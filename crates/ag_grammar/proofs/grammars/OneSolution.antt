@@ -17,7 +17,7 @@ use Rattle.ag_grammar.proofs.grammars.EachNode.{same_weaker}
 use Rattle.ag_grammar.proofs.grammars.Rules.{target_same}
 use Rattle.ag_grammar.proofs.grammars.Children.{child, size, tree_ind, child_within, child_fits, child_exists, child_solves, child_each, children_each, root_each}
 
--- the places whose values a rule with a target at j may use in its own pass
+-- the places whose values a rule with a target at place j may use in its own pass
 abbrev Visited : ℕ → ℕ → ℕ → Type 0
 Visited k zero i = Unit {0}
 Visited k (suc j) i = IsBefore (direction_of k) i (suc j)
@@ -29,11 +29,11 @@ may_le k (suc j) i p u = elim u [ inl a ↦ a.1 | inr b ↦ elim b [ inl c ↦ c
 split : (p k : ℕ) → p ≤ k → (p < k) ⊎ (p ≡ k)
 split p k h = grind arith
 
--- the values of the inherited attributes of an item of passes up to k are the same
+-- the values of an item's inherited attributes that belong to passes up to k are the same
 abbrev InheritedSame : Grammar → Passes → ℕ → Option Item → (ℕ → Value) → (ℕ → Value) → Type 0
 InheritedSame g m k x e f = (a p : ℕ) → slice_get (item_passes m x) a ≡ Some p → p ≤ k → slice_get (item_kinds g x) a ≡ Some Inherited → e a ≡ f a
 
--- what stands at a number in one of two lists of one length
+-- the member at the same index of another list of the same length
 pub counterpart : {A B : Type 0} (xs : List A) (ys : List B) (i : ℕ) (x : A) → length xs ≡ length ys → slice_get xs i ≡ Some x → (y : B) × (slice_get ys i ≡ Some y)
 counterpart [] ys i x l e = cc
 counterpart (z ∷ xs) [] i x l e = absurd (omega arith)
@@ -46,7 +46,7 @@ module _ (g : Grammar) (m : Passes) (k : ℕ) (q : Production) (v w : Valuation)
   argument zero (suc i) a p u h n vis = vis i tt a p h u
   argument (suc j) (suc i) a p u h n vis = elim u [ inl x ↦ absurd (let e = x.0 in omega arith) | inr y ↦ elim y [ inl x ↦ vis i x.0 a p h x.1 | inr x ↦ old (suc i) a p h x ] ]
 
-  -- what a rule gives at a place is the same
+  -- the values that a rule defines at a place are the same
   by_rule : (j a : ℕ) → slice_get (item_passes m (item_at q j)) a ≡ Some k → slice_get (item_kinds g (item_at q j)) a ≡ Some (given_kind j) → ((i : ℕ) → Visited k j (suc i) → SameAt (λ p. p ≤ k) (item_passes m (item_at q (suc i))) (at v (suc i)) (at w (suc i))) → at v j a ≡ at w j a
   by_rule j a h n vis =
       let o : Target = record { place = j; attr = a } in
@@ -66,7 +66,7 @@ module _ (g : Grammar) (m : Passes) (k : ℕ) (q : Production) (v w : Valuation)
   child_root : (i : ℕ) → ((i' : ℕ) → Visited k (suc i) (suc i') → SameAt (λ p. p ≤ k) (item_passes m (item_at q (suc i'))) (at v (suc i')) (at w (suc i'))) → InheritedSame g m k (item_at q (suc i)) (at v (suc i)) (at w (suc i))
   child_root i vis a p h le n = elim (split p k le) [ inl lt ↦ old (suc i) a p h lt | inr e ↦ by_rule (suc i) a (h ∙ ap Some e) n vis ]
 
--- how many children a pass visits before the one of a number, or more
+-- an upper bound of the number of children that a pass visits before the child with index i
 abbrev rank : Direction → ℕ → ℕ → ℕ
 rank LeftToRight n i = i
 rank RightToLeft n i = n - i
@@ -75,7 +75,8 @@ ranked : (d : Direction) (n i j b : ℕ) → IsBefore d (suc j) (suc i) → j < 
 ranked LeftToRight n i j b h l r = omega arith
 ranked RightToLeft n i j b h l r = omega arith
 
--- what the values of a pass at a tree rest on: those of the passes before, and at the root the inherited ones
+-- two solutions on a tree have the same values in pass k, if they have in the earlier passes, and in the
+-- inherited attributes at the root
 abbrev Agrees : Grammar → Passes → ℕ → Tree → Type 0
 Agrees g m k t = (x : Item) (v w : Valuation) → Fits g x t → Solves AnyRule g t v → Solves AnyRule g t w → Same (λ p. p < k) g m t v w → InheritedSame g m k (Some x) (v []) (w []) → Same (λ p. p ≤ k) g m t v w
 
@@ -94,7 +95,7 @@ module _ (g : Grammar) (m : Passes) (k : ℕ) (complete : Each (IsComplete g) g.
     rules_w : (r : Rule) → IsRule q r → Holds r (at w)
     rules_w r h = rules_of AnyRule (slice_get g.productions p) q (at w) eq sw.0 r h tt
 
-    -- what is known of each child is known at its place
+    -- what holds at the root of each child holds at its place
     at_place : (W : ℕ → Type 0) (i : ℕ) → ((t : Tree) → child ts i ≡ Some t → Same W g m t (children v i) (children w i)) → SameAt W (item_passes m (item_at q (suc i))) (at v (suc i)) (at w (suc i))
     at_place W i h = go (slice_get (stored_items q.items) i) refl
       where
@@ -134,11 +135,11 @@ module _ (g : Grammar) (m : Passes) (k : ℕ) (complete : Each (IsComplete g) g.
   node_agrees p ts ih (item.Symbol x) v w f sv sw s h =
       node_agrees_at p ts ih f.0 v w f.1 f.3 sv sw s (subst (λ z. InheritedSame g m k (Some (item.Symbol z)) (v []) (w [])) (sym f.2) h)
 
-  -- the values of one pass more
+  -- the values of one more pass
   pub pass_agrees : (t : Tree) → Agrees g m k t
   pass_agrees t = tree_ind (Agrees g m k) leaf_agrees node_agrees t
 
--- what holds of each pass
+-- values that are the same in each pass are the same
 same_each : (g : Grammar) (m : Passes) (t : Tree) (v w : Valuation) → ((k : ℕ) → Same (λ p. p < k) g m t v w) → Same AnyPass g m t v w
 same_each g m t = tree_ind (λ t. (v w : Valuation) → ((k : ℕ) → Same (λ p. p < k) g m t v w) → Same AnyPass g m t v w) (λ c x v w s a p e y. s (suc p) a p e (omega arith)) (λ p ts ih v w s. (λ a p e y. (s (suc p)).0 a p e (omega arith), children_each (SameAt AnyPass) g m ts (children v) (children w) (λ i t c. ih i t c (children v i) (children w i) (λ k. child_each (SameAt (λ p. p < k)) g m ts (children v) (children w) i t (s k).1 c)))) t
 

@@ -1,4 +1,4 @@
--- A symbol is productive exactly where it has a tree.
+-- A symbol is productive if and only if it has a tree.
 use Rattle.std.proofs.Common.{ℕ, suc, ◌≡◌, ◌↔◌, List, [], ◌∷◌, Some, refl, arith}
 use Rattle.std.proofs.lemmas.Str.{is_utf8-from_IsUtf8}
 use Rattle.ag_grammar.specs.declared.grammar.Item.TheVariants as item
@@ -10,7 +10,7 @@ use Rattle.ag_grammar.specs.grammars.Accepted.{IsProductive, AreProductive, by_p
 use Rattle.ag_grammar.specs.grammars.Tree.{Tree, Forest, leaf, node, none, more, Fits, FitsAll}
 use Rattle.ag_grammar.proofs.grammars.Children.{child, tree_ind}
 
--- trees of a terminal and of what follows it: a token's text may be empty
+-- trees of a terminal and of the items after it: the text of a token may be empty
 with_terminal : (g : Grammar) (a : Terminal) (xs : List Item) → (ts : Forest) × FitsAll g (stored_items xs) ts → (ts : Forest) × FitsAll g (stored_items (item.Terminal a ∷ xs)) ts
 with_terminal g (Literal l) xs f = f
 with_terminal g (Class c) xs f = (more (leaf c []) f.0, ((refl, record { utf8 = is_utf8-from_IsUtf8 [] ([], (refl, refl)); short = omega arith }), f.1))

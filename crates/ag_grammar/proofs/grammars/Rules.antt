@@ -1,4 +1,4 @@
--- When rules hold.
+-- Lemmas about rules that hold.
 use Rattle.std.proofs.Common.{ℕ, ◌≡◌, Option, Some, None, slice_get, ap, ◌∙◌, sym, pos}
 use Rattle.ag_value.specs.declared.value.Value.{Value, Num}
 use Rattle.ag_grammar.specs.declared.grammar.Rule.{Rule}
@@ -6,7 +6,8 @@ use Rattle.ag_grammar.specs.declared.grammar.Target.{Target}
 use Rattle.ag_grammar.specs.grammars.AttributeGrammar.{IsArgument}
 use Rattle.ag_grammar.specs.grammars.Solution.{Holds, Lends}
 
--- an environment that lends what a rule's occurrences stand for; to other numbers it gives anything
+-- an environment that gives a rule's occurrences the values of the attributes that they refer to, and 0 to
+-- other numbers
 abbrev lent : (ℕ → ℕ → Value) → Option Target → Value
 lent e None = Num (pos 0)
 lent e (Some o) = e o.place o.attr
@@ -17,14 +18,15 @@ environment r e k = lent e (slice_get r.args k)
 pub lends : (r : Rule) (e : ℕ → ℕ → Value) → Lends r e (environment r e)
 lends r e k o is = ap (lent e) is
 
--- what lends the values of one valuation lends those of another that gives the arguments the same
+-- an environment for one valuation is an environment for another one in which the arguments have the same
+-- values
 pub lends_same : (r : Rule) (e f : ℕ → ℕ → Value) (env : ℕ → Value) → ((o : Target) → IsArgument r o → e o.place o.attr ≡ f o.place o.attr) → Lends r e env → Lends r f env
 lends_same r e f env same h k o is = h k o is ∙ same o (k, is)
 
--- a rule that holds gives its target the same where its arguments have the same
+-- two valuations in which a rule holds have the same value at its target, if they have at its arguments
 pub target_same : (r : Rule) (e f : ℕ → ℕ → Value) → Holds r e → Holds r f → ((o : Target) → IsArgument r o → e o.place o.attr ≡ f o.place o.attr) → e r.target.place r.target.attr ≡ f r.target.place r.target.attr
 target_same r e f he hf same = he (environment r e) (lends r e) ∙ sym (hf (environment r e) (lends_same r e f (environment r e) same (lends r e)))
 
--- a rule whose target and arguments keep their values still holds
+-- a rule still holds if its target and its arguments keep their values
 pub holds_same : (r : Rule) (e f : ℕ → ℕ → Value) → e r.target.place r.target.attr ≡ f r.target.place r.target.attr → ((o : Target) → IsArgument r o → e o.place o.attr ≡ f o.place o.attr) → Holds r e → Holds r f
 holds_same r e f t same h env is = sym t ∙ h env (lends_same r f e env (λ o a. sym (same o a)) is)

@@ -1,4 +1,4 @@
--- Passes one after the other, and the values that they leave.
+-- Consecutive passes, and the values that they leave.
 use Rattle.std.proofs.Common.{◌≡◌, ℕ, zero, suc, ◌<◌, ◌≤◌, inl, inr, [], ◌∷◌, Option, Some, None, slice_get, refl, sym, subst, arith}
 use Rattle.std.proofs.lemmas.Bool.{cases_lt}
 use Rattle.ag_value.specs.declared.value.Value.{Value}
@@ -20,7 +20,7 @@ use Rattle.ag_grammar.proofs.grammars.Kept.{equations_kept}
 use Rattle.ag_grammar.proofs.grammars.samples.NumberSample.{accepted as sample_accepted, fits as sample_fits, solved as sample_solved}
 use Rattle.ag_grammar.proofs.grammars.OneSolution.{counterpart, one_solution}
 
--- an attribute's pass is none behind the last one
+-- no attribute belongs to a pass after the last one
 pub pass_within : (last : ℕ) (m : Passes) (q : Production) (o : Target) (k : ℕ) → IsLastPass last m → HasPass m q o k → k ≤ last
 pass_within last m q o k is has = go (item_at q o.place) refl
   where
@@ -40,7 +40,7 @@ pass_within last m q o k is has = go (item_at q o.place) refl
     go (Some (item.Terminal (Class c))) e = token o.attr (there (Some (item.Terminal (Class c))) e)
     go (Some (item.Terminal (Literal l))) e = no_pass (there (Some (item.Terminal (Literal l))) e)
 
--- each target has a pass, and it is 1 at least
+-- each target has a pass, which is at least 1
 module _ (g : Grammar) (m : Passes) (accepted : IsAccepted g) (legal : IsLegal g m) where
   given_pass : (q : Production) (j a : ℕ) (x : Option Item) → item_at q j ≡ x → slice_get (item_kinds g x) a ≡ Some (given_kind j) → (k : ℕ) × (slice_get (item_passes m x) a ≡ Some k) × (1 ≤ k)
   given_pass q j a None e kind = absurd (let bad : ⊥ = cc in bad)
@@ -88,7 +88,7 @@ run_is_the_solution g m t u w last accepted legal is tree ran =
       only = λ v other. one_solution g m t v w accepted.start accepted.complete accepted.normal legal tree other solves;
     }
 
--- each pass of the sample is the first one
+-- every attribute of the sample belongs to pass 1
 sample_first : (s a k : ℕ) → slice_get (sample_passes s) a ≡ Some k → k ≡ 1
 sample_first zero zero k e = let one : 1 ≡ k = cc in sym one
 sample_first zero (suc a) k e = absurd (let bad : ⊥ = cc in bad)
@@ -100,7 +100,7 @@ sample_first (suc (suc s)) a k e = absurd (let bad : ⊥ = cc in bad)
 pub sample_last : IsLastPass 1 sample_passes
 sample_last s a k e = let one = sample_first s a k e in omega arith
 
--- so there is nothing that it keeps
+-- hence no earlier pass has values to keep
 none_before : (s : ℕ) (e f : ℕ → Value) → SameAt (λ p. p < 1) (sample_passes s) e f
 none_before s e f a p is less = absurd (let one = sample_first s a p is in omega arith)
 

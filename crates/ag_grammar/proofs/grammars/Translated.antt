@@ -1,4 +1,4 @@
--- A tree has one translation at most.
+-- A tree has at most one translation.
 use Rattle.std.proofs.Common.{ℕ, zero, suc, ◌≡◌, List, [], ◌∷◌, ◌++◌, Some, slice_get, map, refl, ap, ◌∙◌, sym, subst}
 use Rattle.ag_value.specs.declared.value.Value.{Value}
 use Rattle.ag_grammar.specs.declared.grammar.Item.TheVariants as item
@@ -20,14 +20,14 @@ kind_of_name [] i n e = cc
 kind_of_name (z ∷ names) zero n e = refl
 kind_of_name (z ∷ names) (suc i) n e = kind_of_name names i n e
 
--- the start symbol has one `out`
+-- the start symbol has only one `out`
 one_out : (g : Grammar) (a b : ℕ) → IsNamed g → IsOut g a → IsOut g b → a ≡ b
 one_out g a b named x y =
     let same : x.0 ≡ y.0 = let e : Some x.0 ≡ Some y.0 = sym x.1 ∙ y.1 in cc in
     named.attributes_differ g.start x.0 x.1 a b out_name out_name (in_front x.0.syn x.0.inh a out_name x.2)
     (in_front x.0.syn x.0.inh b out_name (subst (λ s. slice_get s.syn b ≡ Some out_name) (sym same) y.2)) refl
 
--- the start symbol's `out` has a kind
+-- the start symbol's `out` is synthesized
 out_kind : (g : Grammar) (a : ℕ) → IsOut g a → slice_get (symbol_kinds (slice_get g.symbols g.start)) a ≡ Some Synthesized
 out_kind g a x =
     subst (λ o. slice_get (symbol_kinds o) a ≡ Some Synthesized) (sym x.1)

@@ -1,4 +1,4 @@
--- The sample grammars, worked out.
+-- The proofs for the sample grammars.
 pub mod NumberSample
 pub mod Ordered
 pub mod Refused

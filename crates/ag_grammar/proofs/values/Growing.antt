@@ -1,4 +1,4 @@
--- What the weight and the depth of a grown value are.
+-- The weight and the depth of a value to which an item was added.
 use Rattle.std.proofs.Common.{◌≡◌, ℕ, ◌+◌, ◌-◌, max, min, Bool, true, false, ◌||◌, List, [], ◌∷◌, ◌++◌, map, sum, None, refl, sym, ap, ◌∙◌, subst, arith}
 use Rattle.std.proofs.lemmas.Bool.{and_parts}
 use Rattle.std.proofs.lemmas.List.{map-append}
@@ -17,7 +17,7 @@ use Rattle.ag_grammar.specs.values.Fitting.{IsGathered}
 no_fault-List : (items : List Value) → is_fault (v.List items) ≡ false
 no_fault-List items = ap is_fault (sym (rolls-List items)) ∙ fold-roll-Value Bool fault_step (Value-F.List items)
 
--- the items of a well list may stand in it
+-- the items of a well list are allowed in a list
 pub items_of : (items : List Value) → IsWell (v.List items) → all_true (map is_item items) ≡ true
 items_of items well = sym (item-List items) ∙ sym (ap (λ b. b || is_item (v.List items)) (no_fault-List items)) ∙ well.formed
 
@@ -32,7 +32,7 @@ greatest-append (x ∷ xs) ys = let e = greatest-append xs ys in omega (arith, e
 pub sum-append : (xs ys : List ℕ) → sum (xs ++ ys) ≡ sum xs + sum ys
 sum-append xs ys = sum_by-append (λ n. n) xs ys
 
--- two lists, one behind the other
+-- the concatenation of two lists
 pub item-together : (xs ys : List Value) → all_true (map is_item xs) ≡ true → all_true (map is_item ys) ≡ true → is_item (v.List (xs ++ ys)) ≡ true
 item-together xs ys h k = item-List (xs ++ ys) ∙ ap all_true (map-append is_item xs ys) ∙ all_true-append (map is_item xs) (map is_item ys) h k
 
@@ -46,14 +46,14 @@ depth-together xs ys =
     let parts : greatest (map depth_of (xs ++ ys)) ≡ max (greatest (map depth_of xs)) (greatest (map depth_of ys)) = ap greatest (map-append depth_of xs ys) ∙ greatest-append (map depth_of xs) (map depth_of ys) in
     omega (arith, parts, depth-List (xs ++ ys), depth-List xs, depth-List ys)
 
--- a list of one item
+-- the weight of a list of one item
 pub weight-one : (x : Value) → weight_of (v.List (x ∷ [])) ≡ 5 + weight_of x
 weight-one x = weight-List (x ∷ []) ∙ omega arith
 
 pub depth-one : (x : Value) → depth_of (v.List (x ∷ [])) ≡ 1 + depth_of x
 depth-one x = depth-List (x ∷ []) ∙ omega arith
 
--- what is no error may stand in a list
+-- `fault_at` and `is_fault` agree on values that are not errors
 no_fault : (x : Value-F Value) → fault_at x ≡ None → is_fault (roll-Value x) ≡ false
 no_fault (Value-F.Num n) sound = fold-roll-Value Bool fault_step (Value-F.Num n)
 no_fault (Value-F.Text text) sound = fold-roll-Value Bool fault_step (Value-F.Text text)
@@ -66,7 +66,7 @@ item_of w well sound =
     let other : is_fault w ≡ false = subst (λ (u : Value). is_fault u ≡ false) (roll-out-Value w) (no_fault (out-Value w) sound) in
     sym (ap (λ b. b || is_item w) other) ∙ well.formed
 
--- what `fit` asks of two lists, one behind the other
+-- `fit` for the concatenation of two lists
 pub fits-together : (xs ys zs : List Value) (weight depth : ℕ) → zs ≡ xs ++ ys → IsWell (v.List xs) → IsWell (v.List ys)
     → weight ≡ weight_of (v.List xs) + weight_of (v.List ys) → depth ≡ max (depth_of (v.List xs)) (depth_of (v.List ys))
     → (is_item (v.List zs) ≡ true) × (weight - 5 ≡ min (weight_of (v.List zs)) 18446744073709551615) × (depth ≡ min (depth_of (v.List zs)) 4294967295)
@@ -76,7 +76,7 @@ fits-together xs ys zs weight depth is well well' heavy deep = rw is (
   (let a = well.shallow in let b = well'.shallow in let e = depth-together xs ys in omega arith),
 )
 
--- and of a list with one item more
+-- and for a list with one more item
 pub fits-pushed : (xs zs : List Value) (x : Value) (weight depth : ℕ) → zs ≡ xs ++ x ∷ [] → IsWell (v.List xs) → IsWell x → fault_of x ≡ None
     → weight ≡ weight_of (v.List xs) + weight_of x → depth ≡ max (depth_of (v.List xs)) (1 + depth_of x)
     → (is_item (v.List zs) ≡ true) × (weight ≡ min (weight_of (v.List zs)) 18446744073709551615) × (depth ≡ min (depth_of (v.List zs)) 4294967295)
@@ -86,7 +86,7 @@ fits-pushed xs zs x weight depth is well well' sound heavy deep = rw is (
   (let a = well.shallow in let b = well'.shallow in let e = depth-together xs (x ∷ []) in let f = depth-one x in omega arith),
 )
 
--- items that are gathered, with one more
+-- gathered items with one more
 pub gathers : (xs zs : List Value) (x : Value) (weight depth weight' depth' : ℕ) → zs ≡ xs ++ x ∷ [] → IsGathered xs weight depth → IsWell x → fault_of x ≡ None
     → weight' ≡ min (weight + weight_of x) 18446744073709551615 → depth' ≡ max depth (depth_of x + 1) → IsGathered zs weight' depth'
 gathers xs zs x weight depth weight' depth' is so_far well sound heavy deep = subst (λ (ys : List Value). IsGathered ys weight' depth') (sym is) (record {

@@ -1,4 +1,4 @@
--- What the limits say of the parts of well tables.
+-- Limits of the parts of well tables.
 use Rattle.std.proofs.Common.{◌≡◌, ℕ, zero, suc, ◌≤◌, Bool, true, false, ◌&&◌, cond, List, [], ◌∷◌, map, sum, find, slice_get, bytes_eq, Some, refl, sym, ap, ◌∙◌, subst, arith}
 use Rattle.std.proofs.lemmas.Bool.{and_parts}
 use Rattle.std.proofs.lemmas.List.Sums.{sum_by-cons}
@@ -18,11 +18,11 @@ use Rattle.ag_grammar.proofs.values.Wells.{all_in, formed, greatest_in, sum_in}
 abbrev pub Pair : Type 0
 Pair = List ℕ × Value
 
--- a well table may stand in a list
+-- a well table is allowed in a list
 pub item_table : (pairs : List Pair) → IsWell (v.Table pairs) → is_item (v.Table pairs) ≡ true
 item_table pairs well = item_of (v.Table pairs) well (ap fault_at (outs-Table pairs))
 
--- its keys rise, and are UTF-8; and its values may stand in it
+-- its keys rise and are UTF-8, and its values are allowed in it
 pub table_parts : (pairs : List Pair) → IsWell (v.Table pairs) → (is_rising (map key_of pairs) ≡ true) × (all_true (map is_utf8 (map key_of pairs)) ≡ true) × (all_true (map is_item_pair pairs) ≡ true)
 table_parts pairs well =
     let whole : (are_keys (map key_of pairs) && all_true (map is_item_pair pairs)) ≡ true = sym (item-Table pairs) ∙ item_table pairs well in
@@ -33,7 +33,7 @@ table_parts pairs well =
 pub rising_table : (w : Value) (pairs : List Pair) → w ≡ v.Table pairs → IsWell w → is_rising (map key_of pairs) ≡ true
 rising_table w pairs is well = (table_parts pairs (subst IsWell is well)).0
 
--- what is found stands somewhere
+-- a member that `find` returns has an index in the list
 found_at : {A : Type 0} (test : A → Bool) (xs : List A) (x : A) → find test xs ≡ Some x → (k : ℕ) × (slice_get xs k ≡ Some x)
 found_at test [] x here = let bad : ⊥ = cc in absurd bad
 found_at test (y ∷ ys) x here = go (test y) here (found_at test ys x)
@@ -57,7 +57,7 @@ well_got w pairs key p is well here =
     let at = found_at (λ (q : Pair). bytes_eq q.0 key) pairs p here in
     well_pair pairs at.0 p (subst IsWell is well) at.1
 
--- the keys of a well table, as a list, fit without more
+-- the list of the keys of a well table is within the limits
 abbrev key_text : Pair → Value
 key_text p = v.Text p.0
 

@@ -1,4 +1,4 @@
--- What the limits say of the parts of well values.
+-- Limits of the parts of well values.
 use Rattle.std.proofs.Common.{◌≡◌, ◌∙◌, ℕ, ℤ, ◌+◌, ◌^◌, ◌<◌, ◌≤◌, ◌||◌, length, pos, negsuc, zero, suc, slice_get, Some, List, [], ◌∷◌, Bool, true, false, ◌<◌, nat_lt, map, min, sum, refl, ap, arith, rules, subst, sym}
 use mir.Syntax.{w64}
 use mir.Val.{of_z, to_z}
@@ -32,11 +32,11 @@ short_list w items is well = let light : weight_of (v.List items) ≤ max_weight
 pub short_table : (w : Value) (pairs : List (List ℕ × Value)) → w ≡ v.Table pairs → IsWell w → length pairs ≤ max_weight
 short_table w pairs is well = let light : weight_of (v.Table pairs) ≤ max_weight = subst (λ (u : Value). weight_of u ≤ max_weight) is well.light in omega (arith, light, weight-Table pairs, few_pairs pairs)
 
--- what may stand in a list is formed
+-- a value that is allowed in a list is formed
 pub formed : (w : Value) → is_item w ≡ true → (is_fault w || is_item w) ≡ true
 formed w item = rw item (or-true (is_fault w))
 
--- a text is well where it is not too long
+-- a text is well if it is not too long
 pub well_text : (text : List ℕ) → is_utf8 text ≡ true → length text ≤ 1048571 → IsWell (v.Text text)
 well_text text utf8 short = record {
   formed = formed (v.Text text) (item-Text text ∙ utf8);
@@ -44,11 +44,11 @@ well_text text utf8 short = record {
   light = let w = weight-Text text in omega (arith, w);
 }
 
--- no number is long in decimal
+-- a number in decimal is short
 pub decimal_short : (z : ℤ) → mag z < 2 ^ 63 → length (signed_decimal z) ≤ 1048571
 decimal_short z within = let e = length_signed_le 19 z (omega arith) within in omega (arith, e)
 
--- an i64
+-- the magnitude of an i64
 pub within_width : (z : ℤ) → mag (to_z w64 (of_z w64 z)) < 2 ^ 63
 within_width z = first_of (search rules, omega (arith, ints), grind (arith, ints))
 
@@ -60,7 +60,7 @@ well_decimal text z is utf8 =
 
 pub ruleset short = (short_text, short_list, short_table)
 
--- what is somewhere in a list counts in what is said of the whole
+-- a test that holds for a whole list holds for each member
 pub all_in : {A : Type 0} (f : A → Bool) (xs : List A) (k : ℕ) (x : A) → all_true (map f xs) ≡ true → slice_get xs k ≡ Some x → f x ≡ true
 all_in f [] k x all here = let bad : ⊥ = cc in absurd bad
 all_in f (y ∷ ys) zero x all here = subst (λ z. f z ≡ true) (same_Some y x here) (and_parts (f y) (all_true (map f ys)) all).0
@@ -88,12 +88,12 @@ well_item w items k item is well here =
       light = let a = sum_in weight_of items k item here in let e = weight-List items in omega arith;
     }
 
--- and so is what `nth` finds
+-- and so is the result of `nth`
 pub well_nth : (w : Value) (items : List Value) (place : ℤ) (item : Value) → w ≡ v.List items → IsWell w → item_at items place ≡ Some item → IsWell item
 well_nth w items (pos k) item is well here = well_item w items k item is well here
 well_nth w items (negsuc k) item is well here = let bad : ⊥ = cc in absurd bad
 
--- a text that is too long
+-- a text that is too long becomes the error `big`
 pub big_text : (text : List ℕ) (n : ℕ) → n ≡ min (length text) 18446744073709551615 → max_weight < min (5 + n) 18446744073709551615 → fit (v.Text text) ≡ v.Fault Big
 big_text text n is long =
     let flat : nat_lt max_depth (depth_of (v.Text text)) ≡ false = rw (depth-Text text) refl in

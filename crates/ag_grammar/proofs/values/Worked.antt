@@ -1,4 +1,4 @@
--- The laws of what operations give, and what the worked examples stand on.
+-- The laws of the results of operations, and lemmas for the worked examples.
 use Rattle.std.proofs.Common.{◌≡◌, ◌≤◌, ◌||◌, ℕ, ℤ, pos, Bool, true, false, nat_lt, bytes_eq, List, Option, Some, None, refl, sym, ap, ◌∙◌, subst, arith}
 use Rattle.std.proofs.lemmas.Bool.{lt-ltb, ltb-true}
 use Rattle.std.proofs.lemmas.Slice.Eq.{bytes_eq-Decides}

@@ -1,4 +1,4 @@
--- The value of an expression. All of this is this project's.
+-- The value of an expression. All definitions are this project's.
 use Rattle.std.specs.Prelude.{ℕ, ◌<◌, List, [], ◌∷◌, ◌++◌, Option, Some, None, slice_get}
 use Rattle.ag_value.specs.declared.value.ErrorCode.TheVariants.{Kind}
 use Rattle.ag_value.specs.declared.value.Value.{Value}
@@ -13,11 +13,12 @@ use Rattle.ag_grammar.specs.values.Fitting.{fit}
 use Rattle.ag_grammar.specs.values.Lists.{listed}
 use Rattle.ag_grammar.specs.values.Operators.{applied}
 
--- what a tree gives for the values of its occurrences and those of the names bound around it, the outermost first
+-- the value of a tree, as a function of the values of its occurrences and of the names bound around it, the
+-- outermost first
 abbrev pub Meaning : Type 0
 Meaning = (ℕ → Value) → List Value → Value
 
--- a chain from the left: each step's left argument is the value so far
+-- the value of a chain, left-associative: the left argument of each step is the value so far
 abbrev pub chain_value : (ℕ → Value) → List Value → Value → List (Operator × Meaning) → Value
 chain_value env bound so_far [] = so_far
 chain_value env bound so_far (x ∷ xs) = chain_value env bound (applied x.0 so_far (x.1 env bound)) xs
@@ -27,13 +28,13 @@ abbrev pub item_values : (ℕ → Value) → List Value → List Meaning → Lis
 item_values env bound [] = []
 item_values env bound (x ∷ xs) = x env bound ∷ item_values env bound xs
 
--- the value of a bound name; a tree of an expression names no other
+-- the value of a bound name; the tree of an expression names none that is not bound
 abbrev pub bound_value : Option Value → Value
 bound_value (Some v) = v
 bound_value None = value.Fault Kind
 
--- One level of a tree, with the meaning of each operand in its place. The value of a name's definition, which may be an error, stands for
--- the name in the body.
+-- One level of a tree, with the meaning of each operand in its place. In the body of a `let` the name has the
+-- value of its definition, which may be an error.
 abbrev pub value_step : Node-F Meaning → Meaning
 value_step (Node-F.Literal v) env bound = fit v
 value_step (Node-F.Occurrence k) env bound = env k
@@ -47,7 +48,8 @@ value_step (Node-F.Put t k v) env bound = put (t env bound) (k env bound) (v env
 value_step (Node-F.List items) env bound = listed (item_values env bound items)
 value_step Node-F.EmptyTable env bound = value.Table []
 
--- the value of a tree where `env` gives the value of each occurrence, and further values are bound around it
+-- the value of a tree, where `env` has the values of its occurrences, and `bound` those of the names bound
+-- around it
 abbrev pub value_in : Node → Meaning
 value_in = fold-Node Meaning value_step
 

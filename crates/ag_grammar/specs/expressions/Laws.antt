@@ -1,5 +1,5 @@
--- What the laws state of the values of expressions and of rules. What a rule is, and when it holds, is Knuth's (1968); the rest
--- is this project's.
+-- Statements of the laws about the values of expressions and of rules. What a rule is, and when it holds, is
+-- Knuth's (1968); all else is this project's.
 use Rattle.std.specs.Prelude.{ℕ, ◌≡◌, ◌<◌, true, List}
 use Rattle.ag_value.specs.declared.value.Value.{Value}
 use Rattle.ag_grammar.specs.declared.grammar.Production.{Production}
@@ -16,14 +16,16 @@ use Rattle.ag_grammar.specs.grammars.Solution.{Holds, Lends}
 abbrev pub ValueOfOccurrences : Type 0
 ValueOfOccurrences = (e : Node) (env other : ℕ → Value) (bound : List Value) → AgreeOn e env other → value_in e env bound ≡ value_in e other bound
 
--- Where the number of each occurrence in a tree is below n, none of a number from n on stands in it.
+-- If the number of each occurrence in a tree is below n, the tree contains no occurrence whose number is n or
+-- more.
 abbrev pub OccurrencesAreListed : Type 0
 OccurrencesAreListed = (n k bound : ℕ) (e : Node) → is_within n e bound ≡ true → has_occurrence k e ≡ true → k < n
 
--- The expression of a rule has the same value in any two environments that lend it the values of its arguments.
+-- The expression of a rule has the same value in any two environments that give its occurrences the values of
+-- its arguments.
 abbrev pub RuleHasOneValue : Type 0
 RuleHasOneValue = (g : Grammar) (q : Production) (r : Rule) (e : ℕ → ℕ → Value) (env other : ℕ → Value) → IsNamedRule g q r → Lends r e env → Lends r e other → value_of r.expr.0 env ≡ value_of r.expr.0 other
 
--- So a rule holds where its target has the value that the expression has in one of them.
+-- Hence a rule holds if its target has the value of the expression in one such environment.
 abbrev pub RuleHoldsByOne : Type 0
 RuleHoldsByOne = (g : Grammar) (q : Production) (r : Rule) (e : ℕ → ℕ → Value) (env : ℕ → Value) → IsNamedRule g q r → Lends r e env → e r.target.place r.target.attr ≡ value_of r.expr.0 env → Holds r e

@@ -1,4 +1,4 @@
--- Which occurrences stand in the tree of an expression. All of this is this project's.
+-- The occurrences that the tree of an expression contains. All definitions are this project's.
 use Rattle.std.specs.Prelude.{ℕ, ◌≡◌, Bool, true, false, ◌||◌, nat_eq, List, [], ◌∷◌}
 use Rattle.ag_value.specs.declared.value.Value.{Value}
 use Rattle.ag_grammar.specs.declared.syntax.node.Operator.{Operator}
@@ -6,7 +6,7 @@ use Rattle.ag_grammar.specs.declared.syntax.node.Node.{Node}
 use Rattle.ag_grammar.specs.declared.syntax.node.Node.TheFolds.{fold-Node}
 use Rattle.ag_grammar.specs.declared.syntax.node.Node.TheOpen.{Node-F}
 
--- some operand of a chain has it, and some item of a list
+-- whether some operand of a chain, or some item of a list, has the property
 abbrev pub some_operand : List (Operator × Bool) → Bool
 some_operand [] = false
 some_operand (x ∷ xs) = x.1 || some_operand xs
@@ -15,7 +15,7 @@ abbrev pub some_item : List Bool → Bool
 some_item [] = false
 some_item (x ∷ xs) = x || some_item xs
 
--- one level of a tree, with the answer of each operand in its place
+-- one level of a tree, with the result of each operand in its place
 abbrev pub has_step : ℕ → Node-F Bool → Bool
 has_step k (Node-F.Literal v) = false
 has_step k (Node-F.Occurrence j) = nat_eq j k
@@ -29,10 +29,10 @@ has_step k (Node-F.Put t i v) = t || (i || v)
 has_step k (Node-F.List items) = some_item items
 has_step k Node-F.EmptyTable = false
 
--- the occurrence of a number stands somewhere in a tree
+-- whether a tree contains the occurrence with number k
 abbrev pub has_occurrence : ℕ → Node → Bool
 has_occurrence k = fold-Node Bool (has_step k)
 
--- Two environments agree on a tree: they give the same value to each occurrence that stands in it.
+-- Two environments agree on a tree: they give the same value to each occurrence that the tree contains.
 abbrev pub AgreeOn : Node → (ℕ → Value) → (ℕ → Value) → Type 0
 AgreeOn e env other = (k : ℕ) → has_occurrence k e ≡ true → env k ≡ other k

@@ -1,11 +1,12 @@
--- Which trees are those of expressions: the numbers of occurrences and bound names stand for something. All of this is this project's.
+-- The well-formed trees: each number of an occurrence or of a bound name is in range. All definitions are
+-- this project's.
 use Rattle.std.specs.Prelude.{ℕ, suc, Bool, true, ◌&&◌, nat_lt, List, [], ◌∷◌, map}
 use Rattle.ag_grammar.specs.declared.syntax.node.Operator.{Operator}
 use Rattle.ag_grammar.specs.declared.syntax.node.Node.{Node}
 use Rattle.ag_grammar.specs.declared.syntax.node.Node.TheFolds.{fold-Node}
 use Rattle.ag_grammar.specs.declared.syntax.node.Node.TheOpen.{Node-F}
 
--- every operand of a chain passes, and every item of a list, with so many names bound around them
+-- whether every operand of a chain, or every item of a list, passes with `bound` names bound around it
 abbrev pub all_pass : ℕ → List (Operator × (ℕ → Bool)) → Bool
 all_pass bound [] = true
 all_pass bound (x ∷ xs) = x.1 bound && all_pass bound xs
@@ -14,7 +15,7 @@ abbrev pub each_passes : ℕ → List (ℕ → Bool) → Bool
 each_passes bound [] = true
 each_passes bound (x ∷ xs) = x bound && each_passes bound xs
 
--- one level of a tree, with so many names bound around it
+-- one level of a tree with `bound` names bound around it
 abbrev pub below_step : ℕ → Node-F (ℕ → Bool) → ℕ → Bool
 below_step n (Node-F.Literal v) bound = true
 below_step n (Node-F.Occurrence k) bound = nat_lt k n
@@ -28,15 +29,15 @@ below_step n (Node-F.Put t k v) bound = t bound && (k bound && v bound)
 below_step n (Node-F.List items) bound = each_passes bound items
 below_step n Node-F.EmptyTable bound = true
 
--- In the tree the number of every occurrence is below n, and that of every bound name below how many are bound around it, which are
--- `bound` around the whole.
+-- In a tree with `bound` names bound around it, the number of each occurrence is below n, and the number of
+-- each bound name is below the number of names that are bound around it there.
 abbrev pub is_within : ℕ → Node → ℕ → Bool
 is_within n = fold-Node (ℕ → Bool) (below_step n)
 
--- and so where none is bound around it
+-- the same for a tree with no name bound around it
 abbrev pub is_below : ℕ → Node → Bool
 is_below n e = is_within n e 0
 
--- and so in every operand of a chain
+-- the same for every operand of a chain
 abbrev pub all_below : ℕ → ℕ → List (Operator × Node) → Bool
 all_below n bound others = all_pass bound (map (λ p. (p.0, is_within n p.1)) others)

@@ -1,4 +1,4 @@
--- Which grammars are accepted.
+-- Accepted grammars.
 use Rattle.std.specs.Prelude.{ℕ, ◌≡◌, ◌≤◌, ◌<◌, ◌⊎◌, List, [], ◌∷◌, Some, slice_get, length, true}
 use Rattle.ag_grammar.specs.Lists.{AreRelated, Has, Each, Differ, DifferIn}
 use Rattle.ag_grammar.specs.expressions.Trees.{is_below}
@@ -13,43 +13,44 @@ use Rattle.ag_grammar.specs.declared.grammar.Terminal.{Terminal}
 use Rattle.ag_grammar.specs.declared.limits.TheConstants.{CLASS_COUNT, MOST_ATTRIBUTES, MOST_ITEMS, MOST_LITERALS, MOST_LITERAL_BYTES, MOST_PASSES, MOST_PRODUCTIONS, MOST_RULES, MOST_STORED, MOST_SYMBOLS, MOST_TEXT_BYTES, NAME, NUMBER, TEXT}
 use Rattle.ag_grammar.specs.grammars.AttributeGrammar.{attribute_names, Grammar, stored_items, IsProduction, IsRule, Kind, HasKind, StandsFor, given_kind, found_kind}
 
--- The limits of a grammar (this project's): how many symbols there are at most,
+-- The limits of a grammar (this project's): the maximum number of symbols,
 abbrev pub most_symbols : ℕ
 most_symbols = MOST_SYMBOLS
 
--- attributes of a symbol,
+-- of attributes of a symbol,
 abbrev pub most_attributes : ℕ
 most_attributes = MOST_ATTRIBUTES
 
--- productions,
+-- of productions,
 abbrev pub most_productions : ℕ
 most_productions = MOST_PRODUCTIONS
 
--- items on a right side,
+-- of items on a right side,
 abbrev pub most_items : ℕ
 most_items = MOST_ITEMS
 
--- stored items on a right side,
+-- of children of a production (items of its right side other than literals),
 abbrev pub most_stored : ℕ
 most_stored = MOST_STORED
 
--- rules of a production and arguments of a rule (an accepted grammar has far fewer),
+-- of rules of a production and of arguments of a rule (an accepted grammar has far fewer),
 abbrev pub most_rules : ℕ
 most_rules = MOST_RULES
 
--- different literals,
+-- of distinct literals,
 abbrev pub most_literals : ℕ
 most_literals = MOST_LITERALS
 
--- bytes of a literal,
+-- of bytes of a literal,
 abbrev pub most_literal_bytes : ℕ
 most_literal_bytes = MOST_LITERAL_BYTES
 
--- and bytes of its text; a sentence has no more.
+-- and of bytes of the grammar's text; the limit of a sentence is the same.
 abbrev pub most_text_bytes : ℕ
 most_text_bytes = MOST_TEXT_BYTES
 
--- How many passes a grammar needs at most: two for each attribute that it may have (Jazayeri and Walter 1975).
+-- The maximum number of passes that a grammar needs: two for each attribute that it may have (Jazayeri and
+-- Walter 1975).
 abbrev pub most_passes : ℕ
 most_passes = MOST_PASSES
 
@@ -63,7 +64,7 @@ number_class = NUMBER
 abbrev pub text_class : ℕ
 text_class = TEXT
 
--- and how many classes there are
+-- and the number of classes
 abbrev pub class_count : ℕ
 class_count = CLASS_COUNT
 
@@ -85,25 +86,27 @@ pub record IsWithinGrammarLimits (g : Grammar) : Type 0 where
 abbrev pub IsSeparator : ℕ → Type 0
 IsSeparator b = (b ≡ 32) ⊎ (b ≡ 9) ⊎ (b ≡ 13) ⊎ (b ≡ 10)
 
--- An item's number stands for a symbol, a literal or a class in use.
+-- The number of an item is that of a declared symbol, of a literal, or of a class in use.
 abbrev pub IsNamedItem : Grammar → Item → Type 0
 IsNamedItem g (item.Symbol s) = s < length g.symbols
 IsNamedItem g (item.Terminal (Literal l)) = l < length g.literals
 IsNamedItem g (item.Terminal (Class c)) = Has g.classes c
 
--- A terminal stands in a production.
+-- A terminal occurs in a production.
 abbrev pub IsInUse : Grammar → Terminal → Type 0
 IsInUse g a = (p : ℕ) × (q : Production) × IsProduction g p q × Has q.items (item.Terminal a)
 
--- A rule's target is there, whichever its kind. Each occurrence in its expression's tree is one of the listed ones, and
--- there are as many arguments as these, in their order, each being what its occurrence stands for (Knuth 1968).
+-- A rule whose numbers are in range (Knuth 1968): its target exists, of either kind. Each occurrence in its
+-- expression's tree is one of the listed ones. There is one argument for each listed occurrence, in the same
+-- order: the attribute that the occurrence refers to.
 pub record IsNamedRule (g : Grammar) (q : Production) (r : Rule) : Type 0 where
   pub target : (k : Kind) × HasKind g q r.target k
   pub listed : is_below (length r.expr.1) r.expr.0 ≡ true
   pub arguments : AreRelated (StandsFor g q) r.expr.1 r.args
 
--- Each number stands for what there is, no name, literal or class is there twice, each literal and class stands in a
--- production, and no literal has a separator (this project's).
+-- Names and numbers are consistent (this project's): each number is in range; no symbol, attribute of a
+-- symbol, literal or class appears twice; each literal and class occurs in a production; and no literal
+-- contains a separator.
 pub record IsNamed (g : Grammar) : Type 0 where
   pub symbols_differ : DifferIn (λ s. s.name) g.symbols
   pub attributes_differ : Each (λ s. Differ (attribute_names s)) g.symbols
@@ -117,30 +120,32 @@ pub record IsNamed (g : Grammar) : Type 0 where
   pub items_named : Each (λ q. Each (IsNamedItem g) q.items) g.productions
   pub rules_named : Each (λ q. Each (IsNamedRule g q) q.rules) g.productions
 
--- the number of the start symbol's `out`
+-- a is the number of the start symbol's `out`
 abbrev pub IsOut : Grammar → ℕ → Type 0
 IsOut g a = (s : Symbol) × (slice_get g.symbols g.start ≡ Some s) × (slice_get s.syn a ≡ Some out_name)
 
--- The start symbol has no inherited attribute (Knuth 1968), and a synthesized one named `out` (this project's).
+-- The start symbol has no inherited attribute (Knuth 1968), and a synthesized one named `out` (this
+-- project's).
 pub record IsStart (g : Grammar) : Type 0 where
   pub symbol : Symbol
   pub declared : slice_get g.symbols g.start ≡ Some symbol
   pub plain : symbol.inh ≡ []
   pub out : Has symbol.syn out_name
 
--- Complete: a production has exactly one rule for each synthesized attribute of its left side and each inherited one of its
--- right side, and no other rule (Knuth 1968).
+-- Complete: a production has exactly one rule for each synthesized attribute of its left side and for each
+-- inherited attribute of its right side, and no other rule (Knuth 1968).
 pub record IsComplete (g : Grammar) (q : Production) : Type 0 where
   pub all : (o : Target) → HasKind g q o (given_kind o.place) → (r : Rule) × IsRule q r × (r.target ≡ o)
   pub single : DifferIn (λ r. r.target) q.rules
   pub no_other : Each (λ r. HasKind g q r.target (given_kind r.target.place)) q.rules
 
--- Normal: a rule's arguments are what the production's own rules don't give, inherited attributes of its left side and
--- synthesized ones of its right side (this project's).
+-- Normal: the arguments of a rule are inherited attributes of the left side and synthesized attributes of the
+-- right side, which are those that the production's own rules do not define (this project's).
 abbrev pub IsNormal : Grammar → Production → Type 0
 IsNormal g q = Each (λ r. Each (λ o. HasKind g q o (found_kind o.place)) r.args) q.rules
 
--- A symbol derives a list of terminals: it has a production of whose items each declared one does (the textbook).
+-- A productive symbol, which derives a list of terminals: it has a production whose declared symbols are all
+-- productive (the textbook).
 mutual
   pub data IsProductive (g : Grammar) : ℕ → Type 0 where
     by_production : (p : ℕ) (q : Production) {s : ℕ} → IsProduction g p q → q.left ≡ s → AreProductive g q.items → IsProductive g s
@@ -150,13 +155,13 @@ mutual
     a_symbol : {s : ℕ} {xs : List Item} → IsProductive g s → AreProductive g xs → AreProductive g (item.Symbol s ∷ xs)
     a_word : {a : Terminal} {xs : List Item} → AreProductive g xs → AreProductive g (item.Terminal a ∷ xs)
 
--- A symbol is reached: it is the start symbol, or stands in a production of one that is reached (the textbook).
+-- A reached symbol: it is the start symbol, or it occurs in a production of a reached symbol (the textbook).
 pub data IsReached (g : Grammar) : ℕ → Type 0 where
   at_start : IsReached g g.start
   within : (p : ℕ) (q : Production) {s : ℕ} → IsProduction g p q → IsReached g q.left → Has q.items (item.Symbol s) → IsReached g s
 
--- An accepted grammar: named, complete (Knuth 1968), normal, reduced, which is that each symbol is productive and reachable
--- (the textbook), and within the limits (this project's).
+-- An accepted grammar: named, complete (Knuth 1968), normal, reduced, which means that each symbol is
+-- productive and reached (the textbook), and within the limits (this project's).
 pub record IsAccepted (g : Grammar) : Type 0 where
   pub named : IsNamed g
   pub start : IsStart g

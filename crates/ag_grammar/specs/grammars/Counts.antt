@@ -1,4 +1,4 @@
--- How many rules there are at the nodes of a tree, and how many of them have a target of a pass. All of this is this project's.
+-- The number of rules at the nodes of a tree, in all and for each pass. All definitions are this project's.
 use Rattle.std.specs.Prelude.{ℕ, zero, suc, ◌+◌, Bool, false, nat_eq, Option, Some, None, slice_get, length}
 use Rattle.std.specs.List.{count_by}
 use Rattle.ag_grammar.specs.declared.grammar.Production.{Production}
@@ -8,7 +8,7 @@ use Rattle.ag_grammar.specs.grammars.AttributeGrammar.{Grammar, item_at}
 use Rattle.ag_grammar.specs.grammars.Passes.{Passes, item_passes}
 use Rattle.ag_grammar.specs.grammars.Tree.{Tree, Forest, leaf, node, none, more}
 
--- the sum over the nodes of a tree of what a function gives for their productions
+-- the sum, over the nodes of a tree, of a function of their productions
 abbrev mutual
   pub total : (Option Production → ℕ) → Grammar → Tree → ℕ
   total f g (leaf c x) = 0
@@ -18,38 +18,38 @@ abbrev mutual
   totals f g none = 0
   totals f g (more t ts) = total f g t + totals f g ts
 
--- the pass of an attribute at a place, where it is there
+-- the pass of the attribute at a place, if that exists
 abbrev pub pass_at : Passes → Production → Target → Option ℕ
 pass_at m q o = slice_get (item_passes m (item_at q o.place)) o.attr
 
--- there is a pass, and it is pass k
+-- whether there is a pass and it is pass k
 abbrev pub is_pass : ℕ → Option ℕ → Bool
 is_pass k None = false
 is_pass k (Some p) = nat_eq p k
 
--- a rule's target is of pass k
+-- whether the target of a rule belongs to pass k
 abbrev pub is_of_pass : Passes → ℕ → Production → Rule → Bool
 is_of_pass m k q r = is_pass k (pass_at m q r.target)
 
--- how many rules a production has,
+-- the number of rules of a production,
 abbrev pub rule_count : Option Production → ℕ
 rule_count None = 0
 rule_count (Some q) = length q.rules
 
--- and how many whose target is of pass k
+-- and the number of those whose target belongs to pass k
 abbrev pub pass_rule_count : Passes → ℕ → Option Production → ℕ
 pass_rule_count m k None = 0
 pass_rule_count m k (Some q) = count_by (is_of_pass m k q) q.rules
 
--- The rules of a tree: how many its nodes have, each those of its production.
+-- The number of rules of a tree: each node has the rules of its production.
 abbrev pub rules_of : Grammar → Tree → ℕ
 rules_of = total rule_count
 
--- Those of a pass: how many of them have a target of pass k.
+-- The number of rules of a tree whose target belongs to pass k.
 abbrev pub rules_of_pass : Passes → ℕ → Grammar → Tree → ℕ
 rules_of_pass m k = total (pass_rule_count m k)
 
--- the sum of what a function gives for so many passes, from the one behind `first` on
+-- the sum of a function over the `count` passes after `first`
 abbrev pub sum_of_passes : (ℕ → ℕ) → (first count : ℕ) → ℕ
 sum_of_passes f first zero = 0
 sum_of_passes f first (suc n) = sum_of_passes f first n + f (suc (first + n))

@@ -1,4 +1,4 @@
--- Passes over a tree, and which attributes belong to which (after Jazayeri and Walter 1975).
+-- Passes over a tree, and the attributes that belong to each of them (after Jazayeri and Walter 1975).
 use Rattle.std.specs.Prelude.{ℕ, zero, suc, ◌≡◌, ◌-◌, codes, ◌<◌, ◌≤◌, ◌⊎◌, List, [], ◌∷◌, Option, Some, None, slice_get, length}
 use Rattle.ag_grammar.specs.Lists.{Each}
 pub use Rattle.ag_grammar.specs.declared.direction.Direction.{Direction}
@@ -11,19 +11,20 @@ use Rattle.ag_grammar.specs.declared.grammar.Target.{Target}
 use Rattle.ag_grammar.specs.declared.grammar.Terminal.TheVariants.{Literal, Class}
 use Rattle.ag_grammar.specs.grammars.AttributeGrammar.{Grammar, item_at, symbol_kinds, IsRule, IsArgument}
 
--- An assignment: for each symbol the passes of its attributes, by their numbers (Jazayeri and Walter 1975).
+-- An assignment: for each symbol, the passes of its attributes, indexed by their numbers (Jazayeri and Walter
+-- 1975).
 abbrev pub Passes : Type 0
 Passes = ℕ → List ℕ
 
--- The passes of an item's attributes. A token's text is there before the first pass: it has pass 0
--- (this project's).
+-- The passes of an item's attributes. The text of a token is known before pass 1, so it has pass 0 (this
+-- project's).
 abbrev pub item_passes : Passes → Option Item → List ℕ
 item_passes m None = []
 item_passes m (Some (item.Symbol s)) = m s
 item_passes m (Some (item.Terminal (Class c))) = 0 ∷ []
 item_passes m (Some (item.Terminal (Literal l))) = []
 
--- an attribute at a place is there, and has this pass
+-- the attribute at a place exists and belongs to pass k
 abbrev pub HasPass : Passes → Production → Target → ℕ → Type 0
 HasPass m q o k = slice_get (item_passes m (item_at q o.place)) o.attr ≡ Some k
 
@@ -32,41 +33,44 @@ abbrev pub other : Direction → Direction
 other LeftToRight = RightToLeft
 other RightToLeft = LeftToRight
 
--- The direction of a pass (this project's choice: odd passes go from right to left; left to right for 0 too).
+-- The direction of a pass: right to left for odd numbers, left to right for even ones, 0 included (this
+-- project's choice).
 abbrev pub direction_of : ℕ → Direction
 direction_of zero = LeftToRight
 direction_of (suc k) = other (direction_of k)
 
--- In a direction place i of the right side is visited before place j (Jazayeri and Walter 1975).
+-- A pass in this direction visits place i of the right side before place j (Jazayeri and Walter 1975).
 abbrev pub IsBefore : Direction → ℕ → ℕ → Type 0
 IsBefore LeftToRight i j = i < j
 IsBefore RightToLeft i j = j < i
 
--- the index from 0 of the child of n that a direction visits after i others
+-- the index from 0 of the child, of n children, that is visited after i others in this direction
 abbrev pub nth : Direction → ℕ → ℕ → ℕ
 nth LeftToRight n i = i
 nth RightToLeft n i = n - suc i
 
--- how a direction is written (this project's)
+-- the name of a direction in listings (this project's)
 abbrev pub direction_name : Direction → List ℕ
 direction_name LeftToRight = codes "left-to-right"
 direction_name RightToLeft = codes "right-to-left"
 
--- What a rule whose target is of pass k and stands at place j may use: an attribute of pass p at place i. On the left side
--- what is computed by the end of the pass. On the right side what is there before the pass enters the child: of the left
--- side and of the children before it what is computed by then, and of each child what an earlier pass left (after Jazayeri
--- and Walter 1975, where children that come later are not at hand: that they are is this project's).
+-- A rule whose target belongs to pass k, at place j, may use an attribute of pass p at place i. A target on
+-- the left side may use what is computed by the end of the pass. A target on the right side may use what is
+-- known before the pass enters the child: attributes of the left side and of children visited earlier with p
+-- at most k, and attributes of any child with p below k (after Jazayeri and Walter 1975; that attributes of
+-- children visited later may be used is this project's).
 abbrev pub MayUse : (k j i p : ℕ) → Type 0
 MayUse k zero i p = p ≤ k
 MayUse k (suc j) i p = ((i ≡ 0) × (p ≤ k)) ⊎ (IsBefore (direction_of k) i (suc j) × (p ≤ k)) ⊎ (p < k)
 
--- The arguments of a production's rules are such as their targets' passes may use, where a relation tells which attribute at
--- a place has which pass. It may give some attributes no pass: then those with a pass rest on those with a pass alone.
+-- Each argument of a rule of the production has a pass that the pass of its target may use; the relation P
+-- assigns passes to attributes at places. P need not assign a pass to every attribute: then attributes with a
+-- pass depend only on attributes with a pass.
 abbrev pub IsLegalFor : (Production → Target → ℕ → Type 0) → Production → Type 0
 IsLegalFor P q = (r : Rule) (o : Target) (k : ℕ) → IsRule q r → IsArgument r o → P q r.target k → (p : ℕ) × P q o p × MayUse k r.target.place o.place p
 
--- A legal assignment: each attribute of each symbol has one pass of at least 1, and the rules use what they may (after
--- Jazayeri and Walter 1975).
+-- A legal assignment: each attribute of each symbol has one pass, at least 1, and the rules use only what
+-- they may use (after Jazayeri and Walter 1975).
 pub record IsLegal (g : Grammar) (m : Passes) : Type 0 where
   pub whole : (s : ℕ) → length (m s) ≡ length (symbol_kinds (slice_get g.symbols s))
   pub positive : (s : ℕ) → Each (λ k. 1 ≤ k) (m s)

@@ -1,5 +1,5 @@
--- Two grammars to try the definitions on. The first has a number for `out`, and no text of it: the definitions say
--- nothing of what `out` is, and the grammar is shorter so.
+-- Two grammars to try the definitions on. In the first, `out` is a number and not a text: the definitions do
+-- not restrict the kind of `out`, and the grammar is shorter this way.
 --   start R; symbol R syn out; symbol A syn s inh i;
 --   R = A A { $0.out = $1.s; $1.i = $2.s; $2.i = 0; }
 --   A = "x" { $0.s = $0.i + 1; }
@@ -22,11 +22,11 @@ use Rattle.ag_grammar.specs.grammars.Accepted.{out_name}
 use Rattle.ag_grammar.specs.grammars.Tree.{Tree, leaf, node, none, more}
 use Rattle.ag_grammar.specs.grammars.Solution.{Valuation, graft}
 
--- attribute a at a place
+-- the attribute with number a at place j
 abbrev pub attribute : ℕ → ℕ → Target
 attribute j a = record { place = j; attr = a }
 
--- an occurrence of a name at a place
+-- an occurrence of the name at place j
 abbrev pub named : ℕ → List ℕ → Occ
 named j name = record { place = j; attr = name; at = 0 }
 
@@ -45,11 +45,11 @@ symbol_r = record { name = 82 ∷ []; syn = out_name ∷ []; inh = [] }
 abbrev pub symbol_a : Symbol
 symbol_a = record { name = 65 ∷ []; syn = s_name ∷ []; inh = i_name ∷ [] }
 
--- a rule whose target has the value of one occurrence, of a name at a place, which is the attribute of this number there
+-- a rule that copies to its target the attribute of this name and number a at place j
 abbrev pub copy_rule : Target → ℕ → List ℕ → ℕ → Rule
 copy_rule target j name a = record { target = target; expr = (node_of.Occurrence 0, named j name ∷ []); args = attribute j a ∷ [] }
 
--- a rule whose target has the value 0
+-- a rule that sets its target to 0
 abbrev pub zero_rule : Target → Rule
 zero_rule target = record { target = target; expr = (node_of.Literal (Num (pos 0)), []); args = [] }
 
@@ -105,7 +105,7 @@ doubled = grammar_of (rule_out ∷ rule_first ∷ rule_second ∷ rule_second �
 abbrev pub rule_bare : Rule
 rule_bare = record rule_out { args = [] }
 
--- the first grammar with that rule
+-- the first grammar with this rule
 abbrev pub bare : Grammar
 bare = grammar_of (rule_bare ∷ rule_first ∷ rule_second ∷ [])
 
@@ -117,11 +117,11 @@ production_back = record {
   rules = copy_rule (attribute 0 0) 2 s_name 0 ∷ zero_rule (attribute 1 1) ∷ copy_rule (attribute 2 1) 1 s_name 0 ∷ [];
 }
 
--- the first grammar with that production too: each direction is wrong for one of the two
+-- the first grammar with this production added: each direction is wrong for one of the two productions
 abbrev pub both_ways : Grammar
 both_ways = record sample { productions = sample.productions ++ production_back ∷ []; literals = (120 ∷ []) ∷ (121 ∷ []) ∷ [] }
 
--- the same with that production first, so that literal 1 appears before literal 0
+-- the same with the added production first, so that literal 1 appears before literal 0
 abbrev pub back_first : Grammar
 back_first = record both_ways { productions = production_back ∷ sample.productions }
 
@@ -143,13 +143,13 @@ values_in_children (suc i) path = values_of_a 1 0
 abbrev pub sample_values : ℕ → Valuation
 sample_values out = graft (λ a. Num (pos out)) values_in_children
 
--- all attributes are of the first pass, which goes from right to left
+-- all attributes belong to pass 1, which goes from right to left
 abbrev pub sample_passes : ℕ → List ℕ
 sample_passes zero = 1 ∷ []
 sample_passes (suc zero) = 1 ∷ 1 ∷ []
 sample_passes (suc (suc s)) = []
 
--- all attributes are of the second pass, which goes from left to right
+-- all attributes belong to pass 2, which goes from left to right
 abbrev pub later_passes : ℕ → List ℕ
 later_passes zero = 2 ∷ []
 later_passes (suc zero) = 2 ∷ 2 ∷ []
@@ -167,7 +167,7 @@ endless = record { symbols = symbol_r ∷ []; productions = record { left = 0; i
 abbrev pub production_t : Production
 production_t = record { left = 2; items = item.Symbol 0 ∷ []; rules = rule_pass ∷ [] }
 
--- the first grammar with the symbol 2, T, and this production more
+-- the first grammar with symbol 2, T, and this production added
 abbrev pub with_unreached : Grammar
 with_unreached = record {
   symbols = symbol_r ∷ symbol_a ∷ record { name = 84 ∷ []; syn = out_name ∷ []; inh = [] } ∷ [];
@@ -205,6 +205,6 @@ iffy = 105 ∷ 102 ∷ 102 ∷ 121 ∷ []
 abbrev pub token_tree : Tree
 token_tree = node 0 (more (leaf 0 iffy) none)
 
--- `iffy` for `lex`, and a text for `out`
+-- the values with `iffy` for `lex`, and this text for `out`
 abbrev pub token_values : List ℕ → Valuation
 token_values out = graft (λ a. Text out) (λ i path a. Text iffy)

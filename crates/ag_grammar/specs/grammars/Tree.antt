@@ -9,8 +9,8 @@ use Rattle.ag_grammar.specs.declared.limits.TheConstants.{MOST_DEPTH, MOST_NODES
 use Rattle.ag_grammar.specs.grammars.AttributeGrammar.{Grammar, stored_items, IsProduction}
 
 mutual
-  -- A leaf is a token: its class and its text. A node has its production's number and one tree for each stored item, from
-  -- left to right (the textbook; literals have no tree).
+  -- A leaf is a token: its class and its text. A node has the number of its production and one tree for each
+  -- child item, from left to right (the textbook; literals have no tree).
   pub data Tree : Type 0 where
     leaf : (class : ℕ) (text : List ℕ) → Tree
     node : (production : ℕ) → Forest → Tree
@@ -19,17 +19,17 @@ mutual
     none : Forest
     more : Tree → Forest → Forest
 
--- how many bytes the text of a token has at most (this project's)
+-- the maximum length of the text of a token, in bytes (this project's)
 abbrev pub most_token_bytes : ℕ
 most_token_bytes = MOST_TOKEN_BYTES
 
--- What a token may have for its text: UTF-8 of at most 65,535 bytes.
+-- A token's text is UTF-8 and has at most 65,535 bytes.
 pub record IsTokenText (x : List ℕ) : Type 0 where
   pub utf8 : is_utf8 x ≡ true
   pub short : length x ≤ most_token_bytes
 
--- A tree of an item: a token of its class, or a node with a production of its symbol and trees of that production's stored
--- items (the textbook).
+-- A tree of an item: a token of its class, or a node with a production of its symbol and trees of that
+-- production's children (the textbook).
 abbrev mutual
   pub Fits : Grammar → Item → Tree → Type 0
   Fits g (item.Symbol s) (leaf d x) = ⊥
@@ -44,11 +44,12 @@ abbrev mutual
   FitsAll g (x ∷ xs) none = ⊥
   FitsAll g (x ∷ xs) (more t ts) = Fits g x t × FitsAll g xs ts
 
--- A tree of the grammar is one of its start symbol (the textbook).
+-- A tree of the grammar is a tree of its start symbol (the textbook).
 abbrev pub IsTreeOf : Grammar → Tree → Type 0
 IsTreeOf g t = Fits g (item.Symbol g.start) t
 
--- The depth: 1 for a leaf and for a node without children, else one more than that of the deepest child (this project's).
+-- The depth: 1 for a leaf and for a node without children, else one more than the depth of the deepest child
+-- (this project's).
 abbrev mutual
   pub depth_of : Tree → ℕ
   depth_of (leaf c x) = 1
@@ -58,7 +59,7 @@ abbrev mutual
   deepest none = 0
   deepest (more t ts) = max (depth_of t) (deepest ts)
 
--- The number of stored nodes, leaves counted (this project's).
+-- The number of stored nodes, leaves included (this project's).
 abbrev mutual
   pub node_count : Tree → ℕ
   node_count (leaf c x) = 1
@@ -68,21 +69,21 @@ abbrev mutual
   node_counts none = 0
   node_counts (more t ts) = node_count t + node_counts ts
 
--- The two limits of a tree (this project's).
+-- The maximum depth and the maximum number of nodes of a tree (this project's).
 abbrev pub most_depth : ℕ
 most_depth = MOST_DEPTH
 
 abbrev pub most_nodes : ℕ
 most_nodes = MOST_NODES
 
--- and of one whose file is turned round (this project's)
+-- and those of a tree whose file is reversed, or converted from version 1 (this project's)
 abbrev pub most_turned_depth : ℕ
 most_turned_depth = MOST_TURNED_DEPTH
 
 abbrev pub most_turned_nodes : ℕ
 most_turned_nodes = MOST_TURNED_NODES
 
--- a tree is at most so deep and has at most so many nodes
+-- the tree has at most this depth and at most this number of nodes
 pub record IsWithinLimits (depth count : ℕ) (t : Tree) : Type 0 where
   pub deep : depth_of t ≤ depth
   pub large : node_count t ≤ count

@@ -1,11 +1,12 @@
--- What holds of the arguments of every operator and call, but of `let`, `if`, `iserr` and `orelse`. All of this is this project's.
+-- The treatment of arguments that every operator and call shares, except `let`, `if`, `iserr` and `orelse`.
+-- All definitions are this project's.
 use Rattle.std.specs.Prelude.{Bool, true, false, pos, List, [], ◌∷◌, Option, Some, None}
 use Rattle.ag_value.specs.declared.value.ErrorCode.{ErrorCode}
 use Rattle.ag_value.specs.declared.value.Value.{Value, out-Value}
 use Rattle.ag_value.specs.declared.value.Value.TheOpen.{Value-F}
 use Rattle.ag_value.specs.declared.value.Value.TheVariants as value
 
--- the error that a value is, seen one level deep
+-- the error code of a value that is an error
 abbrev pub fault_at : Value-F Value → Option ErrorCode
 fault_at (Value-F.Num n) = None
 fault_at (Value-F.Text text) = None
@@ -16,7 +17,7 @@ fault_at (Value-F.Fault code) = Some code
 abbrev pub fault_of : Value → Option ErrorCode
 fault_of v = fault_at (out-Value v)
 
--- the first error where there is one, else the second
+-- the first error, if there is one, else the second
 abbrev pub first_fault : Option ErrorCode → Option ErrorCode → Option ErrorCode
 first_fault (Some code) other = Some code
 first_fault None other = other
@@ -26,16 +27,17 @@ unfoldable pub leftmost : List Value → Option ErrorCode
 leftmost [] = None
 leftmost (v ∷ vs) = first_fault (fault_of v) (leftmost vs)
 
--- the error where there is one, else the value
+-- the error, if there is one, else the value
 abbrev pub fault_or : Option ErrorCode → Value → Value
 fault_or (Some code) v = value.Fault code
 fault_or None v = v
 
--- Where an argument is an error, the leftmost such is the value, whatever else holds of the arguments; only then the operation has its say.
+-- If an argument is an error, the result is the leftmost such error, whatever the other arguments are;
+-- otherwise it is the operation's result v.
 abbrev pub strict : List Value → Value → Value
 strict arguments v = fault_or (leftmost arguments) v
 
--- what a test gives: 1 where it holds, else 0
+-- the value of a test: 1 for true, 0 for false
 abbrev pub truth : Bool → Value
 truth true = value.Num (pos 1)
 truth false = value.Num (pos 0)
@@ -45,11 +47,11 @@ abbrev pub has_fault : Option ErrorCode → Bool
 has_fault (Some code) = true
 has_fault None = false
 
--- `iserr(v)`, which takes errors: 1 where it is one
+-- `iserr(v)`, which accepts errors: 1 if v is an error, else 0
 abbrev pub tested : Value → Value
 tested v = truth (has_fault (fault_of v))
 
--- `orelse(v, w)`, which takes errors: v where it is none, else w
+-- `orelse(v, w)`, which accepts errors: v if that is not an error, else w
 abbrev pub either : Option ErrorCode → Value → Value → Value
 either None v w = v
 either (Some code) v w = w

@@ -1,4 +1,5 @@
--- What the calls and `if` give for the values of their arguments. All of this is this project's.
+-- The values of the calls and of `if` for given values of their arguments. All definitions are this
+-- project's.
 use Rattle.std.specs.Prelude.{zero, suc, pos, negsuc, [], ◌∷◌}
 use Rattle.ag_value.specs.declared.value.ErrorCode.TheVariants.{Kind}
 use Rattle.ag_value.specs.declared.value.Value.{Value, out-Value}
@@ -14,7 +15,7 @@ use Rattle.ag_grammar.specs.values.Numbers.{decimal_of, number_of}
 use Rattle.ag_grammar.specs.values.Tables.{got_from, had_by, keys_of, put_in}
 use Rattle.ag_grammar.specs.values.Texts.{joined_by}
 
--- a call of one argument
+-- a call with one argument
 abbrev pub called : UnaryCall → Value → Value
 called unary.Len a = strict (a ∷ []) (length_of a)
 called unary.Text n = strict (n ∷ []) (decimal_of n)
@@ -22,7 +23,7 @@ called unary.Number t = strict (t ∷ []) (number_of t)
 called unary.Keys t = strict (t ∷ []) (keys_of t)
 called unary.IsError v = tested v
 
--- a call of two arguments
+-- a call with two arguments
 abbrev pub called_with : BinaryCall → Value → Value → Value
 called_with binary.Nth l i = strict (l ∷ i ∷ []) (nth_of l i)
 called_with binary.Append l v = strict (l ∷ v ∷ []) (appended l v)
@@ -35,7 +36,7 @@ called_with binary.OrElse v w = or_else v w
 abbrev pub put : Value → Value → Value → Value
 put t k v = strict (t ∷ k ∷ v ∷ []) (put_in t k v)
 
--- `if c then e else f`: c's error where it is one, the error for a kind where it is no number; f's value where it is 0, else e's
+-- `if c then e else f`: c if that is an error, the error `kind` if c is not a number; f if c is 0, else e
 abbrev pub chosen_at : Value-F Value → Value → Value → Value
 chosen_at (Value-F.Num (pos zero)) e f = f
 chosen_at (Value-F.Num (pos (suc n))) e f = e

@@ -1,4 +1,4 @@
--- Values within the limits. All of this is this project's.
+-- Values within the limits. All definitions are this project's.
 use Rattle.std.specs.Prelude.{◌≡◌, ℕ, ◌-◌, ◌^◌, min, true, List, nat_lt, if◌then◌else◌}
 use Rattle.ag_value.specs.declared.value.ErrorCode.TheVariants.{Big, Deep}
 use Rattle.ag_value.specs.declared.value.Value.{Value}
@@ -6,17 +6,19 @@ use Rattle.ag_value.specs.declared.value.Value.TheVariants as value
 use Rattle.ag_value.specs.Measure.{depth_of, weight_of, max_depth, max_weight}
 use Rattle.ag_value.specs.Well.{IsWell, is_item}
 
--- A value that is made: the error `deep` where it is too deep, else the error `big` where it is too heavy, else itself.
+-- The value after the check of the limits: the error `deep` if it is too deep, else the error `big` if it is
+-- too heavy, else the value itself.
 abbrev pub fit : Value → Value
 fit v = if nat_lt max_depth (depth_of v) then value.Fault Deep else (if nat_lt max_weight (weight_of v) then value.Fault Big else v)
 
--- A well value, beside its weight and its depth.
+-- A well value together with its weight and its depth.
 pub record IsMeasured (v : Value) (weight depth : ℕ) : Type 0 where
   pub well : IsWell v
   pub weight_is : weight ≡ weight_of v
   pub depth_is : depth ≡ depth_of v
 
--- Items that may stand in a list, beside the weight and the depth of the list of them, or the greatest that the code can count.
+-- Items that may be in a list, together with the weight and the depth of their list, each cut off at the
+-- maximum of the code's counter.
 pub record IsGathered (items : List Value) (weight depth : ℕ) : Type 0 where
   pub item : is_item (value.List items) ≡ true
   pub weight_is : weight ≡ min (weight_of (value.List items)) (2 ^ 64 - 1)

@@ -1,4 +1,4 @@
--- Laws of what operations give.
+-- Statements of the laws about the results of operations.
 use Rattle.std.specs.Prelude.{◌≡◌, ◌↔◌, ◌<◌, ◌≤◌, pos}
 use Rattle.ag_value.specs.declared.value.ErrorCode.TheVariants.{Big, Deep}
 use Rattle.ag_value.specs.declared.value.Value.{Value}
@@ -9,23 +9,23 @@ use Rattle.ag_grammar.specs.values.Fitting.{fit}
 use Rattle.ag_grammar.specs.values.Operators.{compared}
 use Rattle.ag_grammar.specs.values.Tables.{got_from, keys_of}
 
--- What is too deep is the error `deep`, also where it is too heavy besides;
+-- A value that is too deep becomes the error `deep`, even if it is also too heavy;
 abbrev pub DeepComesFirst : Type 0
 DeepComesFirst = (v : Value) → max_depth < depth_of v → fit v ≡ value.Fault Deep
 
--- what is too heavy alone is the error `big`;
+-- a value that is only too heavy becomes the error `big`;
 abbrev pub BigComesNext : Type 0
 BigComesNext = (v : Value) → depth_of v ≤ max_depth → max_weight < weight_of v → fit v ≡ value.Fault Big
 
--- and all else stays.
+-- and any other value is unchanged.
 abbrev pub WhatFitsStays : Type 0
 WhatFitsStays = (v : Value) → depth_of v ≤ max_depth → weight_of v ≤ max_weight → fit v ≡ v
 
--- `==` is 1 exactly where two well values are the same.
+-- `==` returns 1 for two well values if and only if they are the same.
 abbrev pub SameIsOne : Type 0
 SameIsOne = (v w : Value) → IsWell v → IsWell w → (compared v w ≡ value.Num (pos 1)) ↔ (v ≡ w)
 
--- What `keys` and `get` give is well without more.
+-- The results of `keys` and `get` are well without a check of the limits.
 abbrev pub KeysAreWell : Type 0
 KeysAreWell = (table : Value) → IsWell table → IsWell (keys_of table)
 

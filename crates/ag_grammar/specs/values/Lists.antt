@@ -1,4 +1,4 @@
--- Operations on lists, and those that texts, lists and tables share. All of this is this project's.
+-- Operations on lists, and those shared by texts, lists and tables. All definitions are this project's.
 use Rattle.std.specs.Prelude.{ℤ, pos, negsuc, List, [], ◌∷◌, ◌++◌, length, Option, Some, None, slice_get}
 use Rattle.ag_value.specs.declared.value.ErrorCode.TheVariants.{Kind, Index}
 use Rattle.ag_value.specs.declared.value.Value.{Value, out-Value}
@@ -11,7 +11,7 @@ use Rattle.ag_grammar.specs.values.Fitting.{fit}
 abbrev pub listed : List Value → Value
 listed items = strict items (fit (value.List items))
 
--- `len(a)`: the bytes of a text, the items of a list, the pairs of a table
+-- `len(a)`: the number of bytes of a text, of items of a list, or of pairs of a table
 abbrev pub length_at : Value-F Value → Value
 length_at (Value-F.Text text) = value.Num (pos (length text))
 length_at (Value-F.List items) = value.Num (pos (length items))
@@ -30,7 +30,7 @@ concatenated_at left right = value.Fault Kind
 abbrev pub concatenated : Value → Value → Value
 concatenated left right = concatenated_at (out-Value left) (out-Value right)
 
--- the item at a place from 0
+-- the item at an index from 0
 abbrev pub item_at : List Value → ℤ → Option Value
 item_at items (pos i) = slice_get items i
 item_at items (negsuc i) = None

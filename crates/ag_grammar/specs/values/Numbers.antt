@@ -1,4 +1,4 @@
--- Operations on numbers. All of this is this project's.
+-- Operations on numbers. All definitions are this project's.
 use Rattle.std.specs.Prelude.{ℕ, zero, suc, ◌==◌, ℤ, pos, negsuc, neg_ℤ, int_div, int_rem, Bool, ◌&&◌, nat_lt, List, [], ◌∷◌, length, Option, Some, None, if◌then◌else◌}
 use Rattle.std.specs.Char.{is_ascii_digit}
 use Rattle.std.specs.Fmt.{signed_decimal}
@@ -10,25 +10,25 @@ use Rattle.ag_value.specs.declared.value.Value.TheOpen.{Value-F}
 use Rattle.ag_value.specs.declared.value.Value.TheVariants as value
 use Rattle.ag_value.specs.Well.{is_i64}
 
--- a number where it is of i64, else the error for a number that is not
+-- the number if it is in the range of i64, else the error `overflow`
 abbrev pub number_value : ℤ → Value
 number_value z = if is_i64 z then value.Num z else value.Fault Overflow
 
--- division by zero is an error of its own, whatever the dividend
+-- the error `divide` if the divisor is zero, whatever the dividend is, else the quotient
 abbrev pub divided : ℤ → Value → Value
 divided (pos zero) quotient = value.Fault Divide
 divided (pos (suc n)) quotient = quotient
 divided (negsuc n) quotient = quotient
 
--- the quotient is cut towards zero,
+-- the quotient, truncated towards zero,
 abbrev pub quotient : ℤ → ℤ → Value
 quotient m n = divided n (number_value (int_div m n))
 
--- and the remainder has the dividend's sign
+-- and the remainder, with the sign of the dividend
 abbrev pub remainder : ℤ → ℤ → Value
 remainder m n = divided n (value.Num (int_rem m n))
 
--- what is made of two numbers, else the error for a kind
+-- the result of f for two numbers, else the error `kind`
 abbrev pub from_numbers : (ℤ → ℤ → Value) → Value-F Value → Value-F Value → Value
 from_numbers f (Value-F.Num m) (Value-F.Num n) = f m n
 from_numbers f left right = value.Fault Kind
@@ -37,15 +37,15 @@ from_numbers f left right = value.Fault Kind
 abbrev pub of_numbers : (ℤ → ℤ → Value) → Value → Value → Value
 of_numbers f left right = from_numbers f (out-Value left) (out-Value right)
 
--- one ASCII digit or more
+-- whether a text is one or more ASCII digits
 abbrev pub is_digits : List ℕ → Bool
 is_digits digits = nat_lt 0 (length digits) && list_all is_ascii_digit digits
 
--- the number of some digits with this sign, where they are digits and it is of i64
+-- the number of these digits with this sign, if they are digits and the number is in the range of i64
 abbrev pub signed : (ℤ → ℤ) → List ℕ → Option ℤ
 signed sign digits = if is_digits digits && is_i64 (sign (pos (digits_value 10 digits))) then Some (sign (pos (digits_value 10 digits))) else None
 
--- the number that a text spells: digits, with a `-` before them or none
+-- the number that a text denotes: digits, with an optional `-` before them
 abbrev pub spelled : List ℕ → Option ℤ
 spelled [] = None
 spelled (b ∷ bytes) = if b == 45 then signed neg_ℤ bytes else signed (λ z. z) (b ∷ bytes)
@@ -62,7 +62,7 @@ number_at v = value.Fault Kind
 abbrev pub number_of : Value → Value
 number_of t = number_at (out-Value t)
 
--- `text(n)`: in decimal, with `-` in front where it is below 0
+-- `text(n)`: in decimal, with a `-` before the digits of a negative number
 abbrev pub decimal_at : Value-F Value → Value
 decimal_at (Value-F.Num n) = value.Text (signed_decimal n)
 decimal_at v = value.Fault Kind

@@ -1,4 +1,4 @@
--- What the operators give for two values. All of this is this project's.
+-- The values of the operators for two values. All definitions are this project's.
 use Rattle.std.specs.Prelude.{◌+ℤ◌, ◌-ℤ◌, ◌*ℤ◌, int_lt, [], ◌∷◌, bytes_eq}
 use Rattle.ag_value.specs.declared.value.ErrorCode.TheVariants.{Kind}
 use Rattle.ag_value.specs.declared.value.Value.{Value, out-Value}
@@ -12,11 +12,12 @@ use Rattle.ag_grammar.specs.values.Arguments.{strict, truth}
 use Rattle.ag_grammar.specs.values.Lists.{concatenated}
 use Rattle.ag_grammar.specs.values.Numbers.{number_value, of_numbers, quotient, remainder}
 
--- `a == b`, of any kinds: 1 where they are the same value. No two well values have one spelling.
+-- `a == b`, for values of any kinds: 1 if they are the same value. Different well values have different
+-- spellings.
 abbrev pub compared : Value → Value → Value
 compared left right = truth (bytes_eq (spelling_of left) (spelling_of right))
 
--- `a < b`: two numbers, or two texts by their bytes
+-- `a < b`: compares two numbers, or two texts by their bytes
 abbrev pub ordered_at : Value-F Value → Value-F Value → Value
 ordered_at (Value-F.Num m) (Value-F.Num n) = truth (int_lt m n)
 ordered_at (Value-F.Text s) (Value-F.Text t) = truth (is_before s t)
@@ -25,7 +26,7 @@ ordered_at left right = value.Fault Kind
 abbrev pub ordered : Value → Value → Value
 ordered left right = ordered_at (out-Value left) (out-Value right)
 
--- what an operator gives for two values that are no errors
+-- the result of an operator for two values that are not errors
 abbrev pub operated : Operator → Value → Value → Value
 operated operator.Equal left right = compared left right
 operated operator.Less left right = ordered left right
@@ -36,6 +37,6 @@ operated operator.Multiply left right = of_numbers (λ m n. number_value (m *ℤ
 operated operator.Divide left right = of_numbers quotient left right
 operated operator.Remainder left right = of_numbers remainder left right
 
--- what it gives for any two values
+-- the result for any two values
 abbrev pub applied : Operator → Value → Value → Value
 applied o left right = strict (left ∷ right ∷ []) (operated o left right)

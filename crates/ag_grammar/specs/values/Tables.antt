@@ -1,4 +1,4 @@
--- Operations on tables. All of this is this project's.
+-- Operations on tables. All definitions are this project's.
 use Rattle.std.specs.Prelude.{◌≡◌, ℕ, suc, Bool, true, false, List, ◌∷◌, ◌++◌, map, filter, find, take, drop, slice_get, Option, Some, None, bytes_eq}
 use Rattle.ag_value.specs.declared.value.ErrorCode.TheVariants.{Kind, Key}
 use Rattle.ag_value.specs.declared.value.Value.{Value, out-Value}
@@ -8,11 +8,11 @@ use Rattle.ag_value.specs.Well.{is_before}
 use Rattle.ag_grammar.specs.values.Arguments.{truth}
 use Rattle.ag_grammar.specs.values.Fitting.{fit}
 
--- the pair with a key
+-- the first pair with this key
 abbrev pub pair_with : List ℕ → List (List ℕ × Value) → Option (List ℕ × Value)
 pair_with key pairs = find (λ p. bytes_eq p.0 key) pairs
 
--- the pairs in the order of their keys, where the key has the value and all else stays
+-- the pairs in the order of their keys, with this value at this key; the others are unchanged
 abbrev pub with_pair : List ℕ → Value → List (List ℕ × Value) → List (List ℕ × Value)
 with_pair key v pairs = filter (λ p. is_before p.0 key) pairs ++ (key, v) ∷ filter (λ p. is_before key p.0) pairs
 
@@ -48,7 +48,7 @@ has_at table key = value.Fault Kind
 abbrev pub had_by : Value → Value → Value
 had_by table key = has_at (out-Value table) (out-Value key)
 
--- `keys(t)`: in order
+-- `keys(t)`: the keys in ascending order
 abbrev pub keys_at : Value-F Value → Value
 keys_at (Value-F.Table pairs) = value.List (map (λ p. value.Text p.0) pairs)
 keys_at v = value.Fault Kind
@@ -56,12 +56,13 @@ keys_at v = value.Fault Kind
 abbrev pub keys_of : Value → Value
 keys_of table = keys_at (out-Value table)
 
--- the pair has the key, where there is a pair
+-- whether there is a pair and it has this key
 abbrev pub has_key : List ℕ → Option (List ℕ × Value) → Bool
 has_key key (Some p) = bytes_eq p.0 key
 has_key key None = false
 
--- the place of a key in a table: how many pairs have a key before it; the pair there has the key, or no pair has
+-- i is the index of a key in a table: the number of pairs with smaller keys. Either the pair at i has the
+-- key, or no pair has it.
 pub record IsIndex (key : List ℕ) (pairs : List (List ℕ × Value)) (i : ℕ) : Type 0 where
   pub front : filter (λ p. is_before p.0 key) pairs ≡ take i pairs
   pub stands : has_key key (slice_get pairs i) ≡ true → (filter (λ q. is_before key q.0) pairs ≡ drop (suc i) pairs) × (pair_with key pairs ≡ slice_get pairs i)

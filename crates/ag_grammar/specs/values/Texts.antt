@@ -1,4 +1,4 @@
--- Operations on texts. All of this is this project's.
+-- Operations on texts. All definitions are this project's.
 use Rattle.std.specs.Prelude.{ℕ, Bool, true, false, List, [], if◌then◌else◌}
 use Rattle.std.specs.List.{join_by, list_all}
 use Rattle.ag_value.specs.declared.value.ErrorCode.TheVariants.{Kind}
@@ -15,7 +15,7 @@ is_text_at v = false
 abbrev pub is_text : Value → Bool
 is_text v = is_text_at (out-Value v)
 
--- the bytes of a text, and none of another value
+-- the bytes of a text; none for another value
 abbrev pub bytes_at : Value-F Value → List ℕ
 bytes_at (Value-F.Text text) = text
 bytes_at v = []
@@ -23,7 +23,7 @@ bytes_at v = []
 abbrev pub bytes_of : Value → List ℕ
 bytes_of v = bytes_at (out-Value v)
 
--- texts with a separator between neighbours, else the error for a kind
+-- the texts, joined with the separator between neighbours, or the error `kind` if an item is not a text
 abbrev pub joined_texts : List Value → List ℕ → Value
 joined_texts items separator = if list_all is_text items then fit (value.Text (join_by bytes_of separator items)) else value.Fault Kind
 

@@ -10,7 +10,7 @@ use Rattle.ag_grammar.specs.declared.syntax.node.UnaryCall.TheVariants as unary
 abbrev pub number : ℕ → Value
 number n = value.Num (pos n)
 
--- the least number
+-- the smallest number
 abbrev pub least : ℤ
 least = negsuc 9223372036854775807
 

@@ -1,4 +1,4 @@
-//! Expressions as values of the program.
+//! Expressions: a tree and the list of its occurrences.
 
 ghost use Rattle.std.specs.Prelude.{◌≡◌, length, true};
 ghost use Rattle.ag_grammar.specs.expressions.Occurrences.{AreDifferent};
@@ -9,8 +9,7 @@ use crate::syntax::occurrence::Occ;
 use smallvec::SmallVec;
 use std::marker::Model;
 
-/// An expression: its tree, and the different occurrences in it in the order of their first
-/// appearance.
+/// An expression: its tree, and its distinct occurrences in the order of their first appearance.
 #[derive(Debug, Drop)]
 pub struct Expr {
     node: Node,
@@ -37,8 +36,8 @@ impl Model for Expr {
 }
 
 impl Expr {
-    /// The expression of a tree, and of the different occurrences that the tree knows by their
-    /// numbers. Takes no memory.
+    /// Makes the expression from a tree and the distinct occurrences to which the tree refers by
+    /// number. Does not allocate.
     pub fn new(node: Node, occurrences: SmallVec<Occ, 4>) -> Expr
         requires below { is_below (length occurrences.items) node ≡ true }
         requires different { AreDifferent occurrences.items }
@@ -47,7 +46,7 @@ impl Expr {
         Expr { node, occurrences }
     }
 
-    /// Lends the tree. Takes no memory.
+    /// Returns the tree. Does not allocate.
     pub fn tree(&self) -> &Node
         ensures value { result.now ≡ self.now.0 }
         ensures below { is_below (length self.now.1) result.now ≡ true }
@@ -56,8 +55,8 @@ impl Expr {
     }
 }
 
-/// Lends the different occurrences of an expression, in the order of their first appearance in its
-/// text. Takes no memory.
+/// Returns the distinct occurrences of an expression, in the order of their first appearance in its
+/// text. Does not allocate.
 pub fn occurrences(expr: &Expr) -> &[Occ]
     ensures lent { result.now ≡ expr.now.1 }
     ensures listed { is_below (length result.now) expr.now.0 ≡ true }

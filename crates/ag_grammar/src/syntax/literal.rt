@@ -7,7 +7,7 @@ ghost use Rattle.ag_value.specs.declared.value.Value.TheVariants as value;
 use ag_value::{Text, Value};
 use std::marker::Model;
 
-/// A number or text literal, kept as the value that it is, so that an evaluation can lend it.
+/// A number or text literal, kept as a `Value`, so that an evaluation can borrow it.
 #[derive(Debug, Drop)]
 pub struct Literal {
     value: Value,
@@ -30,7 +30,7 @@ impl Model for Literal {
 }
 
 impl Literal {
-    /// The literal of a number. Takes no memory.
+    /// Makes the literal of a number. Does not allocate.
     pub fn number(number: i64) -> Literal
         ensures { result ≡ value.Num number }
     {
@@ -39,19 +39,19 @@ impl Literal {
         }
     }
 
-    /// The literal of a text. Takes no memory.
+    /// Makes the literal of a text. Does not allocate.
     #[tactic(auto, using(ag_value::proofs::Layers::items, ag_value::proofs::Utf8::utf8))]
     pub fn text(text: Text) -> Literal
         ensures { result ≡ value.Text text }
     {
-        // a text is UTF-8, which a look at it tells the prover
+        // this call shows the prover that the text is UTF-8
         let _utf8 = text.as_str();
         Literal {
             value: Value::Text(text),
         }
     }
 
-    /// Lends the value. Takes no memory.
+    /// Returns the value. Does not allocate.
     pub fn value(&self) -> &Value
         ensures value { result.now ≡ self.now }
         ensures item { is_item result.now ≡ true }

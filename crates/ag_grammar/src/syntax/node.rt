@@ -3,7 +3,7 @@
 use crate::syntax::literal::Literal;
 use ag_value::{Boxed, Items};
 
-/// What a chain does with the value so far and an operand's.
+/// An operator of a chain. It is applied to the value so far and the value of the next operand.
 #[derive(Clone, Copy, Debug, PartialEq, Eq)]
 pub enum Operator {
     /// `==`
@@ -24,7 +24,7 @@ pub enum Operator {
     Remainder,
 }
 
-/// A call of one argument.
+/// A call with one argument.
 #[derive(Clone, Copy, Debug, PartialEq, Eq)]
 pub enum UnaryCall {
     /// `len(a)`
@@ -39,7 +39,7 @@ pub enum UnaryCall {
     IsError,
 }
 
-/// A call of two arguments.
+/// A call with two arguments.
 #[derive(Clone, Copy, Debug, PartialEq, Eq)]
 pub enum BinaryCall {
     /// `nth(l, i)`
@@ -61,19 +61,21 @@ pub enum BinaryCall {
 pub enum Node {
     /// A number or text literal.
     Literal(Literal),
-    /// An occurrence, by its number in the list of the expression's occurrences, from 0.
+    /// An occurrence, by its index, from 0, in the list of the expression's occurrences.
     Occurrence(usize),
-    /// A bound name, by its number among the names that are bound around it, the outermost 0.
+    /// A bound name, by its index among the names that are bound around it; the outermost has index
+    /// 0.
     Bound(usize),
-    /// A first operand, and then one operator and operand or more, which group from the left.
+    /// A first operand, followed by one or more pairs of an operator and an operand;
+    /// left-associative.
     Chain(Boxed<Node>, Items<(Operator, Node)>),
     /// `let x = e in f`: the definition of the name, and the body in which it is bound.
     Let(Boxed<Node>, Boxed<Node>),
     /// `if c then e else f`
     If(Boxed<Node>, Boxed<Node>, Boxed<Node>),
-    /// A call of one argument.
+    /// A call with one argument.
     Unary(UnaryCall, Boxed<Node>),
-    /// A call of two arguments.
+    /// A call with two arguments.
     Binary(BinaryCall, Boxed<Node>, Boxed<Node>),
     /// `put(t, k, v)`
     Put(Boxed<Node>, Boxed<Node>, Boxed<Node>),

@@ -1,4 +1,4 @@
-//! An occurrence of an attribute in an expression.
+//! Occurrences of attributes in an expression.
 
 use ag_value::Text;
 use std::alloc::Global;
@@ -7,15 +7,15 @@ use std::default::MadeWith;
 /// An occurrence of an attribute in an expression's text.
 #[derive(Debug, Drop)]
 pub struct Occ {
-    /// The place, 0 for the left side of a production and from 1 on for its right side.
+    /// The place: 0 is the left side of a production, 1, 2, .. are its children.
     pub place: u16,
     /// The attribute's name.
     pub attr: Text,
-    /// The offset in bytes of the `$` where this pair of place and name first stands.
+    /// The offset in bytes of the `$` of the first occurrence of this pair of place and name.
     pub at: usize,
 }
 
-/// What fills the unused places of a short list. Takes no memory.
+/// Fills the unused slots of a `SmallVec`.
 impl MadeWith<Global> for Occ {
     fn made_with(alloc: Global) -> Occ {
         Occ {

@@ -1,4 +1,4 @@
--- Looking up a literal by the byte that a text begins with.
+-- The search for a literal by the first byte of a text.
 use Rattle.std.proofs.Common.{Bor, ◌≡◌, ℕ, ◌+◌, ◌<◌, List, ◌∷◌, ◌++◌, length, get_or, Option, Some, None, IfSome, IfNone, MatchOption, slice_get, refl, ap, sym, ◌∙◌, subst, arith}
 use Rattle.std.proofs.Math.ListN.{set}
 use Rattle.std.proofs.lemmas.List.{length-set, get_or-set_other}
@@ -10,14 +10,14 @@ use Rattle.ag_scan.specs.declared.starts.Start.TheVariants.{Sole}
 use Rattle.ag_scan.specs.Table.{IsFront, IsTable, IsLongestFront, HasNoFront, AreTold, Tells, with_one}
 use Rattle.ag_scan.proofs.words.Tables.{compared, same_there}
 
--- what is told of a word stays so when a word more begins with its byte
+-- the entry of a byte still agrees with a word after one more word that begins with the byte
 still_told : (k : ℕ) (s : Start) (index : ℕ) → Tells k s → Tells k (with_one s index)
 still_told k s index h = grind arith
 
 newly_told : (s : Start) (index : ℕ) → Tells index (with_one s index)
 newly_told s index = grind arith
 
--- one word more is told of
+-- the table after one more word
 module _ (words : List Word) (starts : List Start) (index b : ℕ) (rest : List ℕ) (w : Word) (s : Start) (told : AreTold words starts index) (there : slice_get words index ≡ Some w) (text : w.text.now ≡ b ∷ rest) (byte : b < 256) (is : get_or starts b s ≡ s) where
   within : b < length starts
   within = omega (arith, told.whole)
@@ -35,9 +35,9 @@ module _ (words : List Word) (starts : List Start) (index b : ℕ) (rest : List 
   pub one_told : AreTold words (set starts b (with_one s index)) (index + 1)
   one_told = record { whole = length-set starts b (with_one s index) ∙ told.whole; each = by }
 
--- What the table tells of a text that begins with a byte with which one word alone begins.
+-- The result for a text whose first byte begins only one word.
 module _ (literals : List (List ℕ)) (words : List Word) (shorter : List (Option ℕ)) (table : IsTable literals words shorter) (starts : List Start) (told : AreTold words starts (length words)) (text : List ℕ) (b : ℕ) (rest : List ℕ) (e : text ≡ b ∷ rest) (d : Start) (i : ℕ) (sole : get_or starts b d ≡ Sole i) where
-  -- a literal in front is that word
+  -- a literal that is a prefix of the text is this word
   sole_front : (n : ℕ) (x : List ℕ) → slice_get literals n ≡ Some x → IsFront x text → (w : Word) × (slice_get words i ≡ Some w) × (w.text.now ≡ x)
   sole_front n x at front =
       let found = table.literals_all.whole n x at in

@@ -1,4 +1,4 @@
--- Which word in front is the token.
+-- The word that is the token.
 use Rattle.std.proofs.Common.{◌≡◌, ℕ, ◌+◌, ◌<◌, ◌≤◌, Bool, true, false, cond, nat_lt, List, [], ◌∷◌, ◌++◌, length, Option, Some, None, refl, ap, sym, ◌∙◌, arith, option_map, MatchOption}
 use Rattle.std.proofs.lemmas.Str.{len_utf8_bounds}
 use Rattle.ag_grammar.specs.declared.grammar.Terminal.TheVariants.{Literal, Class}
@@ -11,19 +11,19 @@ use Rattle.ag_scan.proofs.words.ClassWords.{CutsClass, class_cut, class_none}
 use Rattle.ag_scan.proofs.OneToken.{IsWordIn}
 use Rattle.std.proofs.lemmas.Bool.Decides.{nat_tests}
 
--- of two fronts of one text the shorter is no wider
+-- of two prefixes of a text, the shorter one is not wider
 pub no_wider : (xs ys us vs : List ℕ) → xs ++ us ≡ ys ++ vs → length xs ≤ length ys → width xs ≤ width ys
 no_wider [] ys us vs e h = omega arith
 no_wider (x ∷ xs) [] us vs e h = absurd (omega arith)
 no_wider (x ∷ xs) (y ∷ ys) us vs e h = let more = no_wider xs ys us vs in grind arith
 
--- and the narrower is no longer
+-- and the narrower one is not longer
 pub no_longer : (xs ys us vs : List ℕ) → xs ++ us ≡ ys ++ vs → width xs ≤ width ys → length xs ≤ length ys
 no_longer [] ys us vs e h = omega arith
 no_longer (x ∷ xs) [] us vs e h = let some = (len_utf8_bounds x).0 in absurd (omega arith)
 no_longer (x ∷ xs) (y ∷ ys) us vs e h = let more = no_longer xs ys us vs in grind arith
 
--- what is looked for: the longest literal in front, or that there is none
+-- the result of the search: the longest literal at the beginning, or `None` if no literal begins there
 abbrev pub IsLiteralIn : List (List ℕ) → List ℕ → Option Front → Type 0
 IsLiteralIn literals cs o = MatchOption o (BeginsNone (IsLiteral literals) cs) (λ f. CutsLiteral literals cs f)
 
@@ -32,7 +32,7 @@ module _ (v : Vocabulary) (cs : List ℕ) where
   no_word none no_class word more split (Literal l, lex, is) = none word more split (l, is.0)
   no_word none no_class word more split (Class c, lex, is) = no_class word more split (c, lex, is.0, is.1)
 
-  -- a word of a class is the token where each literal in front is shorter,
+  -- a word of a class is the token if each literal at the beginning is shorter,
   class_token : (f : Front) → (cut : CutsClass v.classes cs f) → ((word more : List ℕ) → cs ≡ word ++ more → IsLiteral v.literals word → length word < length cut.word) → CutsToken v cs f
   class_token f cut less = record { word = cut.word; split = cut.split; token = rw cut.kind (record { is = (cut.used, cut.is); longest = longest; tie = tie }) }
     where
@@ -43,7 +43,7 @@ module _ (v : Vocabulary) (cs : List ℕ) where
       tie : IsLiteral v.literals cut.word → ⊥
       tie is = let k = less cut.word f.rest cut.split is in omega arith
 
-  -- and a literal where no word of a class is longer
+  -- and a literal is if no word of a class is longer
   literal_token : (f : Front) → (cut : CutsLiteral v.literals cs f) → ((word more : List ℕ) → cs ≡ word ++ more → IsClassed v.classes word → length word ≤ length cut.word) → CutsToken v cs f
   literal_token f cut fit = record { word = cut.word; split = cut.split; token = rw cut.kind (record { is = (cut.there, cut.text); longest = longest; tie = tt }) }
     where
@@ -72,14 +72,14 @@ module _ (v : Vocabulary) (cs : List ℕ) where
           let w = wide in
           grind (arith, nat_tests)))
 
-  -- which of the words in front the token is
+  -- the longer one of the literal and the word of a class is the token
   pub chosen : (a b : Option Front) → IsLiteralIn v.literals cs a → class_from v.classes cs ≡ b → IsWordIn v cs (longer_of a b)
   chosen None None none e = no_word none (class_none v.classes cs e)
   chosen None (Some g) none e = class_token g (class_cut v.classes cs g e) (λ word more split is. absurd (none word more split is))
   chosen (Some f) None literal e = literal_token f literal (λ word more split is. absurd (class_none v.classes cs e word more split is))
   chosen (Some f) (Some g) literal e = longer f g literal (class_cut v.classes cs g e) (nat_lt (width g.rest) (width f.rest)) refl
 
--- the same of a front that is lent
+-- the same for a word of the code
 pub lent_word : (v : Vocabulary) (cs : List ℕ) (o : Option lent.Front) → IsWordIn v cs (option_map (λ f. front_of f) o) → MatchOption o (BeginsNone (IsAnyWord v) cs) (λ f. CutsToken v cs (front_of f))
 lent_word v cs None none = none
 lent_word v cs (Some f) cut = cut

@@ -1,4 +1,4 @@
--- Cutting the word of a class and the definition of words agree.
+-- The function that reads the word of a class agrees with the definition of words.
 use Rattle.std.proofs.Common.{◌≡◌, ℕ, zero, suc, ◌≤◌, Bool, true, false, cond, ◌==◌, List, [], ◌∷◌, ◌++◌, length, Option, Some, None, slice_get, encode_utf8_all, refl, ap, sym, ◌∙◌, subst, lit<, arith, append_assoc}
 use Rattle.std.proofs.lemmas.Bool.Decides.{nat_tests}
 use Rattle.std.proofs.lemmas.List.{length-append, length-drop, take-append-drop}
@@ -17,7 +17,7 @@ use Rattle.ag_tokens.proofs.TokenLaws.{no_start}
 use Rattle.ag_scan.specs.Words.{IsWordOfClass, IsClassed, IsLongest, BeginsNone}
 use Rattle.ag_scan.specs.Cutting.{Front, front_in, back_of, span_from, closed, text_from, uses, class_from}
 
--- The word of a class is cut from the front of the characters, the longest that stands there.
+-- The word is the longest word of a class at the beginning of the characters.
 pub record CutsClass (classes cs : List ℕ) (f : Front) : Type 0 where
   pub class : ℕ
   pub word : List ℕ
@@ -27,7 +27,7 @@ pub record CutsClass (classes cs : List ℕ) (f : Front) : Type 0 where
   pub is : IsWordOfClass class word f.lex
   pub longest : IsLongest (IsClassed classes) word f.rest
 
--- ---- which characters begin which words
+-- ---- the first characters of words
 
 pub digit_no_name : (c : ℕ) → is_ascii_digit c ≡ true → starts_name c ≡ false
 digit_no_name c digit = grind (arith, nat_tests, no_start)
@@ -35,7 +35,7 @@ digit_no_name c digit = grind (arith, nat_tests, no_start)
 name_goes_on : (c : ℕ) → starts_name c ≡ true → is_xid_continue c ≡ true
 name_goes_on c starts = let line : is_xid_continue 95 ≡ true = is_xid_continue-ascii 95 (lit< tt) in grind (arith, nat_tests, is_xid_start-is_xid_continue, line)
 
--- ---- which classes are in use
+-- ---- the classes in use
 
 pub used_has : (classes : List ℕ) (k : ℕ) → uses classes k ≡ true → Has classes k
 used_has [] k h = absurd (cc)
@@ -50,9 +50,9 @@ has_used [] k i e = absurd (cc)
 has_used (c ∷ classes) k zero e = grind (arith, nat_tests)
 has_used (c ∷ classes) k (suc i) e = let more = has_used classes k i e in grind arith
 
--- ---- where a word of a class stands, one is cut that reaches as far
+-- ---- if a word of a class begins there, the function reads one that is at least as long
 
--- where a word stands in front of `more`, the word that is cut reaches as far, and is that word where it reaches no further
+-- the function reads at least the word before `more`; if it reads exactly this word, the result is that word
 record Reached (classes : List ℕ) (class : ℕ) (lex cs more : List ℕ) : Type 0 where
   pub cut : Front
   pub is : class_from classes cs ≡ Some cut
@@ -98,7 +98,7 @@ word_reached classes word more lex (suc zero) used is = rw is.1 (number_reached 
 word_reached classes word more lex (suc (suc zero)) used (body, split, all, text) = rw (split, text) (text_reached classes body more used all)
 word_reached classes word more lex (suc (suc (suc class))) used is = absurd is
 
--- characters are a word of one class, with one text
+-- characters are a word of at most one class, with one text
 pub one_class : (classes word lex lex' : List ℕ) (c d : ℕ) → Has classes c → Has classes d → IsWordOfClass c word lex → IsWordOfClass d word lex' → (Class c ≡ Class d) × (lex ≡ lex')
 one_class classes word lex lex' c d used used' is is' =
     let a = word_reached classes word [] lex c used is in
@@ -108,9 +108,9 @@ one_class classes word lex lex' c d used used' is is' =
     let other = b.same (omega (arith, b.far)) in
     (sym one.0 ∙ ap (λ (f : Front). f.kind) both ∙ other.0, sym one.1 ∙ ap (λ (f : Front). f.lex) both ∙ other.1)
 
--- ---- what is cut is a word
+-- ---- what the function reads is a word
 
--- a word of a class stands in front, with this kind and text
+-- the characters begin with a word of a class, with this kind and text
 abbrev IsThere : List ℕ → List ℕ → Front → Type 0
 IsThere classes cs f = (class : ℕ) × (word : List ℕ) × (f.kind ≡ Class class) × (cs ≡ word ++ f.rest) × Has classes class × IsWordOfClass class word f.lex
 

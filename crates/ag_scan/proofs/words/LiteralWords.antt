@@ -1,4 +1,4 @@
--- The longest literal in front of a text, in bytes and in characters.
+-- The longest literal at the beginning of a text, in bytes and in characters.
 use Rattle.std.proofs.Common.{◌≡◌, ℕ, List, ◌++◌, length, take, drop, Some, IsUtf8, chars, encode_utf8_all, refl, ap, sym, ◌∙◌, subst, arith}
 use Rattle.std.proofs.lemmas.Str.{chars-append, encodes-chars, encodes-append, IsCharBoundary-from_take}
 use Rattle.std.proofs.Math.Seq.{drop-append_seam, take-append_seam}
@@ -12,7 +12,7 @@ use Rattle.ag_scan.specs.Words.{IsLiteral, IsLongest, BeginsNone}
 use Rattle.ag_scan.proofs.words.Choosing.{no_longer}
 use Rattle.ag_scan.proofs.words.Tables.{front_fits}
 
--- behind a text in front stands a character, or the end
+-- a text that is a prefix of another ends at a character boundary
 pub boundary : (text word : List ℕ) → IsUtf8 text → IsUtf8 word → IsFront word text → IsCharBoundary text (length word)
 boundary text word utf8 utf8' front =
     let taken : take (length word) text ≡ word = ap (take (length word)) front.1 ∙ take-append_seam word front.0 in
@@ -23,7 +23,7 @@ split_characters text word rest utf8 front e =
     let behind : rest ≡ front.0 = e ∙ ap (drop (length word)) front.1 ∙ drop-append_seam word front.0 in
     ap chars front.1 ∙ chars-append word front.0 utf8 ∙ ap (λ x. chars word ++ chars x) (sym behind)
 
--- a front of the characters is one of the bytes
+-- a prefix of the characters is a prefix of the bytes
 bytes_front : (text word more : List ℕ) → IsUtf8 text → chars text ≡ word ++ more → IsFront (encode_utf8_all word) text
 bytes_front text word more utf8 split = (encode_utf8_all more, sym (encodes-chars text utf8) ∙ ap encode_utf8_all split ∙ encodes-append word more)
 

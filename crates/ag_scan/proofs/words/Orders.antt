@@ -1,4 +1,4 @@
--- The order of texts and their fronts.
+-- The order of texts, and their prefixes.
 use Rattle.std.proofs.Common.{arith, ◌≡◌, ℕ, Bool, true, false, List, [], ◌∷◌, ◌++◌, length, take, drop, refl, ap, sym, ◌∙◌, subst, nat_eq, MatchBool}
 use Rattle.std.proofs.lemmas.List.{take-append-drop}
 use Rattle.std.proofs.Math.Seq.{take-append_seam}
@@ -8,12 +8,12 @@ use Rattle.std.specs.List.{starts_with}
 use Rattle.std.specs.Ordering.{nat_cmp, is_gt, is_lt}
 use Rattle.ag_scan.specs.Table.{IsFront, IsUpTo}
 
--- a front of a text stands no later than the text
+-- a prefix of a text is not after the text
 pub front_up : (p rest : List ℕ) → is_gt (slice_cmp nat_cmp p (p ++ rest)) ≡ false
 front_up [] rest = grind arith
 front_up (c ∷ p) rest = rw (tied_itself nat_cmp_total c) (front_up p rest)
 
--- a front of a text is also one of each text between the two
+-- a prefix of a text is also a prefix of each text between the two
 pub between : (p m rest : List ℕ) → is_gt (slice_cmp nat_cmp p m) ≡ false → is_gt (slice_cmp nat_cmp m (p ++ rest)) ≡ false → IsFront p m
 between [] m rest a b = (m, refl)
 between (c ∷ p) [] rest a b = absurd (cc)
@@ -33,11 +33,11 @@ front_between p m text a b (rest, e) = between p m rest a.up (subst (λ x. is_gt
 pub up_up : (a b c : List ℕ) → IsUpTo a b → IsUpTo b c → IsUpTo a c
 up_up a b c x y = record { up = upto nat_list_cmp_total a b c x.up y.up }
 
--- what is not less the other way round stands no later
+-- if b is not less than a, then a is not after b
 pub not_less : (a b : List ℕ) → is_lt (slice_cmp nat_cmp b a) ≡ false → IsUpTo a b
 not_less a b h = let turned = nat_list_cmp_total.antisymm b a in record { up = grind arith }
 
--- what the test of a front tells
+-- the meaning of the result of `starts_with`
 pub told_front : (text word : List ℕ) (r : Bool) → r ≡ starts_with nat_eq text word → MatchBool r (IsFront word text) (IsFront word text → ⊥)
 told_front text word r e = go r (told_text word (take (length word) text) r e)
   where

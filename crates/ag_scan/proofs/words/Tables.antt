@@ -1,4 +1,4 @@
--- Looking up the longest literal in front of a text in a table of literals.
+-- The search for the longest literal at the beginning of a text in a table of literals.
 use Rattle.std.proofs.Common.{Bor, Bool, true, false, get_or, ◌≡◌, ℕ, zero, suc, ◌+◌, ◌<◌, ◌≤◌, ◌⊎◌, inl, inr, List, [], ◌∷◌, ◌++◌, length, Option, Some, slice_get, refl, ap, sym, ◌∙◌, subst, arith}
 use Rattle.std.proofs.lemmas.List.{length-append}
 use Rattle.std.specs.Cmp.{ranks}
@@ -13,7 +13,7 @@ use Rattle.ag_scan.specs.declared.literals.Word.{Word}
 use Rattle.ag_scan.specs.Table.{IsFront, IsUpTo, AreUpTo, NoFront, IsLastFront, GivesLast, behind_last, AreLinked, AreOrdered, AreLiterals, IsTable, IsLongestFront}
 use Rattle.ag_scan.proofs.words.Orders.{front_between, front_is_up, up_up, not_less}
 
--- an element stands at each index of a list
+-- a list has a member at each index below its length
 pub some_there : {A : Type 0} (xs : List A) (i : ℕ) → i < length xs → (x : A) × (slice_get xs i ≡ Some x)
 some_there [] i h = absurd (omega arith)
 some_there (x ∷ xs) zero h = (x, refl)
@@ -22,18 +22,18 @@ some_there (x ∷ xs) (suc i) h = some_there xs i (omega arith)
 pub same_there : {A : Type 0} (xs : List A) (i j : ℕ) (x y : A) → slice_get xs i ≡ Some x → slice_get xs j ≡ Some y → i ≡ j → x ≡ y
 same_there xs i j x y ex ey e = grind arith
 
--- a front is no longer than what it is in front of
+-- a prefix is not longer than the text
 pub front_fits : (p text : List ℕ) → IsFront p text → length p ≤ length text
 front_fits p text (rest, e) = omega (arith, ap length e, length-append p rest)
 
--- behind the last word before a word that is in front of its text, none is
+-- no word after the last one that is a prefix of the text is a prefix of it
 pub last_behind : (words : List Word) (bound : ℕ) (text : List ℕ) (o : Option ℕ) → GivesLast words bound text o → NoFront words (behind_last o) bound text
 last_behind words bound text o h = grind arith
 
 pub last_below : (words : List Word) (bound : ℕ) (text : List ℕ) (o : Option ℕ) → GivesLast words bound text o → behind_last o ≤ bound
 last_below words bound text o h = grind arith
 
--- where a number stands beside another
+-- the comparison of two numbers, by its three cases
 pub compared : {A : Type 0} (i k : ℕ) → (i < k → A) → (i ≡ k → A) → (k < i → A) → A
 compared {A = A} i k less same more = go (nat_cmp i k) (ranks i k)
   where
@@ -46,7 +46,7 @@ pub split : {A : Type 0} (i k : ℕ) → (i < k → A) → (k ≤ i → A) → A
 split i k less others = compared i k less (λ same. others (omega arith)) (λ more. others (omega arith))
 
 module _ (words : List Word) (shorter : List (Option ℕ)) (bound : ℕ) (text : List ℕ) (ordered : AreOrdered words) (linked : AreLinked words shorter) (up : AreUpTo words bound text) where
-  -- the word at `last` is not in front: the next that may be is the one that it is linked to
+  -- if the word at `last` is not a prefix of the text, the next candidate is the one that it links to
   pub goes_on : (limit last : ℕ) (w : Word) (o : Option ℕ) → limit ≤ bound → limit ≡ last + 1 → NoFront words limit bound text → slice_get words last ≡ Some w → slice_get shorter last ≡ Some o → (IsFront w.text.now text → ⊥)
       → NoFront words (behind_last o) bound text
   goes_on limit last w o within is none there link not_here =
@@ -59,7 +59,7 @@ module _ (words : List Word) (shorter : List (Option ℕ)) (bound : ℕ) (text :
             (λ more. none.none i u (omega arith) high at front);
       }
 
--- the last of the words up to the text that is in front of it is the longest literal that is
+-- the last prefix of the text among the words that are not after it is the longest literal that is a prefix
 module _ (literals : List (List ℕ)) (words : List Word) (shorter : List (Option ℕ)) (table : IsTable literals words shorter) (bound : ℕ) (text : List ℕ) (up : AreUpTo words bound text) (others : NoFront words bound (length words) text) where
   pub last_is_longest : (k : ℕ) (w : Word) → IsLastFront words bound text k → slice_get words k ≡ Some w → IsLongestFront literals text w
   last_is_longest k w last there = record { numbered = table.literals_all.numbered k w there; front = front; longest = longest }
@@ -76,9 +76,9 @@ module _ (literals : List (List ℕ)) (words : List Word) (shorter : List (Optio
       longest : (n : ℕ) (x : List ℕ) → slice_get literals n ≡ Some x → IsFront x text → length x ≤ length w.text.now
       longest n x at is = let found = table.literals_all.whole n x at in rw (← found.3) (fits found.0 found.1 found.2 (rw (← found.3) at is))
 
--- ---- how the table is made
+-- ---- the construction of the table
 
--- an element of a list with one more at its end
+-- a member of a list with one more member at its end
 pub pushed : {A : Type 0} (xs : List A) (x : A) (i : ℕ) (y : A) → slice_get (xs ++ x ∷ []) i ≡ Some y → (slice_get xs i ≡ Some y) ⊎ ((i ≡ length xs) × (x ≡ y))
 pushed [] x i y e = inr (grind arith, grind arith)
 pushed (z ∷ xs) x zero y e = inl e
@@ -117,9 +117,9 @@ sorted_is_ordered words up = record {
       not_less a.text.now b.text.now (rw (get_or_from_slice_get words j b a there, get_or_from_slice_get words i a a at) at far);
 }
 
--- ---- where the text stands among the words
+-- ---- the position of the text among the words
 
--- whether a word stands no later than the text
+-- whether a word is not after the text
 abbrev pub stands_up : List ℕ → Word → Bool
 stands_up text w = is_le (slice_cmp nat_cmp w.text.now text)
 
@@ -147,6 +147,6 @@ none_past_point words text n point = record {
       grind arith;
 }
 
--- a link leads to a word before
+-- a link leads to an earlier word
 pub links_below : (words : List Word) (shorter : List (Option ℕ)) (last : ℕ) (o : Option ℕ) → AreLinked words shorter → last < length words → slice_get shorter last ≡ Some o → behind_last o ≤ last
 links_below words shorter last o linked within link = let word = some_there words last within in last_below words last word.0.text.now o (linked.each last word.0 o word.1 link)

@@ -24,12 +24,11 @@ const MIN_ITEM: usize = 5;
 /// The greatest number of items for which room is reserved before the first of them is read.
 const MAX_RESERVED: usize = 1024;
 
-/// The value whose spelling is a front of the input, and that front's length in bytes. Bytes may
-/// follow it.
+/// Decodes the value whose spelling is a prefix of the input. Returns it and the length of that
+/// prefix in bytes. More bytes may follow.
 ///
-/// `Malformed` (V1) is answered exactly where no front of the input is the spelling of a well
-/// value: what is answered is well and spelled so, and what begins with a spelling is read as that
-/// value.
+/// Fails with Malformed (V1) exactly if no prefix of the input is the spelling of a well value. A
+/// returned value is well, and the prefix is its spelling.
 #[inline(always)]
 pub fn decode(alloc: Global, input: &[u8]) -> Result<(Value, usize), ValueFault>
     ensures well { IfOk result (λ found. IsWell found.0) }
@@ -42,7 +41,7 @@ pub fn decode(alloc: Global, input: &[u8]) -> Result<(Value, usize), ValueFault>
         (λ e. e ≡ ValueFault.NoMemory) }
 {
     let (value, rest) = front_of(alloc, MAX_DEPTH as usize, input)?;
-    // the spelling is as long as the value is heavy
+    // The weight of the value is the length of its spelling.
     let len = input.len() - rest.len();
     if len as u64 > MAX_WEIGHT {
         return Err(ValueFault::Malformed);

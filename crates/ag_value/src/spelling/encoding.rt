@@ -1,4 +1,4 @@
-//! Spelling a value in bytes.
+//! Encoding a value in bytes.
 ghost use Rattle.std.specs.Prelude.{◌≡◌, ◌++◌, ◌∷◌, ◌+◌, ◌<◌, ◌^◌, [], length, map, sum};
 ghost use Rattle.std.specs.Prelude.{OnOk, OnErr};
 ghost use Rattle.std.specs.Int.{w32, w64, to_be_bytes, cast_unsigned};
@@ -11,8 +11,8 @@ use crate::fault::NoMemory;
 use crate::text::Text;
 use crate::value::{ErrorCode, Value};
 
-/// Appends the spelling of a well value to `out`, whose allocator gives the memory. Refused, it
-/// leaves the bytes of `out` as they were.
+/// Appends the spelling of a well value to `out`. Takes memory from its allocator. Fails with
+/// NoMemory, and then leaves the bytes of `out` unchanged.
 pub fn encode(value: &Value, out: &mut Vec<u8>) -> Result<(), NoMemory>
     requires { IsWell value.now }
     ensures ok { OnOk result (out.new.items ≡ out.old.items ++ spelling_of value.now) }
@@ -100,7 +100,7 @@ fn append_tagged_text(out: &mut Vec<u8>, text: &str) -> Result<(), NoMemory>
     Ok(())
 }
 
-/// The length of a text in four bytes, and the text.
+/// Appends the length of a text in four bytes, and the text.
 #[tactic(auto, using(crate::proofs::Extending::extending))]
 fn append_text(out: &mut Vec<u8>, text: &str) -> Result<(), NoMemory>
     requires { length text.now < 2 ^ 32 }
@@ -130,7 +130,7 @@ fn append_bytes(out: &mut Vec<u8>, bytes: &[u8]) -> Result<(), NoMemory>
     Ok(())
 }
 
-/// The number of an error in its spelling, 1 to 8.
+/// Returns the number of an error in its spelling, 1 to 8.
 fn number(code: ErrorCode) -> u8
     ensures { result ≡ number_of code }
 {

@@ -1,4 +1,4 @@
-//! A value as text for a reader.
+//! The text of a value for a reader.
 ghost use Rattle.std.specs.Prelude.{◌≡◌, ◌++◌, codes, string_bytes, map, IfOk, OnOk};
 ghost use Rattle.std.specs.Fmt.{signed_decimal};
 ghost use Rattle.std.specs.List.{flat_map};
@@ -12,9 +12,10 @@ use crate::value::{ErrorCode, Value};
 use itoa::Buffer;
 use std::alloc::Global;
 
-/// The text of a value: a number in decimal; a text in double quotes, with a backslash before a
-/// double quote and a backslash, and `\n`, `\t`, `\r` for line feed, tab and carriage return; a
-/// list as `[a, b]`; a table as `{"k": v, "l": w}`; an error as `error overflow` and so on.
+/// Returns the text of a value: a number in decimal; a text in double quotes, with a backslash
+/// before a double quote and a backslash, and `\n`, `\t`, `\r` for line feed, tab and carriage
+/// return; a list as `[a, b]`; a table as `{"k": v, "l": w}`; an error as `error overflow` and so
+/// on.
 pub fn show(alloc: Global, value: &Value) -> Result<String, NoMemory>
     ensures { IfOk result (λ text. string_bytes text ≡ shown_of value.now) }
 {

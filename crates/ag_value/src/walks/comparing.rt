@@ -1,11 +1,11 @@
-//! Whether two values are the same one.
+//! The comparison of two values.
 ghost use Rattle.std.specs.Prelude.{◌≡◌, ◌↔◌, IsTrue};
 
 use crate::text::Text;
 use crate::value::Value;
 
-/// Whether two values are equal: of one kind, and the same number, bytes, items in order, pairs in
-/// order, or error. Takes no memory.
+/// Returns whether two values are equal: of one kind, and the same number, bytes, items in order,
+/// pairs in order, or error. Takes no memory.
 #[cycle(same)]
 pub fn same(a: &Value, b: &Value) -> bool
     ensures { IsTrue result ↔ (a.now ≡ b.now) }

@@ -7,7 +7,7 @@ use crate::text::Text;
 use crate::value::Value;
 use std::alloc::Global;
 
-/// A copy of a value, in memory of its own: equal to it.
+/// Copies a value into memory of its own.
 #[cycle(copy)]
 pub fn copy(alloc: Global, value: &Value) -> Result<Value, NoMemory>
     ensures { IfOk result (λ copied. copied ≡ value.now) }

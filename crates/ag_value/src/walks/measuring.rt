@@ -1,12 +1,12 @@
-//! How heavy and how deep a value is.
+//! The weight and the depth of a value.
 ghost use Rattle.std.specs.Prelude.{◌≡◌, ◌+◌, ◌-◌, ◌^◌, map, min, sum, length};
 ghost use Rattle.ag_value.specs.Measure.{depth_of, greatest, weight_of, weight_of_pair};
 
 use crate::text::Text;
 use crate::value::Value;
 
-/// The weight of a value, well or not: the length of its spelling in bytes, or `u64::MAX` where it
-/// is more. Takes no memory.
+/// Returns the weight of a value, well or not: the length of its spelling in bytes, saturated at
+/// `u64::MAX`. Takes no memory.
 #[cycle(weighing)]
 #[tactic(auto, using(crate::proofs::Layers::weights))]
 pub fn weight(value: &Value) -> u64
@@ -44,9 +44,9 @@ fn weight_of_pairs(pairs: &[(Text, Value)]) -> u64
     total
 }
 
-/// The depth of a value, well or not: 0 for a number, a text and an error, 1 for an empty list or
-/// table, else one more than that of the deepest value in it; or `u32::MAX` where it is more.
-/// Takes no memory.
+/// Returns the depth of a value, well or not: 0 for a number, a text and an error, 1 for an empty
+/// list or table, else one more than that of the deepest value in it. The result is saturated at
+/// `u32::MAX`. Takes no memory.
 #[cycle(sounding)]
 #[tactic(auto, using(crate::proofs::Layers::depths))]
 pub fn depth(value: &Value) -> u32

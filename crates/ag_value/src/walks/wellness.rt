@@ -1,4 +1,4 @@
-//! Which values are well: those that the product makes, stores and takes.
+//! The test of well values: those that the product makes, stores and takes.
 ghost use Rattle.std.specs.Prelude.{◌≡◌, ◌↔◌, ◌&&◌, ◌∷◌, IsTrue, map};
 ghost use Rattle.ag_value.specs.Well.{IsWell, all_true, are_keys, is_item, is_item_pair, key_of};
 
@@ -7,15 +7,15 @@ use crate::text::Text;
 use crate::value::Value;
 use crate::walks::measuring::{depth, weight};
 
-/// Whether a value is well: at most [`MAX_DEPTH`] deep and [`MAX_WEIGHT`] heavy, with keys that
-/// rise strictly by their bytes in every table, and with no error inside a list or table. Takes no
-/// memory.
+/// Returns whether a value is well: at most [`MAX_DEPTH`] deep and [`MAX_WEIGHT`] heavy, with keys
+/// that rise strictly by their bytes in every table, and with no error inside a list or table.
+/// Takes no memory.
 #[inline(always)]
 pub fn is_well(value: &Value) -> bool
     ensures { IsTrue result ↔ IsWell value.now }
 {
     match value {
-        // most values are numbers; a read of one tells the prover that it is in range
+        // most values are numbers; for the prover: this one is in range
         Value::Num(n) => {
             let _in_range = *n;
             true
@@ -25,14 +25,14 @@ pub fn is_well(value: &Value) -> bool
     }
 }
 
-/// Whether a value may stand in a list or table.
+/// Returns whether a list or table may contain a value.
 #[cycle(items)]
 #[tactic(auto, using(crate::proofs::Layers::items, crate::proofs::Utf8::utf8))]
 fn is_item(value: &Value) -> bool
     ensures { result ≡ is_item value.now }
 {
     match value {
-        // each i64 is in range, which a read of it tells the prover
+        // for the prover: each i64 is in range
         Value::Num(n) => {
             let _in_range = *n;
             true
@@ -72,7 +72,7 @@ fn are_item_pairs(pairs: &[(Text, Value)]) -> bool
     true
 }
 
-/// Whether each key comes before the next by its bytes.
+/// Returns whether each key comes before the next by its bytes.
 #[tactic(auto, using(crate::proofs::Keys::keys))]
 pub fn is_keyed(pairs: &[(Text, Value)]) -> bool
     ensures { result ≡ are_keys (map key_of pairs.now) }

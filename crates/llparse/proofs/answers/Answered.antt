@@ -1,4 +1,4 @@
--- What a parse tells of each tree of its tokens.
+-- The meaning of a parse for each tree of its tokens.
 use Rattle.std.proofs.Common.{◌≡◌, ℕ, Bool, List, ◌++◌, drop, Result, Ok, Err, refl, ap, sym, ◌∙◌, subst}
 use Rattle.std.specs.Prelude.{IfErr, IfOk, OnOk}
 use Rattle.ag_grammar.specs.grammars.AttributeGrammar.{Grammar}
@@ -16,7 +16,7 @@ use Rattle.llparse.proofs.answers.FirstFile.{first_file}
 use Rattle.llparse.proofs.steps.Shown.{whole}
 
 module _ (g : Grammar) (tokens : List Token) (honest : Bool) (front bytes : List ℕ) (result : Result ℕ ParseFault) where
-  -- its file is written behind the header
+  -- its file is written after the header
   pub file_of : IfOk result (λ count. IsParsed (task_of g tokens honest front) count bytes) → WhenHonest honest (front ≡ header version_two 0) → (t : Tree) → IsTreeWith g (words_of tokens) t → OnOk result (WhenHonest honest (IsFirstFile version_two g t bytes))
   file_of parsed begun t has = go result parsed
     where
@@ -24,7 +24,7 @@ module _ (g : Grammar) (tokens : List Token) (honest : Bool) (front bytes : List
       go (Ok count) p = λ h. first_file g t bytes has.tree (p.content h ∙ ap (λ z. z ++ post p.tree) (begun h) ∙ ap (λ z. header version_two 0 ++ post z) (sym (p.only t has)))
       go (Err e) p = tt
 
-  -- there is none where a token can't be taken
+  -- no tree has the tokens if one can't be taken
   pub none_of : IfErr result (IsRefused (task_of g tokens honest front) (offset_at tokens)) → (at : ℕ) (t : Tree) → result ≡ Err (fault.Unexpected at) → IsTreeWith g (words_of tokens) t → ⊥
   none_of refused at t e has =
       let r : IsRefused (task_of g tokens honest front) (offset_at tokens) (fault.Unexpected at) = subst (λ z. IfErr z (IsRefused (task_of g tokens honest front) (offset_at tokens))) e refused in

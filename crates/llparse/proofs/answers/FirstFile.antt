@@ -1,4 +1,4 @@
--- What a parser writes of a tree is its file of pass 0.
+-- The bytes that a parser writes of a tree are its file of pass 0.
 use Rattle.std.proofs.Common.{◌≡◌, ℕ, List, [], ◌++◌, refl, ap, sym, ◌∙◌, append-nil}
 use Rattle.std.specs.List.{flat_map}
 use Rattle.std.proofs.lemmas.Grind.{flat_map-append}

@@ -25,7 +25,7 @@ texts-joined none b = refl
 texts-joined (more (leaf c x) a) b = ap (λ z. Text x ∷ z) (texts-joined a b)
 texts-joined (more (node p us) a) b = texts-joined a b
 
--- texts are parted where those of a node begin
+-- texts are split at the beginning of a node's own
 pub parted : (texts others own : List Value) (base : ℕ) → texts ≡ others ++ own → base ≡ length others → (take base texts ≡ others) × (drop base texts ≡ own)
 parted texts others own base is at = (ap (take base) is ∙ take_at others own base (sym at), ap (drop base) is ∙ drop_at others own base (sym at))
 
@@ -55,7 +55,7 @@ module _ (g : Grammar) where
   has_items (item.Symbol s) p ts f = (f.0, f.1, f.3)
   has_items (item.Terminal a) p ts f = absurd f
 
-  -- so is a child of what is open in a tree of the grammar
+  -- a child of the open nodes in a tree of the grammar is a tree of an item
   child_fits : (os : List Open) (c : Tree) (ws : List Lexeme) (t : Tree) → Continues g os c ws t → IsTreeOf g t → (x : Item) × Fits g x c
   child_fits [] c ws t k is = (item.Symbol g.start, subst (Fits g (item.Symbol g.start)) k.1 is)
   child_fits (o ∷ os) c ws t k is =

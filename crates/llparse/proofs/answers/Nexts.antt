@@ -1,4 +1,4 @@
--- The words that are left, as the tokens have them.
+-- The remaining words, by the tokens.
 use Rattle.std.proofs.Common.{◌≡◌, ℕ, zero, suc, ◌+◌, ◌<◌, ◌≤◌, true, false, List, [], ◌∷◌, drop, length, slice_get, Option, Some, None, is_some, option_map, refl, ap, sym, ◌∙◌, add-one, arith}
 use Rattle.ag_scan.specs.Handed.{token_of}
 use Rattle.ag_scan.specs.Tokens.{Token}
@@ -21,13 +21,13 @@ no_next [] (suc i) e = refl
 no_next (y ∷ ys) zero e = absurd (cc)
 no_next (y ∷ ys) (suc i) e = no_next ys i e
 
--- what comes next is of another terminal
+-- the next token is of another terminal
 pub other_next : (xs : List Token) (i : ℕ) (x : Token) (a : Terminal) → slice_get xs i ≡ Some x → (x.kind ≡ a → ⊥) → ahead_of (drop i (words_of xs)) ≡ ahead.Terminal a → ⊥
 other_next xs i x a there other e =
     let same : ahead.Terminal x.kind ≡ ahead.Terminal a = sym (ap ahead_of (next_is xs i x there)) ∙ e in
     other (cc)
 
--- and of none at the end
+-- and at the end of none
 pub none_is : (xs : List Token) (i : ℕ) (a : Terminal) → slice_get xs i ≡ None → ahead_of (drop i (words_of xs)) ≡ ahead.Terminal a → ⊥
 none_is xs i a none e = let bad : ahead.End ≡ ahead.Terminal a = sym (ap ahead_of (no_next xs i none)) ∙ e in cc
 

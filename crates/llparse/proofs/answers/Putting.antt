@@ -1,4 +1,4 @@
--- What a parser puts on the device.
+-- The records that a parser appends to the device.
 use Rattle.std.proofs.Common.{ℕ, List, [], ◌∷◌, Ok, Err, arith}
 use Rattle.std.proofs.lemmas.List.Elements.{All-cons, All-nil}
 use Rattle.ag_value.specs.declared.value.Value.{Text}
@@ -15,6 +15,6 @@ use Rattle.llparse.specs.declared.sentence.parse_fault.ParseFault.{ParseFault}
 pub of_leaf : (c : ℕ) (x : List ℕ) → IsWell (Text x) → IsBody version_two (token_body c x)
 of_leaf c x well = is_body version_two Token c (Text x ∷ []) (omega arith) (All-cons IsWell (Text x) [] well (All-nil IsWell))
 
--- frames were put, and then a step refused that put nothing
+-- frames were appended, and then a step failed that appended nothing
 pub stopped : (old now : List ℕ) (fault : ParseFault) → AddsFrames {E = ParseFault} old now (Ok tt) → AddsFrames old now (Err fault)
 stopped old now fault put = added ParseFault old now now (Err fault) put (none_added ParseFault now (Err fault))

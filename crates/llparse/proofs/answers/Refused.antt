@@ -1,4 +1,4 @@
--- Which refusals are true where a parser stops.
+-- Faults are justified where a parser stops.
 use Rattle.std.proofs.Common.{◌≡◌, ℕ, ◌≤◌, Bool, List, ◌∷◌, length, reverse, slice_get, Some, refl, sym, subst, arith}
 use Rattle.std.proofs.lemmas.List.{length-reverse}
 use Rattle.ag_grammar.specs.declared.grammar.Item.TheVariants as item
@@ -19,7 +19,7 @@ use Rattle.llparse.proofs.steps.Stacks as stacks
 use Rattle.llparse.proofs.steps.Starts as starts
 
 module _ (g : Grammar) (tokens : List Token) (honest : Bool) (front : List ℕ) where
-  -- no node more is within the limits
+  -- no more node is within the limits
   pub full_node : IsAccepted g → (node : OpenNode) (p : Parser) (s : ℕ) (bytes : List ℕ) (e : ParseFault) → IsFull p e → Asks (task_of g tokens honest front) s node p bytes → IsRefused (task_of g tokens honest front) (offset_at tokens) e
   full_node accepted node p s bytes (fault.Unexpected at) full a = absurd full
   full_node accepted node p s bytes fault.TooDeep full a =
@@ -39,7 +39,7 @@ module _ (g : Grammar) (tokens : List Token) (honest : Bool) (front : List ℕ) 
   full_leaf accepted node p c bytes fault.Device full b = absurd full
   full_leaf accepted node p c bytes fault.NoMemory full b = absurd full
 
-  -- what comes next can't be taken
+  -- the next token can't be taken
   pub stuck : (i : ℕ) (e : ParseFault) → e ≡ fault.Unexpected (offset_at tokens i) → IsStuckAt g (words_of tokens) i → IsRefused (task_of g tokens honest front) (offset_at tokens) e
   stuck i e is s = subst (IsRefused (task_of g tokens honest front) (offset_at tokens)) (sym is) (i, s, refl)
 

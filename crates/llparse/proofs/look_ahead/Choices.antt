@@ -1,4 +1,4 @@
--- What one look-ahead chooses.
+-- The choices of one look-ahead.
 use Rattle.std.proofs.Common.{ℕ, zero, suc, ◌+◌, ◌≡◌, ◌<◌, ◌≤◌, ◌⊎◌, Bool, true, false, List, Option, Some, None, length, slice_get, set, refl, ap, sym, ◌∙◌, subst, inl, inr, arith, replicate}
 use Rattle.std.proofs.lemmas.Bool.{cases_eq, false≢true}
 use Rattle.std.proofs.lemmas.List.{get_or-set_other, get_or-set_same}
@@ -9,7 +9,7 @@ use Rattle.closure.specs.Following.{is_marked}
 use Rattle.llparse.specs.declared.table.choosing.Pair.{Pair}
 
 module _ (qs : List Production) (marks : List Bool) where
-  -- a marked production from a number on is that one, or comes behind it
+  -- a marked production from a number on is that one, or comes after it
   from_cases : (i j : ℕ) → i ≤ j → (j ≡ i) ⊎ (i + 1 ≤ j)
   from_cases i j le = elim (cases_eq j i) [
     | inl same ↦ inl same
@@ -57,7 +57,7 @@ module _ (qs : List Production) (marks : List Bool) where
       ];
     }
 
-    -- of a clash whose first is this production the second is of its symbol
+    -- if the first of a clash is this production, the second is of its symbol
     second_of : (b : ℕ) → IsClash qs marks i b → IsMarkedOf qs marks q.left b
     second_of b clash = subst (λ z. IsMarkedOf qs marks z b) (same_symbol i clash.1.0 q.left clash.1.1 this) clash.1.2
 
@@ -102,7 +102,7 @@ module _ (qs : List Production) (marks : List Bool) where
     keeps_pair choices None e old least = keeps_none choices e old least
     keeps_pair choices (Some p) e old least = keeps_some choices p e old least
 
-    -- the least pair, by what was chosen for the symbol
+    -- the least pair, by the choice for the symbol
     pub clashes : (choices : List (Option ℕ)) (chosen : Option ℕ) (pair result : Option Pair) → chosen ≡ choice_at choices q.left → ((r : ℕ) → chosen ≡ Some r → result ≡ Some (record { first = i; second = r })) → (chosen ≡ None → result ≡ pair)
         → AreFirstFrom qs marks (i + 1) choices → IsLeastFrom qs marks (i + 1) pair → IsLeastFrom qs marks i result
     clashes choices (Some r) pair result read some none old least = subst (IsLeastFrom qs marks i) (sym (some r refl)) (put_pair choices r (sym read) old)

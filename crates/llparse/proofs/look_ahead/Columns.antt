@@ -1,4 +1,4 @@
--- What filling the columns keeps, and what full columns are.
+-- The invariants of filling the columns, and the properties of full columns.
 use Rattle.std.proofs.Common.{ℕ, zero, suc, Contains, ◌+◌, ◌≡◌, ◌<◌, ◌≤◌, ◌⊎◌, Bool, true, false, List, [], ◌∷◌, ◌++◌, Option, Some, None, length, get_or, slice_get, refl, ap, sym, ◌∙◌, subst, inl, inr, arith}
 use Rattle.std.proofs.lemmas.Bool.{cases_eq}
 use Rattle.std.proofs.lemmas.Bool.Decides.{nat_tests}
@@ -82,7 +82,7 @@ rows_long [] = refl
 rows_long (v ∷ table) = ap suc (rows_long table)
 
 module _ (g : Grammar) (ok : IsAccepted g) where
-  -- one column more
+  -- one more column
   pub columns_more : (n : ℕ) (x : Ahead) (table : List (Vec (Option ℕ))) (v : Vec (Option ℕ)) → length table ≡ n → IsKnownAhead g x → index_of (length g.literals) x ≡ n → IsColumn g x v.items → AreColumns g n (rows table) → AreColumns g (n + 1) (rows (table ++ v ∷ []))
   columns_more n x table v count known at_n column before = λ y k lt. elim (cases_eq (index_of (length g.literals) y) n) [
     | inl same ↦
@@ -148,7 +148,7 @@ module _ (g : Grammar) (ok : IsAccepted g) where
       ],
     )
 
-    -- the least conflict with one look-ahead more
+    -- the least conflict with one more look-ahead
     pub least_more : (least : Option Conflict) (pair : Option Pair) (result : Option Conflict) → IsSooner least pair x result → IsLeastBelow g n least → IsLeastAt g x pair → IsLeastBelow g (n + 1) result
     least_more None None result is old new = subst (IsLeastBelow g (n + 1)) (sym is) (no_more old new)
     least_more None (Some p) result is old new = subst (IsLeastBelow g (n + 1)) (sym is) (new_comes p new (λ a b y k lt d. absurd (old a b y k lt d)))
@@ -177,7 +177,7 @@ module _ (g : Grammar) (ok : IsAccepted g) where
       ]
     ]))
 
-  -- what is predicted is one of the grammar's look-aheads
+  -- a predicted look-ahead is one of the grammar's
   mutual
     first_known : (s : ℕ) (a : Terminal) → InFirst g s a → IsKnownAhead g (ahead.Terminal a)
     first_known s a (of_production p q e l h) = first_of_known q.items a (λ y k. named_in g ok q y (element_at g.productions p q e) k) h
@@ -208,7 +208,7 @@ module _ (g : Grammar) (ok : IsAccepted g) where
   of_known (ahead.Terminal (Class c)) h = grind (arith, nat_tests)
   of_known ahead.End h = refl
 
-  -- where no conflict is left there is none
+  -- if no conflict is left, the grammar has none
   pub free_of : IsLeastBelow g (length g.literals + 4) None → HasNoConflict g
   free_of none a b x c =
       let known = predicts_known a c.one x c.first_is c.one_predicts in

@@ -1,4 +1,4 @@
--- What comes next along items.
+-- The look-ahead along items.
 use Rattle.std.proofs.Common.{ℕ, Contains, ◌+◌, ◌≡◌, ◌<◌, ◌⊎◌, ◌↔◌, Bool, true, false, ◌&&◌, ◌||◌, List, [], ◌∷◌, ◌++◌, length, get_or, drop, refl, ap, sym, ◌∙◌, subst, inl, inr, drop-cons, add-one}
 use Rattle.std.proofs.lemmas.Bool.{false≢true}
 use Rattle.ag_grammar.specs.declared.grammar.Item.TheVariants as item
@@ -32,7 +32,7 @@ and_cases false b h = absurd (cc)
 pub and_both : (a b : Bool) → a ≡ true → b ≡ true → (a && b) ≡ true
 and_both a b h k = rw h k
 
--- an item more in front
+-- one more item at the beginning
 pub adds_rest : {Y : Type 0} (c : List Item → Bool) (R : Item → Y → Type 0) (items : List Item) (at behind : ℕ) (d : Item) (flag : Bool) (A B C : Y → Type 0) → at < length items → behind ≡ at + 1 → flag ≡ c (drop behind items)
     → Adds (OfRest c R (drop behind items)) A B → Adds (λ y. (flag ≡ true) × R (get_or items at d) y) B C → Adds (OfRest c R (drop at items)) A C
 adds_rest {Y} c R items at behind d flag A B C lt step is old new = subst (λ zs. Adds (OfRest c R zs) A C) (sym split) more
@@ -56,13 +56,13 @@ adds_rest {Y} c R items at behind d flag A B C lt step is old new = subst (λ zs
       ];
     }
 
--- what comes next one item further in front
+-- the look-ahead one item further back
 pub next_more : (b n : Item → Bool) (last : Bool) (items : List Item) (at behind : ℕ) (d : Item) (flag : Bool) → at < length items → behind ≡ at + 1 → flag ≡ next_in b n last (drop behind items) → (b (get_or items at d) || (n (get_or items at d) && flag)) ≡ next_in b n last (drop at items)
 next_more b n last items at behind d flag lt step is =
     let split : drop at items ≡ get_or items at d ∷ drop behind items = rw (step, add-one) (drop-cons items at d lt) in
     rw (split, is) refl
 
--- an item with such a rest behind it splits the list, and each such split has one
+-- an item with such a rest splits the list, and each such split has one
 pub rest_split : {Y : Type 0} (c : List Item → Bool) (R : Item → Y → Type 0) (items : List Item) (y : Y) → OfRest c R items y → (xs : List Item) × (z : Item) × (ys : List Item) × (items ≡ xs ++ z ∷ ys) × (c ys ≡ true) × R z y
 rest_split c R [] y h = absurd h
 rest_split c R (x ∷ items) y (inl one) = ([], x, items, refl, one.0, one.1)
@@ -75,7 +75,7 @@ split_rest c R (x ∷ xs) z ys y h r = inr (split_rest c R xs z ys y h r)
 pub rest_of_split : {Y : Type 0} (c : List Item → Bool) (R : Item → Y → Type 0) (items xs : List Item) (z : Item) (ys : List Item) (y : Y) → items ≡ xs ++ z ∷ ys → c ys ≡ true → R z y → OfRest c R items y
 rest_of_split c R items xs z ys y e h r = subst (λ zs. OfRest c R zs y) (sym e) (split_rest c R xs z ys y h r)
 
--- what comes behind counts where all are nullable
+-- the look-ahead after the items counts if all are nullable
 pub next_cases : (b n : Item → Bool) (behind : Bool) (xs : List Item) → next_in b n behind xs ≡ true → (next_in b n false xs ≡ true) ⊎ ((all_empty n xs ≡ true) × (behind ≡ true))
 next_cases b n behind [] h = inr (refl, h)
 next_cases b n behind (x ∷ xs) h = elim (or_cases (b x) (n x && next_in b n behind xs) h) [

@@ -1,4 +1,4 @@
--- What is noted in lists of edges.
+-- Edges added to lists.
 use Rattle.std.proofs.Common.{ℕ, Contains, ◌+◌, ◌≡◌, ◌<◌, ◌≤◌, ◌⊎◌, ◌↔◌, Bool, true, false, List, [], ◌∷◌, ◌++◌, length, get_or, take, drop, refl, ap, sym, subst, ◌∙◌, inl, inr, arith, drop-cons, append_assoc, take_all, add-one}
 use Rattle.std.proofs.lemmas.List.{take_more, drop_all, append-nil}
 use Rattle.std.proofs.lemmas.List.Elements.{Contains-push_cases, Contains-append_cases, Contains-append_left, Contains-append_right, Contains-push}
@@ -34,25 +34,25 @@ front_goes n y zs h = rw h refl
 front_ends : (n : ℕ → Bool) (y : Item) (zs : List Item) → is_empty n y ≡ false → front n (y ∷ zs) ≡ y ∷ []
 front_ends n y zs h = rw h refl
 
--- one more item in front is passed
+-- one more item of the front is passed
 pub front_step : (n : ℕ → Bool) (items : List Item) (at : ℕ) (d : Item) → at < length items → is_empty n (get_or items at d) ≡ true → front n items ≡ take at items ++ front n (drop at items) → front n items ≡ take (at + 1) items ++ front n (drop (at + 1) items)
 front_step n items at d lt h is =
     is ∙ ap (λ zs. take at items ++ front n zs) (drop_more items at d lt) ∙ ap (λ zs. take at items ++ zs) (front_goes n (get_or items at d) (drop (at + 1) items) h)
     ∙ sym (append_assoc (take at items) (get_or items at d ∷ []) (front n (drop (at + 1) items))) ∙ ap (λ zs. zs ++ front n (drop (at + 1) items)) (sym (take_more items at d lt))
 
--- an item that is not nullable is the last in front
+-- an item that is not nullable is the last of the front
 pub front_stop : (n : ℕ → Bool) (items : List Item) (at : ℕ) (d : Item) → at < length items → is_empty n (get_or items at d) ≡ false → front n items ≡ take at items ++ front n (drop at items) → take (at + 1) items ≡ front n items
 front_stop n items at d lt h is =
     take_more items at d lt ∙ sym (is ∙ ap (λ zs. take at items ++ front n zs) (drop_more items at d lt) ∙ ap (λ zs. take at items ++ zs) (front_ends n (get_or items at d) (drop (at + 1) items) h))
 
--- all items are in front
+-- the front has all items
 pub front_whole : (n : ℕ → Bool) (items : List Item) (at : ℕ) → length items ≤ at → front n items ≡ take at items ++ front n (drop at items) → take (length items) items ≡ front n items
 front_whole n items at most is = take_all (length items) items (omega arith) ∙ sym (is ∙ ap (λ zs. take at items ++ front n zs) (drop_all at items most) ∙ append-nil (take at items) ∙ take_all at items most)
 
 pub adds_none : {X : Type 0} (P A : X → Type 0) → ((x : X) → P x → ⊥) → Adds P A A
 adds_none P A no_more = record { kept = λ x h. h; all = λ x h. absurd (no_more x h); only = λ x h. inl h }
 
--- one more of a list is noted
+-- the edges of one more element are added
 pub adds_more : {X Y : Type 0} (R : X → Y → Type 0) (xs : List X) (i : ℕ) (d : X) (A B C : Y → Type 0) → i < length xs → Adds (OfSome R (take i xs)) A B → Adds (R (get_or xs i d)) B C → Adds (OfSome R (take (i + 1) xs)) A C
 adds_more R xs i d A B C lt m n = record {
   kept = λ y h. n.kept y (m.kept y h);
@@ -69,7 +69,7 @@ adds_more R xs i d A B C lt m n = record {
   ];
 }
 
--- where nothing was there before, what is there is what was noted
+-- elements added to an empty list are all its elements
 pub noted_iff : {X Y : Type 0} (R : X → Y → Type 0) (xs : List X) (i : ℕ) (A B : Y → Type 0) → length xs ≤ i → ((y : Y) → A y → ⊥) → Adds (OfSome R (take i xs)) A B → (y : Y) → B y ↔ OfSome R xs y
 noted_iff R xs i A B most none adds y = (
   λ h. elim (adds.only y h) [

@@ -1,4 +1,4 @@
--- What may come first is what is reached.
+-- FIRST is the set of nodes that are reached.
 use Rattle.std.proofs.Common.{ℕ, Contains, take, ◌+◌, ◌≡◌, ◌<◌, ◌⊎◌, ◌↔◌, Bool, true, false, List, [], ◌∷◌, length, map, get_or, All, refl, ap, sym, ◌∙◌, subst, inl, inr, arith}
 use Rattle.std.specs.Prelude.{if◌then◌else◌}
 use Rattle.std.proofs.lemmas.List.Elements.{Contains-get_or}
@@ -23,7 +23,7 @@ use Rattle.llparse.specs.declared.ahead.Ahead.TheVariants as ahead
 use Rattle.llparse.proofs.look_ahead.Edges.{adds_more, contains_none, contains_here, contains_there, cons_cases}
 
 module _ (g : Grammar) (ok : IsAccepted g) where
-  -- what stands in a production is named
+  -- an item of a production is named
   pub named_in : (q : Production) (y : Item) → Contains g.productions q → Contains q.items y → IsNamedItem g y
   named_in q y hq hy =
       let p = position_of_element g.productions q hq in
@@ -46,7 +46,7 @@ module _ (g : Grammar) (ok : IsAccepted g) where
   known_terminal (Literal l) h = h
   known_terminal (Class c) h = ok.named.classes_known h.0 c h.1
 
-  -- look-ahead of one index are one
+  -- look-aheads with the same index are equal
   pub same_ahead : (x y : Ahead) → IsKnownAhead g x → IsKnownAhead g y → index_of (length g.literals) x ≡ index_of (length g.literals) y → x ≡ y
   same_ahead (ahead.Terminal (Literal l)) (ahead.Terminal (Literal m)) h k e = ap (λ z. ahead.Terminal (Literal z)) e
   same_ahead (ahead.Terminal (Literal l)) (ahead.Terminal (Class c)) h k e = absurd (omega arith)
@@ -88,7 +88,7 @@ module _ (g : Grammar) (ok : IsAccepted g) where
     later_in sound xs y a (item.Symbol s) rec h = later_at xs y a s (n s) (sound s) rec h
     later_in sound xs y a (item.Terminal b) rec h = absurd (contains_none y h)
 
-    -- what an item in front begins with, the items begin with
+    -- the items begin with what an item of their front begins with
     pub front_first : ((s : ℕ) → n s ≡ true → IsNullable g s) → (xs : List Item) (y : Item) (a : Terminal) → Contains (front n xs) y → ((zs : List Item) → InFirstOf g (y ∷ zs) a) → InFirstOf g xs a
     front_first sound [] y a h begins = absurd (contains_none y h)
     front_first sound (x ∷ xs) y a h begins = elim (cons_cases x (if is_empty n x then front n xs else []) y h) [
@@ -96,7 +96,7 @@ module _ (g : Grammar) (ok : IsAccepted g) where
       | inr more ↦ later_in sound xs y a x (λ k. front_first sound xs y a k begins) more
     ]
 
-    -- one more production is noted
+    -- the edges of one more production are added
     pub edges_more : (at : ℕ) (q : Production) (symbols literals left : ℕ) (items : List Item) (k : ℕ) (A B C : Edge → Type 0) → at < length g.productions → symbols ≡ length g.symbols → literals ≡ length g.literals → left ≡ (get_or g.productions at q).left
         → items ≡ (get_or g.productions at q).items → take k items ≡ front n items → Adds (OfSome (IsFirstEdge g n) (take at g.productions)) A B → Adds (OfSome (λ x e. IsEdge (node_of symbols literals x) left e) (take k items)) B C
         → Adds (OfSome (IsFirstEdge g n) (take (at + 1) g.productions)) A C
@@ -133,7 +133,7 @@ module _ (g : Grammar) (ok : IsAccepted g) where
           let same : index_of (length g.literals) x ≡ index_of (length g.literals) (ahead.Terminal a) = omega arith in
           (a, refl, same_ahead x (ahead.Terminal a) known (known_terminal a h) same)
 
-      -- what is reached is the look-ahead, or begins with it
+      -- a node that is reached is the look-ahead, or begins with it
       reached_may : ((s : ℕ) → n s ≡ true → IsNullable g s) → ((e : Edge) → Contains edges e → OfSome (IsFirstEdge g n) g.productions e) → (t : ℕ) → Reached t → (t ≡ root) ⊎ May t
       reached_may sound some_edge = reached_in edges (root ∷ []) (λ t. (t ≡ root) ⊎ May t) (λ t h. elim (cons_cases root [] t h) [
         | inl e ↦ inl (sym e)
@@ -152,7 +152,7 @@ module _ (g : Grammar) (ok : IsAccepted g) where
                 inr (may.0, may.1, of_production p.0 q p.1 (sym r.2.2.head) (front_first sound q.items y may.0 r.2.1 (λ zs. subst (λ z. InFirstOf g (z ∷ zs) may.0) (sym same) (inside may.2))))
           ])
 
-    -- what begins with a terminal is reached
+    -- an item that begins with a terminal is reached
     module _ (edges : List Edge) (a : Terminal) where
       abbrev FromTerminal : ℕ → Type 0
       FromTerminal t = Follows (map along edges) ((length g.symbols + index_of (length g.literals) (ahead.Terminal a)) ∷ []) t

@@ -1,4 +1,4 @@
--- What may follow is what is reached.
+-- FOLLOW is the set of nodes that are reached.
 use Rattle.std.proofs.Common.{ℕ, Contains, take, ◌+◌, ◌≡◌, ◌<◌, ◌⊎◌, ◌↔◌, Bool, true, false, List, ◌∷◌, ◌++◌, length, map, get_or, All, refl, sym, ◌∙◌, subst, inl, inr, arith}
 use Rattle.std.proofs.lemmas.List.Elements.{Contains-get_or, Contains-append_right}
 use Rattle.std.proofs.lemmas.Option.{slice_get_within}
@@ -27,7 +27,7 @@ module _ (g : Grammar) (ok : IsAccepted g) (n : ℕ → Bool) where
   pub start_below : g.start < length g.symbols
   start_below = slice_get_within g.symbols g.start ok.start.symbol ok.start.declared
 
-  -- what stands in a production whose right side is split there
+  -- the item at which the right side of a production is split
   split_named : (q : Production) (xs ys : List Item) (z : Item) → Contains g.productions q → q.items ≡ xs ++ z ∷ ys → IsNamedItem g z
   split_named q xs ys z hq e = named_in g ok q z hq (subst (λ zs. Contains zs z) (sym e) (Contains-append_right xs (z ∷ ys) z (contains_here z ys)))
 
@@ -54,7 +54,7 @@ module _ (g : Grammar) (ok : IsAccepted g) (n : ℕ → Bool) where
         omega arith
   ]
 
-  -- the start symbol is a seed where the end is the look-ahead
+  -- the start symbol is a seed if the look-ahead is the end
   pub all_seeds : (b : ℕ → Bool) (x : Ahead) (ended : Bool) (start : ℕ) (before seeds : List ℕ) → ended ≡ true ↔ x ≡ ahead.End → start ≡ g.start → ((t : ℕ) → Contains before t ↔ OfSome (IsFollowed g n b) g.productions t)
       → Adds (λ t. (ended ≡ true) × (t ≡ start)) (Contains before) (Contains seeds) → (t : ℕ) → Contains seeds t ↔ ((t ≡ g.start) × (x ≡ ahead.End)) ⊎ OfSome (IsFollowed g n b) g.productions t
   all_seeds b x ended start before seeds is_end is known adds t = (
@@ -109,7 +109,7 @@ module _ (g : Grammar) (ok : IsAccepted g) (n : ℕ → Bool) where
       pub follow_iff : (s : ℕ) → s < length g.symbols → Follows (map along edges) seeds s ↔ InFollow g s x
       follow_iff s lt = (λ h. reached_follow s h lt, follow_reached s x refl)
 
-  -- one more production is noted
+  -- the edges of one more production are added
   pub last_more : (at : ℕ) (q : Production) (symbols literals left : ℕ) (items : List Item) (A B C : Edge → Type 0) → at < length g.productions → symbols ≡ length g.symbols → literals ≡ length g.literals → left ≡ (get_or g.productions at q).left
       → items ≡ (get_or g.productions at q).items → Adds (OfSome (IsFollowEdge g n) (take at g.productions)) A B → Adds (OfRest (all_empty (is_empty n)) (λ x e. IsEdge left (node_of symbols literals x) e) items) B C
       → Adds (OfSome (IsFollowEdge g n) (take (at + 1) g.productions)) A C

@@ -1,4 +1,4 @@
--- What follows from the clauses of a grammar is nullable.
+-- The consequences of the clauses of a grammar are its nullable symbols.
 use Rattle.std.proofs.Common.{ℕ, ◌+◌, ◌<◌, ◌↔◌, List, [], ◌∷◌, length, map, get_or, All, ap, arith}
 use Rattle.std.proofs.lemmas.List.Elements.{All-head, All-map, All-tail, Contains-get_or}
 use Rattle.ag_grammar.specs.declared.grammar.Item.TheVariants as item

@@ -1,4 +1,4 @@
--- What predicts a look-ahead.
+-- The productions that predict a look-ahead.
 use Rattle.std.proofs.Common.{ℕ, zero, suc, ◌+◌, ◌≡◌, ◌<◌, ◌↔◌, Bool, true, List, [], ◌∷◌, ◌++◌, length, get_or, refl, ap, sym, ◌∙◌, subst, inl, inr, arith}
 use Rattle.std.proofs.lemmas.Bool.{cases_eq}
 use Rattle.std.proofs.lemmas.Option.{get_or_from_slice_get}
@@ -17,7 +17,7 @@ use Rattle.llparse.proofs.look_ahead.Comes.{comes_iff, next_behind, next_cases, 
 use Rattle.closure.proofs.Positions.{element_at}
 use Rattle.llparse.proofs.look_ahead.Firsts.{left_in, named_in}
 
--- a production is predicted where its items come next, or what follows it
+-- a production is predicted if the look-ahead comes next along its items, or follows it
 pub predicts_iff : (g : Grammar) (ok : IsAccepted g) (n : ℕ → Bool) (known : (s : ℕ) → n s ≡ true ↔ IsNullable g s) (x : Ahead) (begins follows : List Bool) → AreFirst g x begins → AreFollow g x follows
     → (p : ℕ) (q : Production) → IsProduction g p q → next_in (λ y. is_marked begins (node_in g y)) (is_empty n) (is_marked follows q.left) q.items ≡ true ↔ Predicts g q x
 predicts_iff g ok n known x begins follows first follow p q e =
@@ -45,7 +45,7 @@ marked_before [] b p lt = absurd (omega arith)
 marked_before (m ∷ marks) b zero lt = refl
 marked_before (m ∷ marks) b (suc p) lt = marked_before marks b p (omega arith)
 
--- one production more is told
+-- one more production is decided
 pub predicted_more : (g : Grammar) (x : Ahead) (marks : List Bool) (b : Bool) → ((q : Production) → IsProduction g (length marks) q → b ≡ true ↔ Predicts g q x) → ((p : ℕ) (q : Production) → p < length marks → IsProduction g p q → is_marked marks p ≡ true ↔ Predicts g q x)
     → (p : ℕ) (q : Production) → p < length marks + 1 → IsProduction g p q → is_marked (marks ++ b ∷ []) p ≡ true ↔ Predicts g q x
 predicted_more g x marks b this before p q lt e = elim (cases_eq p (length marks)) [
@@ -53,7 +53,7 @@ predicted_more g x marks b this before p q lt e = elim (cases_eq p (length marks
   | inr other ↦ let inner : p < length marks = omega arith in subst (λ z. z ≡ true ↔ Predicts g q x) (sym (marked_before marks b p inner)) (before p q inner e)
 ]
 
--- what the code tells of one production
+-- the result of the code for one production
 pub predicts_at : (g : Grammar) (ok : IsAccepted g) (n : ℕ → Bool) (known : (s : ℕ) → n s ≡ true ↔ IsNullable g s) (x : Ahead) (begins follows : List Bool) → AreFirst g x begins → AreFollow g x follows
     → (at : ℕ) (r : Production) (symbols literals : ℕ) (items : List Item) (behind result : Bool) → r ≡ get_or g.productions at r → symbols ≡ length g.symbols → literals ≡ length g.literals → items ≡ r.items → behind ≡ is_marked follows r.left
     → result ≡ next_in (λ y. is_marked begins (node_of symbols literals y)) (is_empty n) behind items → (q : Production) → IsProduction g at q → result ≡ true ↔ Predicts g q x

@@ -1,4 +1,4 @@
--- What is open can be completed, where each symbol has a tree.
+-- The open nodes can be completed, if each symbol has a tree.
 use Rattle.std.proofs.Common.{◌≡◌, ℕ, zero, suc, ◌<◌, List, [], ◌∷◌, ◌++◌, length, Some, slice_get, refl, ap, sym, ◌∙◌, subst, append_assoc, arith}
 use Rattle.std.proofs.lemmas.Str.{is_utf8-from_IsUtf8}
 use Rattle.ag_grammar.specs.declared.grammar.Item.TheVariants as item
@@ -42,7 +42,7 @@ module _ (g : Grammar) (accepted : IsAccepted g) where
       let there : slice_get q.items (length before) ≡ Some (item.Symbol s) = subst (λ zs. slice_get zs (length before) ≡ Some (item.Symbol s)) (sym e) (here before (item.Symbol s) ys) in
       tree_of s (accepted.named.items_named p q get (length before) (item.Symbol s) there)
 
-  -- trees of what is left of a right side
+  -- trees of the remaining items of a right side
   fill : (p : ℕ) (q : Production) → IsProduction g p q → (before ys : List Item) → q.items ≡ before ++ ys → (fs : Forest) × FitsAll g (stored_items ys) fs
   fill p q get before [] e = (none, tt)
   fill p q get before (item.Symbol s ∷ ys) e =
@@ -56,7 +56,7 @@ module _ (g : Grammar) (accepted : IsAccepted g) where
       let others = fill p q get (before ++ item.Terminal (Literal l) ∷ []) ys (e ∙ sym (append_assoc before (item.Terminal (Literal l) ∷ []) ys)) in
       (others.0, step.before g others.0 l ys others.1)
 
-  -- a whole tree round a child of what is open
+  -- a whole tree around a child of the open nodes
   pub finish : (os : List Open) (s : ℕ) → IsStack g os s → (c : Tree) → (ws : List Lexeme) × (t : Tree) × Continues g os c ws t
   finish [] s is c = ([], c, (refl, refl))
   finish (o ∷ os) s (q, before, get, items, is) c =
@@ -64,7 +64,7 @@ module _ (g : Grammar) (accepted : IsAccepted g) where
       let outer = finish os q.left is (node o.production (joined o.done (more c fs.0))) in
       (yield_along g o.rest fs.0 ++ outer.0, outer.1, (fs.0, outer.0, fs.1, refl, outer.2))
 
-  -- a tree of the symbol that is asked
+  -- a tree of the expected symbol
   some_tree : (os : List Open) (s : ℕ) → IsStack g os s → (t : Tree) × Fits g (item.Symbol s) t
   some_tree [] s is = subst (λ z. (t : Tree) × Fits g (item.Symbol z) t) (sym is) (tree_of g.start (bound g.symbols g.start accepted.start.symbol accepted.start.declared))
   some_tree (o ∷ os) s (q, before, get, items, is) = symbol_tree o.production q get before o.rest s items
@@ -88,7 +88,7 @@ module _ (k : Task) (accepted : IsAccepted k.grammar) where
         record { next = item.Symbol s; child = c.0; behind = outer.0; stands = is_next k.grammar a.under s a.stands; fits = c.1; splits = refl; continues = outer.2 },
       )
 
-  -- where a leaf comes next
+  -- the next item is a leaf
   pub begins_leaf : (p base c : ℕ) (ys : List Item) (fs : List OpenNode) (i n : ℕ) (rs : Made) (r : Reading k p base (item.Terminal (Class c) ∷ ys) fs i n rs)
       → (rest : List Lexeme) × (t : Tree) × After k i rest t × IsCutAt k.grammar (open_at p r.done ys ∷ r.under) rest t
   begins_leaf p base c ys fs i n rs r =

@@ -1,4 +1,4 @@
--- What closing a node keeps true, and what is known at the end.
+-- The invariants of closing a node, and the state at the end.
 use Rattle.std.proofs.Common.{◌≡◌, ℕ, zero, suc, ◌<◌, ◌≤◌, List, [], ◌∷◌, ◌++◌, length, take, drop, refl, ap, sym, ◌∙◌, subst, append_assoc, append-nil, arith}
 use Rattle.std.proofs.lemmas.List.{length-drop, take_all}
 use Rattle.ag_value.specs.declared.value.Value.{Value}
@@ -18,7 +18,7 @@ use Rattle.llparse.proofs.answers.Kept.{parted, texts-joined}
 use Rattle.llparse.proofs.steps.Sizes as size
 use Rattle.llparse.proofs.steps.Steps as step
 
--- nothing comes next where there are no words
+-- there are no words if the look-ahead is the end
 ends : (ws : List Lexeme) → ahead_of ws ≡ ahead.End → ws ≡ []
 ends [] e = refl
 ends (w ∷ ws) e = absurd (cc)
@@ -33,7 +33,7 @@ module _ (k : Task) where
   abbrev g : Grammar
   g = k.grammar
 
-  -- the node around it goes on
+  -- the node around it continues
   pub on_close : (p base : ℕ) (f : OpenNode) (fs : List OpenNode) (i n : ℕ) (rs out : Made) → WhenHonest k.honest (out.bytes ≡ rs.bytes ++ node_frame p (drop base rs.texts)) → out.texts ≡ take base rs.texts
       → Reading k p base [] (f ∷ fs) i n rs → Between k (f ∷ fs) i n out
   on_close p base f fs i n rs out put cut r = go r.under r.shows r.begins r.held r.stands r.sound r.complete

@@ -1,8 +1,8 @@
--- Fronts of lists, and stacks.
+-- Prefixes of lists, and stacks.
 use Rattle.std.proofs.Common.{◌≡◌, ℕ, zero, suc, ◌+◌, List, [], ◌∷◌, ◌++◌, take, drop, reverse, ap, sym, ◌∙◌, append_assoc, add-one}
 use Rattle.std.proofs.lemmas.List.{reverse-append}
 
--- the front with one more
+-- the prefix with one more element
 front : {A : Type 0} (xs : List A) (i : ℕ) (x : A) (rest : List A) → drop i xs ≡ x ∷ rest → take (i + 1) xs ≡ take i xs ++ x ∷ []
 front [] zero x rest e = absurd (cc)
 front [] (suc i) x rest e = absurd (cc)
@@ -12,6 +12,6 @@ front {A} (y ∷ ys) (suc i) x rest e = ap (λ j. take j (y ∷ ys)) (add-one (s
 pub one_more : {A : Type 0} (xs : List A) (i : ℕ) (x : A) (rest others : List A) → drop i xs ≡ x ∷ rest → take (i + 1) xs ++ others ≡ take i xs ++ (x ∷ others)
 one_more xs i x rest others e = ap (λ z. z ++ others) (front xs i x rest e) ∙ append_assoc (take i xs) (x ∷ []) others
 
--- a stack from its top, where one is put on or taken off
+-- a stack from its top, with one element pushed or popped
 pub on_top : {A : Type 0} (less full : List A) (x : A) → full ≡ less ++ x ∷ [] → reverse full ≡ x ∷ reverse less
 on_top less full x e = ap reverse e ∙ reverse-append less (x ∷ [])

@@ -1,4 +1,4 @@
--- What taking a token of a class keeps true.
+-- The invariants of taking a token of a class.
 use Rattle.std.proofs.Common.{◌≡◌, ℕ, suc, ◌+◌, ◌<◌, ◌≤◌, List, [], ◌∷◌, ◌++◌, length, drop, ap, sym, ◌∙◌, subst, append_assoc, append-nil, arith}
 use Rattle.ag_value.specs.declared.value.Value.{Text}
 use Rattle.ag_grammar.specs.declared.grammar.Item.TheVariants as item
@@ -69,7 +69,8 @@ module _ (k : Task) where
         other (sym e ∙ ap ahead_of w.2);
   }
 
-  -- where a leaf comes next and a limit is reached, it is passed by each tree that has the leaf with what is open
+  -- if the next item is a leaf and a limit is reached, each tree that has the leaf and the open nodes is
+  -- beyond it
   beyond_leaf : (size : Tree → ℕ) (begun : List Open → ℕ) (limit : ℕ) → IsAccepted k.grammar → (p base c : ℕ) (ys : List Item) (fs : List OpenNode) (i n : ℕ) (rs : Made)
       → (r : Reading k p base (item.Terminal (Class c) ∷ ys) fs i n rs) → limit ≤ begun (open_at p r.done ys ∷ r.under)
       → ((x : List ℕ) (ws : List Lexeme) (t : Tree) → Completes k.grammar (open_at p (joined r.done (more (leaf c x) none)) ys) r.under ws t → limit < size t)

@@ -1,4 +1,4 @@
--- What a stack shows, and what is known of all words from those so far.
+-- The open nodes of a stack, and the words read so far as a part of all words.
 use Rattle.std.proofs.Common.{◌≡◌, ℕ, suc, List, [], ◌∷◌, ◌++◌, length, take, drop, refl, ap, sym, subst}
 use Rattle.std.proofs.lemmas.List.{take-append-drop}
 use Rattle.ag_grammar.specs.grammars.AttributeGrammar.{Grammar}
@@ -15,6 +15,6 @@ length-shows g [] (f ∷ fs) h = absurd h
 length-shows g (o ∷ os) [] h = absurd h
 length-shows g (o ∷ os) (f ∷ fs) h = ap suc (length-shows g os fs h.3)
 
--- the words so far and those left are all words
+-- the words so far and the remaining ones are all words
 pub whole : (g : Grammar) (words : List Lexeme) (i : ℕ) (t : Tree) → IsTreeWith g words t → IsTreeWith g (take i words ++ drop i words) t
 whole g words i t is = subst (λ ws. IsTreeWith g ws t) (sym (take-append-drop i words)) is

@@ -1,4 +1,4 @@
--- What each step keeps true, over the stack of open nodes from its top.
+-- The invariants of each step, over the stack of open nodes from its top.
 use Rattle.std.proofs.Common.{◌≡◌, ℕ, zero, suc, ◌+◌, ◌-◌, ◌*◌, ◌<◌, ◌≤◌, List, [], ◌∷◌, ◌++◌, length, take, drop, slice_get, Some, None, refl, ap, ◌∙◌, subst, arith}
 use Rattle.std.proofs.Math.Nat.{mul-suc, mul-le-mul_left}
 use Rattle.ag_value.specs.declared.value.Value.{Text}
@@ -26,17 +26,17 @@ use Rattle.llparse.proofs.steps.Literals as literals
 use Rattle.llparse.proofs.steps.Starts as starts
 
 module _ (k : Task) where
-  -- an open node that has an item next, which it passes
+  -- an open node with a next item, which it passes
   pub faces : (node : OpenNode) (x : Item) (fs : List OpenNode) (i n : ℕ) (rs : Made) → slice_get (right_side k.grammar node.production) node.passed ≡ Some x
       → Between k (node ∷ fs) i n rs → Before k x (advanced node ∷ fs) i n rs
   faces node x fs i n rs next = subst (λ ys. Reading k node.production node.base ys fs i n rs) (rest_at (right_side k.grammar node.production) node.passed x next)
 
-  -- an open node that has none next
+  -- an open node at its end
   pub ends : (node : OpenNode) (fs : List OpenNode) (i n : ℕ) (rs : Made) → slice_get (right_side k.grammar node.production) node.passed ≡ None
       → Between k (node ∷ fs) i n rs → Reading k node.production node.base [] fs i n rs
   ends node fs i n rs over = subst (λ ys. Reading k node.production node.base ys fs i n rs) (rest_none (right_side k.grammar node.production) node.passed over)
 
-  -- and is closed
+  -- is closed
   pub closed : (p base : ℕ) (fs : List OpenNode) (i n : ℕ) (rs out : Made) → WhenHonest k.honest (out.bytes ≡ rs.bytes ++ node_frame p (drop base rs.texts)) → out.texts ≡ take base rs.texts
       → Reading k p base [] fs i n rs → Between k fs i n out
   closed p base [] i n rs out put cut r = closing.on_root k p base i n rs out put r

@@ -1,4 +1,4 @@
--- What is asked at the beginning, and what opening a node keeps true.
+-- The expected symbol at the beginning, and the invariants of opening a node.
 use Rattle.std.proofs.Common.{◌≡◌, ℕ, ◌+◌, ◌<◌, ◌≤◌, List, [], ◌∷◌, ◌++◌, length, drop, Option, Some, None, refl, ap, sym, ◌∙◌, subst, append-nil, arith}
 use Rattle.ag_grammar.specs.declared.grammar.Item.TheVariants as item
 use Rattle.ag_grammar.specs.declared.grammar.Item.{Item}
@@ -72,7 +72,8 @@ module _ (k : Task) where
       begins = let b = begins_asked k accepted s fs i n rs a in (b.0, b.1, b.2);
     }
 
-  -- where a node is to be opened and a limit is reached, it is passed by each tree that has the node below what is open
+  -- if a node is to be opened and a limit is reached, each tree that has the node below the open nodes is
+  -- beyond it
   beyond_node : (size : Tree → ℕ) (begun : List Open → ℕ) (limit : ℕ) → IsAccepted k.grammar → (s : ℕ) (fs : List OpenNode) (i n : ℕ) (rs : Made)
       → (a : Asked k s fs i n rs) → limit ≤ begun a.under → ((c : Tree) (ws : List Lexeme) (t : Tree) → Continues k.grammar a.under c ws t → limit < size t)
       → LeavesOnly k.grammar k.words size begun limit
@@ -90,7 +91,7 @@ module _ (k : Task) where
         only = λ others t e p. let w = a.complete others t e p in passed w.0 w.1 t w.4;
       }
 
-  -- a node that is opened counts, and stands below the others
+  -- a node that is opened counts, and is below the others
   pub deep_node : IsAccepted k.grammar → (s : ℕ) (fs : List OpenNode) (i n : ℕ) (rs : Made) → k.depth ≤ length fs → Asked k s fs i n rs → IsTooDeep k
   deep_node accepted s fs i n rs full a =
       let same = length-shows g a.under fs a.shows in

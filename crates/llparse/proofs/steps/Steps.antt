@@ -1,4 +1,4 @@
--- What each step of the parser does to the trees that complete what is open.
+-- The effect of each step of the parser on the trees that complete the open nodes.
 use Rattle.std.proofs.Common.{◌≡◌, ◌↔◌, ℕ, List, [], ◌∷◌, ◌++◌, Some, None, slice_get, refl, ap, sym, ◌∙◌, subst, append_assoc, append-nil, arith}
 use Rattle.ag_grammar.specs.declared.grammar.Item.TheVariants as item
 use Rattle.ag_grammar.specs.declared.grammar.Item.{Item}
@@ -29,7 +29,7 @@ module _ (g : Grammar) where
   abbrev all_words : Forest → List Item → List Lexeme
   all_words ts xs = yield_along g xs ts
 
-  -- at the beginning a tree of the start symbol comes next
+  -- at the beginning a tree of the start symbol is expected
   pub begin : (ws : List Lexeme) (t : Tree) → IsTreeWith g ws t ↔ Wants g [] g.start ws t
   begin ws t = (there, back)
     where
@@ -42,7 +42,7 @@ module _ (g : Grammar) where
         yields = ap words same ∙ sym (append-nil (words c)) ∙ ap (λ v. words c ++ v) (sym nil) ∙ sym e;
       }
 
-  -- a symbol that is next: a tree of it comes next
+  -- the next item is a symbol: a tree of it is expected
   pub ask : (p : ℕ) (done : Forest) (s : ℕ) (xs : List Item) (os : List Open) (ws : List Lexeme) (t : Tree)
       → Completes g (open_at p done (item.Symbol s ∷ xs)) os ws t ↔ Wants g (open_at p done xs ∷ os) s ws t
   ask p done s xs os ws t = (there, back)
@@ -55,14 +55,14 @@ module _ (g : Grammar) where
       back (c, us, is, e, (fs, vs, fit, e2, k)) =
           (more c fs, vs, (is, fit), e ∙ ap (λ x. words c ++ x) e2 ∙ sym (append_assoc (words c) (all_words fs xs) vs), k)
 
-  -- what follows a child of the innermost open node may follow its symbol
+  -- a word after a child of the innermost open node is in FOLLOW of its symbol
   follow_of : (os : List Open) (s : ℕ) → IsStack g os s → (c : Tree) (ws : List Lexeme) (t : Tree) → Continues g os c ws t → InFollow g s (ahead_of ws)
   follow_of [] s is c ws t (e, same) = subst (λ x. InFollow g s (ahead_of x)) (sym e) (subst (λ x. InFollow g x ahead.End) (sym is) at_end)
   follow_of (o ∷ os) s (q, before, get, items, is) c ws t (fs, vs, fit, e, k) =
       let outer = follow_of os q.left is (node o.production (joined o.done (more c fs))) vs t k in
       subst (λ x. InFollow g s (ahead_of x)) (sym e) (unique.follows g o.production q get before o.rest s items fs fit vs outer)
 
-  -- the tree that comes next has a production that is predicted
+  -- the expected tree has a production that is predicted
   pub open_next : (os : List Open) (s : ℕ) (ws : List Lexeme) (t : Tree) → IsStack g os s → Wants g os s ws t
       → (k : ℕ) × (q : Production) × (IsProduction g k q) × (q.left ≡ s) × Predicts g q (ahead_of ws) × Completes g (open_at k none q.items) os ws t
   open_next os s ws t is (leaf d lex, vs, tree, e, c) = absurd tree
@@ -76,7 +76,7 @@ module _ (g : Grammar) where
   open_back os s ws t k q get left (ts, vs, fits, e, c) =
       (node k ts, vs, (q, get, left, fits), e ∙ ap (λ x. all_words ts x ++ vs) (sym (unique.items_are g k q get)), c)
 
-  -- where the table names a production, the trees are those with this one
+  -- if the table has a production, the trees are those with it
   pub opens : (tables : Choices) → FitsGrammar g tables → (os : List Open) (s : ℕ) (ws : List Lexeme) (t : Tree) (k : ℕ) (q : Production)
       → IsStack g os s → choice_of tables s (ahead_of ws) ≡ Some k → IsProduction g k q → q.left ≡ s
       → Wants g os s ws t ↔ Completes g (open_at k none q.items) os ws t
@@ -92,7 +92,7 @@ module _ (g : Grammar) where
           let rule : n.1 ≡ q = cc in
           subst (λ r. Completes g (open_at k none r.items) os ws t) rule (subst (λ i. Completes g (open_at i none n.1.items) os ws t) one n.5)
 
-  -- and where it names none there are none
+  -- and if it has none, there are no trees
   pub no_rule : (tables : Choices) → FitsGrammar g tables → (os : List Open) (s : ℕ) (ws : List Lexeme) (t : Tree)
       → IsStack g os s → choice_of tables s (ahead_of ws) ≡ None → Wants g os s ws t → ⊥
   no_rule tables fits os s ws t is unnamed w =
@@ -100,7 +100,7 @@ module _ (g : Grammar) where
       let too : choice_of tables s (ahead_of ws) ≡ Some n.0 = (fits s (ahead_of ws) n.0).1 (n.1, n.2, n.3, n.4) in
       absurd (cc)
 
-  -- a literal that is next is the first word
+  -- if the next item is a literal, it is the first word
   pub literal_next : (p : ℕ) (done : Forest) (l : ℕ) (xs : List Item) (os : List Open) (ws : List Lexeme) (t : Tree)
       → Completes g (open_at p done (item.Terminal (Literal l) ∷ xs)) os ws t
       → (rest : List Lexeme) × (ws ≡ (Literal l, literal_text g l) ∷ rest) × Completes g (open_at p done xs) os rest t
@@ -124,7 +124,7 @@ module _ (g : Grammar) where
       back : Completes g (open_at p done xs) os rest t → Completes g (open_at p done (item.Terminal (Literal l) ∷ xs)) os ((Literal l, literal_text g l) ∷ rest) t
       back (fs, vs, fit, e, k) = (fs, vs, before fs l xs fit, ap (λ x. (Literal l, literal_text g l) ∷ x) e, k)
 
-  -- a class that is next is the first word's, and the word is a leaf
+  -- if the next item is a class, it is the first word's, and the word is a leaf
   pub class_next : (p : ℕ) (done : Forest) (c : ℕ) (xs : List Item) (os : List Open) (ws : List Lexeme) (t : Tree)
       → Completes g (open_at p done (item.Terminal (Class c) ∷ xs)) os ws t
       → (x : List ℕ) × (rest : List Lexeme) × (ws ≡ (Class c, x) ∷ rest) × Completes g (open_at p (joined done (more (leaf c x) none)) xs) os rest t

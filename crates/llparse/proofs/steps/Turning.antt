@@ -1,4 +1,4 @@
--- What one turn of a parser keeps: the innermost open node is closed, or goes behind its next item.
+-- The invariants of one step of a parser: the innermost open node is closed, or moves past its next item.
 use Rattle.std.proofs.Common.{◌≡◌, ℕ, ◌<◌, ◌≤◌, Bool, List, [], ◌∷◌, ◌++◌, drop, take, length, reverse, All, Some, None, refl, sym, ◌∙◌, subst, arith}
 use Rattle.std.proofs.lemmas.List.{length-map}
 use Rattle.std.proofs.lemmas.Option.{slice_get_within}
@@ -23,7 +23,7 @@ use Rattle.llparse.proofs.answers.Kept.{own_texts}
 use Rattle.llparse.proofs.steps.Stacks.{closed, ends, faces, fewer_counted, fewer_passed}
 use Rattle.llparse.proofs.steps.Starts.{begin, no_rule, on_open}
 
--- at the beginning the root is open, or no production of its symbol can come
+-- at the beginning the root is open, or no production of its symbol is predicted
 module _ (k : Task) (tables : Choices) (fits : FitsGrammar k.grammar tables) (s : ℕ) (start : s ≡ k.grammar.start) where
   abbrev nothing_made : Made
   nothing_made = record { bytes = k.front; texts = [] }
@@ -39,7 +39,7 @@ module _ (k : Task) (tables : Choices) (fits : FitsGrammar k.grammar tables) (s 
   pub not_begun : IsAccepted k.grammar → choice_of tables s (ahead_of (drop 0 k.words)) ≡ None → IsStuckAt k.grammar k.words 0
   not_begun accepted unnamed = no_rule k tables fits accepted s [] 0 0 nothing_made unnamed at_start
 
--- a call of the device keeps what calls before it kept
+-- consecutive calls of the device persist
 pub persists_on : {E : Type 0} (a b d : Bool) (x y z : ℕ) → Persists a b x y ⊥ → Persists b d y z E → Persists a d x z ⊥
 persists_on a b d x y z p q =
     let first = p.kept in
@@ -50,7 +50,7 @@ persists_on a b d x y z p q =
 pub within : (k : Task) (node : OpenNode) (p : Parser) (bytes : List ℕ) → IsBetween k node p bytes → node.production < length k.grammar.productions
 within k node p bytes stands = slice_get_within k.grammar.productions node.production stands.stands.0 stands.stands.2
 
--- the innermost open node has an item next, and goes behind it
+-- the innermost open node has a next item, and moves past it
 module _ (k : Task) (node now : OpenNode) (x : Item) (passed : Advances (right_side k.grammar node.production) node (Some x) now) where
   pub faced : (y : Item) → x ≡ y → (p : Parser) (bytes : List ℕ) → IsBetween k node p bytes → Faces k y now p bytes
   faced y is p bytes stands = rw (sym is, passed.1) (faces k node x (reverse p.waiting.items) p.tokens.taken p.count (made_by p bytes) passed.0 stands)

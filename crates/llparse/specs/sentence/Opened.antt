@@ -1,4 +1,4 @@
--- What a parser has open, and which trees complete it (this project's).
+-- The open nodes of a parser, and the trees that complete them (this project's).
 use Rattle.std.specs.Prelude.{◌≡◌, ℕ, suc, ◌+◌, List, [], ◌∷◌, ◌++◌}
 use Rattle.ag_grammar.specs.declared.grammar.Item.TheVariants as item
 use Rattle.ag_grammar.specs.declared.grammar.Item.{Item}
@@ -12,7 +12,7 @@ abbrev pub joined : Forest → Forest → Forest
 joined none us = us
 joined (more t ts) us = more t (joined ts us)
 
--- a node whose right side is read up to `rest`, with the trees of what was read
+-- a node whose right side is read up to `rest`, with the trees of the items before it
 pub record Open : Type 0 where
   pub production : ℕ
   pub done : Forest
@@ -22,20 +22,21 @@ pub record Open : Type 0 where
 abbrev pub open_at : ℕ → Forest → List Item → Open
 open_at p done rest = record { production = p; done = done; rest = rest }
 
--- how many nodes are open or done
+-- the number of nodes that are open or done
 abbrev pub opened : List Open → ℕ
 opened [] = 0
 opened (o ∷ os) = suc (node_counts o.done) + opened os
 
 module _ (g : Grammar) where
-  -- t is a whole tree in which c is the next child of the innermost open node, and the words are what follows c
+  -- t is a whole tree in which c is the next child of the innermost open node, and the words are those after
+  -- c
   abbrev pub Continues : List Open → Tree → List Lexeme → Tree → Type 0
   Continues [] c ws t = (ws ≡ []) × (t ≡ c)
   Continues (o ∷ os) c ws t =
       (fs : Forest) × (vs : List Lexeme) × FitsAll g (stored_items o.rest) fs × (ws ≡ yield_along g o.rest fs ++ vs)
       × Continues os (node o.production (joined o.done (more c fs))) vs t
 
-  -- t is a whole tree that completes what is open, and the words are those still to come
+  -- t is a whole tree that completes the open nodes, and the words are the remaining ones
   abbrev pub Completes : Open → List Open → List Lexeme → Tree → Type 0
   Completes o os ws t =
       (fs : Forest) × (vs : List Lexeme) × FitsAll g (stored_items o.rest) fs × (ws ≡ yield_along g o.rest fs ++ vs)
@@ -47,16 +48,18 @@ module _ (g : Grammar) where
       (c : Tree) × (vs : List Lexeme) × Fits g (item.Symbol s) c × (ws ≡ yield_of g c ++ vs)
       × Continues os c vs t
 
-  -- each open node stands where its symbol is asked
+  -- each open node is at a place where its symbol is expected
   abbrev pub IsStack : List Open → ℕ → Type 0
   IsStack [] s = s ≡ g.start
   IsStack (o ∷ os) s = (q : Production) × (before : List Item) × IsProduction g o.production q × (q.items ≡ before ++ item.Symbol s ∷ o.rest) × IsStack os q.left
 
-  -- the innermost open node stands where the one around it asks for it, and has read a beginning of its right side
+  -- the innermost open node is at a place where the one around it expects it, and has read a prefix of its
+  -- right side
   abbrev pub Stands : Open → List Open → Type 0
   Stands o os = (q : Production) × (before : List Item) × IsProduction g o.production q × (q.items ≡ before ++ o.rest) × IsStack os q.left
 
-  -- each open node stands where the one around it asks for it, and what the innermost one asks for next is this item
+  -- each open node is at a place where the one around it expects it, and the next item of the innermost one
+  -- is this item
   abbrev pub IsNext : List Open → Item → Type 0
   IsNext [] x = x ≡ item.Symbol g.start
   IsNext (o ∷ os) x = Stands (open_at o.production o.done (x ∷ o.rest)) os

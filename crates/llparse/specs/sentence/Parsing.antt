@@ -1,4 +1,4 @@
--- What a parser keeps true while it runs (this project's).
+-- The invariants of a parser (this project's).
 use Rattle.std.specs.Prelude.{◌≡◌, ℕ, Bool, suc, ◌+◌, ◌-◌, ◌*◌, ◌≤◌, List, [], ◌∷◌, ◌++◌, length, take, drop, slice_get}
 use Rattle.ag_value.specs.declared.value.Value.{Value}
 use Rattle.ag_grammar.specs.declared.grammar.Item.{Item}
@@ -20,7 +20,7 @@ use Rattle.llparse.specs.declared.sentence.parse_fault.ParseFault.{ParseFault}
 use Rattle.llparse.specs.declared.sentence.parse_fault.ParseFault.TheVariants as fault
 use Rattle.llparse.specs.declared.sentence.parser.OpenNode.{OpenNode}
 
--- what is parsed, within which limits, whether the device is honest, and what it had before
+-- the input of a parse, its limits, whether the device is honest, and its old content
 pub record Task : Type 0 where
   pub grammar : Grammar
   pub words : List Lexeme
@@ -34,18 +34,18 @@ abbrev pub task_of : Grammar → List Token → Bool → List ℕ → Task
 task_of g tokens honest front =
     record { grammar = g; words = words_of tokens; depth = most_depth; nodes = most_nodes; honest = honest; front = front }
 
--- the right side of a production's number, empty where there is none
+-- the right side of a production's number, empty if there is none
 abbrev pub right_side : Grammar → ℕ → List Item
 right_side g p = yields.right_side (slice_get g.productions p)
 
--- what is written of a leaf, and of a node, which has no value of its own yet, but copies of its leaves' texts
+-- the frames of a leaf and of a node, which has no value of its own yet, but copies of its leaves' texts
 abbrev pub leaf_frame : ℕ → List ℕ → List ℕ
 leaf_frame c x = frame (token_body c x)
 
 abbrev pub node_frame : ℕ → List Value → List ℕ
 node_frame p texts = frame (body_of Node p texts)
 
--- the frames of a tree from left to right, each node behind its children
+-- the frames of a tree from left to right, each node after its children
 abbrev mutual
   pub post : Tree → List ℕ
   post (leaf c x) = leaf_frame c x
@@ -64,7 +64,7 @@ abbrev pub kept : List Open → List Value
 kept [] = []
 kept (o ∷ os) = kept os ++ leaf_texts o.done
 
--- the stack has the productions of what is open, how far each is read, and where its texts begin
+-- the stack has the productions of the open nodes, how far each is read, and the beginnings of their texts
 abbrev pub Shows : Grammar → List Open → List OpenNode → Type 0
 Shows g [] [] = Unit {0}
 Shows g [] (f ∷ fs) = ⊥
@@ -76,17 +76,17 @@ abbrev pub written : List Open → List ℕ
 written [] = []
 written (o ∷ os) = written os ++ posts o.done
 
--- what a parser has made: the bytes that the device has, and the texts that it keeps
+-- the output of a parser: the bytes that the device has, and the texts that it keeps
 pub record Made : Type 0 where
   pub bytes : List ℕ
   pub texts : List Value
 
--- each tree that is done is shallow enough where it stands
+-- each tree that is done is within the depth limit at its level
 abbrev pub IsShallow : ℕ → List Open → Type 0
 IsShallow depth [] = Unit {0}
 IsShallow depth (o ∷ os) = (deepest o.done + suc (length os) ≤ depth) × IsShallow depth os
 
--- what the counters, the records and the texts say of what is open
+-- the counters, the records and the texts agree with the open nodes
 pub record Held (k : Task) (os : List Open) (at count : ℕ) (made : Made) : Type 0 where
   pub within : at ≤ length k.words
   pub content : WhenHonest k.honest (made.bytes ≡ k.front ++ written os)
@@ -95,9 +95,9 @@ pub record Held (k : Task) (os : List Open) (at count : ℕ) (made : Made) : Typ
   pub few : count ≤ k.nodes
   pub shallow : IsShallow k.depth os
 
--- A node of production p is open at ys, within the nodes of the stack fs, and its texts are behind so many; the trees that
--- complete it have the words read so far before those that they are still to have, and these are all such trees, where what comes
--- next is as it is.
+-- A node of production p is open at ys, within the nodes of the stack fs, and its texts begin at `base`; the
+-- trees that complete it have the words read so far and then their remaining words, and these are all such
+-- trees with the given look-ahead.
 pub record Reading (k : Task) (p base : ℕ) (ys : List Item) (fs : List OpenNode) (at count : ℕ) (made : Made) : Type 0 where
   pub done : Forest
   pub under : List Open
@@ -128,12 +128,13 @@ pub record Whole (k : Task) (at count : ℕ) (bytes : List ℕ) : Type 0 where
   pub sound : After k at [] tree
   pub complete : (rest : List Lexeme) (t : Tree) → ahead_of rest ≡ ahead_of (drop at k.words) → After k at rest t → (rest ≡ []) × (t ≡ tree)
 
--- Where a parser is between two steps: the first node of its stack is open where the stack says, or the tree is done.
+-- A parser is between two steps: the first node of its stack is open where the stack says, or the tree is
+-- done.
 abbrev pub Between : Task → List OpenNode → ℕ → ℕ → Made → Type 0
 Between k [] at count made = Whole k at count made.bytes
 Between k (f ∷ fs) at count made = Reading k f.production f.base (drop f.passed (right_side k.grammar f.production)) fs at count made
 
--- The first node of the stack has an item before it, which the stack has passed.
+-- The first node of the stack has just passed an item.
 abbrev pub Before : Task → Item → List OpenNode → ℕ → ℕ → Made → Type 0
 Before k x [] at count made = ⊥
 Before k x (f ∷ fs) at count made = Reading k f.production f.base (x ∷ drop f.passed (right_side k.grammar f.production)) fs at count made
@@ -155,7 +156,7 @@ IsTooDeep k = LeavesOnlyDeeper k.depth k.grammar k.words
 abbrev pub IsTooLarge : Task → Type 0
 IsTooLarge k = LeavesOnlyLarger k.nodes k.grammar k.words
 
--- what a refusal says, where each token has this offset
+-- the meaning of a fault, with the offset of each token
 abbrev pub IsRefused : Task → (ℕ → ℕ) → ParseFault → Type 0
 IsRefused k offset (fault.Unexpected at) = (i : ℕ) × IsStuckAt k.grammar k.words i × (at ≡ offset i)
 IsRefused k offset fault.TooDeep = IsTooDeep k
@@ -168,11 +169,11 @@ abbrev pub most : List Production → ℕ
 most [] = 0
 most (q ∷ qs) = length q.items + most qs
 
--- how many steps the open nodes take at most before the next one is opened
+-- the greatest number of steps of the open nodes before the next one is opened
 abbrev pub weight : Grammar → List OpenNode → ℕ
 weight g [] = 0
 weight g (f ∷ fs) = suc (length (drop f.passed (right_side g f.production))) + weight g fs
 
--- how many steps are left at most
+-- the greatest number of steps left
 abbrev pub steps_left : Grammar → ℕ → List OpenNode → ℕ → ℕ
 steps_left g nodes fs count = (most g.productions + 2) * (nodes - count) + weight g fs

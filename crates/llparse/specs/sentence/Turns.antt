@@ -1,4 +1,4 @@
--- What each step of a parser does (this project's).
+-- The effects of each step of a parser (this project's).
 use Rattle.std.specs.Prelude.{◌≡◌, ℕ, ◌+◌, ◌≤◌, Bool, List, ◌∷◌, length, reverse, slice_get, Option, Some, None}
 use Rattle.ag_grammar.specs.declared.grammar.Item.{Item}
 use Rattle.ag_grammar.specs.grammars.Accepted.{IsAccepted}
@@ -14,7 +14,7 @@ use Rattle.llparse.specs.declared.sentence.parse_fault.ParseFault.TheVariants as
 use Rattle.llparse.specs.declared.sentence.parser.OpenNode.{OpenNode}
 use Rattle.llparse.specs.declared.sentence.parser.Parser.{Parser}
 
--- what a parser has made, where the device has these bytes
+-- the output of a parser, if the device has these bytes
 abbrev pub made_by : Parser → List ℕ → Made
 made_by p bytes = record { bytes = bytes; texts = p.texts.items }
 
@@ -26,7 +26,7 @@ IsBetween k node p bytes = Between k (node ∷ reverse p.waiting.items) p.tokens
 abbrev pub Asks : Task → ℕ → OpenNode → Parser → List ℕ → Type 0
 Asks k s node p bytes = Asked k s (node ∷ reverse p.waiting.items) p.tokens.taken p.count (made_by p bytes)
 
--- the innermost open node has an item next, which it has passed
+-- the innermost open node has just passed an item
 abbrev pub Faces : Task → Item → OpenNode → Parser → List ℕ → Type 0
 Faces k x node p bytes = Before k x (node ∷ reverse p.waiting.items) p.tokens.taken p.count (made_by p bytes)
 
@@ -38,33 +38,33 @@ HasTables tables g = IsAccepted g × FitsGrammar g tables
 abbrev pub HasTokens : List Token → Grammar → Type 0
 HasTokens tokens g = IsAccepted g × FitAll (vocabulary_of g) tokens
 
--- For each grammar that is so and has these tokens, what holds before leads to what holds then.
+-- For each grammar that has property P and these tokens, A before implies B after.
 abbrev pub Leads : (Grammar → Type 0) → List Token → (Task → List ℕ → Type 0) → (Task → List ℕ → Type 0) → Type 0
 Leads P tokens A B = (g : Grammar) (honest : Bool) (front bytes : List ℕ) → P g → A (task_of g tokens honest front) bytes → B (task_of g tokens honest front) bytes
 
--- the same where a device's content changes
+-- the same if a device's content changes
 abbrev pub Writes : (Grammar → Type 0) → List Token → Bool → List ℕ → List ℕ → (Task → List ℕ → Type 0) → (Task → List ℕ → Type 0) → Type 0
 Writes P tokens honest old new A B = (g : Grammar) (front : List ℕ) → P g → A (task_of g tokens honest front) old → B (task_of g tokens honest front) new
 
--- where what holds before leads to a refusal that is true
+-- A before implies that the fault is justified
 abbrev pub Refuses : (Grammar → Type 0) → List Token → (Task → List ℕ → Type 0) → ParseFault → Type 0
 Refuses P tokens A e = Leads P tokens A (λ k bytes. IsRefused k (offset_at tokens) e)
 
--- which limit a parser has reached
+-- the limit that a parser has reached
 abbrev pub IsFull : Parser → ParseFault → Type 0
 IsFull p fault.TooDeep = most_depth ≤ length p.waiting.items + 1
 IsFull p fault.TooManyNodes = most_nodes ≤ p.count
 IsFull p fault = ⊥
 
--- how many steps are left at most
+-- the greatest number of steps left
 abbrev pub left_of : Grammar → OpenNode → Parser → ℕ
 left_of g node p = steps_left g most_nodes (node ∷ reverse p.waiting.items) p.count
 
--- an open node behind its item
+-- an open node after its next item
 abbrev pub advanced : OpenNode → OpenNode
 advanced node = record node { passed = node.passed + 1 }
 
--- An open node of a right side has this item next, and goes behind it; or it is at its end.
+-- An open node of a right side has this item next, and moves past it; or it is at its end.
 abbrev pub Advances : List Item → OpenNode → Option Item → OpenNode → Type 0
 Advances items old None new = (slice_get items old.passed ≡ None) × (new ≡ old)
 Advances items old (Some x) new = (slice_get items old.passed ≡ Some x) × (new ≡ advanced old)

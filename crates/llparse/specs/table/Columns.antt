@@ -1,4 +1,4 @@
--- What is kept while tables are filled, a look-ahead at a time (this project's).
+-- The invariants of filling tables, one look-ahead at a time (this project's).
 use Rattle.std.specs.Prelude.{ℕ, ◌≡◌, ◌<◌, ◌≤◌, ◌⊎◌, List, [], Option, Some, None, length, slice_index_or}
 use Rattle.ag_grammar.specs.grammars.AttributeGrammar.{Grammar}
 use Rattle.llparse.specs.Ahead.{IsConflict}
@@ -15,12 +15,12 @@ pub record IsColumn (g : Grammar) (x : Ahead) (choices : List (Option ℕ)) : Ty
   pub chosen : (s k : ℕ) → choice_at choices s ≡ Some k → IsChoice g s x k × ((j : ℕ) → IsChoice g s x j → k ≤ j)
   pub none : (s k : ℕ) → choice_at choices s ≡ None → IsChoice g s x k → ⊥
 
--- the least conflict at one look-ahead, or none where there is none
+-- the least conflict at one look-ahead, if there is one
 abbrev pub IsLeastAt : Grammar → Ahead → Option Pair → Type 0
 IsLeastAt g x None = (a b : ℕ) → IsConflict g a b x → ⊥
 IsLeastAt g x (Some p) = IsConflict g p.first p.second x × ((a b : ℕ) → IsConflict g a b x → IsNoLater p a b)
 
--- the least conflict at the look-aheads before an index, or none where there is none
+-- the least conflict at the look-aheads before an index, if there is one
 abbrev pub IsLeastBelow : Grammar → ℕ → Option Conflict → Type 0
 IsLeastBelow g n None = (a b : ℕ) (y : Ahead) → IsKnownAhead g y → index_of (length g.literals) y < n → IsConflict g a b y → ⊥
 IsLeastBelow g n (Some c) =
@@ -31,11 +31,11 @@ IsLeastBelow g n (Some c) =
 abbrev pub AreColumns : Grammar → ℕ → List (List (Option ℕ)) → Type 0
 AreColumns g n columns = (y : Ahead) → IsKnownAhead g y → index_of (length g.literals) y < n → IsColumn g y (slice_index_or columns (index_of (length g.literals) y) [])
 
--- a conflict where a pair conflicts
+-- the conflict of a pair at a look-ahead
 abbrev pub at_ahead : Pair → Ahead → Conflict
 at_ahead p x = record { first = p.first; second = p.second; ahead = x }
 
--- of a conflict and a pair at a later look-ahead the lesser, where both are
+-- the lesser of a conflict and a pair at a later look-ahead, if there are both
 abbrev pub IsSooner : Option Conflict → Option Pair → Ahead → Option Conflict → Type 0
 IsSooner None None x result = result ≡ None
 IsSooner None (Some p) x result = result ≡ Some (at_ahead p x)

@@ -1,4 +1,4 @@
--- What is noted as edges between nodes, and where that leads.
+-- Edges between nodes, and the nodes that they reach.
 use Rattle.std.specs.Prelude.{ℕ, ◌+◌, ◌≡◌, ◌<◌, ◌⊎◌, ◌↔◌, Bool, true, List, [], ◌∷◌, length, Contains, if◌then◌else◌}
 use Rattle.ag_grammar.specs.declared.grammar.Item.TheVariants as item
 use Rattle.ag_grammar.specs.declared.grammar.Item.{Item}
@@ -16,17 +16,17 @@ use Rattle.closure.specs.declared.edges.Edge.{Edge}
 use Rattle.llparse.specs.declared.ahead.Ahead.{Ahead}
 use Rattle.llparse.specs.declared.ahead.Ahead.TheVariants as ahead
 
--- what has a property B had A, or it has P
+-- B adds P to A: it has the elements of both, and no others
 pub record Adds {X : Type 0} (P A B : X → Type 0) : Type 0 where
   pub kept : (x : X) → A x → B x
   pub all : (x : X) → P x → B x
   pub only : (x : X) → B x → A x ⊎ P x
 
--- it stands in the relation with some element
+-- it is in the relation with some element
 abbrev pub OfSome : {X Y : Type 0} → (X → Y → Type 0) → List X → Y → Type 0
 OfSome {X} R xs y = (x : X) × Contains xs x × R x y
 
--- an edge goes from here to there
+-- an edge goes from one node to another
 pub record IsEdge (from to : ℕ) (e : Edge) : Type 0 where
   pub tail : e.from ≡ from
   pub head : e.to ≡ to
@@ -35,20 +35,20 @@ pub record IsEdge (from to : ℕ) (e : Edge) : Type 0 where
 abbrev pub node_in : Grammar → Item → ℕ
 node_in g x = node_of (length g.symbols) (length g.literals) x
 
--- the items up to the first that is no symbol of the set, and that one
+-- the items up to the first that is not a symbol of the set, including that one
 abbrev pub front : (ℕ → Bool) → List Item → List Item
 front n [] = []
 front n (x ∷ xs) = x ∷ (if is_empty n x then front n xs else [])
 
--- an edge goes from an item in front of a right side to the left side
+-- an edge goes from an item of the front of a right side to the left side
 abbrev pub IsFirstEdge : Grammar → (ℕ → Bool) → Production → Edge → Type 0
 IsFirstEdge g n q e = OfSome (λ x e. IsEdge (node_in g x) q.left e) (front n q.items) e
 
--- how many nodes a grammar has: its symbols, its literals, the classes and the end
+-- the number of nodes of a grammar: its symbols, its literals, the classes and the end
 abbrev pub node_count : Grammar → ℕ
 node_count g = length g.symbols + (length g.literals + 4)
 
--- what is noted in a list of edges
+-- edges are added to a list
 abbrev pub AddsEdges : (Edge → Type 0) → List Edge → List Edge → Type 0
 AddsEdges P before after = Adds P (Contains before) (Contains after)
 
@@ -56,7 +56,7 @@ AddsEdges P before after = Adds P (Contains before) (Contains after)
 abbrev pub IsOver : Grammar → (List Edge → Type 0) → Clauses → Type 0
 IsOver g P clauses = (edges : List Edge) × (clauses ≡ over edges (node_count g)) × P edges
 
--- a list has exactly the edges by which FIRST is reached
+-- a list has exactly the edges for FIRST
 abbrev pub AreFirstEdges : Grammar → List Bool → List Edge → Type 0
 AreFirstEdges g nullable edges = (e : Edge) → Contains edges e ↔ OfSome (IsFirstEdge g (is_marked nullable)) g.productions e
 
@@ -66,7 +66,7 @@ IsKnownAhead g (ahead.Terminal (Literal l)) = l < length g.literals
 IsKnownAhead g (ahead.Terminal (Class c)) = c < class_count
 IsKnownAhead g ahead.End = Unit {0}
 
--- an item is a terminal, or a symbol that may stand for what it comes first in
+-- an item begins with a look-ahead: it is that terminal, or a symbol with it in FIRST
 abbrev pub Begins : Grammar → Item → Ahead → Type 0
 Begins g (item.Symbol s) (ahead.Terminal a) = InFirst g s a
 Begins g (item.Symbol s) ahead.End = ⊥

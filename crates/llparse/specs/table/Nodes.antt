@@ -1,4 +1,4 @@
--- How look-aheads and items are numbered (this project's).
+-- The numbering of look-aheads and items (this project's).
 use Rattle.std.specs.Prelude.{ℕ, ◌+◌}
 use Rattle.ag_grammar.specs.declared.grammar.Item.TheVariants as item
 use Rattle.ag_grammar.specs.declared.grammar.Item.{Item}
@@ -8,14 +8,14 @@ use Rattle.llparse.specs.declared.ahead.Ahead.{Ahead}
 use Rattle.llparse.specs.declared.ahead.Ahead.TheVariants as ahead
 use Rattle.llparse.specs.declared.table.nodes.Sizes.{Sizes}
 
--- A look-ahead's index in their order, where a grammar has so many literals: the literals by their numbers, then the classes
--- by theirs, then the end.
+-- A look-ahead's index in their order, for a number of literals: the literals by their numbers, then the
+-- classes by theirs, then the end.
 abbrev pub index_of : ℕ → Ahead → ℕ
 index_of literals (ahead.Terminal (Literal l)) = l
 index_of literals (ahead.Terminal (Class c)) = literals + c
 index_of literals ahead.End = literals + class_count
 
--- Symbols are nodes by their numbers, and the look-aheads stand behind them.
+-- Symbols are nodes by their numbers, and the look-aheads come after them.
 abbrev pub node_of : ℕ → ℕ → Item → ℕ
 node_of symbols literals (item.Symbol s) = s
 node_of symbols literals (item.Terminal a) = symbols + index_of literals (ahead.Terminal a)

@@ -1,4 +1,4 @@
--- By which clauses symbols are nullable.
+-- The clauses by which symbols are nullable.
 use Rattle.std.specs.Prelude.{ℕ, ◌≡◌, ◌↔◌, Bool, true, false, List, length, map}
 use Rattle.ag_grammar.specs.declared.grammar.Item.TheVariants as item
 use Rattle.ag_grammar.specs.declared.grammar.Item.{Item}
@@ -14,7 +14,7 @@ abbrev pub is_empty : (ℕ → Bool) → Item → Bool
 is_empty n (item.Symbol s) = n s
 is_empty n (item.Terminal a) = false
 
--- a left side is nullable where each item of the right side is
+-- a left side is nullable if each item of the right side is
 abbrev pub clause_of : ℕ → ℕ → Production → Clause
 clause_of symbols literals q = record { head = q.left; body = map (node_of symbols literals) q.items }
 

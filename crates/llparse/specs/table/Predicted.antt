@@ -1,4 +1,4 @@
--- What the sets of a grammar are, and which productions one look-ahead chooses.
+-- The sets of a grammar, and the productions that one look-ahead chooses.
 use Rattle.std.specs.Prelude.{ℕ, ◌≡◌, ◌+◌, ◌<◌, ◌≤◌, ◌⊎◌, ◌↔◌, Bool, true, List, Option, Some, None, slice_get, slice_index_or}
 use Rattle.ag_grammar.specs.declared.grammar.Production.{Production}
 use Rattle.ag_grammar.specs.grammars.AttributeGrammar.{Grammar, IsProduction}
@@ -11,7 +11,7 @@ use Rattle.llparse.specs.declared.ahead.Ahead.{Ahead}
 use Rattle.llparse.specs.declared.table.choosing.Pair.{Pair}
 use Rattle.llparse.specs.declared.table.predict.Sets.{Sets}
 
--- the marks are those of the nullable symbols, and the clauses are of the edges by which FIRST and FOLLOW are reached
+-- the marks are those of the nullable symbols, and the clauses are of the edges for FIRST and FOLLOW
 pub record AreSets (g : Grammar) (sets : Sets) : Type 0 where
   pub nullable_exact : AreNullableMarks g sets.nullable.items
   pub first_exact : IsOver g (AreFirstEdges g sets.nullable.items) sets.first
@@ -25,7 +25,7 @@ ArePredicted g x marks = (p : ℕ) (q : Production) → IsProduction g p q → i
 abbrev pub IsMarkedOf : List Production → List Bool → ℕ → ℕ → Type 0
 IsMarkedOf qs marks s k = (q : Production) × (slice_get qs k ≡ Some q) × (q.left ≡ s) × (is_marked marks k ≡ true)
 
--- what is chosen for a symbol
+-- the choice for a symbol
 abbrev pub choice_at : List (Option ℕ) → ℕ → Option ℕ
 choice_at choices s = slice_index_or choices s None
 
@@ -34,7 +34,7 @@ pub record AreFirstFrom (qs : List Production) (marks : List Bool) (from : ℕ) 
   pub chosen : (s k : ℕ) → choice_at choices s ≡ Some k → (from ≤ k) × IsMarkedOf qs marks s k × ((j : ℕ) → from ≤ j → IsMarkedOf qs marks s j → k ≤ j)
   pub none : (s k : ℕ) → choice_at choices s ≡ None → from ≤ k → IsMarkedOf qs marks s k → ⊥
 
--- two marked productions of one symbol, the first one first
+-- two marked productions of one symbol, the lesser one first
 abbrev pub IsClash : List Production → List Bool → ℕ → ℕ → Type 0
 IsClash qs marks a b = (a < b) × ((s : ℕ) × IsMarkedOf qs marks s a × IsMarkedOf qs marks s b)
 
@@ -42,13 +42,13 @@ IsClash qs marks a b = (a < b) × ((s : ℕ) × IsMarkedOf qs marks s a × IsMar
 abbrev pub IsNoLater : Pair → ℕ → ℕ → Type 0
 IsNoLater p a b = (p.first < a) ⊎ ((p.first ≡ a) × (p.second ≤ b))
 
--- The least pair of such productions, among those whose first is from a number on, or none where there is none.
+-- The least pair of such productions, among those whose first is from a number on, if there is one.
 abbrev pub IsLeastFrom : List Production → List Bool → ℕ → Option Pair → Type 0
 IsLeastFrom qs marks from None = (a b : ℕ) → from ≤ a → IsClash qs marks a b → ⊥
 IsLeastFrom qs marks from (Some p) = (from ≤ p.first) × IsClash qs marks p.first p.second × ((a b : ℕ) → from ≤ a → IsClash qs marks a b → IsNoLater p a b)
 
--- A production is put before those behind it: where it has this mark and this symbol, what was chosen from the next one on is
--- from it on.
+-- A production is added before those after it: if it has this mark and this symbol, the choices from the next
+-- production on become those from it on.
 abbrev pub PutsFirst : ℕ → ℕ → Bool → List (Option ℕ) → List (Option ℕ) → Type 0
 PutsFirst symbol production mark before after =
     (qs : List Production) (marks : List Bool) (q : Production) → slice_get qs production ≡ Some q → q.left ≡ symbol → is_marked marks production ≡ mark

@@ -1,4 +1,4 @@
--- What tables are, and which conflict is the least.
+-- Tables, and the least conflict.
 use Rattle.std.specs.Prelude.{ℕ, ◌≡◌, ◌<◌, ◌≤◌, ◌⊎◌, ◌↔◌, Bool, true, List, [], Option, Some, None, length, slice_index_or, nat_lt, if◌then◌else◌}
 use Rattle.ag_grammar.specs.declared.grammar.Production.{Production}
 use Rattle.ag_grammar.specs.declared.grammar.Terminal.TheVariants.{Literal, Class}
@@ -13,22 +13,22 @@ use Rattle.llparse.specs.declared.ahead.Ahead.TheVariants as ahead
 abbrev pub IsChoice : Grammar → ℕ → Ahead → ℕ → Type 0
 IsChoice g s x k = (q : Production) × IsProduction g k q × (q.left ≡ s) × Predicts g q x
 
--- Tables: how many literals there are, and for each look-ahead, by its index, the production that each symbol has.
+-- Tables: the number of literals, and for each look-ahead, by its index, the production of each symbol.
 pub record Choices : Type 0 where
   pub literals : ℕ
   pub columns : List (List (Option ℕ))
 
--- a look-ahead is one of so many literals, of the classes, or the end
+-- a look-ahead is one of the literals below a number, of the classes, or the end
 abbrev pub is_known : ℕ → Ahead → Bool
 is_known literals (ahead.Terminal (Literal l)) = nat_lt l literals
 is_known literals (ahead.Terminal (Class c)) = nat_lt c class_count
 is_known literals ahead.End = true
 
--- the production of a symbol at a look-ahead, none where there is no such entry
+-- the production of a symbol at a look-ahead, None if there is no such entry
 abbrev pub choice_of : Choices → ℕ → Ahead → Option ℕ
 choice_of t s x = if is_known t.literals x then slice_index_or (slice_index_or t.columns (index_of t.literals x) []) s None else None
 
--- Tables fit a grammar: they have exactly what is predicted.
+-- Tables fit a grammar: they have exactly its predictions.
 abbrev pub FitsGrammar : Grammar → Choices → Type 0
 FitsGrammar g t = (s : ℕ) (x : Ahead) (k : ℕ) → choice_of t s x ≡ Some k ↔ IsChoice g s x k
 

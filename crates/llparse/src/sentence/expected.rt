@@ -1,4 +1,4 @@
-//! What could stand where a sentence is refused: each look-ahead is tried behind the tokens before
+//! The look-aheads expected where a sentence is rejected: each is tried after the tokens before
 //! that place.
 ghost use Rattle.std.specs.Prelude.{◌≡◌, ◌≤◌, true, length, All, IfOk, OnOk};
 ghost use Rattle.llparse.specs.sentence.Parsing.{right_side};
@@ -16,7 +16,8 @@ use ag_scan::{Sentence, Token};
 use ag_value::NoMemory;
 use std::alloc::Global;
 
-/// Takes a token of the terminal that comes next, writes nothing and keeps no text.
+/// Takes the next token as one of `terminal`, without writing a record or keeping a text. Fails
+/// with P1 if the token is another one, and with P2 or P3 if a limit is reached.
 fn pass(parser: &mut Parser<'_>, terminal: Terminal) -> Result<(), ParseFault>
     ensures waiting { OnOk result (parser.new.waiting.items ≡ parser.old.waiting.items) }
     ensures count { OnOk result (parser.old.count ≤ parser.new.count) }
@@ -30,8 +31,8 @@ fn pass(parser: &mut Parser<'_>, terminal: Terminal) -> Result<(), ParseFault>
     Ok(())
 }
 
-/// The item that an open node has next, which the node goes behind; none where it is at its end, and
-/// where the grammar has no such production.
+/// Returns the next item of an open node, and moves the node past it. Returns `None` at the node's
+/// end, and if the grammar has no such production.
 fn next_if_any(grammar: &Grammar, node: &mut OpenNode) -> Option<Item>
     ensures { Advances (right_side grammar.now node.old.production) node.old result node.new }
 {
@@ -41,9 +42,9 @@ fn next_if_any(grammar: &Grammar, node: &mut OpenNode) -> Option<Item>
     None
 }
 
-/// Goes on with the innermost open node and those that wait for it, until so many tokens are taken
-/// or nothing is open, and writes nothing. Gives the node that is then the innermost one, if any. A
-/// refusal leaves the parser at the token that it can't take.
+/// Continues with the innermost open node and those that wait for it, until `until` tokens are
+/// taken or no node is open, and writes nothing. Returns the node that is then the innermost one,
+/// if any. After a fault the parser is at the token that it can't take.
 fn go_on(
     parser: &mut Parser<'_>,
     innermost: OpenNode,
@@ -71,7 +72,8 @@ fn go_on(
     }
 }
 
-/// The start symbol is opened and then gone on with, until so many tokens are taken.
+/// Opens the start symbol and continues until `until` tokens are taken. Returns the innermost open
+/// node, if any.
 fn begin(
     parser: &mut Parser<'_>,
     grammar: &Grammar,
@@ -82,7 +84,8 @@ fn begin(
     go_on(parser, root, grammar, tables, until)
 }
 
-/// Whether a terminal is the look-ahead, and a parser has room for its leaf, where it has one.
+/// Returns whether a terminal is the look-ahead, and the parser has room for its leaf, if it has
+/// one.
 fn takes(parser: &Parser<'_>, terminal: Terminal, ahead: Ahead) -> bool {
     if ahead != Ahead::Terminal(terminal) {
         return false;
@@ -93,7 +96,7 @@ fn takes(parser: &Parser<'_>, terminal: Terminal, ahead: Ahead) -> bool {
     }
 }
 
-/// Whether a look-ahead could stand where a parser goes on, whose innermost open node is this.
+/// Returns whether a parser with this innermost open node can accept the look-ahead next.
 fn leads_to(
     parser: &mut Parser<'_>,
     innermost: OpenNode,
@@ -126,8 +129,8 @@ fn leads_to(
     }
 }
 
-/// Whether a look-ahead could stand behind what a parser has taken, with its innermost open node, if
-/// any.
+/// Returns whether a look-ahead can follow the tokens that a parser has taken, with its innermost
+/// open node, if any.
 fn could_stand(
     alloc: Global,
     grammar: &Grammar,
@@ -151,7 +154,7 @@ fn could_stand(
     }
 }
 
-/// All look-aheads that could stand behind what a parser has taken, in their order.
+/// Returns all look-aheads that can follow the tokens that a parser has taken, in their order.
 fn all_that_could(
     alloc: Global,
     grammar: &Grammar,
@@ -174,21 +177,21 @@ fn all_that_could(
     Ok(expected)
 }
 
-/// Where `parse` refuses tokens by P1.
+/// The place where `parse` rejects tokens with P1.
 #[derive(Debug, Drop)]
 pub struct Stuck<'t> {
-    /// How many tokens stand before the one that can't be taken; all of them, where the sentence
-    /// can't end.
+    /// The number of tokens before the one that can't be taken; the number of all tokens, if the
+    /// sentence can't end there.
     pub index: usize,
-    /// The token that can't be taken; none where the sentence can't end.
+    /// The token that can't be taken; `None` if the sentence can't end there.
     pub found: Option<Token<'t>>,
-    /// What could stand in its place: the literals in the grammar's order, the classes, and then the
-    /// end of the sentence.
+    /// The expected look-aheads: the literals in the grammar's order, the classes, and then the end
+    /// of the sentence.
     pub expected: Vec<Ahead>,
 }
 
-/// A parser that has taken as many tokens as it can, and whether the one behind them can't be taken,
-/// or the end can't come there.
+/// Runs a parser that takes as many tokens as it can. Returns it, and whether the next token can't
+/// be taken or the sentence can't end there.
 fn stopped<'t>(
     alloc: Global,
     grammar: &Grammar,
@@ -205,8 +208,9 @@ fn stopped<'t>(
     Ok((parser, refused))
 }
 
-/// A parser that has taken so many tokens, and has not looked at the next one, with its innermost
-/// open node. None is told before the first token, where the next one chooses the root's production.
+/// Runs a parser until it has taken `count` tokens, without looking at the next one. Returns it and
+/// its innermost open node; `None` before the first token, since the next one chooses the root's
+/// production.
 fn parser_behind<'t>(
     alloc: Global,
     grammar: &Grammar,
@@ -222,14 +226,14 @@ fn parser_behind<'t>(
     Ok((parser, innermost))
 }
 
-/// The place where `parse` refuses this sentence by P1, and what could stand there. Each look-ahead
-/// has been tried behind the tokens before that place, with all that is open there, so one that the
-/// tables allow in other places alone is not told. Where `parse` doesn't refuse it by P1, there is
-/// nothing that could stand.
+/// Returns the place where `parse` rejects this sentence with P1, and the look-aheads expected
+/// there. Each look-ahead is tried after the tokens before that place, with all nodes that are open
+/// there, so one that the tables allow only in other contexts is not returned. If `parse` doesn't
+/// reject the sentence with P1, no look-ahead is returned.
 ///
-/// Where the tables are not the grammar's, it tells where a parse by them is stuck and what they let
-/// stand there, which are still literals of the grammar, classes and the end. Reads the tokens
-/// twice, and takes memory for two stacks as `parse` has one, and for the answer.
+/// If the tables are not the grammar's, the result is the place where a parse by them is stuck, and
+/// what they allow there: literals of the grammar, classes and the end. Reads the tokens twice, and
+/// takes memory for two stacks like the one of `parse`, and for the result.
 pub fn expected_at<'t>(
     alloc: Global,
     grammar: &Grammar,

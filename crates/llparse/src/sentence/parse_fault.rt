@@ -1,4 +1,4 @@
-//! Why a sentence was not parsed.
+//! The reasons why a sentence is rejected.
 ghost use Rattle.std.specs.Prelude.{◌≡◌};
 ghost use Rattle.llparse.specs.sentence.Refusals.{parse_fault_of};
 ghost use Rattle.llparse.specs.declared.sentence.parse_fault.ParseFault.TheVariants as parse_fault;
@@ -6,11 +6,11 @@ ghost use Rattle.llparse.specs.declared.sentence.parse_fault.ParseFault.TheVaria
 use ag_value::NoMemory;
 use treefile::DeviceFault;
 
-/// Why a sentence was not parsed.
+/// The reasons why a sentence is rejected.
 #[derive(Clone, Copy, Debug, PartialEq, Eq)]
 pub enum ParseFault {
-    /// P1: no tree has these tokens. Carries the offset of the token that can't be taken, at the
-    /// end that of the last token, and 0 where there is none.
+    /// P1: no tree has these tokens. Carries the offset in bytes of the token that can't be taken;
+    /// at the end that of the last token, and 0 if there is none.
     Unexpected(u32),
     /// P2: each tree with these tokens is deeper than the limit.
     TooDeep,
@@ -18,7 +18,7 @@ pub enum ParseFault {
     TooManyNodes,
     /// D1: a call of the device failed.
     Device,
-    /// A growth was refused.
+    /// The allocator refused memory.
     NoMemory,
 }
 

@@ -1,4 +1,4 @@
-//! How far a sentence is parsed, and the steps that go on with it.
+//! The state of parsing a sentence, and its steps.
 ghost use Rattle.std.specs.Prelude.{◌≡◌, ◌≤◌, ◌<◌, ◌+◌, ◌++◌, ◌∷◌, [], ℕ, Bool, true, false, All};
 ghost use Rattle.std.specs.Prelude.{drop, length, Some, None};
 ghost use Rattle.std.specs.Prelude.{option_map, IfErr, IfOk, IfSome, IsErrOf, OnErr, OnOk};
@@ -29,8 +29,9 @@ use ag_value::{Text, Value};
 use std::alloc::Global;
 use treefile::{Device, Kind, Writer};
 
-/// An open node: its production, how many items of its right side it is behind, and how many texts
-/// of tokens a parser kept when it was opened. Those of its own tokens are behind them.
+/// An open node: its production, the number of items of its right side that are passed, and the
+/// number of token texts that the parser kept when the node was opened. The texts of its own tokens
+/// come after those.
 #[derive(Clone, Copy, Debug, PartialEq, Eq)]
 pub(crate) struct OpenNode {
     pub(crate) production: u16,
@@ -38,7 +39,8 @@ pub(crate) struct OpenNode {
     pub(crate) base: usize,
 }
 
-/// The item that an open node has next, which the node goes behind; none where it is at its end.
+/// Returns the next item of an open node, and moves the node past it. Returns `None` at the node's
+/// end.
 #[inline(always)]
 pub(crate) fn next_item(grammar: &Grammar, node: &mut OpenNode) -> Option<Item>
     requires { node.old.production < length grammar.now.productions }
@@ -54,7 +56,8 @@ pub(crate) fn next_item(grammar: &Grammar, node: &mut OpenNode) -> Option<Item>
     Some(item)
 }
 
-/// A node of a symbol at a look-ahead, open at its beginning, whose texts are to come behind so many.
+/// Opens a node of a symbol at a look-ahead, at the beginning of its right side. Its texts come
+/// after the first `base`. Returns `None` if no production is predicted.
 #[inline(always)]
 pub(crate) fn node_at(tables: &Tables, symbol: u16, ahead: Ahead, base: usize) -> Option<OpenNode>
     ensures begins { IfSome result (λ node. node.passed ≡ 0) }
@@ -72,8 +75,8 @@ pub(crate) fn node_at(tables: &Tables, symbol: u16, ahead: Ahead, base: usize) -
     }
 }
 
-/// A node of the symbol that comes next, open at its beginning, whose texts are to come behind so
-/// many.
+/// Opens a node of the symbol that comes next, at the beginning of its right side. Its texts come
+/// after the first `base`. Fails with P1 if no production is predicted.
 #[inline(always)]
 pub(crate) fn new_node(
     tables: &Tables,
@@ -96,7 +99,7 @@ pub(crate) fn new_node(
     }
 }
 
-/// Appends the record of a leaf, and keeps its text behind others.
+/// Appends the record of a leaf, and keeps its text after the others.
 #[inline(always)]
 fn put_leaf<D: Device>(
     alloc: Global,
@@ -150,7 +153,7 @@ pub(crate) fn put_node<D: Device>(
     ensures device { BreaksWriter D.is_honest D.failures device.old device.new
         writer.new.is_broken (IsErrOf result ParseFault.Device) }
 {
-    // most nodes have none, and less has to be asked before a record without values is put
+    // Most nodes have no texts, and putting a record without values needs fewer conditions.
     if texts.is_empty() {
         writer.put(device, Kind::Node, production, &[])?;
         return Ok(());
@@ -159,10 +162,10 @@ pub(crate) fn put_node<D: Device>(
     Ok(())
 }
 
-/// How far a sentence is parsed: the nodes that wait for the innermost open one, the outermost
-/// first, the texts of the tokens among the children of open nodes, those of the innermost one
-/// last, the place in the tokens, and how many nodes are opened, leaves among them. It takes
-/// sixteen bytes for a node that waits, and memory for the texts.
+/// The state of parsing a sentence: the nodes that wait for the innermost open one, the outermost
+/// first; the texts of the tokens among the children of open nodes, those of the innermost one
+/// last; the position in the tokens; and the number of nodes opened so far, with leaves. It takes
+/// sixteen bytes for a waiting node, and memory for the texts.
 #[derive(Drop)]
 pub(crate) struct Parser<'t> {
     pub(crate) waiting: Vec<OpenNode>,
@@ -172,7 +175,7 @@ pub(crate) struct Parser<'t> {
 }
 
 impl<'t> Parser<'t> {
-    /// A parser whose root alone is open, and which has taken no token.
+    /// Makes a parser with only the root open, which has taken no token.
     pub(crate) fn new(alloc: Global, sentence: &'t Sentence<'_>) -> Parser<'t>
         ensures waiting { result.waiting.items ≡ [] }
         ensures texts { result.texts.items ≡ [] }
@@ -187,7 +190,8 @@ impl<'t> Parser<'t> {
         }
     }
 
-    /// Whether one node more is within the limits, below those that wait and the innermost one.
+    /// Checks that one more node is within the limits, below the waiting nodes and the innermost
+    /// one. Fails with P2 or P3.
     #[inline(always)]
     pub(crate) fn has_room(&self) -> Result<(), ParseFault>
         ensures room { OnOk result ((length self.now.waiting.items + 1 < most_depth)
@@ -203,7 +207,7 @@ impl<'t> Parser<'t> {
         Ok(())
     }
 
-    /// The texts that are kept behind so many.
+    /// Returns the kept texts after the first `base`.
     #[inline(always)]
     pub(crate) fn texts_from(&self, base: usize) -> &[Value]
         requires { base ≤ length self.now.texts.items }
@@ -212,7 +216,8 @@ impl<'t> Parser<'t> {
         &self.texts[base..]
     }
 
-    /// Opens a node of the symbol that comes next in a node, which waits for it.
+    /// Opens a node of the symbol that comes next in `outer`, which waits for it. Fails with P1,
+    /// P2, P3 or NoMemory.
     #[inline(always)]
     pub(crate) fn open(
         &mut self,
@@ -240,8 +245,9 @@ impl<'t> Parser<'t> {
         Ok(node)
     }
 
-    /// Takes a token of the terminal that comes next. One of a class has a record, which is appended,
-    /// and its text is kept.
+    /// Takes the next token as one of `terminal`. A token of a class has a record, which is
+    /// appended, and its text is kept. Fails with P1 if the token is another one, with P2 or P3 if
+    /// a limit is reached, and with D1 or NoMemory.
     #[inline(always)]
     pub(crate) fn take<D: Device>(
         &mut self,
@@ -254,7 +260,7 @@ impl<'t> Parser<'t> {
         requires written { writer.old.written + length self.old.waiting.items + 1
             ≡ self.old.count }
         requires fine { writer.old.is_broken ≡ false }
-        // for whatever is supposed of the device, where it makes it honest
+        // for each hypothesis about the device that makes it honest
         ensures takes { OnOk result ((node : OpenNode) (honest : Bool)
             → (honest ≡ true → D.is_honest device.new ≡ true)
             → Writes (HasTokens self.old.tokens.list) self.old.tokens.list

@@ -1,5 +1,5 @@
-//! Parsing a sentence: the records of the one tree of its tokens are written as it goes, by one
-//! token of look-ahead and with a stack of its own.
+//! Parsing a sentence: the parser writes the records of the one tree of its tokens in a single
+//! pass, with one token of look-ahead and a stack of its own.
 ghost use Rattle.std.specs.Prelude.{◌≡◌, ◌+◌, ℕ, false, Err, IfErr, IfOk, IsErrOf, OnOk};
 ghost use Rattle.ag_grammar.specs.grammars.Tree.{node_count, IsWithinLimits, Tree};
 ghost use Rattle.ag_grammar.specs.grammars.Tree.{most_depth, most_nodes};
@@ -26,7 +26,8 @@ use ag_scan::Sentence;
 use std::alloc::Global;
 use treefile::{Device, Writer};
 
-/// Writes the records of the one tree of the tokens behind what the device has.
+/// Appends the records of the one tree of the tokens to the device, and returns the number of
+/// nodes.
 #[inline(never)]
 fn run<D: Device>(
     alloc: Global,
@@ -75,21 +76,21 @@ fn run<D: Device>(
     Ok(parser.count)
 }
 
-/// Writes the file of pass 0 of the one tree of a sentence's tokens, as it goes, and gives its
-/// number of stored nodes: one frame for each node, behind those of its children, which go from
-/// left to right, and for each token of a class; a literal has none. The record of a node has the
-/// texts of the tokens of a class among its children.
+/// Writes the file of pass 0 of the one tree of a sentence's tokens in a single pass, and returns
+/// the number of its stored nodes: one frame for each node, after those of its children from
+/// left to right, and one for each token of a class; a literal has none. The record of a node has
+/// the texts of the tokens of a class among its children.
 ///
-/// Asks for tables of the grammar, a sentence whose tokens fit it, and a writer that was just begun on
-/// the device with pass 0. The tokens are taken one by one, and none is kept but its text. Takes
-/// memory for a stack of sixteen bytes an open node but the innermost one, for the texts of the tokens
-/// of a class among the children of open nodes, and for one frame.
+/// Requires tables of the grammar, a sentence whose tokens fit it, and a writer that was just begun
+/// on the device with pass 0. The tokens are taken one by one, and only their texts are kept. Takes
+/// memory for a stack of sixteen bytes for each open node except the innermost one, for the texts
+/// of the tokens of a class among the children of open nodes, and for one frame.
 ///
-/// P1 Unexpected where no tree has these tokens; P2 TooDeep and P3 TooManyNodes where each that has
-/// them is beyond the limit, and each that begins with some of them and goes on with the look-ahead
-/// behind these, and where some tree that begins with these has reached the limit there; D1 Device
-/// where the device failed. After a refusal the device has a beginning of the file. D1 leaves the
-/// writer broken, and no other refusal does.
+/// Fails with P1 Unexpected if no tree has these tokens. Fails with P2 TooDeep or P3 TooManyNodes
+/// if at some token a tree that begins with the tokens before it has reached the limit, and each
+/// tree that begins with these tokens and continues with the look-ahead there is beyond the limit.
+/// So is then each tree with all tokens. Fails with D1 Device if the device failed. After a fault
+/// the device has a prefix of the file. The writer is broken after D1, and after no other fault.
 pub fn parse<D: Device>(
     alloc: Global,
     grammar: &Grammar,
@@ -104,7 +105,7 @@ pub fn parse<D: Device>(
     requires header { WhenHonest (D.is_honest device.old)
         (D.content device.old ≡ header version_two 0) }
 
-    // an answer: there is one tree, it is within the limits, and its file is written
+    // Ok: there is one tree, it is within the limits, and its file is written.
     ensures tree { IfOk result (λ _. (t : Tree)
         × IsTreeWith grammar.now (words_of sentence.now) t) }
     ensures one { (t u : Tree) → IsTreeWith grammar.now (words_of sentence.now) t
@@ -119,7 +120,7 @@ pub fn parse<D: Device>(
     ensures written { IfOk result (λ count. writer.new
         ≡ record { written = count; is_broken = false }) }
 
-    // a refusal: no tree has the tokens, or each is beyond the limit, which was reached
+    // Err: no tree has the tokens, or each is beyond the limit, which was reached.
     ensures unexpected { (at : ℕ) → result ≡ Err (ParseFault.Unexpected at)
         → IsUnexpectedAt grammar.now sentence.now at }
     ensures none { (at : ℕ) (t : Tree) → result ≡ Err (ParseFault.Unexpected at)
@@ -129,11 +130,11 @@ pub fn parse<D: Device>(
     ensures large { IsErrOf result ParseFault.TooManyNodes
         → LeavesOnlyLarger most_nodes grammar.now (words_of sentence.now) }
 
-    // a refusal leaves a beginning of a file of pass 0, maybe its header alone
+    // Err: the device has a prefix of a file of pass 0, possibly only its header.
     ensures left { IfErr result (λ _. WhenHonest (D.is_honest device.new)
         (BeginsFile 0 (D.content device.new))) }
 
-    // the writer is broken where the device failed, and for no other cause
+    // The writer is broken exactly if the device failed.
     ensures device { BreaksWriter D.is_honest D.failures device.old device.new
         writer.new.is_broken (IsErrOf result ParseFault.Device) }
 {

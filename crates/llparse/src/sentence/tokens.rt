@@ -13,7 +13,7 @@ use crate::sentence::parse_fault::ParseFault;
 use ag_grammar::Terminal;
 use ag_scan::Tokens;
 
-/// What comes next.
+/// Returns the look-ahead of the tokens.
 #[inline(always)]
 pub(crate) fn next_of(tokens: &Tokens<'_>) -> Ahead
     ensures { result ≡ ahead_of (drop tokens.now.taken (words_of tokens.now.list)) }
@@ -24,7 +24,7 @@ pub(crate) fn next_of(tokens: &Tokens<'_>) -> Ahead
     }
 }
 
-/// The refusal of the next token, or of the end.
+/// Returns the fault P1 at the next token, or at the end.
 #[cold]
 pub(crate) fn unexpected(tokens: &Tokens<'_>) -> ParseFault
     ensures { result ≡ ParseFault.Unexpected (offset_at tokens.now.list tokens.now.taken) }
@@ -43,7 +43,7 @@ fn same(a: Terminal, b: Terminal) -> bool
     }
 }
 
-/// The text of the next token, where it is one of a terminal.
+/// Returns the text of the next token, if it is one of terminal `kind`. Else fails with P1.
 #[inline(always)]
 pub(crate) fn expect<'t>(tokens: &Tokens<'t>, kind: Terminal) -> Result<&'t str, ParseFault>
     ensures taken { IfOk result (λ lex. drop tokens.now.taken (words_of tokens.now.list)

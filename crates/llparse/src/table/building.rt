@@ -1,4 +1,4 @@
-//! The tables of a grammar, or its least conflict.
+//! Building the tables of a grammar, or finding its least conflict.
 ghost use Rattle.std.specs.Prelude.{◌≡◌, ℕ, Err, IfOk};
 ghost use Rattle.llparse.specs.Ahead.{HasNoConflict};
 ghost use Rattle.llparse.specs.table.Tables.{FitsGrammar, IsLeastConflict};
@@ -11,11 +11,11 @@ use crate::table::nodes::Sizes;
 use ag_grammar::Grammar;
 use std::alloc::Global;
 
-/// The tables of a grammar: exactly what its productions predict.
+/// Builds the tables of a grammar from the predictions of its productions.
 ///
-/// Refused is a grammar with a conflict, and answered then is the least one, by the first
+/// Fails with L1 Conflict and the least conflict if the grammar has one, ordered by the first
 /// production, then the second, then the look-ahead: literals by their numbers, then classes, then
-/// the end; a growth refused is `NoMemory`.
+/// the end. Fails with NoMemory if memory is refused.
 pub fn tables(alloc: Global, grammar: &Grammar) -> Result<Tables, TableFault>
     ensures fits { IfOk result (λ tables. FitsGrammar grammar.now tables) }
     ensures free { IfOk result (λ tables. HasNoConflict grammar.now) }

@@ -1,4 +1,5 @@
-//! Which production one look-ahead chooses for each symbol, and the least two that conflict there.
+//! The production that one look-ahead chooses for each symbol, and the least two that conflict
+//! there.
 ghost use Rattle.std.specs.Prelude.{◌≡◌, ◌≤◌, ◌<◌, ℕ, true, length, slice_get};
 ghost use Rattle.std.specs.Prelude.{Some, IfOk};
 ghost use Rattle.ag_grammar.specs.declared.grammar.Production.{Production as AProduction};
@@ -16,15 +17,15 @@ pub(crate) struct Pair {
     pub(crate) second: u16,
 }
 
-/// What one look-ahead chooses: for each symbol the first production, and the least two of one
-/// symbol.
+/// The choices of one look-ahead: for each symbol the first production, and the least conflict.
 #[derive(Drop)]
 pub(crate) struct Column {
     pub(crate) choices: Vec<Option<u16>>,
     pub(crate) conflict: Option<Pair>,
 }
 
-/// The least two, where a production comes before all, and this was chosen for its symbol.
+/// Returns the least pair, if `production` comes before all others, and `chosen` was the choice of
+/// its symbol before.
 fn clash(production: u16, chosen: Option<u16>, conflict: Option<Pair>) -> Option<Pair>
     ensures some { (r : ℕ) → chosen ≡ Some r → result ≡ Some
         (record { first = production; second = r }) }
@@ -53,7 +54,7 @@ impl Column {
         self.choices[symbol] = Some(production);
     }
 
-    /// Chooses a production, where it is marked.
+    /// Chooses a production if it is marked.
     fn put_if(&mut self, symbol: usize, production: u16, wanted: bool)
         requires symbol { symbol < length self.old.choices.items }
         ensures len { length self.new.choices.items ≡ length self.old.choices.items }
@@ -68,7 +69,7 @@ impl Column {
     }
 }
 
-/// What a look-ahead chooses that the marked productions predict.
+/// Returns the choices of a look-ahead that the marked productions predict.
 pub(crate) fn choose(
     alloc: Global,
     productions: &[Production],

@@ -1,21 +1,21 @@
-//! Why there are no tables of a grammar.
+//! The reasons why a grammar has no tables.
 ghost use Rattle.std.specs.Prelude.{◌≡◌};
 ghost use Rattle.llparse.specs.declared.table.fault.TableFault.TheVariants as table_fault;
 
 use crate::ahead::Ahead;
 use ag_value::NoMemory;
 
-/// Why a grammar has no tables.
+/// The reasons why a grammar has no tables.
 #[derive(Clone, Copy, Debug, PartialEq, Eq)]
 pub enum TableFault {
-    /// Two productions of a symbol, by their numbers, predict one look-ahead.
+    /// L1: two productions of a symbol, given by their numbers, predict the same look-ahead.
     Conflict {
         symbol: u16,
         first: u16,
         second: u16,
         ahead: Ahead,
     },
-    /// A growth was refused.
+    /// The allocator refused memory.
     NoMemory,
 }
 

@@ -21,14 +21,14 @@ pub(crate) struct Conflict {
     pub(crate) ahead: Ahead,
 }
 
-/// For each look-ahead, by its place, what it chooses for each symbol; and the least conflict.
+/// For each look-ahead, by its index, its choice for each symbol; and the least conflict.
 #[derive(Drop)]
 pub(crate) struct Columns {
     pub(crate) choices: Vec<Vec<Option<u16>>>,
     pub(crate) conflict: Option<Conflict>,
 }
 
-/// What one look-ahead chooses.
+/// Returns the choices of one look-ahead.
 fn column_of(
     alloc: Global,
     grammar: &Grammar,
@@ -46,7 +46,7 @@ fn column_of(
     Ok(column)
 }
 
-/// The lesser of a conflict and a pair that conflicts at a later look-ahead.
+/// Returns the lesser of a conflict and of a pair that conflicts at a later look-ahead.
 fn sooner(least: Option<Conflict>, pair: Option<Pair>, ahead: Ahead) -> Option<Conflict>
     ensures { IsSooner least pair ahead result }
 {
@@ -70,7 +70,7 @@ fn sooner(least: Option<Conflict>, pair: Option<Pair>, ahead: Ahead) -> Option<C
     Some(least)
 }
 
-/// The columns of a grammar.
+/// Returns the columns of a grammar.
 pub(crate) fn fill(alloc: Global, grammar: &Grammar) -> Result<Columns, NoMemory>
     ensures columns { IfOk result (λ columns. AreColumns grammar.now
         (length grammar.now.literals + 4) (rows columns.choices.items)) }

@@ -1,5 +1,5 @@
-//! What may come first: edges from the items in front of right sides to the left sides, and what is
-//! reached by them from a look-ahead.
+//! FIRST: edges from the items of the nullable prefix of a right side, and the item after it, to
+//! the left side; and the nodes that are reached by them from a look-ahead.
 ghost use Rattle.std.specs.Prelude.{◌≡◌, ◌≤◌, length, take, IfOk, OnOk};
 ghost use Rattle.closure.specs.Following.{is_marked};
 ghost use Rattle.ag_grammar.specs.declared.grammar.Item.{Item as AnItem};
@@ -16,7 +16,7 @@ use ag_value::NoMemory;
 use closure::{Clauses, Edge};
 use std::alloc::Global;
 
-/// Notes an edge.
+/// Adds an edge.
 pub(crate) fn note(edges: &mut Vec<Edge>, from: usize, to: usize) -> Result<(), NoMemory>
     ensures { OnOk result (AddsEdges (IsEdge from to) edges.old.items edges.new.items) }
 {
@@ -24,7 +24,7 @@ pub(crate) fn note(edges: &mut Vec<Edge>, from: usize, to: usize) -> Result<(), 
     Ok(())
 }
 
-/// How many items stand in front, up to the first that is not nullable, that one among them.
+/// Returns the number of items up to the first that is not nullable, including that one.
 pub(crate) fn front_len(nullable: &[bool], items: &[Item]) -> usize
     ensures within { result ≤ length items.now }
     ensures front { take result items.now ≡ front (is_marked nullable.now) items.now }
@@ -37,7 +37,7 @@ pub(crate) fn front_len(nullable: &[bool], items: &[Item]) -> usize
     items.len()
 }
 
-/// Notes an edge from each of some items to a left side.
+/// Adds an edge from each of some items to a left side.
 pub(crate) fn note_front(
     edges: &mut Vec<Edge>,
     sizes: Sizes,
@@ -53,7 +53,7 @@ pub(crate) fn note_front(
     Ok(())
 }
 
-/// Which items may begin with a look-ahead.
+/// Returns the marks of the items that can begin with a look-ahead.
 pub(crate) fn first(
     alloc: Global,
     grammar: &Grammar,

@@ -1,5 +1,5 @@
-//! What may follow: edges from left sides to the items that may stand last, seeds from what comes
-//! first behind an item, and what is reached.
+//! FOLLOW: edges from left sides to the items that can be last, seeds from the look-aheads that
+//! come next after an item, and the nodes that are reached.
 ghost use Rattle.std.specs.Prelude.{◌≡◌, ◌<◌, ◌↔◌, ◌&&◌, ◌||◌, true, false, length};
 ghost use Rattle.std.specs.Prelude.{Contains, IfOk, OnOk};
 ghost use Rattle.llparse.specs.table.Comes.{AreFollow, AreFollowed, AreFollowEdges, IsLastEdge};
@@ -18,21 +18,22 @@ use ag_value::NoMemory;
 use closure::{Clauses, Edge};
 use std::alloc::Global;
 
-/// A number is marked.
+/// Returns whether a number is marked.
 pub(crate) fn has(marks: &[bool], at: usize) -> bool
     ensures { result ≡ is_marked marks.now at }
 {
     at < marks.len() && marks[at]
 }
 
-/// A look-ahead comes next: an item begins with it, or is nullable and it comes next behind that.
+/// Returns whether a look-ahead comes next: an item begins with it, or is nullable and the
+/// look-ahead comes next after it.
 pub(crate) fn comes(begins: bool, empty: bool, behind: bool) -> bool
     ensures { result ≡ (begins || (empty && behind)) }
 {
     begins || (empty && behind)
 }
 
-/// Notes an edge, where that is wanted.
+/// Adds an edge if `wanted`.
 fn note_if(edges: &mut Vec<Edge>, from: usize, to: usize, wanted: bool) -> Result<(), NoMemory>
     ensures { OnOk result (AddsEdges (λ e. (wanted
         ≡ true) × IsEdge from to e) edges.old.items edges.new.items) }
@@ -43,7 +44,7 @@ fn note_if(edges: &mut Vec<Edge>, from: usize, to: usize, wanted: bool) -> Resul
     Ok(())
 }
 
-/// Notes an edge from a left side to each item behind which all are nullable.
+/// Adds an edge from a left side to each item after which all items are nullable.
 pub(crate) fn note_last(
     edges: &mut Vec<Edge>,
     sizes: Sizes,
@@ -62,7 +63,7 @@ pub(crate) fn note_last(
     Ok(())
 }
 
-/// Notes a seed, where that is wanted.
+/// Adds a seed if `wanted`.
 fn note_seed(seeds: &mut Vec<usize>, seed: usize, wanted: bool) -> Result<(), NoMemory>
     ensures { OnOk result (Adds (λ t. (wanted ≡ true) × (t ≡ seed)) (Contains seeds.old.items)
         (Contains seeds.new.items)) }
@@ -73,7 +74,7 @@ fn note_seed(seeds: &mut Vec<usize>, seed: usize, wanted: bool) -> Result<(), No
     Ok(())
 }
 
-/// Notes each item behind which the look-ahead comes next.
+/// Adds each item after which the look-ahead comes next.
 fn note_next(
     seeds: &mut Vec<usize>,
     sizes: Sizes,
@@ -93,7 +94,7 @@ fn note_next(
     Ok(())
 }
 
-/// A look-ahead is the end.
+/// Returns whether a look-ahead is the end.
 fn is_end(ahead: Ahead) -> bool
     ensures { result ≡ true ↔ ahead ≡ look.End }
 {
@@ -103,7 +104,7 @@ fn is_end(ahead: Ahead) -> bool
     }
 }
 
-/// The items behind which the look-ahead comes next.
+/// Returns the items after which the look-ahead comes next.
 fn followed(
     alloc: Global,
     grammar: &Grammar,
@@ -128,7 +129,7 @@ fn followed(
     Ok(seeds)
 }
 
-/// Which symbols a look-ahead may follow.
+/// Returns the marks of the symbols that a look-ahead can follow.
 pub(crate) fn follow(
     alloc: Global,
     grammar: &Grammar,

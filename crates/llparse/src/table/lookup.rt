@@ -1,4 +1,4 @@
-//! Tables of predictions, and how they are looked up.
+//! Tables of predictions, and looking them up.
 ghost use Rattle.std.specs.Prelude.{◌≡◌};
 ghost use Rattle.llparse.specs.table.Predicted.{choice_at};
 ghost use Rattle.llparse.specs.table.Tables.{choice_of};
@@ -7,9 +7,9 @@ use crate::ahead::Ahead;
 use crate::table::nodes::Sizes;
 use std::marker::Model;
 
-/// Which production a symbol has at a look-ahead. Contracts see it as the number of literals and,
-/// for each look-ahead, the choices for all symbols. It takes two bytes and a mark for each symbol
-/// and each look-ahead.
+/// The production of each symbol at each look-ahead. Contracts see the number of literals and, for
+/// each look-ahead, the choices for all symbols. It takes two bytes and a mark for each symbol and
+/// each look-ahead.
 #[derive(Drop)]
 pub struct Tables {
     pub(crate) literals: u16,
@@ -31,7 +31,7 @@ impl Model for Tables {
     } };
 }
 
-/// What stands at a symbol's place.
+/// Returns the entry of a symbol, or `None` if there is none.
 #[inline(always)]
 fn entry(choices: &[Option<u16>], symbol: usize) -> Option<u16>
     ensures { result ≡ choice_at choices.now symbol }
@@ -43,8 +43,8 @@ fn entry(choices: &[Option<u16>], symbol: usize) -> Option<u16>
 }
 
 impl Tables {
-    /// The production that a symbol has at a look-ahead, in constant time; none where no production
-    /// of the symbol predicts it. Takes no memory.
+    /// Returns the production of a symbol at a look-ahead, in constant time, or `None` if no
+    /// production of the symbol predicts it. Takes no memory.
     #[inline(always)]
     pub fn choice(&self, symbol: u16, ahead: Ahead) -> Option<u16>
         ensures { result ≡ choice_of self.now symbol ahead }

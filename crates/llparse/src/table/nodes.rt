@@ -1,4 +1,4 @@
-//! How the symbols and the look-aheads of a grammar are numbered.
+//! The numbering of the symbols and the look-aheads of a grammar.
 ghost use Rattle.std.specs.Prelude.{◌≡◌, ◌+◌, ◌<◌, true, length};
 ghost use Rattle.ag_grammar.specs.grammars.Accepted.{IsAccepted};
 ghost use Rattle.llparse.specs.table.Nodes.{node_of, index_of};
@@ -8,7 +8,7 @@ use crate::ahead::Ahead;
 use ag_grammar::limits::CLASS_COUNT;
 use ag_grammar::{Grammar, Item, Terminal};
 
-/// How many symbols and literals a grammar has.
+/// The numbers of symbols and of literals of a grammar.
 #[derive(Clone, Copy, Debug, PartialEq, Eq)]
 pub(crate) struct Sizes {
     pub(crate) symbols: u16,
@@ -16,7 +16,7 @@ pub(crate) struct Sizes {
 }
 
 impl Sizes {
-    /// Those of a grammar.
+    /// Returns the sizes of a grammar.
     pub(crate) fn of(grammar: &Grammar) -> Sizes
         ensures symbols { result.symbols ≡ length grammar.now.symbols }
         ensures literals { result.literals ≡ length grammar.now.literals }
@@ -28,7 +28,7 @@ impl Sizes {
         }
     }
 
-    /// A look-ahead's place among all: literals, then classes, then the end.
+    /// Returns the index of a look-ahead: literals come first, then classes, then the end.
     pub(crate) fn index(self, ahead: Ahead) -> usize
         ensures { result ≡ index_of self.literals ahead }
     {
@@ -39,7 +39,7 @@ impl Sizes {
         }
     }
 
-    /// The node of an item: symbols come first, then look-aheads.
+    /// Returns the node of an item: symbols come first, then look-aheads.
     pub(crate) fn node(self, item: Item) -> usize
         ensures { result ≡ node_of self.symbols self.literals item }
     {
@@ -51,21 +51,21 @@ impl Sizes {
         }
     }
 
-    /// How many look-aheads there are.
+    /// Returns the number of look-aheads.
     pub(crate) fn aheads(self) -> usize
         ensures { result ≡ self.literals + 4 }
     {
         self.literals as usize + CLASS_COUNT as usize + 1
     }
 
-    /// How many nodes there are.
+    /// Returns the number of nodes.
     pub(crate) fn nodes(self) -> usize
         ensures { result ≡ self.symbols + (self.literals + 4) }
     {
         self.symbols as usize + self.aheads()
     }
 
-    /// The look-ahead at a place.
+    /// Returns the look-ahead with an index.
     pub(crate) fn ahead(self, index: usize) -> Ahead
         requires { index < self.literals + 4 }
         ensures index { index_of self.literals result ≡ index }
@@ -81,7 +81,7 @@ impl Sizes {
         Ahead::End
     }
 
-    /// A look-ahead is one of the grammar's.
+    /// Returns whether a look-ahead is one of the grammar's.
     pub(crate) fn knows(self, ahead: Ahead) -> bool
         ensures { result ≡ is_known self.literals ahead }
     {

@@ -1,5 +1,5 @@
-//! Which symbols are nullable: what follows from the clauses of which each has a left side, and the
-//! items of the right side.
+//! The nullable symbols: each production is a clause with its left side as the head, and the items
+//! of its right side as the body.
 ghost use Rattle.std.specs.Prelude.{◌≡◌, IfOk};
 ghost use Rattle.closure.specs.Following.{is_marked};
 ghost use Rattle.llparse.specs.table.Nullable as spec;
@@ -11,7 +11,7 @@ use ag_value::{Items, NoMemory};
 use closure::{Clause, Clauses};
 use std::alloc::Global;
 
-/// An item is a marked symbol.
+/// Returns whether an item is a marked symbol.
 pub(crate) fn is_empty(marks: &[bool], item: Item) -> bool
     ensures { result ≡ is_empty (is_marked marks.now) item }
 {
@@ -24,8 +24,8 @@ pub(crate) fn is_empty(marks: &[bool], item: Item) -> bool
     }
 }
 
-/// A left side is nullable where each item of the right side is. No terminal is: its node is the
-/// head of no clause.
+/// Returns the clause of a production: its left side is nullable if each item of its right side is.
+/// No terminal is nullable: its node is not the head of a clause.
 fn clause_of(alloc: Global, sizes: Sizes, production: &Production) -> Result<Clause, NoMemory>
     ensures { IfOk result (λ clause. clause
         ≡ spec.clause_of sizes.symbols sizes.literals production.now) }
@@ -40,7 +40,7 @@ fn clause_of(alloc: Global, sizes: Sizes, production: &Production) -> Result<Cla
     })
 }
 
-/// The clauses of a grammar's productions.
+/// Returns the clauses of a grammar's productions.
 fn clauses_of(alloc: Global, grammar: &Grammar) -> Result<Vec<Clause>, NoMemory>
     ensures { IfOk result (λ clauses. clauses.items ≡ spec.clauses_of grammar.now) }
 {
@@ -52,7 +52,7 @@ fn clauses_of(alloc: Global, grammar: &Grammar) -> Result<Vec<Clause>, NoMemory>
     Ok(clauses)
 }
 
-/// Which symbols are nullable.
+/// Returns the marks of the nullable symbols.
 pub(crate) fn nullable(alloc: Global, grammar: &Grammar) -> Result<Vec<bool>, NoMemory>
     ensures { IfOk result (λ marks. AreNullableMarks grammar.now marks.items) }
 {

@@ -1,4 +1,4 @@
-//! Which productions predict a look-ahead.
+//! The productions that predict a look-ahead.
 ghost use Rattle.std.specs.Prelude.{◌≡◌, length, IfOk};
 ghost use Rattle.llparse.specs.table.Comes.{next_by, AreFollowEdges};
 ghost use Rattle.llparse.specs.table.Edges.{AreFirstEdges, IsKnownAhead};
@@ -14,7 +14,8 @@ use ag_value::NoMemory;
 use closure::{Clauses, Edge};
 use std::alloc::Global;
 
-/// A look-ahead comes next along items, or behind them where all are nullable.
+/// Returns whether a look-ahead comes next along items, or after them if all are nullable
+/// (`behind`).
 fn is_next(sizes: Sizes, nullable: &[bool], begins: &[bool], items: &[Item], behind: bool) -> bool
     ensures { result ≡ next_by sizes begins.now nullable.now behind items.now }
 {
@@ -29,9 +30,8 @@ fn is_next(sizes: Sizes, nullable: &[bool], begins: &[bool], items: &[Item], beh
     behind
 }
 
-/// The edges by which what may come first is reached: from the items in front of right sides to the
-/// left sides; and those by which what may follow is: from left sides to the items that may stand
-/// last.
+/// Returns the edges for FIRST, from the first items of right sides to the left sides, and those
+/// for FOLLOW, from left sides to the items that can be last.
 fn edges_of(
     alloc: Global,
     grammar: &Grammar,
@@ -55,8 +55,8 @@ fn edges_of(
     Ok((first, follow))
 }
 
-/// What is known of a grammar for all look-aheads: the nullable symbols, and the edges by which
-/// what may come first and what may follow are reached.
+/// The sets of a grammar for all look-aheads: the nullable symbols, and the edges for FIRST and
+/// FOLLOW.
 #[derive(Drop)]
 pub(crate) struct Sets {
     nullable: Vec<bool>,
@@ -65,7 +65,7 @@ pub(crate) struct Sets {
 }
 
 impl Sets {
-    /// Those of a grammar.
+    /// Computes the sets of a grammar.
     pub(crate) fn of(alloc: Global, grammar: &Grammar) -> Result<Sets, NoMemory>
         ensures { IfOk result (λ sets. AreSets grammar.now sets) }
     {
@@ -81,7 +81,7 @@ impl Sets {
         })
     }
 
-    /// Which productions predict a look-ahead.
+    /// Returns the marks of the productions that predict a look-ahead.
     pub(crate) fn predicted(
         &self,
         alloc: Global,

@@ -62,7 +62,7 @@ enum Reason {
     Within,
 }
 
-/// A rule that a pass comes to before what it uses is known.
+/// A rule that a pass reaches before an argument of it is computed.
 #[derive(Clone, Copy)]
 struct Obstacle<'a> {
     target: &'a Occ,

@@ -1,4 +1,4 @@
--- Keys that are each new where they stand differ, and the other way round.
+-- Keys that are each new at their place are distinct, and the converse.
 use Rattle.std.proofs.Common.{zero, suc, ℕ, ◌≡◌, ◌<◌, ◌≢◌, Bool, true, false, cond, not, List, [], ◌∷◌, ◌++◌, length, get_or, map, None, Some, slice_get, AllPairs, refl, sym, ap, ◌∙◌, inl, inr, arith, append-nil, append_assoc, length-append}
 use Rattle.std.proofs.lemmas.Bool.{false≢true, cases_eq, cases_lt}
 use Rattle.std.proofs.lemmas.List.{get_or_append_left, get_or_at, length-map, get_or-map}
@@ -11,11 +11,11 @@ use Rattle.normalform.specs.declared.fault.NormalFault.{NormalFault}
 use Rattle.normalform.specs.faults.Faults.{Check, first_wrong, checks_along}
 use Rattle.normalform.proofs.found.Right.{both_right, together, is_right, right_is}
 
--- no key is there twice
+-- no key occurs twice
 abbrev pub Apart : {K : Type 0} → List K → Type 0
 Apart {K} keys = AllPairs (λ (a b : K). a ≢ b) keys
 
--- a test that tells whether keys are the same
+-- a test that decides whether keys are equal
 pub record Tells {K : Type 0} (same : K → K → Bool) : Type 0 where
   pub sound : (a b : K) → same a b ≡ true → a ≡ b
   pub whole : (a b : K) → a ≡ b → same a b ≡ true
@@ -35,7 +35,7 @@ apart_new : {K : Type 0} (same : K → K → Bool) → Tells same → (seen : Li
 apart_new same tells seen key rest apart = list_any_none (same key) seen (λ k d lt. differs same tells (get_or seen k d) key (λ e.
     apart k (length seen) d lt (omega (arith, length-append seen (key ∷ rest))) (get_or_append_left seen (key ∷ rest) d k lt ∙ e ∙ sym (get_or_at seen key rest d (length seen) refl))))
 
--- a key where it stands, and checks of its own behind it
+-- the check of a key at its place, and then further checks
 abbrev pub key_checks : {X K : Type 0} → (K → K → Bool) → (X → NormalFault) → (X → K) → (X → List Check) → List K → X → List Check
 key_checks same fault key more seen x = (fault x, not (list_any (same (key x)) seen)) ∷ more x
 
@@ -57,7 +57,7 @@ apart_along same fault key more tells seen (x ∷ xs) apart h =
     let new = new_is (list_any (same (key x)) seen) (is_right (fault x, not (list_any (same (key x)) seen)) (both_right ((fault x, not (list_any (same (key x)) seen)) ∷ []) (more x) p.0).0) in
     rw (← append_assoc seen (key x ∷ []) (map key xs)) (apart_along same fault key more tells (seen ++ key x ∷ []) xs (apart_push same tells seen (key x) apart new) (rw (with_new same key seen x new) at p.1))
 
--- the checks of their own hold too
+-- the further checks hold too
 pub more_along : {X K : Type 0} (same : K → K → Bool) (fault : X → NormalFault) (key : X → K) (more : X → List Check) (seen : List K) (xs : List X)
     → first_wrong (checks_along (key_checks same fault key more) (with_key same key) seen xs) ≡ None → (i : ℕ) (x : X) → slice_get xs i ≡ Some x → first_wrong (more x) ≡ None
 more_along same fault key more seen [] h i x e = absurd (cc)
@@ -83,7 +83,7 @@ none_apart i j d before within = absurd (omega arith)
 key_at : {X K : Type 0} (key : X → K) (xs : List X) (n : ℕ) (z d : X) → slice_get xs n ≡ Some z → get_or (map key xs) n (key d) ≡ key z
 key_at key xs n z d e = get_or-map key xs n d (key d) (slice_get_within xs n z e) ∙ ap key (get_or_from_slice_get xs n z d e)
 
--- keys are apart where elements differ in them
+-- keys are distinct if elements differ in them
 pub apart_differ : {X K : Type 0} (key : X → K) (xs : List X) → Apart (map key xs) → DifferIn key xs
 apart_differ key xs apart i j x y e f same = elim (cases_lt i j) [
   | inl lt ↦ absurd (apart i j (key x) lt (rw (length-map xs key) (slice_get_within xs j y f)) (key_at key xs i x x e ∙ same ∙ sym (key_at key xs j y x f)))

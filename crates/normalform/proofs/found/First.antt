@@ -1,4 +1,4 @@
--- A raw grammar has one first fault at most.
+-- A raw grammar has at most one first fault.
 use Rattle.std.proofs.Common.{ℕ, ◌≡◌, inl, inr, Some, slice_get, List, ap, sym, ◌∙◌, arith}
 use Rattle.std.proofs.lemmas.Bool.{cases_lt, cases_eq}
 use Rattle.std.proofs.lemmas.Option.{slice_get_within}

@@ -1,4 +1,4 @@
--- What the search for the first fault finds is the first.
+-- The fault that the search finds is the first one.
 use Rattle.std.proofs.Common.{ℕ, ◌≡◌, ◌<◌, ◌++◌, [], ◌∷◌, map, length, Some, None, Option, Result, Ok, Err, IfOk, IfSome, All}
 use Rattle.std.proofs.lemmas.List.{length-map}
 use Rattle.std.proofs.lemmas.List.Elements.{All-cons, All-nil}
@@ -65,7 +65,7 @@ unreached_found raw n none all left = record {
 pub all_reached : (raw : RawGrammar) → ((t : ℕ) → t < length (symbols raw) → FollowsStart raw t) → AreAll (IsReached (numbered raw)) raw
 all_reached raw h s lt = follows_reached raw s (h s (rw (count raw) lt))
 
--- what holds of a number that is found, or where none is
+-- the property of a number that is found, or of finding none
 pub found_map : {E : Type 0} (P Q : ℕ → Type 0) → ((n : ℕ) → P n → Q n) → (r : Result (Option ℕ) E) → IfOk r (λ o. IfSome o P) → IfOk r (λ o. IfSome o Q)
 found_map P Q le (Ok None) h = h
 found_map P Q le (Ok (Some n)) h = le n h

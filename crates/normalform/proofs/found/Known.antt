@@ -1,4 +1,4 @@
--- Names are known and not doubled exactly where the numbered grammar's are.
+-- Names are known and distinct exactly if the numbered grammar's are.
 use Rattle.std.proofs.Common.{ℕ, ◌≡◌, ◌<◌, true, List, [], ◌∷◌, ◌++◌, length, map, flat_map, Some, None, slice_get, bytes_eq, refl, ap, sym, ◌∙◌, subst}
 use Rattle.std.proofs.lemmas.List.{length-map, map-append}
 use Rattle.std.specs.List.{list_any}
@@ -102,7 +102,7 @@ found_there raw q o stands =
     let names = names_at (symbols raw) (placed (symbols raw) q) o.place in
     has_any names o.attr (number_in names o.attr, sym (ap (λ ns. slice_get ns (number_in names o.attr)) (names_of raw q o.place)) ∙ stands.name)
 
--- and the other way round
+-- and the converse
 named_rule : (raw : RawGrammar) (q : RawProduction) (r : RawRule) → IsNamedRule (numbered raw) (produces raw q) (rule_of (symbols raw) (placed (symbols raw) q) r) → first_wrong (rule_checks (symbols raw) (placed (symbols raw) q) r) ≡ None
 named_rule raw q r named =
     let ss = symbols raw in

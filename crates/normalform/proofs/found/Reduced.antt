@@ -1,4 +1,5 @@
--- What follows from the clauses of a raw grammar is productive, and what follows from the edges is reached.
+-- The numbers that follow from the clauses of a raw grammar are productive, and those that follow from the
+-- edges are reached.
 use Rattle.std.proofs.Common.{arith, Bool, true, false, cond, is_some, nat_lt, bytes_eq, Option, ℕ, zero, suc, ◌≡◌, ◌<◌, ◌⊎◌, inl, inr, List, [], ◌∷◌, ◌++◌, length, map, flat_map, All, Some, None, slice_get, refl, ap, sym, ◌∙◌, subst}
 use Rattle.std.proofs.lemmas.Bool.{ltb-true, lt-ltb}
 use Rattle.std.proofs.lemmas.List.{length-map}
@@ -37,7 +38,7 @@ symbols_of [] = []
 symbols_of (item.Symbol s ∷ xs) = s ∷ symbols_of xs
 symbols_of (item.Terminal a ∷ xs) = symbols_of xs
 
--- Induction: what is closed under the productions has all productive symbols.
+-- Induction: a property that is closed under the productions holds of all productive symbols.
 mutual
   productive_in : (g : Grammar) (P : ℕ → Type 0) → ((p : ℕ) (q : Production) → slice_get g.productions p ≡ Some q → All P (symbols_of q.items) → P q.left) → (s : ℕ) → IsProductive g s → P s
   productive_in g P closed s (by_production p q e l h) = subst P l (closed p q e (items_in g P closed q.items h))
@@ -65,7 +66,7 @@ clauses raw = clauses_of (symbols raw) raw.productions
 abbrev pub produces : RawGrammar → RawProduction → Production
 produces raw q = production_of (symbols raw) (literals_of raw.productions) q
 
--- items whose symbols are productive are so
+-- items are productive if their symbols are
 items_productive : (raw : RawGrammar) (lits : List (List ℕ)) (xs : List RawItem) → All (IsProductive (numbered raw)) (body_of (names raw) xs) → AreProductive (numbered raw) (map (item_of (names raw) lits) xs)
 items_productive raw lits [] all = no_item
 items_productive raw lits (raw_item.Name name ∷ xs) all =
@@ -97,11 +98,11 @@ start raw = number_in (names raw) raw.start.name
 abbrev pub edges : RawGrammar → List Edge
 edges raw = reaching (clauses raw)
 
--- what is reached from the start symbol
+-- a number follows from the start symbol
 abbrev pub FollowsStart : RawGrammar → ℕ → Type 0
 FollowsStart raw = Follows (map along (edges raw)) (start raw ∷ [])
 
--- a symbol on a right side is in the body, and the other way round
+-- a symbol on a right side is in the body, and the converse
 symbol_body : (ns lits : List (List ℕ)) (xs : List RawItem) (i s : ℕ) → slice_get (map (item_of ns lits) xs) i ≡ Some (item.Symbol s) → Has (body_of ns xs) s
 symbol_body ns lits [] i s e = absurd (cc)
 symbol_body ns lits (raw_item.Name name ∷ xs) zero s e = (zero, cc)
@@ -136,7 +137,7 @@ split_has (x ∷ xs) ys (suc p) y e = elim (split_has xs ys p y e) [
   | inr w ↦ inr w
 ]
 
--- an element of lists joined end to end is of one of them
+-- an element of concatenated lists is in one of them
 flat_has : {X Y : Type 0} (f : X → List Y) (xs : List X) (p : ℕ) (y : Y) → slice_get (flat_map f xs) p ≡ Some y → (i : ℕ) × (x : X) × (slice_get xs i ≡ Some x) × Has (f x) y
 flat_has f [] p y e = absurd (cc)
 flat_has f (x ∷ xs) p y e = elim (split_has (f x) (flat_map f xs) p y e) [
@@ -159,7 +160,7 @@ pub follows_reached : (raw : RawGrammar) (s : ℕ) → FollowsStart raw s → Is
 follows_reached raw = reached_in (edges raw) (start raw ∷ []) (IsReached (numbered raw)) (λ t h. All-contains (IsReached (numbered raw)) (start raw ∷ []) t (All-cons (IsReached (numbered raw)) (start raw) [] at_start (All-nil (IsReached (numbered raw)))) h)
     (λ e h. let w = position_of_element (edges raw) e h in edge_reached raw w.0 e w.1)
 
--- Where names are known the numbers are of symbols.
+-- The numbers of known names are those of symbols.
 pub known : (texts : List (List ℕ)) (text : List ℕ) → list_any (bytes_eq text) texts ≡ true → number_in texts text < length texts
 known texts text h = go (nat_lt (number_in texts text) (length texts)) refl (found (bytes_eq text) texts ∙ h)
   where

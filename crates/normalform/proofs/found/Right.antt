@@ -1,4 +1,4 @@
--- Lists of checks none of which fails, and elements of mapped and joined lists.
+-- Lists of checks that all hold, and elements of mapped and concatenated lists.
 use Rattle.std.proofs.Common.{ℕ, zero, suc, ◌≡◌, ◌+◌, Bool, true, false, List, [], ◌∷◌, ◌++◌, map, flat_map, Some, None, Option, slice_get, refl, sym, ◌∙◌, arith}
 use Rattle.std.specs.Option.{option_or}
 use Rattle.ag_grammar.specs.Lists.{Has}
@@ -61,7 +61,7 @@ each_along f n (y ∷ ys) h =
     together (f n y) (checks_along f after (n + 1) ys) (rw here at (h zero y refl))
     (each_along f (n + 1) ys (λ i x e. let there : n + suc i ≡ (n + 1) + i = omega arith in rw there at (h (suc i) x e)))
 
--- an element of joined lists is of one of them
+-- an element of concatenated lists is in one of them
 pub has_left : {X : Type 0} (xs ys : List X) (x : X) → Has xs x → Has (xs ++ ys) x
 has_left [] ys x (i, e) = absurd (cc)
 has_left (z ∷ zs) ys x (zero, e) = (zero, e)

@@ -1,4 +1,5 @@
--- The rules of a production: none is missing, none doubled, each given here, each argument found here.
+-- The rules of a production: none is missing or duplicate, each target is one that they define, and each
+-- argument one that they use.
 use Rattle.std.proofs.Common.{ℕ, zero, suc, ◌≡◌, ◌+◌, ◌-◌, ◌<◌, ◌≤◌, ◌⊎◌, inl, inr, Bool, true, false, ◌&&◌, ◌||◌, cond, nat_eq, nat_lt, nat_le, List, [], ◌∷◌, ◌++◌, length, map, fold, Some, None, Option, slice_get, refl, ap, sym, ◌∙◌, arith, subst}
 use Rattle.std.proofs.lemmas.Bool.{ltb-true, lt-ltb, leb-true, le-leb, eqb-true, eq-eqb, cases_eq}
 use Rattle.std.specs.List.{list_any, range_with_len}
@@ -85,7 +86,7 @@ with_has t ts = go (list_any (same_target t) ts) refl
     go true e = e
     go false e = any_right (same_target t) ts t (tells_targets.whole t t refl)
 
--- a target that is among those of rules is that of one
+-- one of the targets of rules is the target of some rule
 among_from : (ss : List Symbol) (items : List Item) (t : Target) (rules : List RawRule) (ts : List Target) → list_any (same_target t) (fold (with_rule ss items) ts rules) ≡ true
     → (list_any (same_target t) ts ≡ true) ⊎ ((i : ℕ) × (r : RawRule) × (slice_get rules i ≡ Some r) × (target_of ss items r.target ≡ t))
 among_from ss items t [] ts h = inl h
@@ -119,7 +120,7 @@ has_range a zero i k e = absurd (cc)
 has_range a (suc n) zero k e = let z : a ≡ k = cc in (omega arith, omega arith)
 has_range a (suc n) (suc i) k e = let w = has_range (a + 1) n i k e in (omega (arith, w.0), omega (arith, w.1))
 
--- the attributes that rules give at a symbol's place are those of the kind
+-- the attributes that rules define at a symbol's place are those of the kind
 numbers_has : (place a : ℕ) (s : Symbol) → slice_get (symbol_kinds (Some s)) a ≡ Some (given_kind place) → Has (numbers_given place s) a
 numbers_has zero a s k =
     let h : nat_lt a (length s.syn) ≡ true = sym (synthesized_at s.syn s.inh a) ∙ is_its_kind Synthesized (slice_get (symbol_kinds (Some s)) a) k in
@@ -204,7 +205,7 @@ ruled_all raw p q all =
         let same : target_of ss items v.0.target ≡ record { place = place; attr = a } = ap (λ (r : Rule). r.target) v.2 ∙ w.2 in
         rw (there, ← same) (among_has ss items q.rules [] w.1.0 v.0 v.1)
 
--- elements of a mapped list differ where their origins do
+-- elements of a mapped list are distinct if their origins are
 pub differ_mapped : {X Y Z : Type 0} (g : X → Y) (f : Y → Z) (xs : List X) → DifferIn (λ x. f (g x)) xs → DifferIn f (map g xs)
 differ_mapped g f xs differ i j x y a b same =
     let w = mapped_at g xs i x a in
@@ -214,14 +215,14 @@ differ_mapped g f xs differ i j x y a b same =
 pub mapped_differ : {X Y Z : Type 0} (g : X → Y) (f : Y → Z) (xs : List X) → DifferIn f (map g xs) → DifferIn (λ x. f (g x)) xs
 mapped_differ g f xs differ i j x y a b same = differ i j (g x) (g y) (at_mapped g xs i x a) (at_mapped g xs j y b) same
 
--- each of a mapped list is so where its origin is
+-- a property holds of each element of a mapped list if it does of its origin
 pub each_mapped : {X Y : Type 0} (g : X → Y) (P : Y → Type 0) (xs : List X) → ((i : ℕ) (x : X) → slice_get xs i ≡ Some x → P (g x)) → Each P (map g xs)
 each_mapped g P xs h i y e = let w = mapped_at g xs i y e in subst P w.2 (h i w.0 w.1)
 
 pub mapped_each : {X Y : Type 0} (g : X → Y) (P : Y → Type 0) (xs : List X) → Each P (map g xs) → (i : ℕ) (x : X) → slice_get xs i ≡ Some x → P (g x)
 mapped_each g P xs h i x e = h i (g x) (at_mapped g xs i x e)
 
--- no rule is doubled
+-- no rule is duplicate
 pub rules_single : (raw : RawGrammar) (q : RawProduction) → first_wrong (doubled_in (symbols raw) q) ≡ None → DifferIn (λ r. r.target) (produces raw q).rules
 rules_single raw q h =
     let key = λ (r : RawRule). target_of (symbols raw) (placed (symbols raw) q) r.target in
@@ -234,7 +235,7 @@ single_rules raw q h =
     along_apart same_target (λ (r : RawRule). fault.RuleDoubled r.target.at) key (λ r. []) tells_targets [] q.rules
     (differ_apart key q.rules (mapped_differ (rule_of (symbols raw) (placed (symbols raw) q)) (λ (r : Rule). r.target) q.rules h)) (λ i x e. refl)
 
--- each target is given here
+-- the rules define each target
 pub targets_given : (raw : RawGrammar) (q : RawProduction) → first_wrong (not_given_in (symbols raw) q) ≡ None → Each (λ r. HasKind (numbered raw) (produces raw q) r.target (given_kind r.target.place)) (produces raw q).rules
 targets_given raw q h = each_mapped (rule_of (symbols raw) (placed (symbols raw) q)) (λ r. HasKind (numbered raw) (produces raw q) r.target (given_kind r.target.place)) q.rules (λ i r e.
     let t = target_of (symbols raw) (placed (symbols raw) q) r.target in
@@ -245,7 +246,7 @@ given_targets raw q h = each_map (given_check (symbols raw) (placed (symbols raw
     let t = target_of (symbols raw) (placed (symbols raw) q) r.target in
     has_its_kind raw q t (given_kind t.place) (mapped_each (rule_of (symbols raw) (placed (symbols raw) q)) (λ r. HasKind (numbered raw) (produces raw q) r.target (given_kind r.target.place)) q.rules h i r e))
 
--- each argument is found here
+-- the rules use each argument
 pub arguments_found : (raw : RawGrammar) (q : RawProduction) → first_wrong (not_found_in (symbols raw) q) ≡ None → IsNormal (numbered raw) (produces raw q)
 arguments_found raw q h = each_mapped (rule_of (symbols raw) (placed (symbols raw) q)) (λ r. Each (λ o. HasKind (numbered raw) (produces raw q) o (found_kind o.place)) r.args) q.rules (λ i r e.
     each_mapped (target_of (symbols raw) (placed (symbols raw) q)) (λ o. HasKind (numbered raw) (produces raw q) o (found_kind o.place)) r.expr.1 (λ j o f.

@@ -1,4 +1,4 @@
--- The first wrong place of a list that is made of others.
+-- The first failing check of a concatenated list.
 use Rattle.std.proofs.Common.{◌-◌, suc, map, arith, true, false, [], ℕ, ◌≡◌, ◌+◌, ◌<◌, not, List, [], ◌∷◌, ◌++◌, length, get_or, drop, flat_map, find, Some, None, Option, refl, ap, sym, fold, append_assoc, ◌∙◌}
 use Rattle.std.proofs.lemmas.List.{drop_more, get_or-map, length-map}
 use Rattle.std.proofs.lemmas.List.Folds.{find-append}
@@ -20,11 +20,11 @@ map_or f (Some x) b = refl
 pub wrong-append : (xs ys : List Check) → first_wrong (xs ++ ys) ≡ option_or (first_wrong xs) (first_wrong ys)
 wrong-append xs ys = ap (option_map (λ (x : Check). x.0)) (find-append (λ (x : Check). not x.1) xs ys) ∙ map_or (λ (x : Check). x.0) (find (λ (x : Check). not x.1) xs) (find (λ (x : Check). not x.1) ys)
 
--- the first of a list is that of the list with more behind it
+-- the first fault of a list is that of the list with more checks after it
 pub first_of : (xs ys : List Check) (fault : NormalFault) → Some fault ≡ first_wrong xs → Some fault ≡ first_wrong (xs ++ ys)
 first_of xs ys fault e = rw (wrong-append xs ys, ← e) refl
 
--- and where there is none, that of what is behind
+-- and if it has none, that of the checks after it
 pub rest_of : (xs ys : List Check) → None ≡ first_wrong xs → first_wrong ys ≡ first_wrong (xs ++ ys)
 rest_of xs ys e = rw (wrong-append xs ys, ← e) refl
 
@@ -32,11 +32,11 @@ rest_of xs ys e = rw (wrong-append xs ys, ← e) refl
 pub wrong_more : {X : Type 0} (f : X → List Check) (xs : List X) (i : ℕ) (d : X) → i < length xs → first_wrong (flat_map f (drop i xs)) ≡ option_or (first_wrong (f (get_or xs i d))) (first_wrong (flat_map f (drop (i + 1) xs)))
 wrong_more f xs i d lt = ap (λ ys. first_wrong (flat_map f ys)) (drop_more xs i d lt) ∙ wrong-append (f (get_or xs i d)) (flat_map f (drop (i + 1) xs))
 
--- what stands at a place of the list has the first, where nothing before has one
+-- the first fault is that of an element, if no earlier one has a fault
 pub wrong_here : {X : Type 0} (f : X → List Check) (xs : List X) (i : ℕ) (x : X) (fault : NormalFault) (all : Option NormalFault) → i < length xs → x ≡ get_or xs i x → Some fault ≡ first_wrong (f x) → first_wrong (flat_map f (drop i xs)) ≡ all → Some fault ≡ all
 wrong_here f xs i x fault all lt is here so_far = let e : first_wrong (f (get_or xs i x)) ≡ Some fault = rw (← is) (sym here) in sym (ap (λ o. option_or o (first_wrong (flat_map f (drop (i + 1) xs)))) e) ∙ sym (wrong_more f xs i x lt) ∙ so_far
 
--- or has none
+-- or it has none
 pub wrong_past : {X : Type 0} (f : X → List Check) (xs : List X) (i : ℕ) (x : X) (all : Option NormalFault) → i < length xs → x ≡ get_or xs i x → None ≡ first_wrong (f x) → first_wrong (flat_map f (drop i xs)) ≡ all → first_wrong (flat_map f (drop (i + 1) xs)) ≡ all
 wrong_past f xs i x all lt is here so_far = let e : first_wrong (f (get_or xs i x)) ≡ None = rw (← is) (sym here) in sym (ap (λ o. option_or o (first_wrong (flat_map f (drop (i + 1) xs)))) e) ∙ sym (wrong_more f xs i x lt) ∙ so_far
 
@@ -79,7 +79,7 @@ doubled_past seen seen' xs ys o none is past next =
 map_more : {X : Type 0} (f : X → Check) (xs : List X) (i : ℕ) (d : X) → i < length xs → first_wrong (map f (drop i xs)) ≡ option_or (first_wrong (f (get_or xs i d) ∷ [])) (first_wrong (map f (drop (i + 1) xs)))
 map_more f xs i d lt = ap (λ ys. first_wrong (map f ys)) (drop_more xs i d lt) ∙ wrong-append (f (get_or xs i d) ∷ []) (map f (drop (i + 1) xs))
 
--- the same along a list that gives one place each
+-- the same along a list with one check for each element
 pub map_here : {X : Type 0} (f : X → Check) (xs : List X) (i : ℕ) (x : X) (fault : NormalFault) (all : Option NormalFault) → i < length xs → x ≡ get_or xs i x → Some fault ≡ first_wrong (f x ∷ []) → first_wrong (map f (drop i xs)) ≡ all
     → Some fault ≡ all
 map_here f xs i x fault all lt is here so_far = let e : first_wrong (f (get_or xs i x) ∷ []) ≡ Some fault = rw (← is) (sym here) in sym (ap (λ o. option_or o (first_wrong (map f (drop (i + 1) xs)))) e) ∙ sym (map_more f xs i x lt) ∙ so_far
@@ -113,12 +113,12 @@ within f xs i lt = rw (length-map xs f) lt
 pub none_of : (xs ys : List Check) → None ≡ first_wrong xs → None ≡ first_wrong ys → None ≡ first_wrong (xs ++ ys)
 none_of xs ys e f = f ∙ rest_of xs ys e
 
--- a list that gives one place each
+-- a list with one check for each element
 each_alone : {X : Type 0} (f : X → Check) (xs : List X) → flat_map (λ x. f x ∷ []) xs ≡ map f xs
 each_alone f [] = refl
 each_alone f (x ∷ xs) = ap (λ ys. f x ∷ ys) (each_alone f xs)
 
--- what is asked of targets alone
+-- the checks of targets
 pub given_asked : (ss : List Symbol) (qs : List RawProduction) → asked question.Given ss qs ≡ not_given ss qs
 given_asked ss [] = refl
 given_asked ss (q ∷ qs) = ap (λ xs. xs ++ asked question.Given ss qs) (each_alone (given_check ss (placed ss q)) q.rules) ∙ ap (λ ys. map (given_check ss (placed ss q)) q.rules ++ ys) (given_asked ss qs)

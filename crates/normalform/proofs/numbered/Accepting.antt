@@ -1,4 +1,4 @@
--- A raw grammar has no fault exactly where the numbered one is accepted.
+-- A raw grammar has no fault exactly if the numbered one is accepted.
 use Rattle.std.proofs.Common.{All, inr, ℕ, zero, suc, ◌≡◌, ◌+◌, ◌<◌, ◌≤◌, ◌≢◌, Bool, true, false, ◌&&◌, nat_eq, nat_le, List, [], ◌∷◌, ◌++◌, length, map, Some, None, Option, slice_get, get_or, bytes_eq, refl, ap, sym, ◌∙◌, arith, subst}
 use Rattle.std.proofs.lemmas.Bool.{eqb-true, leb-true, le-leb}
 use Rattle.std.proofs.lemmas.List.{length-map}
@@ -92,7 +92,7 @@ class_used raw i c e =
     let w = class_stands raw.productions c (has_filter (uses raw) known_classes c (i, e)).1 in
     (w.0, produces raw w.1, at_mapped (produces raw) raw.productions w.0 w.1 w.2, (w.3.0, at_mapped (item_in raw) w.1.items w.3.0 (raw_item.Class c) w.3.1))
 
--- an item of a production stands for what there is
+-- an item of a production is named
 item_named : (raw : RawGrammar) (p : ℕ) (q : RawProduction) (i : ℕ) (x : RawItem) → slice_get raw.productions p ≡ Some q → slice_get q.items i ≡ Some x → IsReadableItem x → first_wrong (item_checks (symbol_names (symbols raw)) x) ≡ None
     → IsNamedItem (numbered raw) (item_in raw x)
 item_named raw p q i (raw_item.Name name) e f readable right = name_known (symbols raw) name right
@@ -254,7 +254,7 @@ accepted raw readable listed none =
       limits = limits raw readable further.1;
     }
 
--- and where it is accepted there is no fault
+-- if it is accepted there is no fault
 pub no_fault : (raw : RawGrammar) → IsAccepted (numbered raw) → HasNoFault raw
 no_fault raw accepted =
     let ss = symbols raw in
@@ -283,7 +283,7 @@ small raw none =
       texts = leb-true (length (literals raw)) most_literals (is_right (fault.Limit limit.Literals, nat_le (length (literals raw)) most_literals) l.1);
     }
 
--- what holds of all elements holds of each
+-- a property of all elements holds of each
 each_of : {X : Type 0} (P : X → Type 0) (xs : List X) → All P xs → Each P xs
 each_of P xs all i x e = subst P (get_or_from_slice_get xs i x x e) (all i x (slice_get_within xs i x e))
 

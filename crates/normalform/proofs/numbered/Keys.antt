@@ -1,4 +1,4 @@
--- Keys of an index set of texts go on with one more.
+-- Adding a key to the index set of texts.
 use Rattle.std.proofs.Common.{ℕ, ◌≡◌, ◌<◌, ◌⊎◌, inl, inr, Bool, true, false, ◌&&◌, cond, List, [], ◌∷◌, ◌++◌, length}
 use Rattle.std.proofs.Common.{length-append, Some, None, Option, is_some, position, map, nat_eq, bytes_eq, slice_get}
 use Rattle.std.proofs.Common.{zero, suc, refl, ap, sym, ◌∙◌, arith, not, get_or}
@@ -34,7 +34,7 @@ or_none : {X : Type 0} (o : Option X) → option_or o None ≡ o
 or_none None = refl
 or_none (Some x) = refl
 
--- where a text is first in a list with one more key
+-- the first position of a text in a list with one more key
 pushed_text : (q : List ℕ) (keys : List Key) (key : Key)
     → position (bytes_eq q) (texts_of_keys (keys ++ key ∷ []))
     ≡ option_or (position (bytes_eq q) (texts_of_keys keys)) (cond (bytes_eq q key.0.now) (Some (length keys)) None)
@@ -93,7 +93,7 @@ again_more keys key numbered there index some = record {
         let same : q ≡ key.0.now = (bytes_eq-Decides q key.0.now).0 f in
         absurd (false≢true (sym (ap is_some (rw same at e)) ∙ there))
 
--- the key of a text's first appearance is there exactly where the text is
+-- the key of a text's first appearance exists exactly if the text does
 pub there_is : (keys : List Key) (text : List ℕ) → AreNumbered keys
     → list_any (is_first text) keys ≡ list_any (bytes_eq text) (texts_of_keys keys)
 there_is keys text numbered =
@@ -120,7 +120,7 @@ some_of : {X : Type 0} (p : X → Bool) (xs : List X) → list_any p xs ≡ true
 some_of p [] h = absurd (cc)
 some_of p (x ∷ xs) h = omega arith
 
--- no key has the length beside its text
+-- no key has its text and the length
 is_fresh : (keys : List Key) (text : List ℕ) → AreNumbered keys
     → list_any (λ (k : Key). bytes_eq text k.0.now && nat_eq (length keys) k.1) keys ≡ false
 is_fresh keys text numbered = list_any_none (λ (k : Key). bytes_eq text k.0.now && nat_eq (length keys) k.1) keys (λ i d lt.

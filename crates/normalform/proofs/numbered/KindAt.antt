@@ -37,7 +37,7 @@ inherited_at [] inh a = some_inherited inh a ∙ grind (arith, nat_tests)
 inherited_at (x ∷ xs) inh zero = grind (arith, nat_tests)
 inherited_at (x ∷ xs) inh (suc a) = inherited_at xs inh a ∙ grind (arith, nat_tests)
 
--- the same of a symbol as declared
+-- the same of a declared symbol
 pub synthesizes_is : (o : Option Symbol) (s : RawSymbol) (syn : List Named) (a : ℕ) → o ≡ Some (symbol_of s) → syn ≡ s.syn → nat_lt a (length syn) ≡ is_kind Synthesized (slice_get (symbol_kinds o) a)
 synthesizes_is o s syn a e f = rw (e, f, synthesized_at (texts_of s.syn) (texts_of s.inh) a, length-map s.syn (λ (n : Named). n.name)) refl
 
@@ -45,10 +45,10 @@ inherits_is : (o : Option Symbol) (s : RawSymbol) (syn inh : List Named) (a : �
     → (nat_le (length syn) a && nat_lt (a - length syn) (length inh)) ≡ is_kind Inherited (slice_get (symbol_kinds o) a)
 inherits_is o s syn inh a e f g = rw (e, f, g, inherited_at (texts_of s.syn) (texts_of s.inh) a, length-map s.syn (λ (n : Named). n.name), length-map s.inh (λ (n : Named). n.name)) refl
 
--- behind the synthesized ones
+-- after the synthesized ones
 pub inherits_behind : (o : Option Symbol) (s : RawSymbol) (syn inh : List Named) (a : ℕ) → o ≡ Some (symbol_of s) → syn ≡ s.syn → inh ≡ s.inh → length syn ≤ a → nat_lt (a - length syn) (length inh) ≡ is_kind Inherited (slice_get (symbol_kinds o) a)
 inherits_behind o s syn inh a e f g le = let h = le-leb (length syn) a le in rw h at (inherits_is o s syn inh a e f g)
 
--- and none of these
+-- not one of these
 pub inherits_none : (o : Option Symbol) (s : RawSymbol) (syn : List Named) (a : ℕ) → o ≡ Some (symbol_of s) → syn ≡ s.syn → a < length syn → nat_le (length syn) a ≡ is_kind Inherited (slice_get (symbol_kinds o) a)
 inherits_none o s syn a e f lt = let h : nat_le (length syn) a ≡ false = grind (arith, nat_tests) in h ∙ rw h at (inherits_is o s syn s.inh a e f refl)

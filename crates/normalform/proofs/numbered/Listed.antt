@@ -16,7 +16,7 @@ use Rattle.normalform.proofs.found.Right.{has_left, has_right}
 pub tells_texts : Tells bytes_eq
 tells_texts = record { sound = λ a b. (bytes_eq-Decides a b).0; whole = λ a b. (bytes_eq-Decides a b).1 }
 
--- an element passes where one in the list does
+-- an element of the list passes the test
 pub any_at : {X : Type 0} (test : X → Bool) (xs : List X) → list_any test xs ≡ true → (i : ℕ) × (x : X) × (slice_get xs i ≡ Some x) × (test x ≡ true)
 any_at test [] h = absurd (cc)
 any_at {X = X} test (x ∷ xs) h = go (test x) refl (any_at test xs)
@@ -76,11 +76,11 @@ apart_with texts text apart = go (list_any (bytes_eq text) texts) refl
     go true e = apart
     go false e = apart_push bytes_eq tells_texts texts text apart e
 
--- a literal stands among items
+-- a literal is one of the items
 abbrev IsAmong : List RawItem → List ℕ → Type 0
 IsAmong xs text = Has xs (raw_item.Literal text)
 
--- a literal stands in a production
+-- a literal occurs in a production
 abbrev pub StandsIn : List RawProduction → List ℕ → Type 0
 StandsIn qs text = (p : ℕ) × (q : RawProduction) × (slice_get qs p ≡ Some q) × Has q.items (raw_item.Literal text)
 
@@ -162,7 +162,7 @@ map_same : {X : Type 0} (xs : List X) → map (λ x. x) xs ≡ xs
 map_same [] = refl
 map_same (x ∷ xs) = ap (λ ys. x ∷ ys) (map_same xs)
 
--- elements at two indexes differ
+-- elements at two indices differ
 pub apart_same : {X : Type 0} (xs : List X) → Apart xs → (i j : ℕ) (x y : X) → slice_get xs i ≡ Some x → slice_get xs j ≡ Some y → x ≡ y → i ≡ j
 apart_same xs apart = apart_differ (λ x. x) xs (rw (map_same xs) apart)
 
@@ -170,7 +170,7 @@ apart_same xs apart = apart_differ (λ x. x) xs (rw (map_same xs) apart)
 pub number_at : (texts : List (List ℕ)) → Apart texts → (i : ℕ) (x : List ℕ) → slice_get texts i ≡ Some x → number_in texts x ≡ i
 number_at texts apart i x e = apart_same texts apart (number_in texts x) i x x (text_at texts x (has_any texts x (i, e))) e refl
 
--- what a filter keeps
+-- the elements that a filter keeps
 pub filter_has : {X : Type 0} (test : X → Bool) (xs : List X) (x : X) → Has xs x → test x ≡ true → Has (filter test xs) x
 filter_has test [] x (i, e) h = absurd (cc)
 filter_has test (y ∷ ys) x (zero, e) h = let z : y ≡ x = cc in rw (z, h) (zero, refl)

@@ -100,7 +100,7 @@ stays : (ts texts : List (List ℕ)) (k : ℕ) (x : List ℕ) → slice_get text
 stays [] texts k x e = e
 stays (t ∷ ts) texts k x e = stays ts (with_text texts t) k x (with_stays texts t k x e)
 
--- where a text is listed then: at most just after the texts so far
+-- the index of a text after it is listed: at most just after the texts so far
 placed : (texts : List (List ℕ)) (text : List ℕ) → (k : ℕ) × (k ≤ length texts) × (slice_get (with_text texts text) k ≡ Some text)
 placed texts text = go (list_any (bytes_eq text) texts) refl
   where
@@ -129,7 +129,7 @@ old_or_new texts text m lt = go (list_any (bytes_eq text) texts) lt
 abbrev IsBefore : List (List ℕ) → List (List ℕ) → ℕ → ℕ → Type 0
 IsBefore all ts i m = (j : ℕ) × (u : List ℕ) × (j < i) × (slice_get ts j ≡ Some u) × (number_in all u ≡ m)
 
--- each number below that of a text belongs to a text that was listed already, or appears earlier
+-- each number below that of a text is that of a text that was listed already, or appears earlier
 ordered : (all ts texts : List (List ℕ)) → fold with_text texts ts ≡ all → Apart all
     → (i : ℕ) (t : List ℕ) (m : ℕ) → slice_get ts i ≡ Some t → m < number_in all t
     → (m < length texts) ⊎ IsBefore all ts i m

@@ -1,4 +1,4 @@
--- What stands at a place of a numbered production, its attributes by name and by kind.
+-- The items at the places of a numbered production, and their attributes by name and by kind.
 use Rattle.std.proofs.Common.{ℕ, zero, suc, ◌≡◌, ◌<◌, true, List, [], ◌∷◌, length, map, Some, None, Option, slice_get, get_or, bytes_eq, refl, ap, sym, ◌∙◌, arith, length-append}
 use Rattle.std.proofs.lemmas.List.{length-map}
 use Rattle.std.proofs.lemmas.List.Sums.{passes_at_first}
@@ -72,7 +72,7 @@ text_at texts text h =
     let e : text ≡ get_or texts (number_in texts text) [] = (bytes_eq-Decides text (get_or texts (number_in texts text) [])).0 (passes_at_first (bytes_eq text) texts [] lt) in
     slice_get-get_or texts (number_in texts text) [] lt ∙ ap (λ t. Some t) (sym e)
 
--- there are as many kinds as names
+-- the number of kinds is the number of names
 symbol_long : (o : Option Symbol) → length (symbol_kinds o) ≡ length (names_of_symbol o)
 symbol_long None = refl
 symbol_long (Some s) = length-append (map (λ (n : List ℕ). Synthesized) s.syn) (map (λ (n : List ℕ). Inherited) s.inh)
@@ -84,7 +84,7 @@ kinds_long ss (Some (item.Symbol s)) = symbol_long (slice_get ss s)
 kinds_long ss (Some (item.Terminal (Class c))) = refl
 kinds_long ss (Some (item.Terminal (Literal l))) = refl
 
--- a named attribute is there, and has a kind
+-- a named attribute exists, and has a kind
 pub some_kind : (raw : RawGrammar) (q : RawProduction) (o : Occ) → list_any (bytes_eq o.attr) (names_at (symbols raw) (placed (symbols raw) q) o.place) ≡ true
     → (k : Kind) × HasKind (numbered raw) (produces raw q) (target_of (symbols raw) (placed (symbols raw) q) o) k
 some_kind raw q o h =
@@ -102,7 +102,7 @@ stands_for raw q o h = record {
   name = ap (λ ns. slice_get ns (number_in (names_at (symbols raw) (placed (symbols raw) q) o.place) o.attr)) (names_of raw q o.place) ∙ text_at (names_at (symbols raw) (placed (symbols raw) q) o.place) o.attr h;
 }
 
--- and the other way round
+-- and the converse
 pub named_there : (raw : RawGrammar) (q : RawProduction) (o : Occ) (k : Kind) → HasKind (numbered raw) (produces raw q) (target_of (symbols raw) (placed (symbols raw) q) o) k
     → list_any (bytes_eq o.attr) (names_at (symbols raw) (placed (symbols raw) q) o.place) ≡ true
 named_there raw q o k h =

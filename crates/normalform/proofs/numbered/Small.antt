@@ -28,7 +28,7 @@ both : (a b : Bool) → (a && b) ≡ true → (a ≡ true) × (b ≡ true)
 both true b h = (refl, h)
 both false b h = absurd (cc)
 
--- what all members pass, each passes
+-- a test that all members pass, each passes
 pub passes_at : {X : Type 0} (p : X → Bool) (xs : List X) (i : ℕ) (x : X) → list_all p xs ≡ true → slice_get xs i ≡ Some x → p x ≡ true
 passes_at p [] i x all e = absurd (cc)
 passes_at p (y ∷ ys) zero x all e = let same : y ≡ x = cc in rw (← same) (both (p y) (list_all p ys) all).0

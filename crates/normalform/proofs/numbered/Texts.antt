@@ -1,4 +1,4 @@
--- Maps from texts to their numbers go on with one more text.
+-- The numbers of texts, with one more text.
 use Rattle.std.proofs.Common.{ℕ, ◌≡◌, ◌+◌, Bool, true, false, ◌||◌, cond, List, [], ◌∷◌, ◌++◌, length, Some, None, Option, is_some, unwrap_or, position, not, nat_lt, map, bytes_eq, refl, ap, sym, ◌∙◌, arith}
 use Rattle.std.proofs.lemmas.Bool.{false≢true, ltb-false}
 use Rattle.std.proofs.lemmas.List.{map_push}
@@ -18,7 +18,7 @@ from_push p i (y ∷ ys) x = go (p y) (from_push p (i + 1) ys x ∙ ap (λ n. op
     go true e = refl
     go false e = e
 
--- the place of the first in a list with one more
+-- the first position in a list with one more element
 pub position_push : {X : Type 0} (p : X → Bool) (xs : List X) (x : X) → position p (xs ++ x ∷ []) ≡ option_or (position p xs) (cond (p x) (Some (length xs)) None)
 position_push p xs x = position_from-zero p (xs ++ x ∷ []) ∙ from_push p 0 xs x ∙ ap (λ n. option_or (position_from p 0 xs) (cond (p x) (Some n) None)) (omega arith) ∙ ap (λ o. option_or o (cond (p x) (Some (length xs)) None)) (sym (position_from-zero p xs))
 
@@ -37,11 +37,11 @@ found_from p i (x ∷ xs) = go (p x) (found_from p (i + 1) xs)
     go true more = refl
     go false more = more
 
--- where one passes, one is found
+-- if an element passes, one is found
 pub found : {X : Type 0} (p : X → Bool) (xs : List X) → is_some (position p xs) ≡ list_any p xs
 found p xs = ap is_some (position_from-zero p xs) ∙ found_from p 0 xs
 
--- the place of the first, or the length
+-- the first position, or the length
 pub index_is : {X : Type 0} (p : X → Bool) (xs : List X) → unwrap_or (position p xs) (length xs) ≡ position_or_len p xs
 index_is p xs = go (nat_lt (position_or_len p xs) (length xs)) refl
   where

@@ -1,4 +1,5 @@
--- What is asked of the attributes that the rules of productions name: along each rule its target, and then its arguments.
+-- The checks of the attributes that the rules of productions name: in each rule its target, and then its
+-- arguments.
 use Rattle.std.specs.Prelude.{List, [], ◌∷◌, map, flat_map}
 use Rattle.ag_grammar.specs.declared.grammar.Item.{Item}
 use Rattle.ag_grammar.specs.declared.grammar.Symbol.{Symbol}

@@ -1,4 +1,4 @@
--- By which clauses a symbol is productive, or reached, where others are.
+-- The clauses by which symbols are productive, and the edges by which they are reached.
 use Rattle.std.specs.Prelude.{ℕ, map, flat_map, List, [], ◌∷◌}
 use Rattle.ag_grammar.specs.declared.grammar.Symbol.{Symbol}
 use Rattle.ag_grammar.specs.declared.raw.RawItem.{RawItem}
@@ -15,14 +15,14 @@ body_of names (raw_item.Name name ∷ xs) = number_in names name.name ∷ body_o
 body_of names (raw_item.Literal text ∷ xs) = body_of names xs
 body_of names (raw_item.Class c ∷ xs) = body_of names xs
 
--- a left side is productive where each symbol of the right side is
+-- a left side is productive if each symbol of the right side is
 abbrev pub clause_of : List Symbol → RawProduction → Clause
 clause_of ss q = record { head = number_in (symbol_names ss) q.left.name; body = body_of (symbol_names ss) q.items }
 
 abbrev pub clauses_of : List Symbol → List RawProduction → List Clause
 clauses_of ss qs = map (clause_of ss) qs
 
--- a symbol of a right side is reached where the left side is
+-- a symbol of a right side is reached if the left side is
 abbrev pub edge : ℕ → ℕ → Edge
 edge left t = record { from = left; to = t }
 

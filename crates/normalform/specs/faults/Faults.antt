@@ -1,5 +1,5 @@
--- The faults of a raw grammar, kind by kind, and which comes first (this project's; complete and productive are Knuth's 1968
--- and the textbook's). A kind is the list of its checks, in the order of the text.
+-- The faults of a raw grammar, kind by kind, and their order (this project's; complete and productive are
+-- Knuth's 1968 and the textbook's). A kind is the list of its checks, in the order of the text.
 use Rattle.std.specs.Prelude.{All, ℕ, zero, suc, cond, fold, ◌⊎◌, ◌+◌, ◌≡◌, ◌<◌, ◌≤◌, nat_eq, nat_le, not, Bool, true, false, ◌&&◌, List, [], ◌∷◌, ◌++◌, length, map, flat_map, find, Option, Some, None, bytes_eq, slice_get}
 use Rattle.std.specs.List.{list_any, list_all, range_with_len}
 use Rattle.std.specs.Option.{option_map}
@@ -26,7 +26,7 @@ use Rattle.normalform.specs.declared.fault.NormalFault.{NormalFault}
 use Rattle.normalform.specs.declared.fault.NormalFault.TheVariants as fault
 use Rattle.normalform.specs.numbers.Numbers.{symbol_of, symbol_names, with_text, declared, number_in, names_at, placed, target_of, literals_of, numbered}
 
--- A check of something in the text: the fault that is told where it fails, and whether it holds.
+-- A check of a part of the text: the fault to report if it fails, and whether it holds.
 abbrev pub Check : Type 0
 Check = NormalFault × Bool
 
@@ -34,12 +34,12 @@ Check = NormalFault × Bool
 abbrev pub first_wrong : List Check → Option NormalFault
 first_wrong checks = option_map (λ x. x.0) (find (λ x. not x.1) checks)
 
--- checks along a list, with what is known at each from those before
+-- checks along a list, with a state that each element updates
 abbrev pub checks_along : {S X : Type 0} → (S → X → List Check) → (S → X → S) → S → List X → List Check
 checks_along f g s [] = []
 checks_along f g s (x ∷ xs) = f s x ++ checks_along f g (g s x) xs
 
--- N1. A name of a symbol: it is declared.
+-- N1. The check of a symbol's name: it is declared.
 abbrev pub name_check : List (List ℕ) → Named → Check
 name_check names name = (fault.UnknownName name.at, list_any (bytes_eq name.name) names)
 
@@ -63,7 +63,7 @@ unknown_in ss q = name_check (symbol_names ss) q.left ∷ flat_map (item_checks 
 abbrev pub unknown : List Symbol → List RawProduction → List Check
 unknown ss qs = flat_map (unknown_in ss) qs
 
--- N2. A name where it is declared: it is not among those before.
+-- N2. The check of a declared name: it is not one of the earlier names.
 abbrev pub new_check : List (List ℕ) → Named → List Check
 new_check seen name = (fault.DoubledName name.at, not (list_any (bytes_eq name.name) seen)) ∷ []
 
@@ -83,7 +83,7 @@ with_symbol seen s = with_text seen s.name.name
 abbrev pub doubled : List RawSymbol → List Check
 doubled ss = checks_along symbol_checks with_symbol [] ss
 
--- N3. The start symbol is declared, has no inherited attribute, and a synthesized one named `out`.
+-- N3. The start symbol is declared, has no inherited attribute, and has a synthesized one named `out`.
 abbrev pub is_start : Option Symbol → Bool
 is_start None = false
 is_start (Some s) = nat_eq (length s.inh) 0 && list_any (bytes_eq out_name) s.syn
@@ -91,7 +91,7 @@ is_start (Some s) = nat_eq (length s.inh) 0 && list_any (bytes_eq out_name) s.sy
 abbrev pub start_checks : List Symbol → Named → List Check
 start_checks ss name = (fault.BadStart, is_start (slice_get ss (number_in (symbol_names ss) name.name))) ∷ []
 
--- N4, N5. The first of a list whose number is not so.
+-- N4, N5. The first symbol of a list whose number does not have the property.
 pub record IsFirstNot (P : ℕ → Type 0) (ss : List RawSymbol) (name : Named) : Type 0 where
   pub number : ℕ
   pub symbol : RawSymbol
@@ -100,8 +100,8 @@ pub record IsFirstNot (P : ℕ → Type 0) (ss : List RawSymbol) (name : Named) 
   pub wrong : P number → ⊥
   pub before : (t : ℕ) → t < number → P t
 
--- N6. The numbers of the attributes that rules give at a place: the synthesized ones on the left side, the inherited ones on
--- the right side.
+-- N6. The numbers of the attributes that rules define at a place: the synthesized ones on the left side, the
+-- inherited ones on the right side.
 abbrev pub numbers_given : ℕ → Symbol → List ℕ
 numbers_given zero s = range_with_len 0 (length s.syn)
 numbers_given (suc i) s = range_with_len (length s.syn) (length s.inh)
@@ -114,7 +114,7 @@ given_at ss place (item.Terminal a) = []
 abbrev pub same_target : Target → Target → Bool
 same_target a b = nat_eq a.place b.place && nat_eq a.attr b.attr
 
--- one more target, unless it is there
+-- one more target, unless it is there already
 abbrev pub with_target : List Target → Target → List Target
 with_target ts t = cond (list_any (same_target t) ts) ts (ts ++ t ∷ [])
 
@@ -125,11 +125,11 @@ with_rule ss items ts r = with_target ts (target_of ss items r.target)
 abbrev pub targets_of : List Symbol → List Item → List RawRule → List Target
 targets_of ss items rules = fold (with_rule ss items) [] rules
 
--- a rule for the attribute is there
+-- the attribute has a rule
 abbrev pub missing_check : List Target → ℕ → ℕ → ℕ → Check
 missing_check ts p place a = (fault.RuleMissing p place a, list_any (same_target (record { place = place; attr = a })) ts)
 
--- the attributes that rules give at a place of the production p
+-- the checks of the attributes that rules define at a place of production p
 abbrev pub missing_at : List Symbol → List Target → ℕ → ℕ → Item → List Check
 missing_at ss ts p place x = map (missing_check ts p place) (given_at ss place x)
 
@@ -143,7 +143,7 @@ missing_in ss p q = checks_along (missing_at ss (targets_of ss (placed ss q) q.r
 abbrev pub missing : List Symbol → List RawProduction → List Check
 missing ss qs = checks_along (missing_in ss) after 0 qs
 
--- N7. The target of a rule: it is not among those of the rules before in the production.
+-- N7. The check of a rule's target: it is not one of those of the earlier rules of the production.
 abbrev pub new_target : List Symbol → List Item → List Target → RawRule → List Check
 new_target ss items ts r = (fault.RuleDoubled r.target.at, not (list_any (same_target (target_of ss items r.target)) ts)) ∷ []
 
@@ -153,7 +153,7 @@ doubled_in ss q = checks_along (new_target ss (placed ss q)) (with_rule ss (plac
 abbrev pub doubled_rules : List Symbol → List RawProduction → List Check
 doubled_rules ss qs = flat_map (doubled_in ss) qs
 
--- an attribute is there and of the kind
+-- an attribute exists and is of the kind
 abbrev pub is_kind : Kind → Option Kind → Bool
 is_kind k None = false
 is_kind Synthesized (Some Synthesized) = true
@@ -164,7 +164,7 @@ is_kind Inherited (Some Inherited) = true
 abbrev pub has_kind : List Symbol → List Item → Target → Kind → Bool
 has_kind ss items t k = is_kind k (slice_get (item_kinds (declared ss) (slice_get items t.place)) t.attr)
 
--- N8. The target of a rule is one that the rules of the production give.
+-- N8. The check of a rule's target: the rules of the production define it.
 abbrev pub given_check : List Symbol → List Item → RawRule → Check
 given_check ss items r = let t = target_of ss items r.target in (fault.NotDefinedHere r.target.at, has_kind ss items t (given_kind t.place))
 
@@ -174,7 +174,7 @@ not_given_in ss q = map (given_check ss (placed ss q)) q.rules
 abbrev pub not_given : List Symbol → List RawProduction → List Check
 not_given ss qs = flat_map (not_given_in ss) qs
 
--- N9. An occurrence is one that the rules of the production find.
+-- N9. The check of an occurrence: the rules of the production use it.
 abbrev pub found_check : List Symbol → List Item → Occ → Check
 found_check ss items o = let t = target_of ss items o in (fault.NotNormal o.at, has_kind ss items t (found_kind t.place))
 
@@ -184,14 +184,14 @@ not_found_in ss q = flat_map (λ r. map (found_check ss (placed ss q)) r.expr.1)
 abbrev pub not_found : List Symbol → List RawProduction → List Check
 not_found ss qs = flat_map (not_found_in ss) qs
 
--- N10. The limits, of symbols, productions and different literals.
+-- N10. The limits of symbols, productions and different literals.
 abbrev pub few_attributes : Symbol → Bool
 few_attributes s = nat_le (length (attribute_names s)) most_attributes
 
 abbrev pub few_items : RawProduction → Bool
 few_items q = nat_le (length q.items) most_items
 
--- how many items have a place: the left side is one more
+-- the limit of the items with a place: the left side is one more
 abbrev pub few_stored : List Symbol → RawProduction → Bool
 few_stored ss q = nat_le (length (placed ss q)) (1 + most_stored)
 
@@ -223,11 +223,11 @@ naming_checks raw = let ss = map symbol_of raw.symbols in
 abbrev pub rule_kinds : List Symbol → List RawProduction → List Check
 rule_kinds ss qs = missing ss qs ++ doubled_rules ss qs ++ not_given ss qs ++ not_found ss qs
 
--- the checks of the kinds behind N5
+-- the checks of N6 to N10
 abbrev pub further_checks : RawGrammar → List Check
 further_checks raw = let ss = map symbol_of raw.symbols in rule_kinds ss raw.productions ++ limit_checks ss raw.productions
 
--- each declared symbol is so
+-- each declared symbol has the property
 abbrev pub AreAll : (ℕ → Type 0) → RawGrammar → Type 0
 AreAll P raw = (s : ℕ) → s < length raw.symbols → P s
 
@@ -247,24 +247,25 @@ pub record HasNoFault (raw : RawGrammar) : Type 0 where
   pub reached : AreAll (IsReached (numbered raw)) raw
   pub rules : first_wrong (further_checks raw) ≡ None
 
--- A literal or a class as a text gives them: a literal is not empty and has no separator, a class is known.
+-- A literal or a class as they come from a text: a literal is not empty and has no separator, a class is
+-- known.
 abbrev pub IsReadableItem : RawItem → Type 0
 IsReadableItem (raw_item.Name name) = Unit {0}
 IsReadableItem (raw_item.Literal text) = (1 ≤ length text) × Each (λ b. IsSeparator b → ⊥) text
 IsReadableItem (raw_item.Class c) = c < class_count
 
--- the literals and classes of a raw grammar are as a text gives them
+-- the literals and classes of a raw grammar could come from a text
 abbrev pub IsReadable : RawGrammar → Type 0
 IsReadable raw = Each (λ q. Each IsReadableItem q.items) raw.productions
 
--- each occurrence in a rule's expression is one of those listed with it
+-- each occurrence in a rule's expression is listed with it
 abbrev pub IsListed : Rule → Type 0
 IsListed r = is_below (length r.expr.1) r.expr.0 ≡ true
 
 abbrev pub AreListedIn : Production → Type 0
 AreListedIn q = All IsListed q.rules
 
--- Symbols and literals within the limits, so that their numbers and those of attributes are small.
+-- The symbols and literals are within the limits, so that their numbers and those of attributes are small.
 pub record IsSmall (ss : List Symbol) (literals : List (List ℕ)) : Type 0 where
   pub symbols : length ss ≤ most_symbols
   pub attributes : list_all few_attributes ss ≡ true
@@ -274,6 +275,6 @@ pub record IsSmall (ss : List Symbol) (literals : List (List ℕ)) : Type 0 wher
 abbrev pub IsNameAt : List RawSymbol → ℕ → Named → Type 0
 IsNameAt ss number name = (s : RawSymbol) × (slice_get ss number ≡ Some s) × (s.name ≡ name)
 
--- what a refusal says is so
+-- a fault is justified
 abbrev pub IsTrueOf : RawGrammar → NormalFault → Type 0
 IsTrueOf raw f = (f ≡ fault.NoMemory) ⊎ (IsFirstFault raw f × (IsAccepted (numbered raw) → ⊥))

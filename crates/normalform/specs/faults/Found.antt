@@ -1,4 +1,4 @@
--- What the search for faults finds: a fault, or the number of a symbol whose name is to be moved into one.
+-- The result of the search for faults: a fault, or the number of a symbol whose name is moved into one.
 use Rattle.std.specs.Prelude.{ℕ, ◌<◌, Option, Some, None, length}
 use Rattle.ag_grammar.specs.declared.raw.Named.{Named}
 use Rattle.ag_grammar.specs.declared.raw.RawGrammar.{RawGrammar}

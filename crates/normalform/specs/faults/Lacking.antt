@@ -1,4 +1,4 @@
--- What does not follow from clauses.
+-- The numbers that do not follow from clauses.
 use Rattle.std.specs.Prelude.{ℕ, ◌≡◌, ◌<◌, Bool, true, false, List, length}
 use Rattle.closure.specs.Following.{Follows, is_marked}
 use Rattle.closure.specs.declared.clause.Clause.{Clause}

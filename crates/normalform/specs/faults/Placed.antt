@@ -1,11 +1,11 @@
--- What stands at a place, as the search for faults has it.
+-- The items at places, as the search for faults represents them.
 use Rattle.ag_grammar.specs.declared.grammar.Item.{Item}
 use Rattle.ag_grammar.specs.declared.grammar.Item.TheVariants as item
 use Rattle.ag_grammar.specs.declared.grammar.Terminal.TheVariants.{Class}
 use Rattle.normalform.specs.declared.faults.placed.Placed.{Placed}
 use Rattle.normalform.specs.declared.faults.placed.Placed.TheVariants as placed
 
--- the item that it stands for
+-- the item
 abbrev pub item_placed : Placed → Item
 item_placed (placed.Symbol s) = item.Symbol s
 item_placed (placed.Class c) = item.Terminal (Class c)

@@ -1,4 +1,4 @@
--- Whether the literals and classes of a raw grammar are as a text gives them, as a test.
+-- The test of whether the literals and classes of a raw grammar could come from a text.
 use Rattle.std.specs.Prelude.{ℕ, Bool, true, ◌&&◌, not, nat_eq, nat_le, nat_lt, List, length, ◌||◌}
 use Rattle.std.specs.List.{list_all}
 use Rattle.ag_grammar.specs.grammars.Accepted.{class_count}

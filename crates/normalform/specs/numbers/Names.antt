@@ -1,4 +1,5 @@
--- Texts in order as the keys of an index set: a text has 0 beside it where it first appears, and else its own index.
+-- Texts in order as the keys of an index set: the key of a text has 0 at its first appearance, and else its
+-- own index.
 use Rattle.std.specs.Prelude.{ℕ, ◌≡◌, ◌<◌, ◌⊎◌, ◌&&◌, Bool, List, Some, bytes_eq, length, map, nat_eq, position, slice_get}
 use Rattle.std.specs.Borrow.{Bor}
 

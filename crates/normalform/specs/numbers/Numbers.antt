@@ -1,5 +1,6 @@
--- A raw grammar by numbers (this project's): a name has the number of its first declaration, a literal that of its first
--- appearance. A name that is not declared has the number behind all, so that each raw grammar is numbered.
+-- The numbering of a raw grammar (this project's): a name has the number of its first declaration, a literal
+-- that of its first appearance. An undeclared name has the number of declared ones, so that each raw grammar
+-- can be numbered.
 use Rattle.std.specs.Prelude.{ℕ, ◌==◌, Bool, false, cond, List, [], ◌∷◌, ◌++◌, map, filter, fold, bytes_eq, slice_get}
 use Rattle.std.specs.List.{list_any, position_or_len}
 use Rattle.ag_grammar.specs.declared.grammar.Item.{Item}
@@ -19,7 +20,7 @@ use Rattle.ag_grammar.specs.declared.raw.RawProduction.{RawProduction}
 use Rattle.ag_grammar.specs.declared.raw.RawRule.{RawRule}
 use Rattle.ag_grammar.specs.declared.raw.RawSymbol.{RawSymbol}
 
--- the number of a text: the index of the first that is the same, and the number behind all where there is none
+-- the number of a text: the index of the first equal one, or the number of texts if there is none
 abbrev pub number_in : List (List ℕ) → List ℕ → ℕ
 number_in texts text = position_or_len (bytes_eq text) texts
 
@@ -34,7 +35,7 @@ symbol_names ss = map (λ s. s.name) ss
 abbrev pub declared : List Symbol → Grammar
 declared ss = record { symbols = ss; productions = []; literals = []; classes = []; start = 0 }
 
--- one more text, unless it is there
+-- one more text, unless it is there already
 abbrev pub with_text : List (List ℕ) → List ℕ → List (List ℕ)
 with_text texts text = cond (list_any (bytes_eq text) texts) texts (texts ++ text ∷ [])
 
@@ -43,7 +44,7 @@ with_item texts (raw_item.Literal text) = with_text texts text
 with_item texts (raw_item.Name name) = texts
 with_item texts (raw_item.Class c) = texts
 
--- the literals so far, and those of a production that are new
+-- the literals so far, and the new ones of a production
 abbrev pub with_production : List (List ℕ) → RawProduction → List (List ℕ)
 with_production texts q = fold with_item texts q.items
 
@@ -61,7 +62,7 @@ is_class c (raw_item.Literal text) = false
 abbrev pub classes_of : List RawProduction → List ℕ
 classes_of qs = filter (λ c. list_any (λ q. list_any (is_class c) q.items) qs) (0 ∷ 1 ∷ 2 ∷ [])
 
--- an item, where the symbols have these names and the literals these texts
+-- an item, by the names of the symbols and the texts of the literals
 abbrev pub item_of : List (List ℕ) → List (List ℕ) → RawItem → Item
 item_of names literals (raw_item.Name name) = item.Symbol (number_in names name.name)
 item_of names literals (raw_item.Literal text) = item.Terminal (Literal (number_in literals text))
@@ -71,7 +72,7 @@ item_of names literals (raw_item.Class c) = item.Terminal (Class c)
 abbrev pub stored_of : List (List ℕ) → List RawItem → List Item
 stored_of names xs = map (item_of names []) (raw_stored xs)
 
--- what stands at the places of a production, from the left side on
+-- the items at the places of a production, from the left side on
 abbrev pub placed : List Symbol → RawProduction → List Item
 placed ss q = item.Symbol (number_in (symbol_names ss) q.left.name) ∷ stored_of (symbol_names ss) q.items
 
@@ -94,7 +95,7 @@ production_of ss literals q = record {
   rules = map (rule_of ss (placed ss q)) q.rules;
 }
 
--- the raw grammar by numbers
+-- the numbered grammar of a raw one
 abbrev pub numbered : RawGrammar → Grammar
 numbered raw = let ss = map symbol_of raw.symbols in record {
   symbols = ss;

@@ -1,4 +1,4 @@
-//! One walk along the rules of productions, for what is asked of the attributes that they name.
+//! A walk along the rules of productions, with a check of the attributes that they name.
 ghost use Rattle.std.specs.Prelude.{◌≡◌, ◌∷◌, [], map, flat_map, IfOk};
 ghost use Rattle.normalform.specs.faults.Asking.{asked_check, asked_checks, asked_in, asked};
 ghost use Rattle.normalform.specs.faults.Faults.{first_wrong};
@@ -11,25 +11,25 @@ use ag_grammar::{Occ, RawProduction, RawRule, occurrences};
 use ag_value::NoMemory;
 use std::alloc::Global;
 
-/// What is asked of the attributes that rules name.
+/// A check of the attributes that rules name.
 #[derive(Clone, Copy, Debug, PartialEq, Eq)]
 pub enum Question {
-    /// That targets and arguments are there.
+    /// Targets and arguments exist.
     Known,
-    /// That targets are attributes that rules give.
+    /// Targets are attributes that the rules of their production define.
     Given,
-    /// That arguments are attributes that rules find.
+    /// Arguments are attributes that the rules of their production use.
     Found,
 }
 
-/// A fault, unless something holds.
+/// Returns the fault, unless `holds`.
 fn unless(holds: bool, fault: NormalFault) -> Option<NormalFault>
     ensures { result ≡ first_wrong ((fault, holds) ∷ []) }
 {
     if holds { None } else { Some(fault) }
 }
 
-/// The fault of an occurrence.
+/// Returns the fault of an occurrence, if there is one.
 fn fault_of(
     question: Question,
     declared: &Declared<'_>,
@@ -56,7 +56,7 @@ fn fault_of(
     }
 }
 
-/// The first fault of occurrences.
+/// Returns the first fault of occurrences.
 fn first_among(
     question: Question,
     declared: &Declared<'_>,
@@ -74,7 +74,7 @@ fn first_among(
     None
 }
 
-/// The first fault of a rule: of its target, and then of its arguments.
+/// Returns the first fault of a rule: of its target, and then of its arguments.
 fn first_in_rule(
     question: Question,
     declared: &Declared<'_>,
@@ -96,7 +96,7 @@ fn first_in_rule(
     }
 }
 
-/// The first fault of the rules of a production.
+/// Returns the first fault of the rules of a production.
 pub fn first_in_production(
     alloc: Global,
     question: Question,
@@ -115,7 +115,7 @@ pub fn first_in_production(
     Ok(None)
 }
 
-/// The first fault of the rules of productions.
+/// Returns the first fault of the rules of productions.
 pub fn first_in_productions(
     alloc: Global,
     question: Question,

@@ -1,4 +1,4 @@
-//! Clauses: which symbols are productive, or reached, where others are.
+//! The clauses by which symbols are productive, and the edges by which they are reached.
 ghost use Rattle.std.specs.Prelude.{◌≡◌, ◌++◌, IfOk, OnOk};
 ghost use Rattle.normalform.specs.faults.Clauses as spec;
 ghost use Rattle.normalform.specs.faults.Clauses.{body_of, edges_of};
@@ -10,7 +10,7 @@ use ag_value::{Items, NoMemory};
 use closure::{Clause, Edge};
 use std::alloc::Global;
 
-/// The symbols on a right side.
+/// Returns the symbols on a right side.
 fn body_of(
     alloc: Global,
     declared: &Declared<'_>,
@@ -27,7 +27,7 @@ fn body_of(
     Ok(Items::from_vec(body))
 }
 
-/// A left side follows where each symbol of the right side does.
+/// Returns the clause of a production: its left side follows if each symbol of the right side does.
 fn clause_of(
     alloc: Global,
     declared: &Declared<'_>,
@@ -40,7 +40,7 @@ fn clause_of(
     Ok(Clause { head, body })
 }
 
-/// The clauses of productions.
+/// Returns the clauses of productions.
 pub fn clauses_of(
     alloc: Global,
     declared: &Declared<'_>,
@@ -69,7 +69,7 @@ fn push_edges(edges: &mut Vec<Edge>, clause: &Clause) -> Result<(), NoMemory>
     Ok(())
 }
 
-/// The edges along which symbols are reached: from the head to each number of a body.
+/// Returns the edges by which symbols are reached: from each head to each number of its body.
 pub fn reaching(alloc: Global, clauses: &[Clause]) -> Result<Vec<Edge>, NoMemory>
     ensures { IfOk result (λ edges. edges.items ≡ spec.reaching clauses.now) }
 {

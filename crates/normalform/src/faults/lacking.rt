@@ -7,7 +7,7 @@ use ag_value::NoMemory;
 use closure::Clauses;
 use std::alloc::Global;
 
-/// The first number that is not marked.
+/// Returns the first number that is not marked.
 fn first_unmarked(marks: &[bool]) -> Option<usize>
     ensures found { IfSome result (λ n. IsFirstUnmarked marks.now n) }
     ensures none { result ≡ None → (t : ℕ) → t < length marks.now
@@ -21,7 +21,7 @@ fn first_unmarked(marks: &[bool]) -> Option<usize>
     None
 }
 
-/// The first number that does not follow from clauses and seeds.
+/// Returns the first number that does not follow from clauses and seeds.
 pub fn first_left(
     alloc: Global,
     clauses: &Clauses,

@@ -19,7 +19,7 @@ use ag_grammar::{RawItem, RawProduction, RawSymbol};
 use ag_value::NoMemory;
 use std::alloc::Global;
 
-/// Lists the literals of a right side.
+/// Adds the literals of a right side that are not listed yet.
 fn list_literals<'t>(texts: &mut Names<'t>, items: &'t [RawItem]) -> Result<(), NoMemory>
     ensures { OnOk result (texts.new ≡ fold with_item texts.old items.now) }
 {
@@ -31,7 +31,7 @@ fn list_literals<'t>(texts: &mut Names<'t>, items: &'t [RawItem]) -> Result<(), 
     Ok(())
 }
 
-/// The literals of productions, each once, in the order of first appearance.
+/// Returns the literals of productions, each once, in the order of first appearance.
 pub fn literals_of<'t>(
     alloc: Global,
     productions: &'t [RawProduction],
@@ -45,14 +45,14 @@ pub fn literals_of<'t>(
     Ok(texts)
 }
 
-/// A symbol has no more attributes than a symbol may have.
+/// Returns whether a symbol has at most `MOST_ATTRIBUTES` attributes.
 fn has_few_attributes(symbol: &RawSymbol) -> bool
     ensures { result ≡ few_attributes (symbol_of symbol.now) }
 {
     symbol.syn.as_slice().len() + symbol.inh.as_slice().len() <= MOST_ATTRIBUTES
 }
 
-/// Each symbol has no more attributes than a symbol may have.
+/// Returns whether each symbol has at most `MOST_ATTRIBUTES` attributes.
 fn all_have_few_attributes(symbols: &[RawSymbol]) -> bool
     ensures { result ≡ list_all few_attributes (map symbol_of symbols.now) }
 {
@@ -64,14 +64,14 @@ fn all_have_few_attributes(symbols: &[RawSymbol]) -> bool
     true
 }
 
-/// A right side has no more items than it may have.
+/// Returns whether a right side has at most `MOST_ITEMS` items.
 fn has_few_items(production: &RawProduction) -> bool
     ensures { result ≡ few_items production.now }
 {
     production.items.as_slice().len() <= MOST_ITEMS
 }
 
-/// Each right side has no more items than it may have.
+/// Returns whether each right side has at most `MOST_ITEMS` items.
 fn all_have_few_items(productions: &[RawProduction]) -> bool
     ensures { result ≡ list_all few_items productions.now }
 {
@@ -80,7 +80,7 @@ fn all_have_few_items(productions: &[RawProduction]) -> bool
         .all(|production| has_few_items(production))
 }
 
-/// A right side has no more symbols and classes than it may have.
+/// Returns whether a right side has at most `MOST_STORED` symbols and classes.
 fn has_few_stored(
     alloc: Global,
     declared: &Declared<'_>,
@@ -92,7 +92,7 @@ fn has_few_stored(
     Ok(items.len() <= 1 + MOST_STORED)
 }
 
-/// Each right side has no more symbols and classes than it may have.
+/// Returns whether each right side has at most `MOST_STORED` symbols and classes.
 fn all_have_few_stored(
     alloc: Global,
     declared: &Declared<'_>,
@@ -108,7 +108,7 @@ fn all_have_few_stored(
     Ok(true)
 }
 
-/// Each text has no more bytes than a literal may have.
+/// Returns whether each literal has at most `MOST_LITERAL_BYTES` bytes.
 fn all_are_short(texts: &Names<'_>) -> bool
     ensures { result ≡ list_all is_short texts.now }
 {
@@ -120,7 +120,7 @@ fn all_are_short(texts: &Names<'_>) -> bool
     true
 }
 
-/// The first limit that symbols or their number exceed.
+/// Returns the first limit that the symbols exceed.
 fn symbol_limit(symbols: &[RawSymbol]) -> Option<NormalFault>
     ensures { result ≡ first_wrong (symbol_limits (map symbol_of symbols.now)) }
 {
@@ -133,7 +133,7 @@ fn symbol_limit(symbols: &[RawSymbol]) -> Option<NormalFault>
     None
 }
 
-/// The first limit that productions or their number exceed.
+/// Returns the first limit that the productions exceed.
 fn production_limit(
     alloc: Global,
     declared: &Declared<'_>,
@@ -154,7 +154,7 @@ fn production_limit(
     Ok(None)
 }
 
-/// The first limit that literals or their number exceed.
+/// Returns the first limit that the literals exceed.
 fn literal_limit(literals: &Names<'_>) -> Option<NormalFault>
     ensures { result ≡ first_wrong (literal_limits literals.now) }
 {
@@ -167,7 +167,7 @@ fn literal_limit(literals: &Names<'_>) -> Option<NormalFault>
     None
 }
 
-/// N10: the first limit that is exceeded.
+/// Returns the first limit that is exceeded (N10).
 pub fn exceeded(
     alloc: Global,
     declared: &Declared<'_>,

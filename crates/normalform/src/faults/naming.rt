@@ -14,7 +14,7 @@ use ag_grammar::{Named, RawItem, RawProduction, RawSymbol};
 use ag_value::NoMemory;
 use std::alloc::Global;
 
-/// The fault of a symbol's name that is not declared.
+/// Returns the fault of a symbol's name that is not declared.
 fn unknown_name(declared: &Declared<'_>, name: &Named) -> Option<NormalFault>
     ensures { result ≡ first_wrong (name_check (symbol_names declared.now) name.now ∷ []) }
 {
@@ -25,7 +25,7 @@ fn unknown_name(declared: &Declared<'_>, name: &Named) -> Option<NormalFault>
     }
 }
 
-/// The fault of an item that is a symbol's name and not declared.
+/// Returns the fault of an item that is an undeclared symbol.
 fn unknown_in_item(declared: &Declared<'_>, item: &RawItem) -> Option<NormalFault>
     ensures { result ≡ first_wrong (item_checks (symbol_names declared.now) item.now) }
 {
@@ -35,7 +35,7 @@ fn unknown_in_item(declared: &Declared<'_>, item: &RawItem) -> Option<NormalFaul
     }
 }
 
-/// The first fault of a right side.
+/// Returns the first fault of a right side.
 fn unknown_in_items(declared: &Declared<'_>, items: &[RawItem]) -> Option<NormalFault>
     ensures { result
         ≡ first_wrong (flat_map (item_checks (symbol_names declared.now)) items.now) }
@@ -48,7 +48,7 @@ fn unknown_in_items(declared: &Declared<'_>, items: &[RawItem]) -> Option<Normal
     None
 }
 
-/// The first fault of a production.
+/// Returns the first fault of a production.
 fn unknown_in_production(
     alloc: Global,
     declared: &Declared<'_>,
@@ -65,8 +65,8 @@ fn unknown_in_production(
     first_in_production(alloc, Question::Known, declared, production)
 }
 
-/// N1: the first symbol of a production that is not declared, or occurrence whose place or
-/// attribute is not there.
+/// Returns the first fault N1: an undeclared symbol of a production, or an occurrence whose place
+/// or attribute does not exist.
 pub fn unknown(
     alloc: Global,
     declared: &Declared<'_>,
@@ -82,7 +82,7 @@ pub fn unknown(
     Ok(None)
 }
 
-/// The fault of a name that is among those before; it is then among them.
+/// Returns the fault of a name that was seen before, and marks it as seen.
 fn doubled_name<'t>(seen: &mut Names<'t>, name: &'t Named) -> Result<Option<NormalFault>, NoMemory>
     ensures fault { IfOk result (λ f. f ≡ first_wrong (new_check seen.old name.now)) }
     ensures seen { OnOk result (seen.new ≡ with_text seen.old name.now.name) }
@@ -94,7 +94,7 @@ fn doubled_name<'t>(seen: &mut Names<'t>, name: &'t Named) -> Result<Option<Norm
     }
 }
 
-/// The first fault of names that are declared one after the other.
+/// Returns the first fault of names that are declared one after the other.
 fn doubled_names<'t>(
     seen: &mut Names<'t>,
     names: &'t [Named],
@@ -110,7 +110,7 @@ fn doubled_names<'t>(
     Ok(None)
 }
 
-/// The first attribute of a symbol that is named again.
+/// Returns the fault of the first attribute that is declared again in its symbol.
 fn doubled_attributes(alloc: Global, symbol: &RawSymbol) -> Result<Option<NormalFault>, NoMemory>
     ensures { IfOk result (λ f. f
         ≡ first_wrong (spec.doubled_names [] (symbol.now.syn ++ symbol.now.inh))) }
@@ -122,7 +122,7 @@ fn doubled_attributes(alloc: Global, symbol: &RawSymbol) -> Result<Option<Normal
     doubled_names(&mut seen, symbol.inh.as_slice())
 }
 
-/// The first fault of a symbol.
+/// Returns the first fault of a symbol.
 fn doubled_in_symbol<'t>(
     alloc: Global,
     seen: &mut Names<'t>,
@@ -137,7 +137,8 @@ fn doubled_in_symbol<'t>(
     doubled_attributes(alloc, symbol)
 }
 
-/// N2: the first symbol that is declared again, or attribute that is named again in its symbol.
+/// Returns the first fault N2: a symbol that is declared again, or an attribute that is declared
+/// again in its symbol.
 pub fn doubled<'t>(alloc: Global, symbols: &'t [RawSymbol]) -> Result<Option<NormalFault>, NoMemory>
     ensures { IfOk result (λ f. f ≡ first_wrong (spec.doubled symbols.now)) }
 {

@@ -1,4 +1,4 @@
-//! What stands at the places of a production. Numbers are not yet known to be small.
+//! The items at the places of a production. Numbers are not yet known to be small.
 ghost use Rattle.std.specs.Prelude.{◌≡◌, ◌++◌, ◌∷◌, [], map, IfOk, OnOk};
 ghost use Rattle.normalform.specs.numbers.Numbers.{stored_of, symbol_names};
 ghost use Rattle.normalform.specs.numbers.Numbers.{placed};
@@ -9,10 +9,10 @@ use ag_grammar::{RawItem, RawProduction};
 use ag_value::NoMemory;
 use std::alloc::Global;
 
-/// What stands at a place of a production.
+/// The item at a place of a production.
 #[derive(Clone, Copy, Debug, PartialEq, Eq)]
 pub enum Placed {
-    /// A symbol, by its number; an undeclared one has the number behind all.
+    /// A symbol, by its number; an undeclared one has the number of declared symbols.
     Symbol(usize),
     /// A token of a class.
     Class(u16),
@@ -35,7 +35,7 @@ fn place_item(
     Ok(())
 }
 
-/// What stands at the places of a production, from the left side on.
+/// Returns the items at the places of a production, from the left side on.
 pub fn places_of(
     alloc: Global,
     declared: &Declared<'_>,

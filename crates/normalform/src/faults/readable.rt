@@ -1,4 +1,4 @@
-//! Whether the literals and classes of a raw grammar are as a text gives them.
+//! A test that the literals and classes of a raw grammar could come from a text.
 ghost use Rattle.std.specs.Prelude.{◌≡◌, ◌↔◌, IsTrue, not};
 ghost use Rattle.std.specs.List.{list_all};
 ghost use Rattle.normalform.specs.faults.Faults.{IsReadable};
@@ -8,14 +8,14 @@ ghost use Rattle.normalform.specs.faults.Readable.{readable_in};
 use ag_grammar::limits::CLASS_COUNT;
 use ag_grammar::{RawGrammar, RawItem, RawProduction};
 
-/// A byte separates the words of a sentence.
+/// Returns whether a byte separates the words of a sentence.
 fn is_separator(byte: u8) -> bool
     ensures { result ≡ is_separator byte }
 {
     byte == b' ' || byte == b'\t' || byte == b'\r' || byte == b'\n'
 }
 
-/// A literal is not empty and has no separator.
+/// Returns whether a literal is not empty and has no separator.
 fn is_readable_text(text: &[u8]) -> bool
     ensures { result ≡ readable_text text.now }
 {
@@ -30,7 +30,7 @@ fn is_readable_text(text: &[u8]) -> bool
     true
 }
 
-/// A literal is readable, and a class known.
+/// Returns whether a literal is readable, or a class known.
 fn is_readable_item(item: &RawItem) -> bool
     ensures { result ≡ readable_item item.now }
 {
@@ -41,7 +41,7 @@ fn is_readable_item(item: &RawItem) -> bool
     }
 }
 
-/// The items of a production are readable.
+/// Returns whether the items of a production are readable.
 fn is_readable_in(production: &RawProduction) -> bool
     ensures { result ≡ readable_in production.now }
 {
@@ -53,7 +53,7 @@ fn is_readable_in(production: &RawProduction) -> bool
     true
 }
 
-/// The items of productions are readable.
+/// Returns whether the items of productions are readable.
 fn are_readable(productions: &[RawProduction]) -> bool
     ensures { result ≡ list_all readable_in productions.now }
 {
@@ -65,8 +65,9 @@ fn are_readable(productions: &[RawProduction]) -> bool
     true
 }
 
-/// The classes of a raw grammar are 0 to 2, and no literal is empty or has a space, tab, CR or LF.
-/// So it is with what a text gives; what is made by hand can be tested. Takes no memory.
+/// Returns whether the classes of a raw grammar are 0 to 2, and no literal is empty or has a space,
+/// tab, CR or LF. This holds for every grammar that is parsed from a text; one that is made by a
+/// program can be tested. Takes no memory.
 pub fn is_readable(raw: &RawGrammar) -> bool
     ensures { IsTrue result ↔ IsReadable raw.now }
 {

@@ -1,4 +1,4 @@
-//! Rules that are missing, doubled, or not defined here, and arguments that are not normal.
+//! Rules that are missing, duplicate or not allowed, and arguments that are not normal.
 ghost use Rattle.std.specs.Prelude.{◌≡◌, [], map, IfOk, OnOk, not};
 ghost use Rattle.std.specs.List.{list_any};
 ghost use Rattle.normalform.specs.faults.Faults as spec;
@@ -16,7 +16,7 @@ use ag_grammar::{RawProduction, RawRule};
 use ag_value::NoMemory;
 use std::alloc::Global;
 
-/// Adds the target of a rule, and says whether it was not there.
+/// Adds the target of a rule. Returns whether it is new.
 fn add_target(
     targets: &mut Targets,
     declared: &Declared<'_>,
@@ -32,7 +32,7 @@ fn add_target(
     targets.add(rule.target.place as usize, attr)
 }
 
-/// The different targets of rules.
+/// Returns the different targets of rules.
 fn targets_of(
     alloc: Global,
     declared: &Declared<'_>,
@@ -49,7 +49,7 @@ fn targets_of(
     Ok(targets)
 }
 
-/// The first attribute without a rule at a place of a production.
+/// Returns the fault of the first attribute without a rule at a place of a production.
 fn missing_at(
     declared: &Declared<'_>,
     targets: &Targets,
@@ -72,7 +72,7 @@ fn missing_at(
     None
 }
 
-/// The first attribute without a rule at the places of a production.
+/// Returns the fault of the first attribute without a rule at the places of a production.
 fn missing_among(
     declared: &Declared<'_>,
     targets: &Targets,
@@ -90,7 +90,7 @@ fn missing_among(
     None
 }
 
-/// The first attribute without a rule in a production.
+/// Returns the fault of the first attribute without a rule in a production.
 fn missing_in(
     alloc: Global,
     declared: &Declared<'_>,
@@ -110,7 +110,7 @@ fn missing_in(
     Ok(missing_among(declared, &targets, number, items.as_slice()))
 }
 
-/// N6: the first attribute that rules are to give and for which there is none, by production, then
+/// Returns the first fault N6: an attribute that needs a rule and has none, by production, then
 /// place, then attribute.
 pub fn missing(
     alloc: Global,
@@ -127,7 +127,8 @@ pub fn missing(
     Ok(None)
 }
 
-/// The fault of a rule whose target is among those before; it is then among them.
+/// Returns the fault of a rule whose target is one of the earlier ones, and adds its target to
+/// them.
 fn doubled_rule(
     targets: &mut Targets,
     declared: &Declared<'_>,
@@ -146,7 +147,7 @@ fn doubled_rule(
     }
 }
 
-/// The first rule of a production with the target of one before.
+/// Returns the fault of the first rule with the target of an earlier one.
 fn doubled_among(
     alloc: Global,
     declared: &Declared<'_>,
@@ -166,7 +167,7 @@ fn doubled_among(
     Ok(None)
 }
 
-/// The first fault of the targets of a production.
+/// Returns the first duplicate target of a production.
 fn doubled_in_production(
     alloc: Global,
     declared: &Declared<'_>,
@@ -183,7 +184,7 @@ fn doubled_in_production(
     )
 }
 
-/// N7: the first second rule for a target of a production.
+/// Returns the first fault N7: a second rule for a target of a production.
 pub fn doubled_rules(
     alloc: Global,
     declared: &Declared<'_>,
@@ -200,7 +201,8 @@ pub fn doubled_rules(
     Ok(None)
 }
 
-/// N8: the first target that is inherited at place 0, or synthesized at a later place.
+/// Returns the first fault N8: a target that is inherited at place 0, or synthesized at a later
+/// place.
 pub fn not_given(
     alloc: Global,
     declared: &Declared<'_>,
@@ -211,7 +213,8 @@ pub fn not_given(
     first_in_productions(alloc, Question::Given, declared, productions)
 }
 
-/// N9: the first argument that is synthesized at place 0, or inherited at a later place.
+/// Returns the first fault N9: an argument that is synthesized at place 0, or inherited at a later
+/// place.
 pub fn not_found(
     alloc: Global,
     declared: &Declared<'_>,

@@ -25,7 +25,7 @@ impl Model for Targets {
 }
 
 impl Targets {
-    /// No targets. Takes no memory.
+    /// Makes an empty set of targets. Takes no memory.
     pub fn new(alloc: Global) -> Targets
         ensures { result ≡ [] }
     {
@@ -34,7 +34,7 @@ impl Targets {
         }
     }
 
-    /// One more target, unless it is there; says whether it was not.
+    /// Adds a target, unless it is there already. Returns whether it was added.
     pub fn add(&mut self, place: usize, attr: usize) -> Result<bool, NoMemory>
         ensures added { OnOk result (self.new
             ≡ with_target self.old (record { place = place; attr = attr })) }
@@ -45,7 +45,7 @@ impl Targets {
         Ok(fresh)
     }
 
-    /// A target is there.
+    /// Returns whether a target is there.
     pub fn has(&self, place: usize, attr: usize) -> bool
         ensures { result
             ≡ list_any (same_target (record { place = place; attr = attr })) self.now }

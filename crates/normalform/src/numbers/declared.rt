@@ -35,7 +35,7 @@ fn push_names<'t>(names: &mut Names<'t>, added: &'t [Named]) -> Result<(), NoMem
     Ok(())
 }
 
-/// The names of a symbol's attributes, the synthesized ones first.
+/// Returns the names of a symbol's attributes, the synthesized ones first.
 fn attributes_of<'t>(alloc: Global, symbol: &'t RawSymbol) -> Result<Names<'t>, NoMemory>
     ensures { IfOk result (λ names. names ≡ attribute_names (symbol_of symbol.now)) }
 {
@@ -45,7 +45,7 @@ fn attributes_of<'t>(alloc: Global, symbol: &'t RawSymbol) -> Result<Names<'t>, 
     Ok(names)
 }
 
-/// The names of symbols.
+/// Returns the names of symbols.
 fn names_of<'t>(alloc: Global, symbols: &'t [RawSymbol]) -> Result<Names<'t>, NoMemory>
     ensures { IfOk result (λ names. names ≡ symbol_names (map symbol_of symbols.now)) }
 {
@@ -56,7 +56,7 @@ fn names_of<'t>(alloc: Global, symbols: &'t [RawSymbol]) -> Result<Names<'t>, No
     Ok(names)
 }
 
-/// The names of each symbol's attributes.
+/// Returns the names of each symbol's attributes.
 fn attributes<'t>(alloc: Global, symbols: &'t [RawSymbol]) -> Result<Vec<Names<'t>>, NoMemory>
     ensures { IfOk result (λ names. names.items
         ≡ map attribute_names (map symbol_of symbols.now)) }
@@ -90,7 +90,7 @@ impl<'t> Model for Declared<'t> {
         × (d.attributes.items ≡ map attribute_names (map symbol_of d.symbols.now)) };
 }
 
-/// The number of `lex` among the attributes of a token.
+/// Returns the number of an attribute of a token: 0 for `lex`, and 1 for every other name.
 fn lex_number(name: &str) -> usize
     ensures { result ≡ number_in (lex_name ∷ []) name.now }
 {
@@ -98,7 +98,7 @@ fn lex_number(name: &str) -> usize
 }
 
 impl<'t> Declared<'t> {
-    /// Looks up the names of symbols and attributes.
+    /// Makes the tables of the names of symbols and attributes.
     pub fn new(alloc: Global, symbols: &'t [RawSymbol]) -> Result<Declared<'t>, NoMemory>
         ensures { IfOk result (λ d. d ≡ map symbol_of symbols.now) }
     {
@@ -111,28 +111,29 @@ impl<'t> Declared<'t> {
         })
     }
 
-    /// How many symbols there are.
+    /// Returns the number of symbols.
     pub fn count(&self) -> usize
         ensures { result ≡ length self.now }
     {
         self.symbols.len()
     }
 
-    /// The number of a symbol, and the number behind all where it is not declared.
+    /// Returns the number of a symbol, or the number of declared symbols if it is not declared.
     pub fn number(&self, name: &str) -> usize
         ensures { result ≡ number_in (symbol_names self.now) name.now }
     {
         self.names.number(name)
     }
 
-    /// A symbol is declared.
+    /// Returns whether a symbol is declared.
     pub fn has(&self, name: &str) -> bool
         ensures { result ≡ list_any (bytes_eq name.now) (symbol_names self.now) }
     {
         self.names.has(name)
     }
 
-    /// The number of an attribute of a symbol, and the number behind all where it is not there.
+    /// Returns the number of an attribute of a symbol, or the number of its attributes if it has no
+    /// such attribute.
     fn attribute_of(&self, symbol: usize, name: &str) -> usize
         ensures { result ≡ number_in (attributes_of (slice_get self.now symbol)) name.now }
     {
@@ -142,7 +143,7 @@ impl<'t> Declared<'t> {
         }
     }
 
-    /// A symbol has an attribute.
+    /// Returns whether a symbol has an attribute.
     fn has_attribute_of(&self, symbol: usize, name: &str) -> bool
         ensures { result
             ≡ list_any (bytes_eq name.now) (attributes_of (slice_get self.now symbol)) }
@@ -153,8 +154,8 @@ impl<'t> Declared<'t> {
         }
     }
 
-    /// The number of the attribute that an occurrence names, and the number behind all where it is
-    /// not there.
+    /// Returns the number of the attribute that an occurrence names, or the number of attributes at
+    /// its place if there is no such attribute.
     pub fn attribute(&self, items: &[Placed], occurrence: &Occ) -> usize
         ensures { result ≡ (target_of self.now (map item_placed items.now) occurrence.now).attr }
     {
@@ -166,7 +167,7 @@ impl<'t> Declared<'t> {
         }
     }
 
-    /// The attribute that an occurrence names is there.
+    /// Returns whether the attribute that an occurrence names exists.
     pub fn has_attribute(&self, items: &[Placed], occurrence: &Occ) -> bool
         ensures { result ≡ list_any (bytes_eq occurrence.now.attr)
             (names_at self.now (map item_placed items.now) occurrence.now.place) }
@@ -179,7 +180,7 @@ impl<'t> Declared<'t> {
         }
     }
 
-    /// The symbol of a number.
+    /// Returns the symbol with a number.
     fn symbol(&self, number: usize) -> Option<&RawSymbol>
         ensures there { IfSome result (λ s. slice_get self.now number ≡ Some (symbol_of s.now)) }
         ensures none { result ≡ None → slice_get self.now number ≡ None }
@@ -187,7 +188,7 @@ impl<'t> Declared<'t> {
         self.symbols.get(number)
     }
 
-    /// A symbol has a synthesized attribute of the number.
+    /// Returns whether a symbol has a synthesized attribute with the number.
     fn synthesizes(&self, symbol: usize, number: usize) -> bool
         ensures { result
             ≡ is_kind Synthesized (slice_get (symbol_kinds (slice_get self.now symbol)) number) }
@@ -198,7 +199,7 @@ impl<'t> Declared<'t> {
         }
     }
 
-    /// A symbol has an inherited attribute of the number.
+    /// Returns whether a symbol has an inherited attribute with the number.
     fn inherits(&self, symbol: usize, number: usize) -> bool
         ensures { result
             ≡ is_kind Inherited (slice_get (symbol_kinds (slice_get self.now symbol)) number) }
@@ -212,7 +213,7 @@ impl<'t> Declared<'t> {
         }
     }
 
-    /// At a place stands an item with a synthesized attribute of the number.
+    /// Returns whether the item at a place has a synthesized attribute with the number.
     fn is_synthesized(&self, items: &[Placed], place: usize, number: usize) -> bool
         ensures { result ≡ is_kind Synthesized (slice_get (item_kinds (declared self.now)
             (slice_get (map item_placed items.now) place)) number) }
@@ -224,7 +225,7 @@ impl<'t> Declared<'t> {
         }
     }
 
-    /// At a place stands an item with an inherited attribute of the number.
+    /// Returns whether the item at a place has an inherited attribute with the number.
     fn is_inherited(&self, items: &[Placed], place: usize, number: usize) -> bool
         ensures { result ≡ is_kind Inherited (slice_get (item_kinds (declared self.now)
             (slice_get (map item_placed items.now) place)) number) }
@@ -235,7 +236,7 @@ impl<'t> Declared<'t> {
         }
     }
 
-    /// An occurrence is one that the rules of its production give.
+    /// Returns whether the rules of its production define an occurrence.
     pub fn is_given(&self, items: &[Placed], occurrence: &Occ) -> bool
         ensures { let t = target_of self.now (map item_placed items.now) occurrence.now in
             result ≡ has_kind self.now (map item_placed items.now) t (given_kind t.place) }
@@ -249,7 +250,7 @@ impl<'t> Declared<'t> {
         }
     }
 
-    /// An occurrence is one that the rules of its production find.
+    /// Returns whether the rules of its production can use an occurrence.
     pub fn is_found(&self, items: &[Placed], occurrence: &Occ) -> bool
         ensures { let t = target_of self.now (map item_placed items.now) occurrence.now in
             result ≡ has_kind self.now (map item_placed items.now) t (found_kind t.place) }
@@ -263,8 +264,8 @@ impl<'t> Declared<'t> {
         }
     }
 
-    /// The numbers, from the first up to the second, of the attributes that rules give at a place
-    /// where a symbol stands.
+    /// Returns the range of the numbers (the end is exclusive) of the attributes that the rules of
+    /// a production define at the place of a symbol.
     pub fn given(&self, place: usize, symbol: usize) -> (usize, usize)
         ensures ordered { result.0 ≤ result.1 }
         ensures numbers { range_with_len result.0 (result.1 - result.0)
@@ -281,7 +282,7 @@ impl<'t> Declared<'t> {
         }
     }
 
-    /// The symbol of a number may be the start symbol.
+    /// Returns whether the symbol with a number can be the start symbol.
     pub fn is_start(&self, symbol: usize) -> bool
         ensures { result ≡ spec.is_start (slice_get self.now symbol) }
     {

@@ -8,7 +8,7 @@ use ag_grammar::{Named, RawSymbol, Symbol};
 use ag_value::{Items, NoMemory, Text};
 use std::alloc::Global;
 
-/// Names without their offsets, moved.
+/// Moves names, without their offsets.
 fn move_names(alloc: Global, names: Items<Named>) -> Result<Items<Text>, NoMemory>
     ensures { IfOk result (λ texts. texts ≡ texts_of names) }
 {
@@ -19,7 +19,7 @@ fn move_names(alloc: Global, names: Items<Named>) -> Result<Items<Text>, NoMemor
     Ok(Items::from_vec(texts))
 }
 
-/// Symbols without offsets, moved.
+/// Moves symbols, without their offsets.
 pub fn move_symbols(alloc: Global, symbols: Items<RawSymbol>) -> Result<Items<Symbol>, NoMemory>
     ensures { IfOk result (λ moved. moved ≡ map symbol_of symbols) }
 {
@@ -37,7 +37,7 @@ pub fn move_symbols(alloc: Global, symbols: Items<RawSymbol>) -> Result<Items<Sy
     Ok(Items::from_vec(moved))
 }
 
-/// The name of the symbol of a number, moved.
+/// Moves the name of the symbol with a number out of the list.
 pub fn name_at(symbols: Items<RawSymbol>, number: usize) -> Named
     requires { number < length symbols }
     ensures { IsNameAt symbols number result }

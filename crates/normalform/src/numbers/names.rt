@@ -61,7 +61,7 @@ impl<'t> Names<'t> {
         Ok(is_new)
     }
 
-    /// Returns the number of a text, and the number of texts where it is not there.
+    /// Returns the number of a text, or the number of texts if it is not there.
     pub fn number(&self, text: &str) -> usize
         ensures { result ≡ number_in self.now text.now }
     {
@@ -70,14 +70,14 @@ impl<'t> Names<'t> {
             .unwrap_or(self.keys.len())
     }
 
-    /// A text is there.
+    /// Returns whether a text is there.
     pub fn has(&self, text: &str) -> bool
         ensures { result ≡ list_any (bytes_eq text.now) self.now }
     {
         self.keys.contains(&(text, 0))
     }
 
-    /// How many texts there are.
+    /// Returns the number of texts.
     pub fn count(&self) -> usize
         ensures { result ≡ length self.now }
     {

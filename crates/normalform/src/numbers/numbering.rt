@@ -1,4 +1,4 @@
-//! The numbered grammar of a raw one within the limits.
+//! Numbering a raw grammar within the limits.
 ghost use Rattle.std.specs.Prelude.{◌≡◌, ◌<◌, ◌≤◌, length, map, filter, All, IfOk};
 ghost use Rattle.std.specs.List.{list_any};
 ghost use Rattle.ag_grammar.specs.grammars.Accepted.{most_symbols};
@@ -17,7 +17,7 @@ use ag_grammar::{
 use ag_value::{Items, NoMemory, Text};
 use std::alloc::Global;
 
-/// A number in 16 bits.
+/// Converts a number to 16 bits.
 fn narrow(number: usize) -> u16
     requires { number < 65536 }
     ensures { result ≡ number }
@@ -25,7 +25,7 @@ fn narrow(number: usize) -> u16
     number as u16
 }
 
-/// An item by its number.
+/// Numbers an item.
 fn item_of(declared: &Declared<'_>, literals: &Names<'_>, item: &RawItem) -> Item
     requires { IsSmall declared.now literals.now }
     ensures { result ≡ spec.item_of (symbol_names declared.now) literals.now item.now }
@@ -39,7 +39,7 @@ fn item_of(declared: &Declared<'_>, literals: &Names<'_>, item: &RawItem) -> Ite
     }
 }
 
-/// Items by their numbers.
+/// Numbers items.
 fn items_of(
     alloc: Global,
     declared: &Declared<'_>,
@@ -57,7 +57,7 @@ fn items_of(
     Ok(Items::from_vec(numbered))
 }
 
-/// The attribute that an occurrence names.
+/// Returns the attribute that an occurrence names.
 fn target_of(
     declared: &Declared<'_>,
     literals: &Names<'_>,
@@ -73,7 +73,7 @@ fn target_of(
     }
 }
 
-/// The attributes that occurrences name.
+/// Returns the attributes that occurrences name.
 fn targets_of(
     alloc: Global,
     declared: &Declared<'_>,
@@ -92,7 +92,7 @@ fn targets_of(
     Ok(Items::from_vec(targets))
 }
 
-/// A rule with its target and arguments by number; the expression is moved.
+/// Numbers the target and the arguments of a rule; the expression is moved.
 fn rule_of(
     alloc: Global,
     declared: &Declared<'_>,
@@ -111,7 +111,7 @@ fn rule_of(
     Ok(Rule { target, expr, args })
 }
 
-/// Rules by numbers; the expressions are moved.
+/// Numbers rules; the expressions are moved.
 fn rules_of(
     alloc: Global,
     declared: &Declared<'_>,
@@ -131,7 +131,7 @@ fn rules_of(
     Ok(Items::from_vec(numbered))
 }
 
-/// A production by numbers; the expressions are moved.
+/// Numbers a production; the expressions are moved.
 fn production_of(
     alloc: Global,
     declared: &Declared<'_>,
@@ -151,7 +151,7 @@ fn production_of(
     Ok(Production { left, items, rules })
 }
 
-/// Productions by numbers; the expressions are moved.
+/// Numbers productions; the expressions are moved.
 pub fn productions_of(
     alloc: Global,
     declared: &Declared<'_>,
@@ -170,7 +170,7 @@ pub fn productions_of(
     Ok(Items::from_vec(numbered))
 }
 
-/// The number of a symbol within the limits.
+/// Returns the number of a symbol within the limits.
 pub fn start_of(declared: &Declared<'_>, name: &str) -> u16
     requires { length declared.now ≤ most_symbols }
     ensures { result ≡ spec.number_in (symbol_names declared.now) name.now }
@@ -178,7 +178,7 @@ pub fn start_of(declared: &Declared<'_>, name: &str) -> u16
     narrow(declared.number(name))
 }
 
-/// The literals of productions as texts of their own.
+/// Returns the literals of productions as owned texts.
 pub fn literal_texts(alloc: Global, productions: &[RawProduction]) -> Result<Items<Text>, NoMemory>
     ensures { IfOk result (λ texts. texts ≡ spec.literals_of productions.now) }
 {
@@ -190,7 +190,7 @@ pub fn literal_texts(alloc: Global, productions: &[RawProduction]) -> Result<Ite
     Ok(Items::from_vec(texts))
 }
 
-/// Texts with their numbers.
+/// Returns texts with their numbers.
 pub fn names_of<'t>(alloc: Global, texts: &'t [Text]) -> Result<Names<'t>, NoMemory>
     ensures { IfOk result (λ names. names ≡ texts.now) }
 {
@@ -201,7 +201,7 @@ pub fn names_of<'t>(alloc: Global, texts: &'t [Text]) -> Result<Names<'t>, NoMem
     Ok(names)
 }
 
-/// An item is a token of the class.
+/// Returns whether an item is a token of the class.
 fn is_class(item: &RawItem, class: u16) -> bool
     ensures { result ≡ spec.is_class class item.now }
 {
@@ -211,7 +211,7 @@ fn is_class(item: &RawItem, class: u16) -> bool
     }
 }
 
-/// A right side has a token of the class.
+/// Returns whether a right side has a token of the class.
 fn has_class(production: &RawProduction, class: u16) -> bool
     ensures { result ≡ list_any (spec.is_class class) production.now.items }
 {
@@ -222,14 +222,14 @@ fn has_class(production: &RawProduction, class: u16) -> bool
         .any(|item| is_class(item, class))
 }
 
-/// A class is in use.
+/// Returns whether a class is in use.
 fn uses_class(productions: &[RawProduction], class: u16) -> bool
     ensures { result ≡ list_any (λ q. list_any (spec.is_class class) q.items) productions.now }
 {
     productions.iter().any(|q| has_class(q, class))
 }
 
-/// Those of some classes that are in use.
+/// Returns those of some classes that are in use.
 fn classes_among(
     alloc: Global,
     productions: &[RawProduction],
@@ -247,7 +247,7 @@ fn classes_among(
     Ok(Items::from_vec(classes))
 }
 
-/// The classes in use, ascending.
+/// Returns the classes in use, ascending.
 pub fn classes_of(alloc: Global, productions: &[RawProduction]) -> Result<Items<u16>, NoMemory>
     ensures { IfOk result (λ classes. classes ≡ spec.classes_of productions.now) }
 {

@@ -31,7 +31,7 @@ quiet_zero d candidate q target = each_none (λ o. IsReason d candidate [] q tar
 quiet_s : (d : Direction) (candidate : Attributes) → Quiet d candidate production_a rule_s
 quiet_s d candidate = only (λ o. IsReason d candidate [] production_a 0 o → ⊥) (attribute 0 1) (no_reason d candidate production_a 0 (attribute 0 1) (λ pos e. omega arith) (λ pos b. omega arith))
 
--- with two such rules of R beside that of `out`, nothing can be struck
+-- with two such rules of R beside that of `out`, no attribute can be struck
 quiet_all : (d : Direction) (r q : Rule) → let rules = rule_out ∷ r ∷ q ∷ [] in let g = grammar_of rules in
     Quiet d (IsOpen g nothing_yet) (production_r rules) r → Quiet d (IsOpen g nothing_yet) (production_r rules) q → AreFinished g d (IsOpen g nothing_yet) []
 quiet_all d r q hr hq x is good = quiet x.production good.production good.is_production x.rule good.rule good.is_rule x.arg good.argument good.is_argument good.reason
@@ -70,7 +70,7 @@ all_given rules m k h (suc zero) a p e = go a (subst (λ xs. slice_get xs a ≡ 
     go (suc (suc a)) e = cc
 all_given rules m k h (suc (suc s)) a p e = let e' : slice_get [] a ≡ Some p = subst (λ xs. slice_get xs a ≡ Some p) (h.more s) e in cc
 
--- what holds of the three attributes holds of each
+-- a property of the three attributes holds of each
 each_attribute : (rules : List Rule) (P : Attributes) → P 0 0 → P 1 0 → P 1 1 → (s a : ℕ) → IsAttribute (grammar_of rules) s a → P s a
 each_attribute rules P x y z zero zero i = x
 each_attribute rules P x y z zero (suc a) i = let bad = i.1 in cc
@@ -82,7 +82,7 @@ each_attribute rules P x y z (suc (suc s)) a i = let bad = i.1 in cc
 some_given : (xs : List ℕ) (ys : List ℕ) (a p : ℕ) → xs ≡ ys → slice_get ys a ≡ Some p → slice_get xs a ≡ None → ⊥
 some_given xs ys a p e f h = let bad : Some p ≡ None = sym f ∙ subst (λ zs. slice_get zs a ≡ None) e h in cc
 
--- a pass that strikes nothing gives all three attributes its number
+-- a pass that strikes nothing is assigned to all three attributes
 last_pass : (rules : List Rule) (m : Passes) (k : ℕ) → AllHave m k → AreFinished (grammar_of rules) (direction_of k) (IsOpen (grammar_of rules) nothing_yet) [] → IsPass (grammar_of rules) k nothing_yet (partial_of m) []
 last_pass rules m k h quiet = record {
   good = tt;

@@ -10,7 +10,7 @@ use Rattle.ag_grammar.proofs.grammars.OneSolution.{counterpart}
 use Rattle.passassign.specs.Least.{IsLeast}
 use Rattle.passassign.specs.Rows.{passes_of, AreAtMost, IsGreatest}
 
--- a pass that rows give is at most what all their numbers are
+-- a pass in rows is at most the bound of all their numbers
 pub given_at_most : (rows : List (List ℕ)) (k s a p : ℕ) → AreAtMost k rows → slice_get (passes_of rows s) a ≡ Some p → p ≤ k
 given_at_most rows k s a p most e = elim (cases_lt s (length rows)) [
   | inl lt ↦ most s (passes_of rows s) (slice_get-get_or rows s [] lt) a p e

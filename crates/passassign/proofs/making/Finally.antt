@@ -1,4 +1,4 @@
--- The table at first and in the end.
+-- The initial and the final table.
 use Rattle.std.proofs.Common.{ℕ, ◌≡◌, ◌+◌, ◌<◌, ◌≤◌, Bool, true, false, cond, nat_lt, List, [], ◌∷◌, Some, None, zero, suc, ◌⊎◌, slice_get, get_or, length, unwrap_or, inl, inr, refl, ap, ◌∙◌, sym, subst, arith}
 use Rattle.std.proofs.lemmas.Bool.{cases_lt, lt-ltb, ltb-true}
 use Rattle.std.proofs.lemmas.Option.{slice_get_within, slice_get_past, slice_get-get_or}
@@ -23,7 +23,7 @@ use Rattle.passassign.proofs.making.Made.{made_before}
 use Rattle.passassign.proofs.making.Refusing.{open_step}
 use Rattle.passassign.proofs.making.Whole.{whole_least}
 
--- a symbol has an attribute where the number is one of as many as it has
+-- a symbol has an attribute with each number below its number of attributes
 declared_at : (symbols : List Symbol) (s a : ℕ) → a < attribute_count (slice_get symbols s) → IsDeclared symbols s a
 declared_at symbols s a lt = go (symbol_kinds (slice_get symbols s)) refl
   where
@@ -52,7 +52,7 @@ first_state_none n a = go (nat_lt a n)
     go false = refl
 
 module _ (symbols : List Symbol) (states : List State) (first : IsFirstTable symbols states) where
-  -- what the first table has of any attribute
+  -- the initial state of any attribute
   first_of : (s a : ℕ) → (state_of states s a ≡ Absent) ⊎ ((a < 16) × (state_of states s a ≡ first_state (attribute_count (slice_get symbols s)) a))
   first_of s a = go (nat_lt a 16) refl
     where
@@ -119,7 +119,7 @@ given_pass Absent there o = absurd (there refl)
 given_pass Open there o = absurd (o refl)
 given_pass (Given p) there o = refl
 
--- the rows of a table without open attributes tell what the table tells
+-- the rows of a table without open attributes agree with the table
 module _ (g : Grammar) (all : List Dependency) (p : Progress) (symbols : List Symbol) (productions : List Production) (rows : List (List ℕ)) (w : IsWith symbols productions g) (progress : IsProgress g all p) (none : open_count p.states.items ≡ 0)
     (rows_are : AreRowsOfTable symbols p.states.items rows) where
   are : AreRowsOfTable g.symbols p.states.items rows

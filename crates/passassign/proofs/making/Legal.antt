@@ -1,4 +1,4 @@
--- What the passes make is legal.
+-- The assignment that the passes make is legal.
 use Rattle.std.proofs.Common.{ℕ, zero, suc, ◌≡◌, ◌≤◌, ◌⊎◌, inl, inr, List, [], ◌∷◌, Option, Some, None, slice_get, refl, ap, sym, ◌∙◌, subst, arith}
 use Rattle.std.proofs.Math.Arith.{lt_of_le-ne}
 use Rattle.std.proofs.lemmas.Bool.{cases_order}
@@ -60,7 +60,7 @@ module _ (g : Grammar) (complete : Each (IsComplete g) g.productions) (normal : 
       go (Some j) f = let same : j ≡ p = one_pass (after s a) j p (pass.kept s a j f) e in let low : suc j ≤ k = below s a j f in omega arith
       go None f = let same : p ≡ k = (pass.given s a p f e).1 in omega arith
 
-  -- what has pass k had none before
+  -- an attribute of pass k had no pass before
   new : (s a : ℕ) → after s a ≡ Some k → m s a ≡ None
   new s a e = none_of (m s a) (λ j f. let same : j ≡ k = one_pass (after s a) j k (pass.kept s a j f) e in let low : suc j ≤ k = below s a j f in omega arith)
 
@@ -145,7 +145,7 @@ module _ (g : Grammar) (complete : Each (IsComplete g) g.productions) (normal : 
           go (Some (item.Terminal (Class c))) e = absurd (no_token_target g q c r.target e ((complete i q get).no_other rule.0 r rule.1))
           go (Some (item.Symbol s)) e = of_symbol s e (m s r.target.attr) refl
 
--- what the passes before k have made
+-- the assignment made by the passes before k
 record Sound (g : Grammar) (k : ℕ) (m : Partial) : Type 0 where
   one : 1 ≤ k
   legal : IsLegalPartial g m

@@ -1,4 +1,5 @@
--- What the passes make is at most every legal partial assignment, and none of it is of a pass that isn't made yet.
+-- The assignment that passes make is at most every legal partial assignment, and has no pass that isn't made
+-- yet.
 use Rattle.std.proofs.Common.{ℕ, suc, ◌≡◌, ◌<◌, ◌≤◌, [], Option, Some, None, refl, arith}
 use Rattle.ag_grammar.specs.grammars.AttributeGrammar.{Grammar}
 use Rattle.passassign.specs.Least.{Partial, IsLegalPartial}

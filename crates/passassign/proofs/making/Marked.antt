@@ -1,4 +1,4 @@
--- A pass by marks of what is struck.
+-- A pass by marks of the struck attributes.
 use Rattle.std.proofs.Common.{ℕ, ◌≡◌, List, [], Some, None, Bool, true, false, refl, ap, sym, ◌∙◌}
 use Rattle.ag_grammar.specs.grammars.AttributeGrammar.{Grammar}
 use Rattle.ag_grammar.specs.grammars.Passes.{direction_of}

@@ -1,4 +1,4 @@
--- What the strikes of an assignment show: no legal assignment gives any attribute an earlier pass.
+-- The meaning of the strikes of an assignment: no legal assignment gives any attribute an earlier pass.
 use Rattle.std.proofs.Common.{ℕ, zero, suc, ◌≡◌, ◌<◌, ◌≤◌, ◌↔◌, List, [], Some, get_or, length, subst, arith, add-one}
 use Rattle.std.proofs.lemmas.Option.{slice_get-get_or}
 use Rattle.ag_grammar.specs.grammars.AttributeGrammar.{Grammar}
@@ -26,7 +26,7 @@ module _ (g : Grammar) (rows : List (List ℕ)) (lists : List (List Strike)) (ar
   at_pass : (k : ℕ) → suc k ≤ length lists → AreStrikesAt g (passes_of rows) (suc k) (get_or lists k [])
   at_pass k le = subst (λ j. AreStrikesAt g (passes_of rows) j (get_or lists k [])) (add-one k) (are.each k (get_or lists k []) (slice_get-get_or lists k [] (omega arith)))
 
-  -- pass by pass: what has no pass before one here has none there
+  -- pass by pass: an attribute without a pass before one here has none there
   climb : (n : Partial) (legal : IsLegalPartial g n) (k : ℕ) → k ≤ length lists → AtLeast g n legal (suc k) (HasPassFrom (passes_of rows) (suc k))
   climb n legal zero le s a q i e = legal.positive s a q e
   climb n legal (suc k) le s a q i e =
@@ -55,8 +55,8 @@ pub all_for : (g : Grammar) (c : Stuck) → IsCertificate g c → (d : Direction
 all_for g c is RightToLeft = is.odd
 all_for g c is LeftToRight = is.even
 
--- The lists of a certificate are the strikes of each pass of an assignment in which just its members have that pass or a later
--- one, and none of them has that pass.
+-- The lists of a certificate are the strikes of each pass of an assignment in which exactly its members have
+-- that pass or a later one, and none of them has that pass.
 pub certificate_strikes : (g : Grammar) (c : Stuck) (m : Passes) (k : ℕ) → IsCertificate g c → ((s a : ℕ) → Members c.set s a ↔ HasPassFrom m k s a) → ((s a : ℕ) → Members c.set s a ↔ HasPassAfter m k s a) → AreStrikesAt g m k (list_for c (direction_of k))
 certificate_strikes g c m k is from after =
     exactly_same g (direction_of k) (Members c.set) (HasPassFrom m k) (Members c.set) (HasPassAfter m k) (λ s a. (from s a).0) (λ s a. (after s a).0) (λ s a. (after s a).1) (list_for c (direction_of k)) (all_for g c is (direction_of k))

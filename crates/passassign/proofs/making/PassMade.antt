@@ -35,7 +35,7 @@ open_after k Absent b e = e
 open_after k Open b e = refl
 open_after k (Given p) b e = e
 
--- only what is marked is left open
+-- only marked attributes are left open
 marked_after : (k : ℕ) (x : State) (b : Bool) → after_pass k x b ≡ Open → b ≡ true
 marked_after k Absent b e = absurd (let bad : ⊥ = cc in bad)
 marked_after k Open true e = refl
@@ -49,7 +49,7 @@ pub over : (g : Grammar) (all : List Dependency) (states : List State) → AreOf
 over g all states of s a p e = (of.table.there s a).0 (given_there (state_of states s a) p e)
 
 module _ (old new : List State) (marks : List Bool) (k : ℕ) (after : (i : ℕ) → state_at new i ≡ after_pass k (state_at old i) (is_marked marks i)) where
-  -- what the pass makes of an attribute's state
+  -- the state of an attribute after the pass
   after_of : (s a : ℕ) → state_of new s a ≡ after_pass k (state_of old s a) (is_marked marks (slot_of s a))
   after_of s a = go (nat_lt a 16)
     where

@@ -1,4 +1,4 @@
--- What two passes leave that give nothing is refused.
+-- The attributes left open by two passes that assign nothing have no pass.
 use Rattle.std.proofs.Common.{ℕ, zero, suc, ◌≡◌, ◌<◌, ◌≤◌, ◌+◌, ◌/◌, ◌%◌, ◌↔◌, cond, List, [], ◌∷◌, None, length, inl, inr, refl, ap, ◌∙◌, sym, subst, arith, add-one}
 use Rattle.std.proofs.lemmas.Bool.{cases_order}
 use Rattle.std.proofs.lemmas.List.Sums.{sum_by-cons}
@@ -22,7 +22,7 @@ use Rattle.passassign.proofs.slots.Linked.{open_state, open_there}
 use Rattle.passassign.proofs.making.Rest.{rest_certified, rest_stuck}
 use Rattle.passassign.proofs.making.Whole.{certified_refused, stuck_left}
 
--- a list in declared order has nothing twice
+-- a list in declared order has no duplicates
 differ : (set : List (ℕ × ℕ)) → IsInDeclaredOrder set → Differ set
 differ set ordered i j x y ex ey same = elim (cases_order i j) [
   | inl e ↦ e
@@ -57,7 +57,7 @@ count_le [] (y ∷ ys) len h = absurd (omega arith)
 count_le (x ∷ xs) [] len h = absurd (omega arith)
 count_le (x ∷ xs) (y ∷ ys) len h = let a = bit_le x y (h zero) in let b = count_le xs ys (omega arith) (λ k. h (suc k)) in omega (arith, open_step x xs, open_step y ys, a, b)
 
--- where no fewer are left open, each that was open is
+-- if as many are left open, each that was open is
 same_open : (xs ys : List State) → length ys ≡ length xs → AreOpenIn ys xs → open_count xs ≤ open_count ys → AreOpenIn xs ys
 same_open [] [] len h le k e = e
 same_open [] (y ∷ ys) len h le k e = absurd (omega arith)
@@ -79,7 +79,7 @@ module _ (g : Grammar) (all : List Dependency) (old new last : Progress) (first 
   still : AreOpenIn old.states.items last.states.items
   still = same_open old.states.items last.states.items len kept most
 
-  -- what had no pass has none after the two passes
+  -- an attribute without a pass has none after the two passes
   none_given : (s a : ℕ) → table_passes old.states.items s a ≡ None → table_passes last.states.items s a ≡ None
   none_given s a e = go (state_of last.states.items s a) refl
     where

@@ -1,4 +1,4 @@
--- What two passes leave that give nothing.
+-- The attributes left open by two passes that assign nothing.
 use Rattle.std.proofs.Common.{ℕ, zero, suc, ◌≡◌, ◌≤◌, ◌↔◌, List, [], None, refl, sym, subst, arith}
 use Rattle.ag_grammar.specs.Lists.{Has, Differ}
 use Rattle.ag_grammar.specs.grammars.AttributeGrammar.{Grammar}
@@ -30,7 +30,7 @@ module _ (g : Grammar) (candidate : Attributes) (odd even : List Strike) (rightw
 pub members_stuck : (g : Grammar) (c : Stuck) → IsCertificate g c → (s a : ℕ) → Members c.set s a → IsStuck g s a
 members_stuck g c is = all_stuck g (Members c.set) c.odd c.even is.odd is.even
 
--- both passes strike all that has no pass before them
+-- both passes strike all attributes without a pass before them
 module _ (g : Grammar) (k : ℕ) (m : Partial) (first second : List Strike) (h : AreIdle g k m first second) where
   between_none : (s a : ℕ) → m s a ≡ None → h.between s a ≡ None
   between_none s a e = none_of (h.between s a) (λ p f. some_none (h.last s a) p (h.other.kept s a p f) (h.idle s a e))

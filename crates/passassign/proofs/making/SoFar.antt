@@ -53,7 +53,7 @@ module _ (g : Grammar) (k : ℕ) (m after : Partial) (strikes : List Strike) (ma
   none_before : (s a : ℕ) → HasNoPassUpTo g after k s a → m s a ≡ None
   none_before s a i = none_of (m s a) (λ p e. let lt : p < k = made_before made s a p e in let low : k < p = i.1 p (pass.kept s a p e) in omega arith)
 
-  -- and what is struck has none up to it
+  -- and a struck one has none up to it
   left : (s a : ℕ) → IsStruckBy strikes s a → HasNoPassUpTo g after k s a
   left s a hit =
       let i = strikes_open g (direction_of k) (IsOpen g m) [] strikes pass.good s a hit in
@@ -114,7 +114,7 @@ some_given (x ∷ xs) (y ∷ ys) len lt = elim (first_given x y (open_count xs) 
   | inr less ↦ (let w = some_given xs ys (omega arith) less in (suc w.0, w.1, w.2))
 ]
 
--- a pass that leaves fewer open gives some attribute its number
+-- if a pass leaves fewer open, some attribute has its number
 module _ (g : Grammar) (all : List Dependency) (old new : Progress) (strikes : List Strike) (before : IsProgress g all old) (next : IsNext g all old new strikes) (len : length new.states.items ≡ length old.states.items) (one : new.next ≡ old.next + 1) (less : open_count new.states.items < open_count old.states.items) where
   given_here : (s a : ℕ) → IsOpen g (table_passes old.states.items) s a → a < 16 → (state_at new.states.items (slot_of s a) ≡ Open → ⊥) → (x : State) → state_of new.states.items s a ≡ x → IsLastInUse new.next (table_passes new.states.items)
   given_here s a i lt shut Absent e = absurd ((next.progress.of.table.there s a).1 i.0 e)

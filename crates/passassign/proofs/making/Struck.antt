@@ -1,4 +1,4 @@
--- What is struck has a later pass in a legal partial assignment.
+-- A struck attribute has a later pass in a legal partial assignment.
 use Rattle.std.proofs.Common.{ℕ, zero, suc, ◌≡◌, ◌≤◌, inl, inr, List, [], ◌∷◌, Option, Some, None, ap, sym, ◌∙◌, arith}
 use Rattle.std.proofs.Math.Arith.{lt_of_le-ne}
 use Rattle.ag_grammar.specs.declared.grammar.Item.TheVariants as item
@@ -14,7 +14,7 @@ use Rattle.passassign.specs.declared.stuck.Strike.{Strike}
 use Rattle.passassign.specs.Certificate.{Attributes, IsStruckBy, IsOneOf, IsReason, IsGood, AreGood}
 use Rattle.passassign.specs.Least.{Partial, pass_at, GivesPass, IsLegalPartial}
 
--- of two places each is before the other in no direction
+-- of two places each is not before the other
 not_both : (d : Direction) (i j : ℕ) → IsBefore d i j → IsBefore d j i → ⊥
 not_both LeftToRight i j h l = omega arith
 not_both RightToLeft i j h l = omega arith
@@ -33,7 +33,7 @@ module _ (g : Grammar) (n : Partial) (legal : IsLegalPartial g n) where
   one_at k these h (Some (item.Terminal t)) a p i e = absurd i
   one_at k these h (Some (item.Symbol s)) a p i e = h s a p i e
 
-  -- an argument that may be used is no reason
+  -- an argument that may be used is not a reason
   no_reason : (k : ℕ) (candidate : Attributes) (struck : List Strike) → AtLeast k candidate → AtLeast (suc k) (IsStruckBy struck) → (q : Production) (j : ℕ) (o : Target) (p : ℕ)
       → GivesPass n q o p → MayUse k j o.place p → IsReason (direction_of k) candidate struck q j o → ⊥
   no_reason k candidate struck low high q j o p e may (inl i) =

@@ -1,5 +1,5 @@
--- A production has few rules and a rule has few arguments, since each is for another attribute, and a production has few
--- places with few attributes each.
+-- A production has few rules and a rule has few arguments, since each is for another attribute, and a
+-- production has few places with few attributes each.
 use Rattle.std.proofs.Common.{ℕ, zero, suc, ◌≡◌, ◌+◌, ◌*◌, ◌<◌, ◌≤◌, true, List, [], ◌∷◌, Option, Some, None, map, slice_get, get_or, length, inl, inr, refl, ap, ◌∙◌, sym, subst, eqb, arith}
 use Rattle.std.specs.List.{list_any, IsDistinct}
 use Rattle.std.specs.Prelude.{◌||◌}
@@ -25,7 +25,7 @@ use Rattle.passassign.proofs.slots.Linked.{attribute_within, same_parts}
 abbrev slot : Target → ℕ
 slot o = o.place * 16 + o.attr
 
--- Members that stand for different attributes of few places are few.
+-- There are few members for different attributes of few places.
 module _ {X : Type 0} (of : X → Target) (xs : List X) (single : (i j : ℕ) (x y : X) → slice_get xs i ≡ Some x → slice_get xs j ≡ Some y → of x ≡ of y → i ≡ j) (small : (i : ℕ) (x : X) → slice_get xs i ≡ Some x → ((of x).place ≤ 16) × ((of x).attr < 16)) where
   mapped : (ys : List X) (i : ℕ) (x : X) → slice_get ys i ≡ Some x → slice_get (map (λ x. slot (of x)) ys) i ≡ Some (slot (of x))
   mapped [] i x e = absurd (let bad : ⊥ = cc in bad)
@@ -101,7 +101,7 @@ module _ (g : Grammar) (accepted : IsAccepted g) (p : ℕ) (q : Production) (at 
       long : length r.expr.1 ≡ length r.args
       long = (accepted.named.rules_named p q at is.0 r is.1).arguments.equally_long
 
-      -- occurrences at two indexes don't stand for one attribute
+      -- occurrences at two indices are of different attributes
       apart : (i j : ℕ) (o w : Target) → i < j → slice_get r.args i ≡ Some o → slice_get r.args j ≡ Some w → o ≡ w → ⊥
       apart i j o w less e f same =
           let within = slice_get_within r.args j w f in

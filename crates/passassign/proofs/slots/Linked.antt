@@ -1,4 +1,4 @@
--- How the slots of a table and the dependencies in a list stand for a grammar's attributes and arguments.
+-- The slots of a table and the dependencies in a list, for a grammar's attributes and arguments.
 use Rattle.std.proofs.Common.{ℕ, zero, suc, ◌≡◌, ◌<◌, ◌*◌, cond, List, Option, Some, None, slice_get, length, map, refl, ap, ◌∙◌, sym, subst, arith}
 use Rattle.std.proofs.lemmas.Bool.{lt-ltb}
 use Rattle.std.proofs.lemmas.Option.{slice_get_within}
@@ -64,7 +64,7 @@ is_open_state (Given p) e there = absurd (let bad : ⊥ = cc in bad)
 not_absent : (x : State) → x ≡ Open → x ≡ Absent → ⊥
 not_absent x e f = let bad : Open ≡ Absent = sym e ∙ f in cc
 
--- an attribute has no pass where the table says so
+-- an attribute has no pass if the table has it as open
 pub open_there : (g : Grammar) (all : List Dependency) (states : List State) → AreOf g all states → (s a : ℕ) → a < 16 → state_at states (slot_of s a) ≡ Open → IsOpen g (table_passes states) s a
 open_there g all states of s a lt e =
     let f : state_of states s a ≡ Open = state_in states s a lt ∙ e in
@@ -88,7 +88,7 @@ slot_symbol : (y : Option ℕ) (a k : ℕ) → table_slot y a ≡ Some k → (s 
 slot_symbol None a k e = absurd (let bad : ⊥ = cc in bad)
 slot_symbol (Some s) a k e = (s, refl, cc)
 
--- What a dependency says of its grammar.
+-- The parts of a dependency in its grammar.
 pub record Parts (g : Grammar) (u : Dependency) : Type 0 where
   pub production : Production
   pub rule : Rule

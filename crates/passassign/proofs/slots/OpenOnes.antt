@@ -20,7 +20,7 @@ is_no_open Absent e f = cc
 is_no_open Open e f = cc
 is_no_open (Given p) e f = cc
 
--- a list has the attributes without a pass in front of slot i of a table
+-- a list has the attributes without a pass before slot i of a table
 pub record AreOpenOnes (states : List State) (i : ℕ) (xs : List (ℕ × ℕ)) : Type 0 where
   pub all : (s a : ℕ) → Has xs (s, a) ↔ ((a < 16) × (slot_of s a < i) × (state_at states (slot_of s a) ≡ Open))
   pub ordered : IsInDeclaredOrder xs

@@ -36,7 +36,7 @@ adds_all R xs i a b most m = record {
   only = λ y h. elim (m.only y h) [ inl old ↦ inl old | inr e ↦ inr (e.0, e.1, e.3, e.4) ];
 }
 
--- what is added under one word is added under another that means the same
+-- adding by equivalent properties is the same
 pub adds_same : {Y : Type 0} (P Q : Y → Type 0) (a b : List Y) → ((y : Y) → P y ↔ Q y) → Adds P a b → Adds Q a b
 adds_same P Q a b same m = record {
   kept = m.kept;
@@ -47,7 +47,7 @@ adds_same P Q a b same m = record {
 pub adds_none : {Y : Type 0} (P : Y → Type 0) (a : List Y) → ((y : Y) → P y → ⊥) → Adds P a a
 adds_none P a none = record { kept = λ y h. h; all = λ y h. absurd (none y h); only = λ y h. inl h }
 
--- what is added to an empty list is all that the list has
+-- elements added to an empty list are all its elements
 pub adds_only : {Y : Type 0} (P : Y → Type 0) (a : List Y) → Adds P [] a → (y : Y) → Has a y ↔ P y
 adds_only {Y} P a m y = (
   (λ h. elim (m.only y h) [

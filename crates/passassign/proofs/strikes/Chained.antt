@@ -1,4 +1,4 @@
--- Chains of strikes: what they show, and that each good strike begins one.
+-- Chains of strikes: their meaning, and that each good strike begins one.
 use Rattle.std.proofs.Common.{ℕ, suc, ◌≡◌, ◌≤◌, ◌⊎◌, inl, inr, List, [], ◌∷◌, Option, Some, None, zero, slice_get, take, refl, ap, sym, ◌∙◌, subst}
 use Rattle.ag_grammar.specs.Lists.{Has}
 use Rattle.ag_grammar.specs.declared.grammar.Item.TheVariants as item
@@ -17,7 +17,7 @@ use Rattle.passassign.proofs.making.Struck.{AtLeast, not_here}
 use Rattle.passassign.proofs.strikes.Following.{has_strikes, strikes_open}
 use Rattle.passassign.proofs.strikes.Reasons.{good_more}
 
--- the attribute of a chain has a later pass wherever its candidates have no earlier one
+-- the attribute of a chain has a later pass if its candidates have no earlier one
 module _ (g : Grammar) (n : Partial) (legal : IsLegalPartial g n) (k : ℕ) (candidate : Attributes) (low : AtLeast g n legal k candidate) where
   first_later : (xs : List Strike) → IsChain g (direction_of k) candidate xs → AtLeast g n legal (suc k) (IsStruckBy (first_only xs))
   first_later [] chain s a p none e = absurd none
@@ -81,7 +81,7 @@ module _ (g : Grammar) (d : Direction) (candidate : Attributes) where
   pub good_chains : (xs : List Strike) → AreGood g d candidate [] xs → HaveChains g d candidate xs
   good_chains xs good = chains [] xs (λ s a h. absurd h) good
 
--- What a good strike names is named once.
+-- The parts that a good strike names are unique.
 module _ (g : Grammar) (d : Direction) (candidate : Attributes) (xs : List Strike) (x : Strike) (good : IsGood g d candidate xs x) where
   own_names : Names g x good.production good.rule good.argument
   own_names = record { is_production = good.is_production; is_rule = good.is_rule; is_argument = good.is_argument }
@@ -128,11 +128,11 @@ module _ (g : Grammar) (d : Direction) (candidate : Attributes) (xs : List Strik
         go (inl i) = subst (IsStruckBy xs s) own_attr (subst (λ y. IsOneOf (IsStruckBy xs) y good.argument.attr) at_place i)
         go (inr (ahead, i)) = absurd (not_ahead ahead)
 
-    -- and it is good after a strike of that one alone
+    -- and it is good after a strike of only that one
     pub link_good : (y : Strike) → y.symbol ≡ s → y.attr ≡ a → IsGood g d candidate (y ∷ []) x
     link_good y e f = behind (y ∷ []) (inl (subst (λ z. IsOneOf (IsStruckBy (y ∷ [])) z good.argument.attr) (sym at_place) (inl (e, f ∙ sym own_attr))))
 
--- what a strike names is one production, rule and argument
+-- the production, rule and argument that a strike names are unique
 same_names : (g : Grammar) (x : Strike) (q p : Production) (u r : Rule) (o t : Target) → Names g x q u o → Names g x p r t → (q ≡ p) × (u ≡ r) × (o ≡ t)
 same_names g x q p u r o t h n =
     let one : Some q ≡ Some p = sym h.is_production ∙ n.is_production in
@@ -181,7 +181,7 @@ module _ (g : Grammar) (d : Direction) (candidate : Attributes) where
     pub link_chain : (s a : ℕ) → WaitsFor g d x s a → (y : Strike) (ys : List Strike) → y.symbol ≡ s → y.attr ≡ a → IsChain g d candidate (y ∷ ys) → IsChain g d candidate (x ∷ y ∷ ys)
     link_chain s a waits y ys e f chain = (is_candidate, link_good g d candidate (take i xs) x good_at s a waits y e f, chain)
 
-  -- In good strikes, what one waits for is struck before it,
+  -- In good strikes, the attribute that one waits for is struck before it,
   pub good_awaited : (xs : List Strike) → AreGood g d candidate [] xs → AreAwaitedBefore g d xs
   good_awaited xs good i x at s a waits = awaited_before xs good i x at s a waits
 

@@ -1,4 +1,4 @@
--- What is struck, by attributes and by slots.
+-- Struck attributes, by attributes and by slots.
 use Rattle.std.proofs.Common.{ℕ, zero, suc, ◌≡◌, ◌<◌, ◌⊎◌, List, [], ◌∷◌, slice_get, Some, inl, inr, refl, ap, ◌∙◌, sym, subst}
 use Rattle.ag_grammar.specs.Lists.{Has}
 use Rattle.ag_grammar.specs.grammars.AttributeGrammar.{Grammar, item_at}
@@ -36,7 +36,7 @@ strikes_open g d candidate struck (x ∷ xs) (is, new, one, more) s a h = go h (
     go (inl e) later = subst (λ s. candidate s a) e.0 (subst (candidate x.symbol) e.1 is)
     go (inr m) later = later m
 
--- what a search has struck, by attributes and by slots
+-- the attributes that a search has struck, by attributes and by slots
 module _ (g : Grammar) (all : List Dependency) (d : Direction) (states : List State) (xs : List Strike) (of : AreOf g all states) (good : AreGood g d (IsOpen g (table_passes states)) [] xs) where
   pub struck_within : (x : Strike) → Has xs x → x.attr < 16
   struck_within x h = (open_state g all states of x.symbol x.attr (strikes_open g d (IsOpen g (table_passes states)) [] xs good x.symbol x.attr (has_strikes xs x h))).0

@@ -1,4 +1,4 @@
--- A good strike stays one where there are more candidates and more is struck before it.
+-- A good strike stays good with more candidates and more struck attributes before it.
 use Rattle.std.proofs.Common.{ℕ, inl, inr, List, Option, Some, None}
 use Rattle.ag_grammar.specs.declared.grammar.Item.TheVariants as item
 use Rattle.ag_grammar.specs.declared.grammar.Item.{Item}

@@ -1,4 +1,4 @@
--- What is found along the edges of dependencies tells the strikes of a pass.
+-- The strikes of a pass, by the additions along the edges of dependencies.
 use Rattle.std.proofs.Common.{ℕ, zero, suc, ◌≡◌, ◌<◌, ◌≤◌, ◌+◌, ◌⊎◌, ◌↔◌, Bool, true, List, [], ◌∷◌, ◌++◌, Option, Some, None, All, map, take, slice_get, length, get_or, inl, inr, refl, ap, ◌∙◌, sym, subst, arith, add-one}
 use Rattle.std.proofs.lemmas.Bool.{cases_eq}
 use Rattle.std.proofs.lemmas.List.{take_more, take_all}
@@ -32,7 +32,7 @@ use Rattle.passassign.proofs.strikes.Following.{strikes_open, has_strikes, struc
 use Rattle.passassign.proofs.strikes.Growing.{strikes_grow}
 use Rattle.passassign.proofs.slots.Linked.{parts, attribute_within, open_there, open_state, places_item, target_is}
 
--- the members in front of an index are those of the list's front
+-- the members before an index are those of the list's prefix
 pub in_take : {A : Type 0} (n : ℕ) (xs : List A) (i : ℕ) (x : A) → slice_get (take n xs) i ≡ Some x → (i < n) × (slice_get xs i ≡ Some x)
 in_take zero xs i x e = absurd (let bad : ⊥ = cc in bad)
 in_take (suc n) [] i x e = absurd (let bad : ⊥ = cc in bad)
@@ -82,7 +82,7 @@ record IsToldAt (all : List Dependency) (d : Direction) (states : List State) (a
   why : IsBarred d states u ⊎ IsAddedBefore added i u.argument
 
 module _ (all barred : List Dependency) (d : Direction) (states : List State) (bars : AreBarred d states all barred) where
-  -- Its target is the number that is added, and it keeps that out of the pass, or its argument is there.
+  -- Its target is the number that is added, and it keeps that out of the pass, or its argument was added.
   by_name : (there : ℕ → Type 0) (n : ℕ) (r : Reason) (u : Dependency) → dependency_by all barred r ≡ Some u → IsReasonOf (clauses_of all) (map target_of barred) there n r → Has all u × (target_of u ≡ n) × (IsBarred d states u ⊎ there u.argument)
   by_name there n (reason.Seed i) u is h =
       let e : Some (target_of u) ≡ Some n = sym (at_mapped target_of barred i u is) ∙ h in
@@ -100,7 +100,7 @@ module _ (all barred : List Dependency) (d : Direction) (states : List State) (b
         let w = by_name (IsAddedBefore added i) x.number x.reason t.0 t.1 (order.reasoned i x e) in
         record { u = t.0; among = w.0; strike = t.2; target = w.1; why = w.2 }
 
-    -- what is added is struck, in the same order, and the other way round
+    -- the additions are struck, in the same order, and the converse
     struck_before : (n k : ℕ) → IsAddedBefore added n k → IsStruckAt (take n xs) k
     struck_before n k (i, x, lt, e, is) = let t = told_at i x e in (t.u.strike, (i, take_has n xs i t.u.strike lt t.strike), t.target ∙ is)
 
@@ -169,7 +169,7 @@ module _ (all barred : List Dependency) (d : Direction) (states : List State) (b
       kept_out : (u : Dependency) → Has all u → IsBarred d states u → is_marked marks (target_of u) ≡ true
       kept_out u h b = let w = (bars u).1 (h, b) in (closure (target_of u)).1 (seed (element_at (map target_of barred) w.0 (target_of u) (at_mapped target_of barred w.0 u w.1)))
 
-      -- where there is a reason to strike an attribute, it is struck
+      -- if there is a reason to strike an attribute, it is struck
       module _ (g : Grammar) (of : AreOf g all states) (x : Strike) (is : IsOpen g (table_passes states) x.symbol x.attr) (good : IsGood g d (IsOpen g (table_passes states)) xs x) where
         one : ℕ → Dependency
         one s = dependency_of (head_of x.production x.rule good.rule x.symbol) good.rule.target.place x.arg (slot_of s good.argument.attr) good.argument.place

@@ -30,7 +30,7 @@ module _ (g : Grammar) (d : Direction) (xs : List Strike) (at s a : ℕ) where
       let second : a ≡ (strike_at xs i).attr = sym attr ∙ ap (λ (z : Strike). z.attr) here.1 in
       (here.0, subst (λ a. WaitsFor g d (strike_at xs at) (strike_at xs i).symbol a) second (subst (λ s. WaitsFor g d (strike_at xs at) s a) first waits))
 
-  -- where what is awaited is struck before, there is such a strike
+  -- if the awaited attribute is struck before, there is such a strike
   pub none_before : at < length xs → WaitsFor g d (strike_at xs at) s a → (r : Option ℕ) → (r ≡ None → IsStruckBy (take at xs) s a → ⊥) → r ≡ None → AreAwaitedBefore g d xs → WaitsForNone g d (strike_at xs at)
   none_before lt waits r missing e order = absurd (missing e (order at (strike_at xs at) (slice_get-get_or xs at none lt) s a waits))
 
@@ -46,7 +46,7 @@ starts xs (y ∷ ys) at s a lt symbol attr e =
     let same : y ≡ strike_at xs at = cc in
     record { first = y; others = ys; is = refl; symbol = ap (λ (z : Strike). z.symbol) same ∙ symbol; attr = ap (λ (z : Strike). z.attr) same ∙ attr }
 
--- What a walk down good strikes gives is a chain.
+-- The result of a walk down good strikes is a chain.
 pub walked : (g : Grammar) (d : Direction) (candidate : Attributes) (xs links : List Strike) (s a : ℕ) → AreGood g d candidate [] xs → IsStruckBy xs s a → (AreAwaitedBefore g d xs → AreLinked g d links) → ((i : ℕ) (x : Strike) → slice_get links i ≡ Some x → Has xs x) → (IsStruckBy xs s a → StartsWith s a links) → IsChainOf g d candidate s a links
 walked g d candidate xs links s a good hit linked among first =
     let start = first hit in
@@ -59,7 +59,7 @@ walked g d candidate xs links s a good hit linked among first =
       chain = linked_chain g d candidate xs good links among (linked (good_awaited g d candidate xs good));
     }
 
--- what follows from three facts of a result follows where there is one
+-- a consequence of three facts of a result, if there is one
 pub of_three : {A E : Type 0} (r : Result A E) (P Q R S : A → Type 0) → ((x : A) → P x → Q x → R x → S x) → IfOk r P → IfOk r Q → IfOk r R → IfOk r S
 of_three (Ok x) P Q R S f p q r = f x p q r
 of_three (Err e) P Q R S f p q r = tt

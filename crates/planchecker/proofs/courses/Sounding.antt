@@ -1,4 +1,4 @@
--- A pass of a plan has what it asks.
+-- A pass of a plan meets the conditions.
 use Rattle.std.proofs.Common.{ℕ, ◌≡◌, ◌-◌, ◌≤◌, List, [], length, arith}
 use Rattle.std.proofs.lemmas.Option.{slice_get_within, slice_get-get_or}
 use Rattle.ag_grammar.specs.declared.grammar.Production.{Production}

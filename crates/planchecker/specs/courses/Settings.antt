@@ -1,4 +1,4 @@
--- What a pass works by (this project's).
+-- The setting of a pass (this project's).
 use Rattle.std.specs.Prelude.{ℕ, ◌-◌, List, [], slice_index_or}
 use Rattle.ag_grammar.specs.declared.direction.Direction.{Direction}
 use Rattle.ag_grammar.specs.grammars.AttributeGrammar.{Grammar}
@@ -23,6 +23,6 @@ setting_of g plan k = record { grammar = g; passes = passes_of plan.0; code = pl
 abbrev pub way : Setting → Direction
 way c = direction_of c.write
 
--- the instructions for a production in the pass, none where it has none
+-- the instructions for a production in the pass, empty if it has none
 abbrev pub list_at : Setting → ℕ → List Instr
 list_at c p = slice_index_or (lists_of c.code p) c.read []

@@ -1,4 +1,4 @@
--- What a pass asks of its setting (this project's).
+-- The conditions of a pass on its setting (this project's).
 use Rattle.std.specs.Prelude.{ℕ, suc, ◌≡◌}
 use Rattle.ag_grammar.specs.declared.grammar.Production.{Production}
 use Rattle.ag_grammar.specs.grammars.Accepted.{IsAccepted}

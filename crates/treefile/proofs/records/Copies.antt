@@ -1,4 +1,4 @@
--- The copies in a record: which values they are, how many there are, and that children that are as told have them.
+-- The copies in a record: their values, their number, and that children which match their copies have them.
 use Rattle.std.proofs.Common.{◌≡◌, ℕ, zero, suc, ◌≤◌, Bool, true, false, List, [], ◌∷◌, ◌++◌, length, take, drop, Option, Some, None, slice_get, All, refl, ap, sym, subst, ◌∙◌, arith, length-append, length-drop, take-append-drop}
 use Rattle.std.proofs.lemmas.List.{drop_at, take_at}
 use Rattle.std.proofs.lemmas.List.Elements.{All-append, All-cons, All-nil}
@@ -17,7 +17,7 @@ use Rattle.treefile.specs.records.Listed.{copied_count, copies_count, count_up_t
 use Rattle.treefile.specs.records.Records.{copies_of, copy_of, left_synthesized, most_copied, most_copies, synthesized_count, synthesized_passes, with_copies}
 use Rattle.treefile.proofs.records.Values.{count_of_values, values_few, values_well}
 
--- what the first members of a list have, the list has
+-- an element of a prefix of a list is one of the list
 get_take : (n : ℕ) (ps : List ℕ) (a p : ℕ) → slice_get (take n ps) a ≡ Some p → slice_get ps a ≡ Some p
 get_take zero ps a p is = absurd (let bad : ⊥ = cc in bad)
 get_take (suc n) [] a p is = absurd (let bad : ⊥ = cc in bad)
@@ -34,7 +34,7 @@ module _ (g : Grammar) (m : Passes) (k : ℕ) where
   pub left_of : (s p : ℕ) (q : Production) → slice_get g.productions p ≡ Some q → q.left ≡ s → left_synthesized g m (slice_get g.productions p) ≡ synthesized_passes g m s
   left_of s p q there left = ap (left_synthesized g m) there ∙ ap (synthesized_passes g m) left
 
-  -- how long copies are
+  -- the lengths of copies
   copy_length : (x : Item) (t : Tree) (v : Valuation) → Fits g x t → length (copy_of g m k t v) ≡ copied_count g m k x
   copy_length (item.Symbol s) (leaf c text) v f = elim f [ ]
   copy_length (item.Symbol s) (node p ts) v f = count_of_values k (left_synthesized g m (slice_get g.productions p)) (v []) ∙ ap (count_up_to k) (left_of s p f.0 f.1 f.2)
@@ -74,19 +74,19 @@ module _ (g : Grammar) (m : Passes) (k : ℕ) where
   copies_well none vs texts well = All-nil IsWell
   copies_well (more t ts) vs texts well = All-append IsWell (copy_of g m k t (vs 0)) (copies_of g m k ts (rest vs)) (copy_well t (vs 0) texts.0 well.0) (copies_well ts (rest vs) texts.1 well.1)
 
-  -- trees of children, whose values are as they were told
+  -- trees of children, whose values match their copies
   abbrev pub AreAsTold : List Child → Forest → (ℕ → Valuation) → Type 0
   AreAsTold [] none vs = Unit {0}
   AreAsTold [] (more t ts) vs = ⊥
   AreAsTold (x ∷ xs) none vs = ⊥
   AreAsTold (x ∷ xs) (more t ts) vs = Fits g x.0 t × IsAsTold x.1 (copy_of g m k t (vs 0)) × AreAsTold xs ts (rest vs)
 
-  -- the copies in a node's record, none where the version has none
+  -- the copies in a node's record, none if the version has no copies
   abbrev pub kept : Bool → List Value → List Value
   kept false copies = []
   kept true copies = copies
 
-  -- what a record of a tree tells of its children is so,
+  -- the trees of children match the copies in their parent's record,
   pub are_as_told : (has : Bool) (xs : List Item) (ts : Forest) (vs : ℕ → Valuation) → FitsAll g xs ts → AreAsTold (told has g m k xs (kept has (copies_of g m k ts vs))) ts vs
   are_as_told has [] none vs f = tt
   are_as_told has [] (more t ts) vs f = elim f [ ]
@@ -102,7 +102,7 @@ module _ (g : Grammar) (m : Passes) (k : ℕ) where
   are_copies false xs ts vs f texts well = refl
   are_copies true xs ts vs f texts well = (copies_length xs ts vs f, copies_well ts vs texts well)
 
-  -- and trees that are as they were told are trees of the items, and have these copies
+  -- and trees that match their copies are trees of the items, and have these copies
   pub fits_told : (has : Bool) (xs : List Item) (cs : List Value) (ts : Forest) (vs : ℕ → Valuation) → AreAsTold (told has g m k xs cs) ts vs → FitsAll g xs ts
   fits_told has [] cs none vs a = tt
   fits_told has [] cs (more t ts) vs a = elim a [ ]
@@ -130,7 +130,7 @@ module _ (g : Grammar) (m : Passes) (k : ℕ) where
   kept_same false own cs = refl
   kept_same true own cs = refl
 
--- values and copies that are well are so together
+-- own values and copies that are well are a list of well values
 pub stored_well : (has : Bool) (own cs : List Value) → All IsWell own → All IsWell cs → All IsWell (with_copies has own cs)
 stored_well false own cs a b = a
 stored_well true own cs a b = All-append IsWell own cs a b

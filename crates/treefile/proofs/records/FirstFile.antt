@@ -29,7 +29,7 @@ use Rattle.treefile.proofs.records.Texts.{texts_are_given}
 pub text_well : (x : List ℕ) → IsTokenText x → IsWell (value.Text x)
 text_well x text = let short = text.short in well_text x text.utf8 (omega arith)
 
--- there are no values of pass 0
+-- the list of values of pass 0 is empty
 pub no_values : (ps : List ℕ) (values : ℕ → Value) → Each (λ k. 1 ≤ k) ps → values_up_to 0 ps values ≡ []
 no_values [] values each = refl
 no_values (p ∷ ps) values each = by_test (nat_le p 0) refl (no_values ps (λ a. values (suc a)) (λ i x e. each (suc i) x e))
@@ -38,7 +38,7 @@ no_values (p ∷ ps) values each = by_test (nat_le p 0) refl (no_values ps (λ a
     by_test true e later = let le : p ≤ 0 = leb-true p 0 e in let some : 1 ≤ p = each 0 p refl in absurd (omega arith)
     by_test false e later = later
 
--- an assignment without passes has none below 1
+-- an assignment without passes has no pass below 1
 pub unassigned_from_one : AreFromOne unassigned
 unassigned_from_one s i x e = absurd (cc)
 
@@ -47,7 +47,7 @@ module _ (version : Version) (g : Grammar) (m : Passes) (from_one : AreFromOne m
   left_from_one None = λ i x e. absurd (cc)
   left_from_one (Some q) = from_one q.left
 
-  -- so the copies of children are their leaves' texts,
+  -- the copies of children are their leaves' texts,
   copies : (ts : Forest) (vs : ℕ → Valuation) → copies_of g m 0 ts vs ≡ leaf_texts ts
   copies none vs = refl
   copies (more (leaf c x) ts) vs = ap (λ z. value.Text x ∷ z) (copies ts (rest vs))
@@ -93,7 +93,7 @@ module _ (version : Version) (g : Grammar) (m : Passes) (from_one : AreFromOne m
     well_all [] (more t ts) vs fits texts = absurd fits
     well_all (x ∷ xs) (more t ts) vs fits texts = (well x t (vs 0) fits.0 texts.0, well_all xs ts (rest vs) fits.1 texts.1)
 
--- what has the records of a tree is its file of pass 0, and there is no other
+-- a content with the records of a tree is its only file of pass 0
 pub is_first_file : (version : Version) (g : Grammar) (t : Tree) (content : List ℕ) → IsTreeOf g t → content ≡ first_file version t → IsFirstFile version g t content
 is_first_file version g t content fits is m v from_one texts = record {
   stands = is ∙ ap (λ b. file version 0 (postfix (direction_of 0) b)) (sym (bodies_are version g m from_one t v));
@@ -107,7 +107,7 @@ first_file_is version g t content is =
     let it = is unassigned texts.0 unassigned_from_one texts.1 in
     it.stands ∙ ap (λ b. file version 0 (postfix (direction_of 0) b)) (bodies_are version g unassigned unassigned_from_one t texts.0)
 
--- a file of pass 0 is one whatever passes from 1 on and values are asked for
+-- a file of pass 0 is one for all passes from 1 on and all values
 pub first_file_of : (version : Version) (g : Grammar) (m : Passes) (t : Tree) (v : Valuation) (content : List ℕ) → AreFromOne m → IsTreeOf g t → IsFileOfTree version g m 0 t v content → IsFirstFile version g t content
 first_file_of version g m t v content from_one tree is =
     is_first_file version g t content tree (is.stands ∙ ap (λ b. file version 0 (postfix (direction_of 0) b)) (bodies_are version g m from_one t v))

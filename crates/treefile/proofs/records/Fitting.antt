@@ -21,11 +21,11 @@ few_kinds g s accepted (Some y) e =
     let all : length (symbol_kinds (Some y)) ≡ length (map (λ (n : List ℕ). Synthesized) y.syn) + length (map (λ (n : List ℕ). Inherited) y.inh) = length-append (map (λ (n : List ℕ). Synthesized) y.syn) (map (λ (n : List ℕ). Inherited) y.inh) in
     omega (arith, all, length-map y.syn (λ (n : List ℕ). Synthesized), length-map y.inh (λ (n : List ℕ). Inherited), length-append y.syn y.inh)
 
--- under a legal assignment
+-- and at most 16 passes under a legal assignment
 pub few_passes : (g : Grammar) (m : Passes) (s : ℕ) → IsAccepted g → IsLegal g m → length (m s) ≤ 16
 few_passes g m s accepted legal = let few = few_kinds g s accepted (slice_get g.symbols s) refl in let same = legal.whole s in omega arith
 
--- so a copy has as many values at most,
+-- so a copy has at most 16 values,
 few_copied : (g : Grammar) (m : Passes) (x : Item) → IsAccepted g → IsLegal g m → most_copied g m x ≤ 16
 few_copied g m (item.Symbol s) accepted legal = omega (arith, length-take (synthesized_count (slice_get g.symbols s)) (m s), few_passes g m s accepted legal)
 few_copied g m (item.Terminal (Class c)) accepted legal = omega arith

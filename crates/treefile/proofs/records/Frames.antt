@@ -1,4 +1,4 @@
--- A body is read exactly where its frame ends.
+-- A body is read exactly if its frame ends at the offset.
 use Rattle.std.proofs.Common.{◌≡◌, ℕ, ◌+◌, ◌-◌, ◌^◌, ◌<◌, ◌≤◌, ◌⊎◌, Bool, true, false, ◌&&◌, cond, inl, inr, List, ◌++◌, length, take, drop, slice_range, Result, Ok, Err, refl, sym, ap, subst, ◌∙◌, append_assoc, arith}
 use Rattle.std.specs.Prelude.{nat_lt, nat_le}
 use Rattle.std.specs.Int.{w32, to_be_bytes, from_be_bytes}
@@ -11,7 +11,7 @@ use Rattle.treefile.specs.declared.reading.FrameFault.TheVariants.{Damaged}
 use Rattle.treefile.specs.records.TreeFile.{Version, frame}
 use Rattle.treefile.specs.ways.Ending.{IsBodyBefore, IsBytes, IsUsable, body_before, fits_before, number_before, length_bytes, least_body, greatest_body, header_bytes}
 
--- ---- reading, where it is known what stands there
+-- ---- reading a content whose frame is known
 
 pub fits : (version : Version) (at len : ℕ) → least_body ≤ len → len ≤ greatest_body version → header_bytes + len + length_bytes ≤ at → fits_before version at len ≡ true
 unfolding fits_before
@@ -21,7 +21,7 @@ pub read_at : (version : Version) (content body : List ℕ) (at len : ℕ) → n
 unfolding body_before
 read_at version content body at len number part room fit = rw (le-ltb at 10 room, number, fit, part) refl
 
--- what stands from the end of a front on
+-- the part after a prefix
 part_behind : (front part rest : List ℕ) (n : ℕ) → length part ≡ n → take n (drop (length front) (front ++ (part ++ rest))) ≡ part
 part_behind front part rest n e = rw (drop_at front (part ++ rest) (length front) refl) (take_at part rest n e)
 
@@ -31,7 +31,7 @@ four_behind front part rest from at begins ends four =
     let count : at - length front ≡ 4 = omega arith in
     rw (start, count) (part_behind front part rest 4 four)
 
--- the length and the body of a frame that stands between a front and a rest
+-- the length and the body of a frame between a prefix and a rest
 regrouped : (front body number rest : List ℕ) → front ++ ((body ++ number) ++ rest) ≡ (front ++ body) ++ (number ++ rest)
 regrouped front body number rest = simp append_assoc
 
@@ -61,7 +61,7 @@ frame_is_read version content body at usable s =
     room
     (fits version at (length body) s.least s.greatest enough)
 
--- ---- what stands there, where it is known what was read
+-- ---- the content, if the body that was read is known
 
 chosen : {A : Type 0} (b : Bool) (d : FrameFault) (r : Result A FrameFault) (y : A) → cond b (Err d) r ≡ Ok y → (b ≡ false) × (r ≡ Ok y)
 chosen true d r y e = absurd cc
@@ -127,7 +127,7 @@ read_is_frame version content body at bytes within e =
     let f = fit version at len found.0 in
     subst (IsBodyBefore version content at) found.1 (stands_at version content at len from bytes within refl f (omega (arith, f.room)))
 
--- a body is read, or the offset is told
+-- a body is read, or the offset is reported
 pub answers : (version : Version) (content : List ℕ) (at : ℕ) → ((body : List ℕ) × (body_before version content at ≡ Ok body)) ⊎ (body_before version content at ≡ Err (Damaged at))
 unfolding body_before
 answers version content at =
@@ -145,7 +145,7 @@ told_as_damaged version content at bytes within none =
       | inr told ↦ told
     ]
 
--- before this offset there is no room for a frame
+-- no frame fits before this offset
 pub none_before : (version : Version) (content : List ℕ) (at : ℕ) → at < 10 → body_before version content at ≡ Err (Damaged at)
 unfolding body_before
 none_before version content at short = rw (lt-ltb at 10 short) refl

@@ -82,7 +82,7 @@ are_copies_in : (has : Bool) (g : Grammar) (m : Passes) (k : ℕ) (q : Productio
 are_copies_in false g m k q vs count all = refl
 are_copies_in true g m k q vs count all = (omega (arith, length-drop (count_up_to k (m q.left)) vs), All-drop IsWell (count_up_to k (m q.left)) vs all)
 
--- what is told by these copies
+-- the children with these copies
 told_in : (has : Bool) (g : Grammar) (m : Passes) (k n : ℕ) (xs : List Item) (vs : List Value) → told has g m k xs (copies_in has n vs) ≡ told has g m k xs (drop n vs)
 told_in true g m k n xs vs = refl
 told_in false g m k n [] vs = refl
@@ -153,7 +153,7 @@ module _ (version : Version) (g : Grammar) (m : Passes) (k s : ℕ) (body : List
 pub listed_record : ListedRecord
 listed_record version g m k s body ys = (is_listed version g m k s body ys, λ is. subst (IsRecordOf version g m k (item.Symbol s, None) body) (sym is.4) (is_record version g m k s body is.0 is.1 is.2 is.3))
 
--- behind values that were read of the spellings of others stand the spellings of the rest
+-- after values that were read from the spellings of others, the spellings of the rest follow
 read_on : (vs ws : List Value) (rest : List ℕ) → All IsWell vs → All IsWell ws → length vs ≤ length ws → flat_map spelling_of vs ++ rest ≡ flat_map spelling_of ws → (more : List Value) × (length ws ≡ length vs + length more) × All IsWell more × (rest ≡ flat_map spelling_of more)
 read_on [] ws rest a b le e = (ws, omega arith, b, e)
 read_on (v ∷ vs) [] rest a b le e = absurd (omega arith)

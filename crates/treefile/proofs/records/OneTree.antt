@@ -1,4 +1,4 @@
--- A list begins with the records of one tree at most, and a content is the file of one.
+-- A list begins with the records of at most one tree, and a content is the file of at most one.
 use Rattle.std.proofs.Common.{◌≡◌, ℕ, zero, suc, ◌^◌, ◌<◌, ◌≤◌, List, [], ◌∷◌, ◌++◌, length, reverse, Some, slice_get, refl, ap, sym, subst, ◌∙◌, append_assoc, arith}
 use Rattle.std.proofs.lemmas.List.{reverse-append, reverse-reverse}
 use Rattle.std.proofs.lemmas.Option.{slice_get_within}
@@ -27,7 +27,7 @@ use Rattle.treefile.proofs.records.Orders.{turned}
 use Rattle.treefile.proofs.records.Records.{file_back}
 use Rattle.treefile.proofs.records.Spelled.{one_node, one_token}
 
--- texts that are one value are one text
+-- equal text values have equal texts
 pub text_same : (x y : List ℕ) → Text x ≡ Text y → x ≡ y
 text_same x y e = let texts : Value-F.Text x ≡ Value-F.Text y = sym (outs-Text x) ∙ ap out-Value e ∙ outs-Text y in cc
 

@@ -1,4 +1,4 @@
--- The two orders of a tree's bodies, how many there are in a list, and that a list is that of one tree at most.
+-- The two orders of a tree's bodies, their lengths, and that a list is that of at most one tree.
 use Rattle.std.proofs.Common.{◌≡◌, ℕ, suc, ◌+◌, List, [], ◌∷◌, ◌++◌, length, Option, Some, reverse, refl, ap, sym, ◌∙◌, append_assoc, length-append, arith}
 use Rattle.std.proofs.lemmas.List.{length-reverse, reverse-append, reverse-reverse}
 use Rattle.ag_grammar.specs.declared.direction.Direction.{Direction}
@@ -6,7 +6,7 @@ use Rattle.ag_grammar.specs.declared.direction.Direction.TheVariants.{LeftToRigh
 use Rattle.ag_grammar.specs.grammars.Passes.{other}
 use Rattle.treefile.specs.records.Orders.{AreRanked, BodyForest, BodyTree, IsRanked, branch, joined, more, node_count, node_counts, none, postfix, postfix_all, prefix, prefix_all, tree_count}
 
--- what is joined in one direction is joined the other way round after a reversal
+-- a reversal of lists joined in one direction joins their reversals in the other
 turn_joined : (d : Direction) (xs ys : List (List ℕ)) → reverse (joined d xs ys) ≡ joined (other d) (reverse xs) (reverse ys)
 turn_joined LeftToRight xs ys = reverse-append xs ys
 turn_joined RightToLeft xs ys = reverse-append ys xs

@@ -1,5 +1,5 @@
--- The records of a tree's file: there is one for each node, and each has as many well values as a body may have, so that the
--- file is read back.
+-- The records of a tree's file: there is one for each node, and each has as many well values as a body may
+-- have, so that the file is read back.
 use Rattle.std.proofs.Common.{◌≡◌, ℕ, suc, ◌≤◌, Bool, true, false, List, [], ◌∷◌, length, reverse, Some, slice_get, All, refl, ap, sym, subst, arith}
 use Rattle.std.proofs.lemmas.List.{length-append}
 use Rattle.std.proofs.lemmas.List.Elements.{All-append, All-cons, All-nil}
@@ -44,7 +44,7 @@ stored_few version true g m k p q e ts vs there f few =
     let own = values_up_to k (left_passes m (slice_get g.productions p)) e in
     omega (arith, length-append own (copies_of g m k ts vs), values_few k (left_passes m (slice_get g.productions p)) e, ap (λ o. length (left_passes m o)) there, copies_few g m k (stored_items q.items) ts vs f)
 
--- a body stands for each node of a tree
+-- there is one body for each node of a tree
 module _ (version : Version) (g : Grammar) (m : Passes) (k : ℕ) where
   mutual
     pub bodies_count : (t : Tree) (v : Valuation) → orders.node_count (bodies_of version g m k t v) ≡ node_count t

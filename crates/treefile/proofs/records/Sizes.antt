@@ -1,4 +1,4 @@
--- How many bytes a body has at most.
+-- The greatest number of bytes of a body.
 use Rattle.std.proofs.Common.{ℕ, ◌*◌, ◌≤◌, List, [], ◌∷◌, length, All, arith}
 use Rattle.std.specs.List.{flat_map}
 use Rattle.std.proofs.lemmas.List.{length-append}
@@ -11,7 +11,7 @@ use Rattle.treefile.specs.declared.body.Kind.{Kind}
 use Rattle.treefile.specs.records.TreeFile.{Version, body_of}
 use Rattle.treefile.specs.ways.Ending.{greatest_body}
 
--- the spelling of a well value is as long as the value is heavy
+-- the length of the spelling of a well value is its weight
 spelling_size : (value : Value) → IsWell value → length (spelling_of value) ≤ 1048576
 spelling_size value well = omega (arith, length-spelling value, well.light)
 

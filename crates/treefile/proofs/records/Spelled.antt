@@ -24,21 +24,21 @@ use Rattle.treefile.specs.Laws.{OneNode}
 use Rattle.treefile.specs.records.Records.{node_body, token_body, values_up_to, with_copies}
 use Rattle.treefile.specs.records.TreeFile.{Version}
 
--- a value and what stands behind it
+-- a value and the bytes after it
 pub spelled_apart : (v w : Value) (xs ys : List ℕ) → IsWell v → IsWell w → spelling_of v ++ xs ≡ spelling_of w ++ ys → (v ≡ w) × (xs ≡ ys)
 spelled_apart v w xs ys a b e =
     let p : ◌≡◌ {A = Option (Value × List ℕ)} (Some (v, xs)) (Some (w, ys)) = sym (well_is_read v xs a) ∙ ap (value_at 64) e ∙ well_is_read w ys b in
     let q : ◌≡◌ {A = Value × List ℕ} (v, xs) (w, ys) = cc in
     (ap (λ (z : Value × List ℕ). z.0) q, ap (λ (z : Value × List ℕ). z.1) q)
 
--- what is the same at the first attribute, where its pass is one of these, and at the others
+-- equality at the first attribute, if its pass is one of these, and at the others
 same_first : (k p : ℕ) (ps : List ℕ) (e f : ℕ → Value) → (p ≤ k → e 0 ≡ f 0) → SameAt (λ n. n ≤ k) ps (λ a. e (suc a)) (λ a. f (suc a)) → SameAt (λ n. n ≤ k) (p ∷ ps) e f
 same_first k p ps e f h r zero q is le =
     let same : p ≡ q = cc in
     h (subst (λ n. n ≤ k) (sym same) le)
 same_first k p ps e f h r (suc a) q is le = r a q is le
 
--- the values of one record and of another, and what stands behind them
+-- the values of two records, and the bytes after them
 spelled_values : (k : ℕ) (ps : List ℕ) (e f : ℕ → Value) (xs ys : List ℕ) → WellAt (λ n. n ≤ k) ps e e → WellAt (λ n. n ≤ k) ps f f → flat_map spelling_of (values_up_to k ps e) ++ xs ≡ flat_map spelling_of (values_up_to k ps f) ++ ys → SameAt (λ n. n ≤ k) ps e f × (xs ≡ ys)
 spelled_values k [] e f xs ys a b same = ((λ i p is le. cc), same)
 spelled_values k (p ∷ ps) e f xs ys a b same = by_test (nat_le p k) refl (spelled_values k ps (λ i. e (suc i)) (λ i. f (suc i)) xs ys (λ i q is le. a (suc i) q is le) (λ i q is le. b (suc i) q is le)) same
@@ -60,14 +60,14 @@ spelled_values k (p ∷ ps) e f xs ys a b same = by_test (nat_le p k) refl (spel
         let rest = later same in
         (same_first k p ps e f (λ le. absurd (let bad : true ≡ false = sym (le-leb p k le) ∙ is in cc)) rest.0, rest.1)
 
--- a number in two bytes, and what stands behind it
+-- a number in two bytes, and the bytes after it
 numbered_apart : (p r : ℕ) (xs ys : List ℕ) → p < 2 ^ 16 → r < 2 ^ 16 → to_be_bytes w16 p ++ xs ≡ to_be_bytes w16 r ++ ys → (p ≡ r) × (xs ≡ ys)
 numbered_apart p r xs ys a b e = (
   sym (from_be_bytes-to_be_bytes_2 p a) ∙ ap (from_be_bytes w16) (sym (take_at (to_be_bytes w16 p) xs 2 refl) ∙ ap (take 2) e ∙ take_at (to_be_bytes w16 r) ys 2 refl) ∙ from_be_bytes-to_be_bytes_2 r b,
   sym (drop_at (to_be_bytes w16 p) xs 2 refl) ∙ ap (drop 2) e ∙ drop_at (to_be_bytes w16 r) ys 2 refl,
 )
 
--- some well values have one spelling
+-- lists of well values with equal spellings are equal
 same_lists : (vs ws : List Value) → All IsWell vs → All IsWell ws → length vs ≡ length ws → flat_map spelling_of vs ≡ flat_map spelling_of ws → vs ≡ ws
 same_lists [] [] a b n e = refl
 same_lists [] (w ∷ ws) a b n e = absurd (omega arith)
@@ -76,7 +76,7 @@ same_lists (v ∷ vs) (w ∷ ws) a b n e =
     let apart = spelled_apart v w (flat_map spelling_of vs) (flat_map spelling_of ws) (All-head IsWell v vs a) (All-head IsWell w ws b) e in
     ap (λ (z : Value). z ∷ vs) apart.0 ∙ ap (λ (zs : List Value). w ∷ zs) (same_lists vs ws (All-tail IsWell v vs a) (All-tail IsWell w ws b) (omega arith) apart.1)
 
--- the values of one record and of another, and the copies behind them
+-- the values of two records, and the copies after them
 stored_apart : (has : Bool) (k : ℕ) (ps : List ℕ) (e f : ℕ → Value) (cs ds : List Value) → WellAt (λ n. n ≤ k) ps e e → WellAt (λ n. n ≤ k) ps f f → flat_map spelling_of (with_copies has (values_up_to k ps e) cs) ≡ flat_map spelling_of (with_copies has (values_up_to k ps f) ds) → SameAt (λ n. n ≤ k) ps e f × (has ≡ true → flat_map spelling_of cs ≡ flat_map spelling_of ds)
 stored_apart false k ps e f cs ds a b same = ((spelled_values k ps e f [] [] a b (ap (λ (zs : List ℕ). zs ++ []) same)).0, λ bad. absurd (let no : ⊥ = cc in no))
 stored_apart true k ps e f cs ds a b same =
@@ -98,12 +98,12 @@ one_node version g m k p r e f cs ds a b well_e well_f same =
     let stored = stored_apart version.has_copies k ps e f cs ds well_e well one in
     (apart.0, stored.0, stored.1)
 
--- the copies that a node's record has, where they are spelled the same
+-- equal spellings have equal copies
 same_copies : (has : Bool) (g : Grammar) (m : Passes) (k : ℕ) (xs : List Item) (cs ds : List Value) → AreCopies has g m k xs cs → AreCopies has g m k xs ds → (has ≡ true → flat_map spelling_of cs ≡ flat_map spelling_of ds) → cs ≡ ds
 same_copies false g m k xs cs ds a b same = a ∙ sym b
 same_copies true g m k xs cs ds a b same = same_lists cs ds a.1 b.1 (a.0 ∙ sym b.0) (same refl)
 
--- what is well at the attributes of a symbol is so at those of the left side of its production
+-- values that are well at the attributes of a symbol are so at those of the left side of its production
 left_well : (version : Version) (g : Grammar) (m : Passes) (k s p : ℕ) (body : List ℕ) (q : Production) (e : ℕ → Value) → IsNodeRecord version g m k s body p q e → WellAt (λ n. n ≤ k) (left_passes m (slice_get g.productions p)) e e
 left_well version g m k s p body q e is = subst (λ ps. WellAt (λ n. n ≤ k) ps e e) (sym (ap (left_passes m) is.production ∙ ap m is.left)) is.well
 

@@ -1,4 +1,4 @@
--- The values up to a pass: how many there are, and that they are well.
+-- The values up to a pass: their number, and that they are well.
 use Rattle.std.proofs.Common.{◌≡◌, ℕ, suc, ◌+◌, ◌≤◌, Bool, true, false, cond, List, [], ◌∷◌, ◌++◌, length, All, refl, arith}
 use Rattle.std.specs.Prelude.{nat_le}
 use Rattle.std.proofs.lemmas.Bool.{leb-true}
@@ -9,7 +9,7 @@ use Rattle.ag_grammar.specs.grammars.Solution.{WellAt}
 use Rattle.treefile.specs.records.Listed.{count_up_to}
 use Rattle.treefile.specs.records.Records.{values_up_to}
 
--- how many values a record has
+-- the number of values of a record
 pub count_of_values : (k : ℕ) (ps : List ℕ) (e : ℕ → Value) → length (values_up_to k ps e) ≡ count_up_to k ps
 count_of_values k [] e = refl
 count_of_values k (p ∷ ps) e = by_test (nat_le p k) (count_of_values k ps (λ a. e (suc a)))
@@ -18,7 +18,7 @@ count_of_values k (p ∷ ps) e = by_test (nat_le p k) (count_of_values k ps (λ 
     by_test true later = omega arith
     by_test false later = omega arith
 
--- no more than there are attributes
+-- at most the number of attributes
 pub few_counted : (k : ℕ) (ps : List ℕ) → count_up_to k ps ≤ length ps
 few_counted k [] = omega arith
 few_counted k (p ∷ ps) = by_test (nat_le p k) (few_counted k ps)
@@ -30,7 +30,7 @@ few_counted k (p ∷ ps) = by_test (nat_le p k) (few_counted k ps)
 pub values_few : (k : ℕ) (ps : List ℕ) (values : ℕ → Value) → length (values_up_to k ps values) ≤ length ps
 values_few k ps values = omega (arith, count_of_values k ps values, few_counted k ps)
 
--- what is well up to a pass is so in the record
+-- values that are well up to a pass are well in the record
 pub values_well : (k : ℕ) (ps : List ℕ) (values : ℕ → Value) → WellAt (λ p. p ≤ k) ps values values → All IsWell (values_up_to k ps values)
 values_well k [] values well = All-nil IsWell
 values_well k (p ∷ ps) values well = by_test (nat_le p k) refl (values_well k ps (λ a. values (suc a)) (λ a q e le. well (suc a) q e le))

@@ -1,4 +1,4 @@
--- A file is read back as its bodies, the last one first, and what is read back so is a file.
+-- A file is read back as its bodies, the last one first, and a content that is read back so is a file.
 use Rattle.std.proofs.Common.{◌≡◌, ℕ, ◌+◌, ◌^◌, ◌≤◌, ◌<◌, Bool, true, false, cond, List, [], ◌∷◌, ◌++◌, length, take, drop, slice_range, reverse, Some, None, Result, Ok, Err, All, ◌⊎◌, inl, inr, refl, ap, sym, subst, ◌∙◌, append_assoc, append-nil, arith}
 use Rattle.std.specs.Prelude.{nat_eq}
 use Rattle.std.specs.Int.{w16, w32, from_be_bytes, to_be_bytes}
@@ -16,7 +16,7 @@ use Rattle.treefile.specs.records.TreeFile.{Version, file, frame, header}
 use Rattle.treefile.proofs.ways.Files.{file_grows, length-header, told_as_file}
 use Rattle.treefile.proofs.records.Frames.{answers, bytes_part, frame_is_read, length_part, read_is_frame}
 
--- a list from its end, one element more
+-- the reverse of a list with one more element
 reverse-cons : {A : Type 0} (x : A) (xs : List A) → reverse (x ∷ xs) ≡ reverse xs ++ x ∷ []
 reverse-cons x xs = reverse-append (x ∷ []) xs
 
@@ -24,7 +24,7 @@ pub All-reverse : {A : Type 0} (P : A → Type 0) (xs : List A) → All P xs →
 All-reverse P [] all = all
 All-reverse P (x ∷ xs) all = subst (All P) (sym (reverse-cons x xs)) (All-append P (reverse xs) (x ∷ []) (All-reverse P xs (All-tail P x xs all)) (All-cons P x [] (All-head P x xs all) (All-nil P)))
 
--- ---- what stands before an offset
+-- ---- the result of reading before an offset
 
 at_frame : (version : Version) (content body : List ℕ) (at : ℕ) → header_bytes < at → body_before version content at ≡ Ok body → next_before version content at ≡ Ok (Some body)
 unfolding next_before
@@ -86,7 +86,7 @@ module _ (version : Version) (pass : ℕ) (usable : IsUsable version) where
       let same : file version pass (reverse (reverse bodies)) ≡ file version pass bodies = ap (file version pass) (reverse-reverse bodies) in
       subst (λ (whole : List ℕ). ReadsBack version whole (length (file version pass bodies)) (reverse bodies)) (append-nil (file version pass bodies)) (subst (λ (whole : List ℕ). ReadsBack version (whole ++ []) (length whole) (reverse bodies)) same back)
 
--- ---- what is read back is a file
+-- ---- a content that is read back is a file
 
 -- the frames of bodies in their order, and one more
 frames_grow : (bodies : List (List ℕ)) (body : List ℕ) → flat_map frame (reverse (body ∷ bodies)) ≡ flat_map frame (reverse bodies) ++ frame body
@@ -120,7 +120,7 @@ module _ (version : Version) (content : List ℕ) (bytes : IsBytes content) wher
   back_is_file bodies usable told back =
       sym (take_all (length content) content (omega arith)) ∙ stands_back bodies (length content) (omega arith) back ∙ ap (λ (xs : List ℕ). xs ++ flat_map frame (reverse bodies)) (begins_so usable told)
 
--- ---- what is read in parts
+-- ---- reading in parts
 
 module _ (version : Version) (content : List ℕ) where
   pub reads_on : (bodies others : List (List ℕ)) (at between start : ℕ) → ReadsTo version content at bodies between → ReadsTo version content between others start → ReadsTo version content at (bodies ++ others) start
@@ -131,7 +131,7 @@ module _ (version : Version) (content : List ℕ) where
   reads_whole [] at start read ends = subst (λ (n : ℕ). next_before version content n ≡ Ok None) (sym read) ends
   reads_whole (body ∷ bodies) at start read ends = (read.0, reads_whole bodies (before_frame at body) start read.1 ends)
 
-  -- what is read up to an offset is the beginning of what is read to the header
+  -- the bodies read up to an offset are a prefix of those read to the header
   pub reads_apart : (bodies all : List (List ℕ)) (at start : ℕ) → ReadsTo version content at bodies start → ReadsBack version content at all → (rest : List (List ℕ)) × (all ≡ bodies ++ rest) × ReadsBack version content start rest
   reads_apart [] all at start read back = (all, refl, subst (λ (n : ℕ). ReadsBack version content n all) read back)
   reads_apart (body ∷ bodies) [] at start read back =
@@ -144,7 +144,7 @@ module _ (version : Version) (content : List ℕ) where
       let rest = reads_apart bodies all (before_frame at body) start read.1 later in
       (rest.0, ap (λ (b : List ℕ). b ∷ all) same ∙ ap (λ (bs : List (List ℕ)). body ∷ bs) rest.1, rest.2)
 
-  -- what is read to the header is one list
+  -- there is one list of bodies that is read to the header
   pub reads_same : (bodies others : List (List ℕ)) (at : ℕ) → ReadsBack version content at bodies → ReadsBack version content at others → bodies ≡ others
   reads_same [] [] at first second = refl
   reads_same [] (another ∷ others) at first second =
@@ -159,14 +159,14 @@ module _ (version : Version) (content : List ℕ) where
       let later : ReadsBack version content (before_frame at body) others = subst (λ (b : List ℕ). ReadsBack version content (before_frame at b) others) same second.1 in
       ap (λ (bs : List (List ℕ)). body ∷ bs) (reads_same bodies others (before_frame at body) first.1 later) ∙ ap (λ (b : List ℕ). b ∷ others) (sym same)
 
-  -- each body that is read may stand in a frame
+  -- each body that is read may be in a frame
   pub read_bodies : IsBytes content → (bodies : List (List ℕ)) (at start : ℕ) → at ≤ length content → ReadsTo version content at bodies start → All (IsBody version) bodies
   read_bodies bytes [] at start within read = All-nil (IsBody version)
   read_bodies bytes (body ∷ bodies) at start within read =
       let is : IsBodyBefore version content at body = read_is_frame version content body at bytes within (some_is_body version content body at read.0) in
       All-cons (IsBody version) body bodies (record { least = is.least; greatest = is.greatest }) (read_bodies bytes bodies (before_frame at body) start (omega arith) read.1)
 
-  -- B2 is told with the offset, and B1 never
+  -- B2 has the offset, and B1 never occurs
   pub damage_is_there : (at other : ℕ) → next_before version content at ≡ Err (Damaged other) → other ≡ at
   unfolding next_before
   damage_is_there at other e = by_test (nat_eq at header_bytes) (body_before version content at) (answers version content at) e

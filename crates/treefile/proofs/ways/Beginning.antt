@@ -1,4 +1,4 @@
--- What was put behind a content, one part behind another.
+-- Bytes appended to a content, one part after another.
 use Rattle.std.proofs.Common.{◌≡◌, ℕ, ◌+◌, ◌⊎◌, inl, inr, List, [], ◌∷◌, ◌++◌, length, take, Result, Ok, Err, refl, ap, sym, ◌∙◌, append_assoc, append-nil}
 use Rattle.std.specs.List.{All, flat_map}
 use Rattle.std.proofs.Math.Seq.{take-append-add, take-length}
@@ -18,7 +18,7 @@ no_body = All-nil (IsBody version_two)
 one_body : (body : List ℕ) → IsBody version_two body → All (IsBody version_two) (body ∷ [])
 one_body body sound = All-cons (IsBody version_two) body [] sound no_body
 
--- a beginning of the header, and frames behind all of it
+-- a prefix of the header, and frames after all of it
 header_begins : (pass : ℕ) (content : List ℕ) → AppendsFront (header version_two pass) [] content → BeginsFile pass content
 header_begins pass content put = record { bodies = []; sound = no_body; front = (put.0, put.1 ∙ ap (take put.0) (sym (append-nil (header version_two pass)))) }
 
@@ -27,12 +27,12 @@ not_begun pass old now device_fault.Failed failed want = elim (failed refl) [ in
 not_begun pass old now device_fault.NoMemory failed want = inr (header_begins pass now (0, want refl))
 
 module _ (E : Type 0) where
-  -- nothing was put
+  -- nothing was appended
   pub none_added : (old : List ℕ) (r : Result (Unit {0}) E) → AddsFrames old old r
   none_added old (Ok u) = ([], no_body, sym (append-nil old))
   none_added old (Err fault) = ([], no_body, (0, sym (append-nil old)))
 
-  -- some frames were put, and then what a step put
+  -- some frames were appended, and then those of a step
   pub added : (old between now : List ℕ) (r : Result (Unit {0}) E) → AddsFrames {E = E} old between (Ok tt) → AddsFrames between now r → AddsFrames old now r
   added old between now (Ok u) first next = (
     first.0 ++ next.0,
@@ -48,7 +48,7 @@ module _ (E : Type 0) where
         (length before + n, next.2.1 ∙ ap (λ (xs : List ℕ). xs ++ take n behind) first.2 ∙ append_assoc old before (take n behind) ∙ ap (λ (xs : List ℕ). old ++ xs) (sym (take-append-add before behind n) ∙ ap (take (length before + n)) (sym (flat_map-append frame first.0 next.0)))),
       )
 
-  -- a frame was put, or not
+  -- a frame was appended, or not
   pub one_added : (old now body : List ℕ) → IsBody version_two body → now ≡ old ++ frame body → AddsFrames {E = E} old now (Ok tt)
   one_added old now body sound is = (body ∷ [], one_body body sound, is ∙ ap (λ (xs : List ℕ). old ++ xs) (sym (append-nil (frame body))))
 
@@ -58,7 +58,7 @@ module _ (E : Type 0) where
       (body ∷ [], one_body body sound, (put.0, put.1 ∙ ap (λ (xs : List ℕ). old ++ take put.0 xs) (sym (append-nil (frame body)))))
   one_refused old now body device_fault.NoMemory fault sound front same = ([], no_body, (0, same refl ∙ sym (append-nil old)))
 
-  -- frames were put behind a header
+  -- frames were appended after a header
   pub frames_begin : (pass : ℕ) (old content : List ℕ) (r : Result (Unit {0}) E) → old ≡ header version_two pass → AddsFrames old content r → BeginsFile pass content
   frames_begin pass old content (Ok u) is put = record {
     bodies = put.0;

@@ -1,4 +1,4 @@
--- Which items are to come, and that awaited bodies are the records of trees.
+-- The expected items, and that expected bodies are the records of trees.
 use Rattle.std.proofs.Common.{◌≡◌, ℕ, zero, suc, ◌+◌, ◌-◌, ◌≤◌, pos, List, [], ◌∷◌, ◌++◌, length, take, drop, Some, slice_get, refl, ap, sym, subst, ◌∙◌, append_assoc, arith}
 use Rattle.std.proofs.lemmas.List.{drop_all, take_all}
 use Rattle.ag_value.specs.declared.value.Value.{Text}
@@ -22,7 +22,7 @@ use Rattle.treefile.specs.declared.body.Kind.TheVariants.{Node}
 use Rattle.treefile.proofs.records.Copies.{AreAsTold, fits_told, left_of, stored_told}
 use Rattle.treefile.proofs.ways.Way.{tree_awaited}
 
--- the next child where i of them were visited from left to right, and where i are unvisited behind it from right to left
+-- the next child after i visited ones from left to right, and before i unvisited ones from right to left
 next_left : (level i : ℕ) (xs : List Child) (x : Child) (todo : ToCome) → slice_get xs i ≡ Some x → before_others LeftToRight level (drop i xs) todo ≡ (level, x) ∷ before_others LeftToRight level (drop (suc i) xs) todo
 next_left level i [] x todo e = absurd (let bad : ⊥ = cc in bad)
 next_left level zero (y ∷ xs) x todo e =
@@ -54,7 +54,7 @@ no_values : ℕ → Valuation
 no_values i path a = value.Num (pos 0)
 
 module _ (version : Version) (g : Grammar) (m : Passes) (k most : ℕ) where
-  -- trees of the items of a right side, with their values, before what is there of others
+  -- trees of the items of a right side, with their values, before those of others
   record Gathered (d : Direction) (level : ℕ) (xs : List Child) (todo : ToCome) (bodies : List (List ℕ)) : Type 0 where
     trees : Forest
     values : ℕ → Valuation
@@ -71,7 +71,7 @@ module _ (version : Version) (g : Grammar) (m : Passes) (k most : ℕ) where
   before_all v vs zero = v
   before_all v vs (suc i) = vs i
 
-  -- what is there of a right side and then of others
+  -- the trees of a right side and then of others
   gather : (d : Direction) (level : ℕ) (xs : List Child) (todo : ToCome) (bodies : List (List ℕ)) → level ≤ suc most → AreThere version g m k d most (before_others d level xs todo) bodies → Gathered d level xs todo bodies
   gather d level [] todo bodies low are = record { trees = none; values = no_values; others = bodies; as_told = tt; texts = tt; well = tt; deep = omega arith; split = refl; there = are }
   gather LeftToRight level (x ∷ xs) todo bodies low are =
@@ -114,7 +114,7 @@ module _ (version : Version) (g : Grammar) (m : Passes) (k most : ℕ) where
         there = one.6;
       }
 
-  -- what is there behind a record is there with it
+  -- the trees after a record are there with the record's
   by_record : (d : Direction) (level : ℕ) (x : Child) (todo : ToCome) (body : List ℕ) (bodies : List (List ℕ)) (ys : List Child) → level ≤ most → IsRecordOf version g m k x body ys → AreThere version g m k d most (before_others d (suc level) ys todo) bodies → AreThere version g m k d most ((level, x) ∷ todo) (body ∷ bodies)
   by_record d level (item.Terminal (Literal l), copy) todo body bodies ys low is are = elim is [ ]
   by_record d level (item.Terminal (Class c), copy) todo body bodies ys low is are = (
@@ -152,7 +152,7 @@ module _ (version : Version) (g : Grammar) (m : Passes) (k most : ℕ) where
         subst (λ ps. IsAsTold copy (values_up_to k ps e)) (sym (left_of g m k s p q is.3.production is.3.left)) is.5,
       )
 
-  -- what is awaited is there, and what is there is awaited
+  -- expected bodies are records of trees, and such records are expected
   from_awaited : (d : Direction) (todo : ToCome) (bodies : List (List ℕ)) → Awaits version g m k d most todo bodies → AreThere version g m k d most todo bodies
   from_awaited d [] [] a = refl
   from_awaited d [] (body ∷ bodies) a = elim a [ ]

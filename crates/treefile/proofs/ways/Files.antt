@@ -14,7 +14,7 @@ use Rattle.treefile.specs.records.TreeFile.{Version, file, frame, header}
 use Rattle.treefile.specs.ways.Ending.{IsUsable, body_before, greatest_body, header_bytes, is_tree_file, last_body_of, least_body}
 use Rattle.treefile.proofs.records.Frames.{answers, frame_is_read, none_before}
 
--- the test of the first bytes tells whether they are those of the version
+-- the test of the first bytes decides whether they are the magic of the version
 begins_with : (version : Version) (content : List ℕ) → Decides (starts_with nat_eq content version.magic) (version.magic ≡ take (length version.magic) content)
 begins_with version content = slice_eq-Decides Decides-eqb version.magic (take (length version.magic) content) (starts_with nat_eq content version.magic) refl
 
@@ -30,14 +30,14 @@ told_as_file version content = (
 pub length-header : (version : Version) (pass : ℕ) → IsUsable version → length (header version pass) ≡ 6
 length-header version pass usable = omega (arith, usable.four, length-append version.magic (to_be_bytes w16 pass))
 
--- what begins with a header is a tree file
+-- a content that begins with a header is a tree file
 pub begins : (version : Version) (pass : ℕ) (rest : List ℕ) → IsUsable version → is_tree_file version (header version pass ++ rest) ≡ true
 begins version pass rest usable =
     let long : header_bytes ≤ length (header version pass ++ rest) = omega (arith, length-header version pass usable, length-append (header version pass) rest) in
     let first : take (length version.magic) (header version pass ++ rest) ≡ version.magic = rw append_assoc (take_at version.magic (to_be_bytes w16 pass ++ rest) (length version.magic) refl) in
     (told_as_file version (header version pass ++ rest)).1 (long, first)
 
--- a frame behind a header and anything
+-- a frame after a header and other bytes
 last_behind : (version : Version) (pass : ℕ) (middle body : List ℕ) → IsUsable version → least_body ≤ length body → length body ≤ greatest_body version → last_body_of version (header version pass ++ (middle ++ frame body)) ≡ Ok body
 unfolding last_body_of
 last_behind version pass middle body usable least greatest =
@@ -56,7 +56,7 @@ last_behind version pass middle body usable least greatest =
       greatest = greatest;
     }))
 
--- one body more is one frame more
+-- one more body is one more frame
 pub file_grows : (version : Version) (pass : ℕ) (bodies : List (List ℕ)) (body : List ℕ) → file version pass (bodies ++ body ∷ []) ≡ file version pass bodies ++ frame body
 file_grows version pass bodies body =
     ap (λ (frames : List ℕ). header version pass ++ frames) (flat_map-append frame bodies (body ∷ []) ∙ ap (λ (last : List ℕ). flat_map frame bodies ++ last) (append-nil (frame body)))
@@ -74,7 +74,7 @@ none_of_header version pass usable =
     let six : length content ≡ 6 = ap length (append-nil (header version pass)) ∙ length-header version pass usable in
     rw (begins version pass [] usable) (none_before version content (length content) (omega arith) ∙ ap (λ (n : ℕ). Err (Damaged n)) six)
 
--- where no frame ends, the end of the content is told
+-- if no frame ends at the end of the content, B2 has that offset
 pub damaged_at_end : (version : Version) (content : List ℕ) (at : ℕ) → last_body_of version content ≡ Err (Damaged at) → at ≡ length content
 unfolding last_body_of
 damaged_at_end version content at = told_by (is_tree_file version content)

@@ -13,7 +13,7 @@ use Rattle.treefile.specs.records.Records.{bodies_of_all, copies_of, node_body, 
 use Rattle.treefile.proofs.ways.Files.{last_of_file}
 use Rattle.treefile.proofs.records.Records.{file_fits}
 
--- what is so of each member of a list is so of its last one
+-- a property of all members of a list holds of the last one
 last_is : (P : List ℕ → Type 0) (xs : List (List ℕ)) (x : List ℕ) → All P (xs ++ x ∷ []) → P x
 last_is P [] x all = All-head P x [] all
 last_is P (y ∷ xs) x all = last_is P xs x (All-tail P y (xs ++ x ∷ []) all)

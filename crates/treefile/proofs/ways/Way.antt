@@ -1,4 +1,5 @@
--- On the way from the end of a file: the records of a tree are awaited, and what is found is one of them or breaks the way.
+-- Reading from the end of a file: the records of a tree are expected, and a body that is found is one of them
+-- or contradicts them.
 use Rattle.std.proofs.Common.{◌≡◌, ℕ, suc, ◌+◌, ◌≤◌, inl, inr, Bool, List, [], ◌∷◌, ◌++◌, length, Option, Some, None, Result, Ok, Err, slice_get, refl, ap, sym, subst, ◌∙◌, append_assoc, append-nil, arith}
 use Rattle.std.specs.List.{flat_map}
 use Rattle.ag_value.specs.declared.value.Value.{Value}
@@ -28,7 +29,7 @@ use Rattle.treefile.proofs.records.Orders.{length-prefix}
 use Rattle.treefile.proofs.records.Records.{bodies_count, file_back}
 use Rattle.treefile.proofs.records.Spelled.{same_node}
 
--- the records of a tree are awaited where it is to come
+-- the records of a tree are expected if the tree is
 module _ (version : Version) (g : Grammar) (m : Passes) (k most : ℕ) where
   mutual
     pub tree_awaited : (d : Direction) (x : Item) (copy : Option (List Value)) (t : Tree) (v : Valuation) (level : ℕ) (todo : ToCome) (behind : List (List ℕ)) → Fits g x t → IsAsTold copy (copy_of g m k t v) → Solves NoRule g t v → IsWellOn (λ p. p ≤ k) g m t v → level + depth_of t ≤ suc most → Awaits version g m k d most todo behind → Awaits version g m k d most ((level, (x, copy)) ∷ todo) (prefix d (bodies_of version g m k t v) ++ behind)
@@ -66,7 +67,7 @@ module _ (version : Version) (g : Grammar) (m : Passes) (k most : ℕ) where
         let others = forest_awaited RightToLeft xs ts (rest vs) level ((level, x) ∷ todo) (prefix RightToLeft (bodies_of version g m k t (vs 0)) ++ behind) f.2 texts.1 well.1 (omega arith) first in
         subst (Awaits version g m k RightToLeft most (before_others RightToLeft level xs ((level, x) ∷ todo))) (sym (append_assoc (prefix_all RightToLeft (bodies_of_all version g m k ts (rest vs))) (prefix RightToLeft (bodies_of version g m k t (vs 0))) behind)) others
 
--- two records of one production tell the same children where they have the same copies
+-- two records of one production have the same children if they have the same copies
 same_children : (has : Bool) (g : Grammar) (m : Passes) (k p r : ℕ) (q s : Production) (cs ds : List Value) → IsProduction g p q → IsProduction g r s → p ≡ r → cs ≡ ds → told has g m k (stored_items q.items) cs ≡ told has g m k (stored_items s.items) ds
 same_children has g m k p r q s cs ds a b e copies =
     let z : Some q ≡ Some s = sym a ∙ ap (slice_get g.productions) e ∙ b in
@@ -100,7 +101,7 @@ way_goes_on version g m k content body at count level x ys todo few way found is
         let items : awaits.1.0 ≡ ys = one_record version g m k x body awaits.1.0 ys few (subst (λ b. IsRecordOf version g m k x b awaits.1.0) same awaits.1.1) is in
         (bodies, subst (λ b. ReadsBack version content (before_frame at b) bodies) same back.1, subst (λ zs. Awaits version g m k (other (direction_of k)) depth (before_others (other (direction_of k)) (suc level) zs todo) bodies) items awaits.1.2, omega arith)
 
--- no awaited bodies stand before the offset where what is found there breaks them
+-- no expected bodies end at the offset if the result of reading there contradicts them
 breaks : (version : Version) (g : Grammar) (m : Passes) (k most : ℕ) (d : Direction) (content : List ℕ) (at : ℕ) (todo : ToCome) (found : Result (Option (List ℕ)) FrameFault) (bodies : List (List ℕ)) → next_before version content at ≡ found → ReadsBack version content at bodies → Awaits version g m k d most todo bodies → Breaks version g m k todo found → ⊥
 breaks version g m k most d content at todo (Err fault) [] is back awaits so = let e : Err fault ≡ Ok None = sym is ∙ back in cc
 breaks version g m k most d content at todo (Err fault) (body ∷ bodies) is back awaits so = let e : Err fault ≡ Ok (Some body) = sym is ∙ back.0 in cc

@@ -1,4 +1,4 @@
--- What an append leaves of a device over a file. All of this is this project's.
+-- The effects of an append on a device over a file. All of this is this project's.
 use Rattle.std.specs.Prelude.{◌≡◌, ℕ, List, Option, Result, IsErrOf, OnOk}
 use Rattle.std.specs.Io.KnownBytes.{Appends, Keeps}
 use Rattle.treefile.specs.devices.Files as files
@@ -7,9 +7,9 @@ use Rattle.treefile.specs.declared.device.DeviceFault.{DeviceFault}
 use Rattle.treefile.specs.declared.device.DeviceFault.TheVariants.{Failed, NoMemory}
 use Rattle.treefile.specs.declared.file.Access.TheVariants.{Broken, Reading, Writing}
 
--- Besides its content: where it is known which bytes the device has taken, these are as before and then the bytes appended, or
--- for want of memory as before. It fails where the file is only read, and a failed append to one that is written breaks the
--- device; a broken one fails, and stays so.
+-- The effects besides the content. If the bytes that the device has taken are known, they are then the old
+-- ones and the appended ones, or after NoMemory the old ones. An append fails if the file is only read. A
+-- failed append to a writable file breaks the device. A broken device fails, and stays broken.
 pub record AppendsToFile {F : Type 0} (contents : F → Option (List ℕ)) (bytes : List ℕ) (old new : Gathering F) (result : Result (Unit {0}) DeviceFault) : Type 0 where
   pub taken : OnOk result (Appends (files.taken contents old) (files.taken contents new) bytes)
   pub refused : IsErrOf result NoMemory → Keeps (files.taken contents old) (files.taken contents new)

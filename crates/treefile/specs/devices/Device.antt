@@ -1,21 +1,22 @@
--- What the calls of a device tell of its content and of its failures. All of this is this project's.
+-- The laws of a device's calls on its content and its failures. All of this is this project's.
 use Rattle.std.specs.Prelude.{◌≡◌, ◌≢◌, ℕ, ◌^◌, ◌-◌, ◌<◌, ◌≤◌, ◌⊎◌, Bool, true, List, [], ◌∷◌, ◌++◌, take, Result, Ok, Err, refl}
 use Rattle.std.proofs.Common.{inl, inr, lit<}
 use Rattle.treefile.specs.declared.device.DeviceFault.{DeviceFault}
 use Rattle.treefile.specs.declared.device.DeviceFault.TheVariants.{Failed, NoMemory}
 
--- the most failures that are counted: the greatest number of 64 bits
+-- the greatest number of failures that is counted: the greatest number of 64 bits
 abbrev pub most_failures : ℕ
 most_failures = 2 ^ 64 - 1
 
--- A call failed since: the number of failures is greater. At the most that is counted it can't grow, and each
--- call since may have failed.
+-- A call has failed since: the number of failures is greater. At the greatest number that is counted it can't
+-- grow, and each call since may have failed.
 abbrev pub HasRisen : ℕ → ℕ → Type 0
 HasRisen before now = (before < now) ⊎ (now ≡ most_failures)
 
--- What a call keeps of a device besides its content. A device that is honest after the call was honest before it: a call can show
--- that a device is dishonest, and no call makes it honest again. The number of failures never falls, stays within the greatest
--- number that is counted, and rises if the call answers that the device failed.
+-- The effects of a call on a device besides its content. A device that is honest after the call was honest
+-- before it: a call can show that a device is dishonest, and no call makes it honest again. The number of
+-- failures never falls, stays within the greatest number that is counted, and rises if the call returns that
+-- the device failed.
 pub record Persists (honest_before honest_now : Bool) (before now : ℕ) (failed : Type 0) : Type 0 where
   pub honest : honest_now ≡ true → honest_before ≡ true
   pub kept : before ≤ now
@@ -30,34 +31,33 @@ WhenHonest honest fact = honest ≡ true → fact
 abbrev pub LeavesContent : Bool → List ℕ → List ℕ → Type 0
 LeavesContent honest old new = WhenHonest honest (new ≡ old)
 
--- want of memory is not the answer
+-- the result is not NoMemory
 abbrev pub TakesNoMemory : {A : Type 0} → Result A DeviceFault → Type 0
 TakesNoMemory result = result ≢ Err NoMemory
 
--- The new content is the old one with a beginning of the bytes after it, maybe none of them, maybe all.
+-- The new content is the old one and then a prefix of the bytes, possibly none or all of them.
 abbrev pub AppendsFront : List ℕ → List ℕ → List ℕ → Type 0
 AppendsFront bytes old new = (n : ℕ) × (new ≡ old ++ take n bytes)
 
--- The content after bytes were put at its end: they stand there; a beginning of them does, where the device failed;
--- none does for want of memory.
+-- The content after an append: all bytes were appended; after Failed a prefix of them; after NoMemory none.
 abbrev pub Appends : List ℕ → List ℕ → List ℕ → Result (Unit {0}) DeviceFault → Type 0
 Appends bytes old new (Ok u) = new ≡ old ++ bytes
 Appends bytes old new (Err Failed) = AppendsFront bytes old new
 Appends bytes old new (Err NoMemory) = new ≡ old
 
--- The content after all of it was to be taken away: nothing, or all of it where the device failed.
+-- The content after a clear: empty; after an error empty or unchanged.
 abbrev pub Clears : List ℕ → List ℕ → Result (Unit {0}) DeviceFault → Type 0
 Clears old new (Ok u) = new ≡ []
 Clears old new (Err fault) = (new ≡ []) ⊎ (new ≡ old)
 
--- one failure more has risen
+-- one more failure has risen
 pub risen_by_one : HasRisen 3 4
 risen_by_one = inl (lit< tt)
 
--- at the most that is counted the number has risen, though it is the same
+-- at the greatest number that is counted the number has risen, though it is the same
 pub risen_at_the_most : HasRisen 18446744073709551615 18446744073709551615
 risen_at_the_most = inr refl
 
--- of two bytes the first came through
+-- of two bytes the first was appended
 pub front_of_two : AppendsFront (8 ∷ 9 ∷ []) (7 ∷ []) (7 ∷ 8 ∷ [])
 front_of_two = (1, refl)

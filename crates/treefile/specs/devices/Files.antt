@@ -6,8 +6,8 @@ use Rattle.treefile.specs.devices.Device.{Persists}
 use Rattle.treefile.specs.declared.file.Access.{Access}
 use Rattle.treefile.specs.declared.file.Access.TheVariants.{Writing, Broken}
 
--- The file, its calls with their answers (newest first), what may be done with it, the number of failed calls, and the bytes
--- that were appended to the device and are not written to the file yet.
+-- The file, its calls with their results (newest first), the access, the number of failed calls, and the
+-- bytes that were appended to the device and are not written to the file yet.
 pub record Gathering (F : Type 0) : Type 0 where
   pub file : F
   pub events : List Event
@@ -19,15 +19,15 @@ pub record Gathering (F : Type 0) : Type 0 where
 abbrev pub content_of : {F : Type 0} → Gathering F → List ℕ
 content_of device = (replay device.events).stored ++ device.gathered
 
--- whether each length and each byte that the file has returned so far agrees with what was written to it
+-- whether each length and each byte that the file has returned so far agrees with the bytes written to it
 abbrev pub is_honest_of : {F : Type 0} → Gathering F → Bool
 is_honest_of device = (replay device.events).is_honest
 
--- Where the bytes that a file has taken are known: these, then the bytes that are not written yet.
+-- The bytes that the file has taken, if they are known, and then the bytes that are not written yet.
 abbrev pub taken : {F : Type 0} → (F → Option (List ℕ)) → Gathering F → Option (List ℕ)
 taken contents device = append_known (contents device.file) device.gathered
 
--- A device over a file that was just opened at this path: no bytes are gathered, no call has failed, and the record of calls
+-- A device over a file that was just opened at this path: no bytes are buffered, no call has failed, and the record of calls
 -- continues the given one.
 pub record IsNew {F : Type 0} (use_of_file : Access) (path : List ℕ) (before : List Event) (device : Gathering F) : Type 0 where
   pub access : device.access ≡ use_of_file
@@ -35,7 +35,7 @@ pub record IsNew {F : Type 0} (use_of_file : Access) (path : List ℕ) (before :
   pub failures : device.failures ≡ 0
   pub events : device.events ≡ open_event path ∷ before
 
--- what a call leaves of a device over a file besides its content
+-- the effects of a call on a device over a file besides its content
 abbrev pub FilePersists : {F : Type 0} → Gathering F → Gathering F → Type 0 → Type 0
 FilePersists old new failed = Persists (is_honest_of old) (is_honest_of new) old.failures new.failures failed
 
@@ -44,7 +44,7 @@ pub record StaysBroken {F : Type 0} (old new : Gathering F) (failed : Type 0) : 
   pub fails : old.access ≡ Broken → failed
   pub stays : old.access ≡ Broken → new.access ≡ Broken
 
--- a truncated file that took two bytes, and a third byte that is gathered
+-- a truncated file that took two bytes, and a third byte that is buffered
 abbrev pub third_waits : Gathering (List ℕ)
 third_waits = record { file = 7 ∷ 8 ∷ []; events = append_event true (7 ∷ 8 ∷ []) ∷ truncate_event true ∷ open_event [] ∷ initial_event (6 ∷ []) ∷ []; access = Writing; failures = 0; gathered = 9 ∷ [] }
 
@@ -55,7 +55,7 @@ taken_of_three = refl
 pub taken_unknown : taken (λ _. None) third_waits ≡ None
 taken_unknown = refl
 
--- the content of the device has all three, and no answer was wrong so far
+-- the content of the device has all three bytes, and no result was wrong so far
 pub content_of_three : content_of third_waits ≡ 7 ∷ 8 ∷ 9 ∷ []
 content_of_three = refl
 

@@ -1,4 +1,5 @@
--- The file of pass 0 of a tree, in which no attribute has a value yet: it tells the tree alone. All of this is this project's.
+-- The file of pass 0 of a tree, in which no attribute has a value yet: it determines only the tree. All of
+-- this is this project's.
 use Rattle.std.specs.Prelude.{ℕ, ◌≤◌, List, [], ◌∷◌}
 use Rattle.ag_value.specs.declared.value.Value.{Value, Text}
 use Rattle.ag_grammar.specs.Lists.{Each}
@@ -20,16 +21,16 @@ AreFromOne m = (s : ℕ) → Each (λ k. 1 ≤ k) (m s)
 abbrev pub unassigned : Passes
 unassigned s = []
 
--- The content is the file of pass 0 of a tree: of whichever passes from 1 on and whichever values, as long as these give each
--- leaf its text.
+-- The content is the file of pass 0 of a tree, for all passes from 1 on and all values that give each leaf
+-- its text.
 abbrev pub IsFirstFile : Version → Grammar → Tree → List ℕ → Type 0
 IsFirstFile version g t content = (m : Passes) (v : Valuation) → AreFromOne m → Solves NoRule g t v → IsFileOfTree version g m 0 t v content
 
--- it is that of no tree of the grammar,
+-- the content is the file of pass 0 of no tree of the grammar,
 abbrev pub HasNoFirstTree : Version → Grammar → List ℕ → Type 0
 HasNoFirstTree version g content = (t : Tree) → IsTreeOf g t → IsFirstFile version g t content → ⊥
 
--- and of none that is so deep and has so many nodes at most
+-- and of none within a depth and a number of nodes
 abbrev pub HasNoFirstTreeWithin : (depth nodes : ℕ) → Version → Grammar → List ℕ → Type 0
 HasNoFirstTreeWithin depth nodes version g content = (t : Tree) → IsTreeOf g t → IsWithinLimits depth nodes t → IsFirstFile version g t content → ⊥
 
@@ -39,8 +40,8 @@ leaf_texts tree.none = []
 leaf_texts (tree.more (tree.leaf c x) ts) = Text x ∷ leaf_texts ts
 leaf_texts (tree.more (tree.node p us) ts) = leaf_texts ts
 
--- The tree of the records: a token has its class and its text, and a node its production and, in a version that has copies, the
--- texts of its tokens.
+-- The tree of the records: a token's has its class and its text, and a node's its production and, in a
+-- version with copies, the texts of its tokens.
 abbrev mutual
   pub first_bodies : Version → Tree → BodyTree
   first_bodies version (tree.leaf c x) = branch (token_body c x) none
@@ -50,6 +51,6 @@ abbrev mutual
   first_bodies_all version tree.none = none
   first_bodies_all version (tree.more t ts) = more (first_bodies version t) (first_bodies_all version ts)
 
--- the file, whose frames are those of these records
+-- the file with the frames of these records
 abbrev pub first_file : Version → Tree → List ℕ
 first_file version t = file version 0 (postfix (direction_of 0) (first_bodies version t))

@@ -1,4 +1,5 @@
--- The values of a record as a list, as its body spells them one behind the other. All of this is this project's.
+-- The values of a record as a list; its body has their spellings, one after the other. All of this is this
+-- project's.
 use Rattle.std.specs.Prelude.{ℕ, zero, suc, ◌≡◌, ◌+◌, ◌++◌, nat_le, Bool, true, false, List, [], ◌∷◌, length, pos, All, if◌then◌else◌, refl}
 use Rattle.std.specs.List.{flat_map}
 use Rattle.ag_value.specs.declared.value.Value.{Value, Num}
@@ -14,46 +15,47 @@ use Rattle.treefile.specs.records.Records.{synthesized_passes}
 use Rattle.treefile.specs.records.TreeFile.{Version, body_of}
 use Rattle.treefile.specs.declared.body.Kind.TheVariants.{Node}
 
--- how many of the attributes with these passes are of a pass up to k
+-- the number of the attributes with these passes whose pass is at most k
 abbrev pub count_up_to : ℕ → List ℕ → ℕ
 count_up_to k [] = 0
 count_up_to k (p ∷ ps) = (if nat_le p k then 1 else 0) + count_up_to k ps
 
--- the first of some values, and the number 0 where there is none
+-- the first of some values, and the number 0 if there is none
 abbrev pub first_of_values : List Value → Value
 first_of_values [] = Num (pos 0)
 first_of_values (v ∷ vs) = v
 
--- the others of them
+-- the values after the first
 abbrev pub others_of_values : List Value → List Value
 others_of_values [] = []
 others_of_values (v ∷ vs) = vs
 
--- The values of a list at the attributes whose pass is at most k, in declared order. What the other attributes get doesn't
--- matter.
+-- The values of a list at the attributes whose pass is at most k, in declared order. The values of the other
+-- attributes don't matter.
 abbrev pub placed : ℕ → List ℕ → List Value → ℕ → Value
 placed k [] vs a = Num (pos 0)
 placed k (p ∷ ps) vs zero = first_of_values vs
 placed k (p ∷ ps) vs (suc a) = placed k ps (if nat_le p k then others_of_values vs else vs) a
 
--- how many values the copy of an item's tree has in the file of pass k
+-- the number of values in the copy of an item's tree in the file of pass k
 abbrev pub copied_count : Grammar → Passes → ℕ → Item → ℕ
 copied_count g m k (item.Symbol s) = count_up_to k (synthesized_passes g m s)
 copied_count g m k (item.Terminal (Class c)) = 1
 copied_count g m k (item.Terminal (Literal l)) = 0
 
--- and those of some items
+-- the number in the copies of some items
 abbrev pub copies_count : Grammar → Passes → ℕ → List Item → ℕ
 copies_count g m k [] = 0
 copies_count g m k (x ∷ xs) = copied_count g m k x + copies_count g m k xs
 
--- how many values the record of a node has in the file of pass k, with its copies where it has them
+-- the number of values in the record of a node in the file of pass k, with copies if the version has them
 abbrev pub stored_count : Bool → Grammar → Passes → ℕ → Production → ℕ
 stored_count false g m k q = count_up_to k (m q.left)
 stored_count true g m k q = count_up_to k (m q.left) + copies_count g m k (stored_items q.items)
 
--- A body is the record of a node of symbol s in the file of pass k, with its values as a list: of a production of the symbol,
--- and with as many well values as it has attributes of passes up to k, and copies of its children's.
+-- A body is the record of a node of symbol s in the file of pass k, with its values as a list: of a
+-- production of the symbol, and with as many well values as the symbol has attributes of passes up to k, and
+-- copies of its children's.
 pub record IsListedRecord (version : Version) (g : Grammar) (m : Passes) (k s : ℕ) (body : List ℕ) (p : ℕ) (q : Production) (vs : List Value) : Type 0 where
   pub production : IsProduction g p q
   pub left : q.left ≡ s
@@ -61,20 +63,20 @@ pub record IsListedRecord (version : Version) (g : Grammar) (m : Passes) (k s : 
   pub well : All IsWell vs
   pub stands : body ≡ body_of Node p vs
 
--- Some bytes spell so many well values, one behind the other.
+-- Some bytes spell n well values, one after the other.
 abbrev pub AreSpelled : ℕ → List ℕ → Type 0
 AreSpelled n bytes = (vs : List Value) × (length vs ≡ n) × All IsWell vs × (bytes ≡ flat_map spelling_of vs)
 
--- Some well values were read of bytes: these begin with their spellings, and others are left behind them.
+-- Some well values were read from bytes: the bytes begin with their spellings, and `rest` follows.
 pub record HasRead (bytes : List ℕ) (vs : List Value) (rest : List ℕ) : Type 0 where
   pub well : All IsWell vs
   pub split : bytes ≡ flat_map spelling_of vs ++ rest
 
--- No beginning of some bytes is the spelling of a well value.
+-- No prefix of some bytes is the spelling of a well value.
 abbrev pub BeginsNoValue : List ℕ → Type 0
 BeginsNoValue bytes = (v : Value) (rest : List ℕ) → IsWell v → bytes ≡ spelling_of v ++ rest → ⊥
 
--- of three attributes of the passes 1, 2 and 2 one is of a pass up to 1, and all are of one up to 2
+-- of three attributes of the passes 1, 2 and 2 one is of a pass up to 1, and all are of a pass up to 2
 pub one_up_to_first : count_up_to 1 (1 ∷ 2 ∷ 2 ∷ []) ≡ 1
 one_up_to_first = refl
 

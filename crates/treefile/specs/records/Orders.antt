@@ -12,13 +12,14 @@ mutual
     none : BodyForest
     more : BodyTree → BodyForest → BodyForest
 
--- In a direction the list of a child and that of the children right of it: from left to right the child's comes first, and
--- from right to left it comes last (this project's).
+-- The lists of a child and of the children right of it, joined in a direction: from left to right the child's
+-- comes first, and from right to left it comes last (this project's).
 abbrev pub joined : Direction → List (List ℕ) → List (List ℕ) → List (List ℕ)
 joined LeftToRight child others = child ++ others
 joined RightToLeft child others = others ++ child
 
--- The postfix list of a direction: the children in that direction, each whole, and then the node (the textbook's postorder).
+-- The postfix list of a direction: the lists of the children in that direction, and then the node (the
+-- textbook's postorder).
 abbrev mutual
   pub postfix : Direction → BodyTree → List (List ℕ)
   postfix d (branch body ts) = postfix_all d ts ++ body ∷ []
@@ -27,7 +28,8 @@ abbrev mutual
   postfix_all d none = []
   postfix_all d (more t ts) = joined d (postfix d t) (postfix_all d ts)
 
--- The prefix list of a direction: the node, and then the children in that direction, each whole (the textbook's preorder).
+-- The prefix list of a direction: the node, and then the lists of the children in that direction (the
+-- textbook's preorder).
 abbrev mutual
   pub prefix : Direction → BodyTree → List (List ℕ)
   prefix d (branch body ts) = body ∷ prefix_all d ts
@@ -36,12 +38,12 @@ abbrev mutual
   prefix_all d none = []
   prefix_all d (more t ts) = joined d (prefix d t) (prefix_all d ts)
 
--- how many trees there are
+-- the number of trees
 abbrev pub tree_count : BodyForest → ℕ
 tree_count none = 0
 tree_count (more t ts) = suc (tree_count ts)
 
--- Each node has as many children as a function tells of its body (the textbook's ranked trees).
+-- A function gives the number of children of each node by its body (the textbook's ranked trees).
 abbrev mutual
   pub IsRanked : (List ℕ → Option ℕ) → BodyTree → Type 0
   IsRanked rank (branch body ts) = (rank body ≡ Some (tree_count ts)) × AreRanked rank ts
@@ -59,7 +61,7 @@ abbrev mutual
   deepest none = 0
   deepest (more t ts) = max (depth_of t) (deepest ts)
 
--- how many nodes there are (this project's)
+-- the number of nodes (this project's)
 abbrev mutual
   pub node_count : BodyTree → ℕ
   node_count (branch body ts) = suc (node_counts ts)

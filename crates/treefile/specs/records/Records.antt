@@ -1,4 +1,4 @@
--- The records of a tree's nodes, and the file that a pass leaves of a tree. All of this is this project's.
+-- The records of a tree's nodes, and the file of a tree after a pass. All of this is this project's.
 use Rattle.std.specs.Prelude.{◌≡◌, ℕ, suc, ◌+◌, ◌≤◌, nat_le, Bool, true, false, List, [], ◌∷◌, ◌++◌, Option, Some, None, slice_get, length, take, if◌then◌else◌}
 use Rattle.ag_value.specs.declared.value.Value.{Value, Text}
 use Rattle.ag_grammar.specs.declared.grammar.Item.TheVariants as item
@@ -20,7 +20,7 @@ abbrev pub values_up_to : ℕ → List ℕ → (ℕ → Value) → List Value
 values_up_to k [] values = []
 values_up_to k (pass ∷ passes) values = (if nat_le pass k then values 0 ∷ [] else []) ++ values_up_to k passes (λ a. values (suc a))
 
--- the passes of a symbol's synthesized attributes, which come first
+-- the number of a symbol's synthesized attributes, which come first
 abbrev pub synthesized_count : Option Symbol → ℕ
 synthesized_count None = 0
 synthesized_count (Some s) = length s.syn
@@ -28,12 +28,13 @@ synthesized_count (Some s) = length s.syn
 abbrev pub synthesized_passes : Grammar → Passes → ℕ → List ℕ
 synthesized_passes g m s = take (synthesized_count (slice_get g.symbols s)) (m s)
 
--- those of the left side of a production
+-- the passes of the synthesized attributes of a production's left side
 abbrev pub left_synthesized : Grammar → Passes → Option Production → List ℕ
 left_synthesized g m None = []
 left_synthesized g m (Some q) = synthesized_passes g m q.left
 
--- Of the values of a tree's root its parent may have a copy: the synthesized ones whose pass is at most k; of a token its `lex`.
+-- The values of a tree's root that its parent's record copies: the synthesized ones whose pass is at most k;
+-- of a token its `lex`.
 abbrev pub copy_of : Grammar → Passes → ℕ → Tree → Valuation → List Value
 copy_of g m k (tree.leaf c text) v = Text text ∷ []
 copy_of g m k (tree.node p ts) v = values_up_to k (left_synthesized g m (slice_get g.productions p)) (v [])
@@ -43,13 +44,13 @@ abbrev pub copies_of : Grammar → Passes → ℕ → Forest → (ℕ → Valuat
 copies_of g m k tree.none vs = []
 copies_of g m k (tree.more t ts) vs = copy_of g m k t (vs 0) ++ copies_of g m k ts (rest vs)
 
--- behind its own values a record has copies, where its version has them
+-- a record's own values, and after them the copies if the version has them
 abbrev pub with_copies : Bool → List Value → List Value → List Value
 with_copies false own copies = own
 with_copies true own copies = own ++ copies
 
--- The record of a node: its production, of its symbol's attributes the values of those whose pass is at most k, and, in a version
--- that has them, copies of its children's.
+-- The record of a node: its production, the values of those of its symbol's attributes whose pass is at most
+-- k, and, in a version with copies, copies of its children's.
 abbrev pub node_body : Version → Grammar → Passes → ℕ → ℕ → (ℕ → Value) → List Value → List ℕ
 node_body version g m k p values copies = body_of Node p (with_copies version.has_copies (values_up_to k (left_passes m (slice_get g.productions p)) values) copies)
 
@@ -57,7 +58,7 @@ node_body version g m k p values copies = body_of Node p (with_copies version.ha
 abbrev pub token_body : ℕ → List ℕ → List ℕ
 token_body c text = body_of Token c (Text text ∷ [])
 
--- the tree of the records of a tree, of the values up to pass k
+-- the tree of the records of a tree, with the values up to pass k
 abbrev mutual
   pub bodies_of : Version → Grammar → Passes → ℕ → Tree → Valuation → BodyTree
   bodies_of version g m k (tree.leaf c text) v = branch (token_body c text) none
@@ -72,18 +73,18 @@ abbrev mutual
 abbrev pub file_of_tree : Version → Grammar → Passes → ℕ → Tree → Valuation → List ℕ
 file_of_tree version g m k t v = file version k (postfix (direction_of k) (bodies_of version g m k t v))
 
--- how many values the copy of an item's tree has at most
+-- the greatest number of values in the copy of an item's tree
 abbrev pub most_copied : Grammar → Passes → Item → ℕ
 most_copied g m (item.Symbol s) = length (synthesized_passes g m s)
 most_copied g m (item.Terminal (Class c)) = 1
 most_copied g m (item.Terminal (Literal l)) = 0
 
--- and those of some items
+-- the greatest number in the copies of some items
 abbrev pub most_copies : Grammar → Passes → List Item → ℕ
 most_copies g m [] = 0
 most_copies g m (x ∷ xs) = most_copied g m x + most_copies g m xs
 
--- how many values the record of a node has at most
+-- the greatest number of values in the record of a node
 abbrev pub most_stored_values : Bool → Grammar → Passes → Production → ℕ
 most_stored_values false g m q = length (m q.left)
 most_stored_values true g m q = length (m q.left) + most_copies g m (stored_items q.items)
@@ -93,7 +94,8 @@ pub record FitsVersion (version : Version) (g : Grammar) (m : Passes) : Type 0 w
   pub tokens : 1 ≤ version.most_values
   pub nodes : (p : ℕ) (q : Production) → IsProduction g p q → most_stored_values version.has_copies g m q ≤ version.most_values
 
--- A content is the file of pass k of a tree and its values: these give each leaf its text, and those up to pass k are well.
+-- A content is the file of pass k of a tree and its values: these give each leaf its text, and those up to
+-- pass k are well.
 pub record IsFileOfTree (version : Version) (g : Grammar) (m : Passes) (k : ℕ) (t : Tree) (v : Valuation) (content : List ℕ) : Type 0 where
   pub stands : content ≡ file_of_tree version g m k t v
   pub texts : Solves NoRule g t v

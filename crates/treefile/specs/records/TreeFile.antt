@@ -15,8 +15,8 @@ use Rattle.treefile.specs.declared.body.Kind.TheVariants.{Node, Token}
 use Rattle.treefile.specs.declared.layout.FileVersion.{FileVersion}
 use Rattle.treefile.specs.declared.layout.FileVersion.TheVariants.{One, Two}
 
--- a version of tree files: the bytes with which each of its files begins, how many values a record has at most, and whether that
--- of a node has copies of its children's
+-- a version of tree files: the bytes with which each of its files begins, the greatest number of values of a
+-- record, and whether the record of a node has copies of its children's
 pub record Version : Type 0 where
   pub magic : List ℕ
   pub most_values : ℕ
@@ -26,7 +26,7 @@ pub record Version : Type 0 where
 abbrev pub version_one : Version
 version_one = record { magic = 65 ∷ 71 ∷ 84 ∷ 49 ∷ []; most_values = MOST_ATTRIBUTES; has_copies = false }
 
--- version 2: AGT2, and as many values besides for each child
+-- version 2: AGT2, and as many values more for each child
 abbrev pub version_two : Version
 version_two = record { magic = 65 ∷ 71 ∷ 84 ∷ 50 ∷ []; most_values = MOST_ATTRIBUTES + MOST_STORED * MOST_ATTRIBUTES; has_copies = true }
 
@@ -56,7 +56,7 @@ kind_byte Token = 1
 abbrev pub body_from : Kind → ℕ → List ℕ → List ℕ
 body_from kind number spellings = kind_byte kind ∷ (to_be_bytes w16 number ++ spellings)
 
--- the body of a record: its spellings are those of its values, one behind the other
+-- the body of a record: the spellings of its values, one after the other
 abbrev pub body_of : Kind → ℕ → List Value → List ℕ
 body_of kind number values = body_from kind number (flat_map spelling_of values)
 

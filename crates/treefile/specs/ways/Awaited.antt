@@ -1,5 +1,5 @@
--- On the way from the end of a tree file to its header: which records are still to come, of the items whose trees were not met
--- yet. All of this is this project's.
+-- Reading a tree file from its end to its header: the records that are still expected, of the items whose
+-- trees were not read yet. All of this is this project's.
 use Rattle.std.specs.Prelude.{ℕ, suc, ◌≡◌, ◌+◌, ◌-◌, ◌<◌, ◌≤◌, ◌⊎◌, Bool, true, false, List, [], ◌∷◌, ◌++◌, All, length, take, drop, Option, Some, None, Result, Ok, Err, refl}
 use Rattle.std.proofs.Common.{inl, inr, lit<}
 use Rattle.ag_value.specs.declared.value.Value.{Value, Text}
@@ -22,13 +22,14 @@ use Rattle.treefile.specs.records.Records.{IsFileOfTree, bodies_of, copy_of, nod
 use Rattle.treefile.specs.records.TreeFile.{Version}
 use Rattle.treefile.specs.declared.reading.FrameFault.{FrameFault}
 
--- Some values are the copies in a node's record: as many well ones as its children have in copies; none where the version has none.
+-- Some values are the copies in a node's record: as many well ones as the copies of its children have; none
+-- if the version has no copies.
 abbrev pub AreCopies : Bool → Grammar → Passes → ℕ → List Item → List Value → Type 0
 AreCopies false g m k xs copies = copies ≡ []
 AreCopies true g m k xs copies = (length copies ≡ copies_count g m k xs) × All IsWell copies
 
--- A body is the record of a node of symbol s in the file of pass k: of a production of it, with well values up to the pass, and
--- with the copies of its children's.
+-- A body is the record of a node of symbol s in the file of pass k: of a production of the symbol, with well
+-- values up to the pass, and with the copies of its children's.
 pub record IsNodeRecord (version : Version) (g : Grammar) (m : Passes) (k s : ℕ) (body : List ℕ) (p : ℕ) (q : Production) (e : ℕ → Value) : Type 0 where
   pub production : IsProduction g p q
   pub left : q.left ≡ s
@@ -37,8 +38,8 @@ pub record IsNodeRecord (version : Version) (g : Grammar) (m : Passes) (k s : �
   pub are_copies : AreCopies version.has_copies g m k (stored_items q.items) copies
   pub stands : body ≡ node_body version g m k p e copies
 
--- A child whose record wasn't read yet: the item of which it is a tree, and the copy of its values in its parent's record, where
--- there is one.
+-- A child whose record wasn't read yet: the item of its tree, and the copy of its values in its parent's
+-- record, if there is one.
 abbrev pub Child : Type 0
 Child = Item × Option (List Value)
 
@@ -48,13 +49,13 @@ told has_copies g m k [] copies = []
 told false g m k (x ∷ xs) copies = (x, None) ∷ told false g m k xs copies
 told true g m k (x ∷ xs) copies = (x, Some (take (copied_count g m k x) copies)) ∷ told true g m k xs (drop (copied_count g m k x) copies)
 
--- values are those of a copy, where there is one
+-- values are those of the copy, if there is one
 abbrev pub IsAsTold : Option (List Value) → List Value → Type 0
 IsAsTold None values = Unit {0}
 IsAsTold (Some copy) values = values ≡ copy
 
--- A body is a record of an item in the file of pass k, its values are as its parent's record told, and these are the children of its
--- node. A token has no children, and a literal no record.
+-- A body is a record of an item in the file of pass k, its values are those of the copy in its parent's
+-- record, and these are the children of its node. A token has no children, and a literal no record.
 abbrev pub IsRecordOf : Version → Grammar → Passes → ℕ → Child → List ℕ → List Child → Type 0
 IsRecordOf version g m k (item.Symbol s, copy) body ys =
     (p : ℕ) × (q : Production) × (e : ℕ → Value) × (is : IsNodeRecord version g m k s body p q e)
@@ -62,40 +63,40 @@ IsRecordOf version g m k (item.Symbol s, copy) body ys =
 IsRecordOf version g m k (item.Terminal (Class c), copy) body ys = (x : List ℕ) × IsTokenText x × (body ≡ token_body c x) × (ys ≡ []) × IsAsTold copy (Text x ∷ [])
 IsRecordOf version g m k (item.Terminal (Literal l), copy) body ys = ⊥
 
--- A body is no record of a child, whatever its own children.
+-- A body is not a record of a child, whatever its own children are.
 abbrev pub IsNoRecord : Version → Grammar → Passes → ℕ → Child → List ℕ → Type 0
 IsNoRecord version g m k x body = (ys : List Child) → IsRecordOf version g m k x body ys → ⊥
 
--- Children whose trees are to come, each with the level at which its tree stands. The root's level is 1.
+-- Children whose trees are expected, each with the level of its tree. The root's level is 1.
 abbrev pub ToCome : Type 0
 ToCome = List (ℕ × Child)
 
--- Some members of a right side in a direction, each at a level, before others that are to come.
+-- Some members of a right side in a direction, each with a level, before others that are expected.
 abbrev pub before_others : {X : Type 0} → Direction → ℕ → List X → List (ℕ × X) → List (ℕ × X)
 before_others d level [] others = others
 before_others LeftToRight level (x ∷ xs) others = (level, x) ∷ before_others LeftToRight level xs others
 before_others RightToLeft level (x ∷ xs) others = before_others RightToLeft level xs ((level, x) ∷ others)
 
--- The members of a right side that a direction visits behind the first i of them, from left to right.
+-- The members of a right side that a direction visits after the first i of them, from left to right.
 abbrev pub unvisited : {X : Type 0} → Direction → List X → ℕ → List X
 unvisited LeftToRight xs i = drop i xs
 unvisited RightToLeft xs i = take (length xs - i) xs
 
--- Bodies are awaited: they are the records of trees of these items, each node before its children, and these in a direction. No
--- tree has a node below the deepest level.
+-- Bodies are expected: they are the records of trees of these items, each node before its children, and these
+-- in a direction. No tree has a node below the deepest level.
 abbrev pub Awaits : Version → Grammar → Passes → ℕ → Direction → ℕ → ToCome → List (List ℕ) → Type 0
 Awaits version g m k d deepest [] [] = Unit {0}
 Awaits version g m k d deepest [] (body ∷ bodies) = ⊥
 Awaits version g m k d deepest (x ∷ xs) [] = ⊥
 Awaits version g m k d deepest (x ∷ xs) (body ∷ bodies) = (x.0 ≤ deepest) × ((ys : List Child) × IsRecordOf version g m k x.1 body ys × Awaits version g m k d deepest (before_others d (suc x.0) ys xs) bodies)
 
--- What is to come at the end of a file: the root.
+-- The expected children at the end of a file: the root.
 abbrev pub root_to_come : Grammar → ToCome
 root_to_come g = (1, (item.Symbol g.start, None)) ∷ []
 
--- On the way from the end of a content to its header: of every tree whose file of pass k the content is, the bodies before an
--- offset are records of trees of the items that are to come; and with the bodies that were read there are no more than the
--- tree has nodes.
+-- A content was read from its end to an offset: for every tree whose file of pass k the content is, the
+-- bodies before the offset are records of trees of the expected items; and the number of these and of the
+-- bodies that were read is at most the tree's number of nodes.
 abbrev pub IsOnTheWay : Version → Grammar → Passes → ℕ → List ℕ → (at count : ℕ) → ToCome → Type 0
 IsOnTheWay version g m k content at count todo =
     (depth nodes : ℕ) (t : Tree) (v : Valuation) → IsTreeOf g t → IsWithinLimits depth nodes t → IsFileOfTree version g m k t v content →
@@ -105,12 +106,12 @@ IsOnTheWay version g m k content at count todo =
 abbrev pub HasNoTree : Version → Grammar → Passes → ℕ → List ℕ → Type 0
 HasNoTree version g m k content = (t : Tree) (v : Valuation) → IsTreeOf g t → IsFileOfTree version g m k t v content → ⊥
 
--- and of none that is so deep and has so many nodes at most.
+-- and of none within a depth and a number of nodes.
 abbrev pub HasNoTreeWithin : ℕ → ℕ → Version → Grammar → Passes → ℕ → List ℕ → Type 0
 HasNoTreeWithin depth nodes version g m k content = (t : Tree) (v : Valuation) → IsTreeOf g t → IsWithinLimits depth nodes t → IsFileOfTree version g m k t v content → ⊥
 
--- What is found before an offset is nothing that the items to come await: a damaged frame; none, where an item is to come;
--- one that is left over, where no item is; or a body that is no record of the first item.
+-- The result of reading before an offset contradicts the expected items: a damaged frame; no body, if an item
+-- is expected; a body, if no item is; or a body that is not a record of the first item.
 abbrev pub Breaks : Version → Grammar → Passes → ℕ → ToCome → Result (Option (List ℕ)) FrameFault → Type 0
 Breaks version g m k todo (Err fault) = Unit {0}
 Breaks version g m k [] (Ok None) = ⊥
@@ -118,12 +119,13 @@ Breaks version g m k (x ∷ xs) (Ok None) = Unit {0}
 Breaks version g m k [] (Ok (Some body)) = Unit {0}
 Breaks version g m k (x ∷ xs) (Ok (Some body)) = IsNoRecord version g m k x.1 body
 
--- So many levels or bodies are too many, where a tree of a level is to come and so many bodies were read.
+-- A tree is expected at a level deeper than the limit, or the number of bodies that were read has reached the
+-- limit of nodes.
 abbrev pub IsTooLarge : (depth nodes : ℕ) → (level count : ℕ) → Type 0
 IsTooLarge depth nodes level count = (depth < level) ⊎ (nodes ≤ count)
 
--- Trees of items, one after the other, with their values, whose records a list has: each node before its children, and these in
--- a direction. No tree has a node below the deepest level.
+-- Trees of items, one after the other, with their values, whose records a list has: each node before its
+-- children, and these in a direction. No tree has a node below the deepest level.
 abbrev pub AreThere : Version → Grammar → Passes → ℕ → Direction → ℕ → ToCome → List (List ℕ) → Type 0
 AreThere version g m k d deepest [] bodies = bodies ≡ []
 AreThere version g m k d deepest (x ∷ xs) bodies =
@@ -145,14 +147,14 @@ before_from_left = refl
 pub before_from_right : before_others RightToLeft 2 (item.Symbol 7 ∷ item.Symbol 8 ∷ []) ((1, item.Symbol 9) ∷ []) ≡ (2, item.Symbol 8) ∷ (2, item.Symbol 7) ∷ (1, item.Symbol 9) ∷ []
 before_from_right = refl
 
--- behind one visited item of two, the other one is unvisited
+-- after one visited item of two, the other one is unvisited
 pub unvisited_from_left : unvisited LeftToRight (item.Symbol 7 ∷ item.Symbol 8 ∷ []) 1 ≡ item.Symbol 8 ∷ []
 unvisited_from_left = refl
 
 pub unvisited_from_right : unvisited RightToLeft (item.Symbol 7 ∷ item.Symbol 8 ∷ []) 1 ≡ item.Symbol 7 ∷ []
 unvisited_from_right = refl
 
--- a frame is left over where nothing is to come, and nothing breaks where the header ends there
+-- a frame is left over if nothing is expected, and there is no contradiction if the header ends there
 pub left_over : (version : Version) (g : Grammar) (m : Passes) (k : ℕ) (body : List ℕ) → Breaks version g m k [] (Ok (Some body))
 left_over version g m k body = tt
 

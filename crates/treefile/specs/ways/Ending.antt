@@ -1,4 +1,4 @@
--- How a content ends, read as a tree file of a version from its end: this project's layout.
+-- The end of a content, read as a tree file of a version from its end: this project's layout.
 use Rattle.std.specs.Prelude.{◌≡◌, ℕ, ◌+◌, ◌*◌, ◌-◌, ◌^◌, ◌<◌, ◌≤◌, Bool, ◌&&◌, nat_lt, nat_le, nat_eq, List, [], ◌∷◌, ◌++◌, length, slice_index, slice_range, Result, Ok, Err, if◌then◌else◌, refl}
 use Rattle.std.specs.Int.{w32, from_be_bytes}
 use Rattle.std.specs.List.{starts_with}
@@ -8,23 +8,24 @@ use Rattle.treefile.specs.declared.reading.FrameFault.{FrameFault}
 use Rattle.treefile.specs.declared.reading.FrameFault.TheVariants.{NotATreeFile, Damaged, Device, NoMemory}
 use Rattle.treefile.specs.records.TreeFile.{Version, version_one, version_two, header, frame, file_of_fourteen}
 
--- how many bytes a header has
+-- the number of bytes of a header
 abbrev pub header_bytes : ℕ
 header_bytes = 6
 
--- how many bytes the length behind a body has
+-- the number of bytes of the length after a body
 abbrev pub length_bytes : ℕ
 length_bytes = 4
 
--- a body has a kind and a number at least
+-- the least number of bytes of a body: its kind and its number
 abbrev pub least_body : ℕ
 least_body = 3
 
--- and as many values besides as the version allows, each as heavy as a well value is at most
+-- the greatest number of bytes of a body: the least, and as many values as the version allows, each of the
+-- greatest weight of a well value
 abbrev pub greatest_body : Version → ℕ
 greatest_body version = least_body + version.most_values * max_weight
 
--- A body may stand in a frame: it is neither shorter than the least nor longer than the greatest.
+-- A body may be in a frame: its length is within the limits.
 pub record IsBody (version : Version) (body : List ℕ) : Type 0 where
   pub least : least_body ≤ length body
   pub greatest : length body ≤ greatest_body version
@@ -34,8 +35,8 @@ pub record IsUsable (version : Version) : Type 0 where
   pub four : length version.magic ≡ 4
   pub narrow : greatest_body version < 2 ^ 32
 
--- The frame of this body ends at the offset: it stands whole behind the header, and its body is neither shorter than
--- the least nor longer than the greatest.
+-- The frame of this body ends at the offset: all of it is after the header, and the length of its body is
+-- within the limits.
 pub record IsBodyBefore (version : Version) (content : List ℕ) (at : ℕ) (body : List ℕ) : Type 0 where
   pub front : List ℕ
   pub rest : List ℕ
@@ -57,13 +58,13 @@ is_tree_file version content = nat_le header_bytes (length content) && starts_wi
 abbrev pub number_before : List ℕ → ℕ → ℕ
 number_before content at = from_be_bytes w32 (slice_range content (at - length_bytes) at)
 
--- A frame with a body of so many bytes may end at the offset: no body is shorter than the least or longer than the
--- greatest, and between the header and the offset there is room for the body and its length.
+-- A frame with a body of this length may end at the offset: the length is within the limits, and between the
+-- header and the offset there is room for the body and its length.
 unfoldable pub fits_before : Version → ℕ → ℕ → Bool
 fits_before version at len = nat_le least_body len && nat_le len (greatest_body version) && nat_le (header_bytes + len + length_bytes) at
 
--- The body of the frame that ends at the offset. Or none does, which is told with the offset: where fewer than four
--- bytes stand between the header and it, and where the number in those four is no length that fits.
+-- The body of the frame that ends at the offset, or B2 with the offset if no frame ends there: if fewer than
+-- four bytes are between the header and it, or if the number in those four is not a length that fits.
 unfoldable pub body_before : Version → List ℕ → ℕ → Result (List ℕ) FrameFault
 body_before version content at =
     let len = number_before content at in
@@ -72,11 +73,12 @@ body_before version content at =
     else if fits_before version at len then Ok (slice_range content from (from + len))
     else Err (Damaged at)
 
--- the body of the frame that ends where the content does, in a tree file
+-- in a tree file, the body of the frame that ends at the end of the content
 unfoldable pub last_body_of : Version → List ℕ → Result (List ℕ) FrameFault
 last_body_of version content = if is_tree_file version content then body_before version content (length content) else Err NotATreeFile
 
--- What is answered of a content is what reading it gives, where neither the device failed nor memory was short.
+-- The result of a call agrees with the result of reading the content, unless the device failed or memory was
+-- refused.
 abbrev pub Told : {X Y : Type 0} → (X → Y) → Result X FrameFault → Result Y FrameFault → Type 0
 Told view (Ok x) read = read ≡ Ok (view x)
 Told view (Err NotATreeFile) read = read ≡ Err NotATreeFile
@@ -96,12 +98,12 @@ pub last_of_fourteen : last_body_of version_one file_of_fourteen ≡ Ok (1 ∷ 0
 unfolding last_body_of body_before fits_before is_tree_file
 last_of_fourteen = refl
 
--- behind a header alone no frame ends
+-- no frame ends at the end of a header alone
 pub last_of_header : last_body_of version_one (header version_one 0) ≡ Err (Damaged 6)
 unfolding last_body_of body_before fits_before is_tree_file
 last_of_header = refl
 
--- five bytes are no header
+-- five bytes are not a header
 pub last_of_five : last_body_of version_one (65 ∷ 71 ∷ 84 ∷ 49 ∷ 0 ∷ []) ≡ Err NotATreeFile
 unfolding last_body_of body_before fits_before is_tree_file
 last_of_five = refl

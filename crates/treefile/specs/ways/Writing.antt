@@ -1,7 +1,7 @@
--- How far the writing of a tree file has come. This project's.
+-- The progress of writing a tree file. This project's.
 use Rattle.std.specs.Prelude.{ℕ, Bool}
 
--- how many frames were put, and whether the device failed while one was
+-- the number of frames that were appended, and whether the device failed at one
 pub record Progress : Type 0 where
   pub written : ℕ
   pub is_broken : Bool

@@ -45,7 +45,7 @@ missing c = let r = c.all (attribute 0 0) refl in no_rule r.0 r.1 r.2
 pub refused : IsAccepted without_out → ⊥
 refused a = missing (a.complete 0 lacking refl)
 
--- the rules of numbers 2 and 3 have one target
+-- rules 2 and 3 have the same target
 pub doubled_refused : IsAccepted doubled → ⊥
 doubled_refused a = let same = (a.complete 0 (production_r (rule_out ∷ rule_first ∷ rule_second ∷ rule_second ∷ [])) refl).single 2 3 rule_second rule_second refl refl refl in cc
 
@@ -53,11 +53,11 @@ doubled_refused a = let same = (a.complete 0 (production_r (rule_out ∷ rule_fi
 pub bare_refused : IsAccepted bare → ⊥
 bare_refused a = let same = (a.named.rules_named 0 (production_r (rule_bare ∷ rule_first ∷ rule_second ∷ [])) refl 0 rule_bare refl).arguments.equally_long in cc
 
--- what holds of the three rules of the first production
+-- a predicate on the rules of the first production, from its three cases
 three : (P : Rule → Type 0) → P rule_out → P rule_first → P rule_second → Each P first.rules
 three P h k l = each_more P rule_out (rule_first ∷ rule_second ∷ []) h (both P rule_first rule_second k l)
 
--- an A's rule holds where `s` is one more than `i`
+-- the rule of an A holds if `s` is one more than `i`
 child_holds : (j n : ℕ) → at (children (sample_values 2) j) 0 1 ≡ Num (pos n) → at (children (sample_values 2) j) 0 0 ≡ number_value (pos n +ℤ pos 1) → Each (λ r. Holds r (at (children (sample_values 2) j))) production_a.rules
 child_holds j n is more = only (λ r. Holds r (at (children (sample_values 2) j))) rule_s (λ env lent. more ∙ sym (and_one (pos n) env (lent 0 (attribute 0 1) refl ∙ is)))
 
@@ -135,7 +135,7 @@ limits = record {
 pub no_separator : (b : ℕ) → 32 < b → IsSeparator b → ⊥
 no_separator b above s = elim s [ inl e ↦ omega arith | inr t ↦ elim t [ inl e ↦ omega arith | inr u ↦ elim u [ inl e ↦ omega arith | inr e ↦ omega arith ] ] ]
 
--- what a rule of one occurrence needs to be named
+-- a rule with one occurrence is named
 copy_named : (target : Target) (j : ℕ) (name : List ℕ) (a : ℕ) (k : Kind) → HasKind sample first target k → slice_get (item_names sample (item_at first j)) a ≡ Some name → IsNamedRule sample first (copy_rule target j name a)
 copy_named target j name a k there is = record {
   target = (k, there);

@@ -1,4 +1,4 @@
--- What the definitions refuse of the sample grammars.
+-- Sample grammars that the definitions reject.
 use Rattle.ag_grammar.proofs.grammars.OneSolution.{counterpart}
 use Rattle.std.proofs.Common.{ℕ, zero, suc, sym, ◌≡◌, inl, inr, ◌≤◌, List, [], ◌∷◌, Option, Some, slice_get, refl, ap, subst, ◌∙◌, arith}
 use Rattle.ag_grammar.specs.Lists.{Each}
@@ -63,13 +63,14 @@ unreached s (within p q i r h) e = on_no_right_side p q i h.0 (item.Symbol s) h.
 pub not_reached : IsReached with_unreached 2 → ⊥
 not_reached h = unreached 2 h refl
 
--- what a rule at one child uses of the other, and no earlier pass left, comes from a child that is visited before it
+-- if a rule at one child uses an attribute of the other child that no earlier pass computed, the other child
+-- is visited first
 from_child : (k j i p : ℕ) → MayUse k (suc j) (suc i) p → k ≤ p → IsBefore (direction_of k) (suc i) (suc j)
 from_child k j i p (inl x) late = absurd (omega (arith, x.0))
 from_child k j i p (inr (inl x)) late = x.0
 from_child k j i p (inr (inr x)) late = absurd (omega arith)
 
--- `s` of an A is of no earlier pass than its `i`, on which it rests
+-- the pass of an A's `s` is not before that of its `i`, on which it depends
 late_s : (m : Passes) (i s : ℕ) → IsLegal both_ways m → slice_get (m 1) 1 ≡ Some i → slice_get (m 1) 0 ≡ Some s → i ≤ s
 late_s m i s legal of_i of_s =
     let one = legal.allowed 1 production_a refl rule_s (attribute 0 1) s (0, refl) (0, refl) of_s in

@@ -25,7 +25,7 @@ ascii (suc (suc zero)) = omega arith
 ascii (suc (suc (suc zero))) = omega arith
 ascii (suc (suc (suc (suc i)))) = omega arith
 
--- `iffy` may be the text of a token
+-- `iffy` is a valid text of a token
 pub text : IsTokenText iffy
 text = record { utf8 = is_utf8-from_IsUtf8 iffy (IsUtf8-from_ascii iffy ascii); short = omega arith }
 

@@ -1,4 +1,4 @@
--- The loop of `cut_of`: no separator begins before where it is.
+-- The loop of `cut_of`: no separator begins before the current offset.
 use Rattle.std.proofs.Common.{ℕ, List, ◌<◌, length}
 use Rattle.ag_job.specs.Jobs.{IsCut}
 use Rattle.ag_job.proofs.cutting.cut_of.Given as goal

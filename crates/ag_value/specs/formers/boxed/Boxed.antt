@@ -1,4 +1,4 @@
--- How `Boxed` keeps the value in it, so that a type may lead back to itself through it: as that value.
+-- The representation of `Boxed` for recursive types: a box is the value in it.
 use mathlib.Core.Path.{refl}
 use mathlib.Core.Former.{Former, this, const, pair, via}
 use base.Stored.{gnil}

@@ -1,4 +1,4 @@
--- How `Items` keeps the values in it, so that a type may lead back to itself through it: as a list.
+-- The representation of `Items` for recursive types: items are a list.
 use mathlib.Core.Path.{◌≡◌, refl, sym}
 use mathlib.Core.List.{List, []}
 use mathlib.Core.Former.{Former, this, list, via, children}

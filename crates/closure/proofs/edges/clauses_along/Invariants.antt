@@ -1,4 +1,4 @@
--- What the loop of `clauses_along` keeps.
+-- The invariant of the loop of `clauses_along`.
 use Rattle.std.proofs.Common.{◌≡◌, map, take}
 use Rattle.closure.specs.Edges.{along}
 use Rattle.closure.proofs.edges.clauses_along.Given as goal

@@ -1,4 +1,4 @@
--- The goals of `find` that are left.
+-- The remaining goals of `find`.
 use Rattle.std.proofs.Common.{◌≡◌, ◌<◌, length, slice_get, Some, refl, arith, ◌∙◌}
 use Rattle.std.proofs.lemmas.Option.{slice_get_read}
 use Rattle.closure.proofs.Marks.{complete, next_within, search_taken, settled_first, settled_stays, settled_taken, unmarked}

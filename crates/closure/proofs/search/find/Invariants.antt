@@ -1,4 +1,4 @@
--- What the loop of `find` keeps.
+-- The invariant of the loop of `find`.
 use Rattle.std.proofs.Common.{ℕ, ◌≡◌, ◌<◌, ◌-◌, Contains, true, length, get_or}
 use Rattle.closure.specs.declared.clause.Clause.{Clause}
 use Rattle.closure.specs.Following.{is_marked}

@@ -1,4 +1,4 @@
--- What the loop of `known_in_front` keeps.
+-- The invariant of the loop of `known_in_front`.
 use Rattle.std.proofs.Common.{◌≡◌, true, take}
 use Rattle.closure.specs.Following.{is_marked}
 use Rattle.std.specs.List.{list_all}

@@ -1,4 +1,4 @@
--- What the loop of `facts` keeps.
+-- The invariant of the loop of `facts`.
 use Rattle.std.proofs.Common.{ℕ, ◌≡◌, ◌<◌, All, Contains, [], length, get_or}
 use Rattle.closure.specs.declared.clause.Clause.{Clause}
 use Rattle.closure.proofs.waiting.facts.Given as goal

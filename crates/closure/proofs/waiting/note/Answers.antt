@@ -1,4 +1,4 @@
--- A clause is noted in the row of the number, and the other rows stay.
+-- The clause is added to the row of the number, and the other rows are kept.
 use Rattle.std.proofs.lemmas.List.{length-map}
 use Rattle.closure.specs.Waiting.{rows}
 use Rattle.closure.proofs.Noted.{notes_at, noted_at, rows_set}

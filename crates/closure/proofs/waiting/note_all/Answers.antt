@@ -1,4 +1,4 @@
--- The goals of `note_all` that are left.
+-- The remaining goals of `note_all`.
 use Rattle.std.proofs.Common.{take_all}
 use Rattle.closure.proofs.Noted.{noted_more, notes_on}
 use Rattle.closure.proofs.waiting.note_all.Goals as goal

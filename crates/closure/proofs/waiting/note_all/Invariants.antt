@@ -1,4 +1,4 @@
--- What the loop of `note_all` keeps.
+-- The invariant of the loop of `note_all`.
 use Rattle.std.proofs.Common.{ℕ, Contains, take}
 use Rattle.closure.specs.Waiting.{Notes, row, rows}
 use Rattle.closure.proofs.waiting.note_all.Given as goal

@@ -1,4 +1,4 @@
--- The goals of `uses` that are left.
+-- The remaining goals of `uses`.
 use Rattle.std.proofs.Common.{◌<◌, length, arith, ap, sym, ◌∙◌}
 use Rattle.std.proofs.lemmas.List.{length-map}
 use Rattle.closure.specs.declared.clause.Clause.{Clause}

@@ -1,4 +1,4 @@
--- What the loop of `uses` keeps.
+-- The invariant of the loop of `uses`.
 use Rattle.std.proofs.Common.{ℕ, ◌≡◌, ◌<◌, All, Contains, length, get_or, []}
 use Rattle.std.specs.Global.{Vec}
 use Rattle.closure.specs.declared.clause.Clause.{Clause}

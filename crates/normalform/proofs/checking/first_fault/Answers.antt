@@ -1,4 +1,4 @@
--- The goals of `first_fault` that are left.
+-- The remaining goals of `first_fault`.
 use Rattle.std.proofs.Common.{sym, ◌∙◌}
 use Rattle.normalform.specs.faults.Faults.{in_names}
 use Rattle.normalform.proofs.checking.first_fault.Goals as goal

@@ -1,4 +1,4 @@
--- The goals of `further_fault` that are left.
+-- The remaining goals of `further_fault`.
 use Rattle.std.proofs.Common.{◌≡◌, Some, None, map, sym, ◌∙◌}
 use Rattle.normalform.specs.faults.Faults.{first_wrong, rule_kinds, limit_checks, further_checks}
 use Rattle.normalform.specs.numbers.Numbers.{symbol_of}

@@ -1,4 +1,4 @@
--- The goals of `naming_fault` that are left.
+-- The remaining goals of `naming_fault`.
 use Rattle.std.proofs.Common.{◌≡◌, ◌++◌, Some, None, map, sym, ◌∙◌}
 use Rattle.normalform.specs.faults.Faults.{first_wrong, unknown, doubled, start_checks}
 use Rattle.normalform.specs.numbers.Numbers.{symbol_of}

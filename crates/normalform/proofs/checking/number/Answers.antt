@@ -1,4 +1,4 @@
--- The goals of `number` that are left.
+-- The remaining goals of `number`.
 use Rattle.std.proofs.Common.{◌≡◌, map, ap, ◌∙◌}
 use Rattle.normalform.specs.numbers.Numbers.{symbol_of, symbol_names, number_in, production_of, literals_of, classes_of}
 use Rattle.normalform.proofs.numbered.Accepting.{small, made}

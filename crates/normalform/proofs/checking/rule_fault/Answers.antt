@@ -1,4 +1,4 @@
--- The goals of `rule_fault` that are left.
+-- The remaining goals of `rule_fault`.
 use Rattle.std.proofs.Common.{◌≡◌, ◌++◌, Some, None, sym, ◌∙◌}
 use Rattle.normalform.specs.faults.Faults.{first_wrong, missing, doubled_rules, not_given, not_found, rule_kinds}
 use Rattle.normalform.proofs.found.Wrong.{first_of, rest_of}

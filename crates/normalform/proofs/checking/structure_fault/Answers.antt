@@ -1,4 +1,4 @@
--- The goals of `structure_fault` that are left.
+-- The remaining goals of `structure_fault`.
 use Rattle.std.proofs.Common.{sym, ◌∙◌}
 use Rattle.normalform.specs.faults.Faults.{in_rules}
 use Rattle.normalform.proofs.checking.structure_fault.Goals as goal

@@ -1,4 +1,4 @@
--- The goals of `unproductive` that are left.
+-- The remaining goals of `unproductive`.
 use Rattle.std.proofs.Common.{◌≡◌, [], length, ap, sym, ◌∙◌}
 use Rattle.std.proofs.lemmas.List.{length-map}
 use Rattle.closure.specs.Clauses.{Clauses}

@@ -1,4 +1,4 @@
--- The goals of `unreachable` that are left.
+-- The remaining goals of `unreachable`.
 use Rattle.std.proofs.Common.{◌≡◌, ◌<◌, [], ◌∷◌, All, length, map, ap, subst, sym, ◌∙◌}
 use Rattle.std.proofs.lemmas.List.{length-map}
 use Rattle.closure.specs.Clauses.{Clauses}

@@ -1,4 +1,4 @@
--- The goals of `no_fault_where_accepted` that are left.
+-- The remaining goals of `no_fault_where_accepted`.
 use Rattle.normalform.proofs.numbered.Accepting.{no_fault}
 use Rattle.normalform.proofs.laws.no_fault_where_accepted.Goals as goal
 

@@ -3,7 +3,7 @@ use Rattle.std.proofs.lemmas.Int.{to_z-of_z}
 use Rattle.ag_value.proofs.Layers.{spelling-Num}
 use Rattle.treefile.proofs.writing.frame_of_triple.Goals as goal
 
--- the bytes of each part, one behind another
+-- the bytes of each part, one after another
 pub returns : goal.returns
 returns c =
     simp (c.number_spelling.ensures, c.number_spelling-2.ensures, c.number_spelling-3.ensures, c.to_be_bytes.ensures, c.byte-kind.ensures, spelling-Num)

@@ -10,7 +10,7 @@ use Rattle.ag_expr.specs.declared.parser.Precedence.{Precedence}
 use Rattle.ag_expr.specs.declared.parser.Precedence.TheVariants as precedence
 use Rattle.ag_expr.proofs.reader.Reader.+parsing.Given as goal
 
--- how many calls lie between a precedence and an atom
+-- a bound on the number of nested calls between a precedence and an atom
 abbrev above : Precedence → ℕ
 above precedence.Comparison = 21
 above precedence.Join = 16

@@ -1,4 +1,4 @@
--- The goal of `literals` that is left.
+-- The goal of `literals` that the tactic leaves open.
 use Rattle.ag_grammar.proofs.accepted.Grammar.literals.Goals as goal
 
 pub returns-clause-in_order : goal.returns-clause-in_order

@@ -1,4 +1,4 @@
--- What is told of the bytes that were read is true of what the reader gives.
+-- The results of `read` hold for all bytes of the reader, not only for the bytes that were read.
 use Rattle.std.proofs.Common.{◌≤◌, arith, length, take, drop, subst}
 use Rattle.ag_job.specs.Jobs.{AreParts, HasNoSeparator, IsJob, most_job_bytes}
 use Rattle.ag_job.proofs.Known.{longer, told, whole}

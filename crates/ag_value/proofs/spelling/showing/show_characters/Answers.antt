@@ -5,7 +5,7 @@ use Rattle.std.specs.List.{flat_map}
 use Rattle.ag_value.specs.Shown.{escaped}
 use Rattle.ag_value.proofs.spelling.showing.show_characters.Goals as goal
 
--- at the end of the text all its characters were given
+-- at the end of the text all its characters were shown
 pub returns : goal.returns
 returns c =
     let all = YieldsList-end (YieldsList-from_chars c.args.text.now c.utf8.text cc) c.loop-character.yielded _ c.loop-character.yielded_by _ _ c.in-None.is c.next.ensures.steps in

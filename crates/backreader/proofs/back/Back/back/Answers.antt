@@ -79,7 +79,7 @@ returns-in-Ok-Some g c =
       },
     )
 
--- a refusal
+-- a fault
 pub returns-in-Err : goal.returns-in-Err
 returns-in-Err g c =
     let content = g.D.Device.content c.args.device.now in

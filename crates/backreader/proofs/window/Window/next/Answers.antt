@@ -4,7 +4,7 @@ use Rattle.backreader.specs.BackState.{StandBefore}
 use Rattle.backreader.specs.Windows.{unread}
 use Rattle.backreader.proofs.window.Window.next.Goals as goal
 
--- for want of memory what was read is forgotten
+-- after NoMemory the bytes that were read are dropped
 pub returns-then-is_err-clause-stand : goal.returns-then-is_err-clause-stand
 returns-then-is_err-clause-stand g c honest =
     let content = g.D.Device.content c.args.device.now in

@@ -1,4 +1,4 @@
--- The goals of `new` that are left.
+-- The remaining goals of `new`.
 use Rattle.std.proofs.Common.{◌∙◌, ◌≡◌, length}
 use Rattle.std.proofs.lemmas.List.{length-map}
 use Rattle.closure.specs.Waiting.{rows}

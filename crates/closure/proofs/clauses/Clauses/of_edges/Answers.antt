@@ -1,4 +1,4 @@
--- The goals of `of_edges` that are left.
+-- The remaining goals of `of_edges`.
 use Rattle.closure.proofs.Reached.{below}
 use Rattle.closure.proofs.clauses.Clauses.of_edges.Goals as goal
 

@@ -1,4 +1,4 @@
--- The goals of `advance` that are left.
+-- The remaining goals of `advance`.
 use Rattle.closure.proofs.Marks.{waits_at}
 use Rattle.closure.proofs.search.Search.advance.Goals as goal
 

@@ -1,4 +1,4 @@
--- The goals of `mark` that are left.
+-- The remaining goals of `mark`.
 use Rattle.std.proofs.Common.{◌∙◌, false, sym}
 use Rattle.std.proofs.lemmas.List.{get_or_default}
 use Rattle.closure.proofs.Marks.{grows_one, marked_more}

@@ -1,4 +1,4 @@
--- The goals of `mark_seeds` that are left.
+-- The remaining goals of `mark_seeds`.
 use Rattle.std.proofs.Common.{take_all, ◌∙◌}
 use Rattle.closure.proofs.Marks.{seeded_more, grows_on}
 use Rattle.closure.proofs.search.Search.mark_seeds.Goals as goal

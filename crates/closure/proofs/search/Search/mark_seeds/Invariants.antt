@@ -1,4 +1,4 @@
--- What the loop of `mark_seeds` keeps.
+-- The invariant of the loop of `mark_seeds`.
 use Rattle.std.proofs.Common.{ℕ, ◌≡◌, Contains, true, take}
 use Rattle.closure.specs.Following.{is_marked}
 use Rattle.closure.specs.Search.{IsSearch, Grows}

@@ -1,4 +1,4 @@
--- The goals of `visit` that are left.
+-- The remaining goals of `visit`.
 use Rattle.closure.proofs.Marks.{clause_reason}
 use Rattle.closure.proofs.search.Search.visit.Goals as goal
 

@@ -1,4 +1,4 @@
--- The goals of `visit_all` that are left.
+-- The remaining goals of `visit_all`.
 use Rattle.std.proofs.Common.{◌≡◌, get_or, take_all, ◌∙◌}
 use Rattle.closure.specs.Search.{Grows, IsSettled}
 use Rattle.closure.proofs.Marks.{settled_more, grows_on}

@@ -1,4 +1,4 @@
--- What the loop of `visit_all` keeps.
+-- The invariant of the loop of `visit_all`.
 use Rattle.std.proofs.Common.{ℕ, ◌≡◌, ◌⊎◌, get_or, Contains, take}
 use Rattle.closure.specs.declared.clause.Clause.{Clause}
 use Rattle.closure.specs.Search.{IsSearch, IsSettled, Grows}

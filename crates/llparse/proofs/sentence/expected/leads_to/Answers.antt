@@ -5,7 +5,7 @@ use Rattle.llparse.proofs.steps.Fronts.{on_top}
 use Rattle.llparse.proofs.steps.Stacks.{fewer_opened, fewer_passed}
 use Rattle.llparse.proofs.sentence.expected.leads_to.Goals as goal
 
--- a node that is entered is one of those that there may be still
+-- a node that is entered counts against the limit
 pub loop-terminal-smaller-in-Some-Symbol : goal.loop-terminal-smaller-in-Some-Symbol
 loop-terminal-smaller-in-Some-Symbol c =
     let g = c.args.grammar.now in

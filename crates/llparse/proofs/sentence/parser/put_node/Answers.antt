@@ -10,7 +10,7 @@ use Rattle.llparse.specs.sentence.Refusals.{parse_fault_of}
 use Rattle.llparse.specs.declared.sentence.parse_fault.ParseFault.{ParseFault}
 use Rattle.llparse.proofs.sentence.parser.put_node.Goals as goal
 
--- where there is no text
+-- without texts
 pub returns-in_err-put-clause-adds : goal.returns-in_err-put-clause-adds
 returns-in_err-put-clause-adds g c h =
     let put = c.in_err-put.ensures in
@@ -22,7 +22,7 @@ returns-then-is_empty-clause-adds g c h =
     one_added ParseFault (g.D.Device.content c.args.device.now) (g.D.Device.content c.put.new.device) (body_of Node c.args.production [])
     (is_body version_two Node c.args.production [] (omega arith) (All-nil IsWell)) (c.in_ok-put.ensures.frame h)
 
--- where there are some
+-- with texts
 pub returns-in_err-put-2-clause-adds : goal.returns-in_err-put-2-clause-adds
 returns-in_err-put-2-clause-adds g c h =
     let put = c.in_err-put-2.ensures in

@@ -10,7 +10,7 @@ use Rattle.llparse.proofs.answers.Answered.{file_of, none_of}
 use Rattle.llparse.proofs.steps.Steps.{one_parse}
 use Rattle.llparse.proofs.sentence.parsing.parse.Goals as goal
 
--- what a refusal leaves behind the header
+-- the bytes after the header after a fault
 left_of : (honest : Bool) (old new : List ℕ) (r : Result ℕ ParseFault) → WhenHonest honest (old ≡ header version_two 0) → IfErr r (λ fault. WhenHonest honest (AddsFrames old new (Err fault))) → IfErr r (λ fault. WhenHonest honest (BeginsFile 0 new))
 left_of honest old new (Ok count) begun adds = tt
 left_of honest old new (Err fault) begun adds = λ h. frames_begin ParseFault 0 old new (Err fault) (begun h) (adds h)

@@ -53,7 +53,7 @@ pub next_item-requires : goal.next_item-requires
 next_item-requires g c =
     turn.within (task_of c.args.grammar.now c.args.sentence.now (g.D.Device.is_honest c.loop-terminal.device) (g.D.Device.content c.args.device.now)) c.loop-terminal.node c.loop-terminal.parser (g.D.Device.content c.loop-terminal.device) (c.loop-terminal.invariant.stands (g.D.Device.is_honest c.loop-terminal.device) (λ h. h))
 
--- behind a terminal
+-- after a terminal
 pub loop-terminal-smaller-in-Continue-branch-2 : goal.loop-terminal-smaller-in-Continue-branch-2
 loop-terminal-smaller-in-Continue-branch-2 g c =
     turn.smaller (task_of c.args.grammar.now c.args.sentence.now (g.D.Device.is_honest c.args.device.now) (g.D.Device.content c.args.device.now)) c.loop-terminal.node c.next_item.new.node c.in-Some-Terminal.field-0 c.in-Some-Terminal.ensures c.loop-terminal.parser c.take.new.self c.in_ok-take-in-Some-Terminal.ensures.waiting c.in_ok-take-in-Some-Terminal.ensures.count
@@ -81,7 +81,7 @@ returns-in_err-take-in-Some-Terminal-clause-refused g c =
     rw (p.1, p.2) ((subst (λ ts. Refuses (HasTokens ts) ts (λ k. Faces k (item.Terminal c.in-Some-Terminal.terminal) c.next_item.new.node c.loop-terminal.parser) c.in_err-take-in-Some-Terminal.field-0.0) inv.list (c.in_err-take-in-Some-Terminal.ensures.refuses c.next_item.new.node)) k.grammar k.honest k.front (g.D.Device.content c.loop-terminal.device) (c.start.ensures.accepted, c.requires.tokens)
     (turn.faced k c.loop-terminal.node c.next_item.new.node c.in-Some-Terminal.field-0 c.in-Some-Terminal.ensures (item.Terminal c.in-Some-Terminal.terminal) c.in-Some-Terminal.field-0-is c.loop-terminal.parser (g.D.Device.content c.loop-terminal.device) (inv.stands k.honest (λ h. c.in_err-take-in-Some-Terminal.ensures.device.persists.honest h))))
 
--- behind a symbol
+-- after a symbol
 pub returns-in_err-node-in-Some-Symbol-clause-refused : goal.returns-in_err-node-in-Some-Symbol-clause-refused
 returns-in_err-node-in-Some-Symbol-clause-refused g c =
     let k = task_of c.args.grammar.now c.args.sentence.now (g.D.Device.is_honest c.loop-terminal.device) (g.D.Device.content c.args.device.now) in
@@ -164,7 +164,7 @@ returns-clause-parsed g c =
     let all : length c.args.sentence.now ≤ tokens.taken = subst (λ (ts : List Token). length ts ≤ tokens.taken) inv.list (all_taken tokens.list tokens.taken c.ahead.result c.ahead.ensures (sym c.is_some.ensures ∙ c.if-is_some.false)) in
     turn.all_taken k.grammar c.args.sentence.now k.honest k.front c.loop-terminal.parser (g.D.Device.content c.put_node.new.device) c.truncate.new.self.items none_waits (turn.ended k c.loop-terminal.node c.next_item.new.node c.loop-terminal.parser (g.D.Device.content c.loop-terminal.device) c.in-None.ensures (inv.stands k.honest (λ h. c.in_ok-put_node-in-None.ensures.device.persists.honest h)) (g.D.Device.content c.put_node.new.device) c.texts_from-texts.result.now c.truncate.new.self.items c.texts_from-texts.ensures c.truncate.ensures.items (λ h. c.in_ok-put_node-in-None.ensures.frame h)) all
 
--- what a refusal leaves: what was put so far, or that and a beginning of a frame
+-- the content after a fault: the records so far, or these and a prefix of a frame
 pub returns-in_err-take-in-Some-Terminal-clause-left : goal.returns-in_err-take-in-Some-Terminal-clause-left
 returns-in_err-take-in-Some-Terminal-clause-left g c =
     let inv = c.loop-terminal.invariant in

@@ -1,4 +1,4 @@
--- The goals of `first` that are left.
+-- The remaining goals of `first`.
 use Rattle.std.proofs.Common.{ap}
 use Rattle.closure.specs.Clauses.{Clauses}
 use Rattle.closure.specs.Following.{is_marked}

@@ -1,4 +1,4 @@
--- The edge is there, and what was there.
+-- The edge and the old edges are in the list.
 use Rattle.llparse.proofs.look_ahead.Edges.{adds_edge}
 use Rattle.llparse.proofs.table.first.note.Goals as goal
 

@@ -1,4 +1,4 @@
--- The goals of `note_front` that are left.
+-- The remaining goals of `note_front`.
 use Rattle.std.proofs.Common.{subst, take_all, Contains}
 use Rattle.ag_grammar.specs.declared.grammar.Item.{Item}
 use Rattle.llparse.specs.table.Edges.{Adds, IsEdge, OfSome}

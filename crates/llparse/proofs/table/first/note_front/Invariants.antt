@@ -1,4 +1,4 @@
--- What the loop of `note_front` keeps.
+-- The invariant of the loop of `note_front`.
 use Rattle.std.proofs.Common.{take, Contains}
 use Rattle.ag_grammar.specs.declared.grammar.Item.{Item}
 use Rattle.llparse.specs.table.Edges.{Adds, IsEdge, OfSome}

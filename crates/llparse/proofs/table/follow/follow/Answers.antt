@@ -1,4 +1,4 @@
--- The goals of `follow` that are left.
+-- The remaining goals of `follow`.
 use Rattle.std.proofs.Common.{ap}
 use Rattle.closure.specs.Clauses.{Clauses}
 use Rattle.closure.specs.Following.{is_marked}

@@ -1,4 +1,4 @@
--- What the loop of `note_last` keeps.
+-- The invariant of the loop of `note_last`.
 use Rattle.std.proofs.Common.{◌≡◌, drop, Contains}
 use Rattle.ag_grammar.specs.declared.grammar.Item.{Item}
 use Rattle.llparse.specs.table.Comes.{all_empty, OfRest}

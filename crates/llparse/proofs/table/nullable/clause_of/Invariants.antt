@@ -1,4 +1,4 @@
--- What the loop of `clause_of` keeps.
+-- The invariant of the loop of `clause_of`.
 use Rattle.std.proofs.Common.{◌≡◌, map, take}
 use Rattle.llparse.specs.table.Nodes.{node_of}
 use Rattle.llparse.proofs.table.nullable.clause_of.Given as goal

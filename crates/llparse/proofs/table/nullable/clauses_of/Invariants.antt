@@ -1,4 +1,4 @@
--- What the loop of `clauses_of` keeps.
+-- The invariant of the loop of `clauses_of`.
 use Rattle.std.proofs.Common.{◌≡◌, map, take}
 use Rattle.llparse.specs.table.Nullable.{clause_of}
 use Rattle.llparse.proofs.table.nullable.clauses_of.Given as goal

@@ -1,4 +1,4 @@
--- The goals of `nullable` that are left.
+-- The remaining goals of `nullable`.
 use Rattle.std.proofs.Common.{ap, ◌∙◌}
 use Rattle.closure.specs.Clauses.{Clauses}
 use Rattle.llparse.proofs.look_ahead.Edges.{iff_on}

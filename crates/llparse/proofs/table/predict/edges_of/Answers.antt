@@ -1,4 +1,4 @@
--- The goals of `edges_of` that are left.
+-- The remaining goals of `edges_of`.
 use Rattle.std.proofs.Common.{◌≡◌, ◌<◌, ◌≤◌, length, arith, ap, ◌∙◌, get_or, List, Contains}
 use Rattle.ag_grammar.specs.declared.grammar.Production.{Production}
 use Rattle.closure.specs.Following.{is_marked}

@@ -1,4 +1,4 @@
--- What the loop of `edges_of` keeps.
+-- The invariant of the loop of `edges_of`.
 use Rattle.std.proofs.Common.{take, Contains}
 use Rattle.closure.specs.Following.{is_marked}
 use Rattle.llparse.specs.table.Comes.{IsFollowEdge}

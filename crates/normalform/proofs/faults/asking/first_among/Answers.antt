@@ -1,4 +1,4 @@
--- The goals of `first_among` that are left.
+-- The remaining goals of `first_among`.
 use Rattle.std.proofs.Common.{map}
 use Rattle.normalform.specs.faults.Asking.{asked_check}
 use Rattle.normalform.specs.faults.Placed.{item_placed}

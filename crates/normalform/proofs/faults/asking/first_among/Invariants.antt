@@ -1,4 +1,4 @@
--- What the loop of `first_among` keeps.
+-- The invariant of the loop of `first_among`.
 use Rattle.std.proofs.Common.{◌≡◌, drop, map}
 use Rattle.normalform.specs.faults.Asking.{asked_check}
 use Rattle.normalform.specs.faults.Faults.{first_wrong}

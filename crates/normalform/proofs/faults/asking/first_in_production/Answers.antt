@@ -1,4 +1,4 @@
--- The goals of `first_in_production` that are left.
+-- The remaining goals of `first_in_production`.
 use Rattle.std.proofs.Common.{◌∙◌, ap, map, sym}
 use Rattle.normalform.specs.faults.Asking.{asked_checks}
 use Rattle.normalform.specs.faults.Faults.{first_wrong}

@@ -1,4 +1,4 @@
--- What the loop of `first_in_production` keeps.
+-- The invariant of the loop of `first_in_production`.
 use Rattle.std.proofs.Common.{◌≡◌, drop, flat_map}
 use Rattle.normalform.specs.faults.Asking.{asked_checks, asked_in}
 use Rattle.normalform.specs.faults.Faults.{first_wrong}

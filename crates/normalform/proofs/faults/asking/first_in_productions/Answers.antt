@@ -1,4 +1,4 @@
--- The goals of `first_in_productions` that are left.
+-- The remaining goals of `first_in_productions`.
 use Rattle.std.proofs.Common.{sym, ◌∙◌}
 use Rattle.normalform.specs.faults.Asking.{asked_in}
 use Rattle.normalform.proofs.found.Wrong.{wrong_here, wrong_past}

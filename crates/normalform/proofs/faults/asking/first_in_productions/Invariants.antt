@@ -1,4 +1,4 @@
--- What the loop of `first_in_productions` keeps.
+-- The invariant of the loop of `first_in_productions`.
 use Rattle.std.proofs.Common.{◌≡◌, drop}
 use Rattle.normalform.specs.faults.Asking.{asked}
 use Rattle.normalform.specs.faults.Faults.{first_wrong}

@@ -1,4 +1,4 @@
--- What the loop of `body_of` keeps.
+-- The invariant of the loop of `body_of`.
 use Rattle.std.proofs.Common.{◌≡◌, ◌++◌, drop}
 use Rattle.normalform.specs.faults.Clauses.{body_of}
 use Rattle.normalform.specs.numbers.Numbers.{symbol_names}

@@ -1,4 +1,4 @@
--- What the loop of `clauses_of` keeps.
+-- The invariant of the loop of `clauses_of`.
 use Rattle.std.proofs.Common.{◌≡◌, take}
 use Rattle.normalform.specs.faults.Clauses.{clauses_of}
 use Rattle.normalform.proofs.faults.clause.clauses_of.Given as goal

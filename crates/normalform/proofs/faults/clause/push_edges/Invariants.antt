@@ -1,4 +1,4 @@
--- What the loop of `push_edges` keeps.
+-- The invariant of the loop of `push_edges`.
 use Rattle.std.proofs.Common.{◌≡◌, ◌++◌, map, take}
 use Rattle.normalform.specs.faults.Clauses.{edge}
 use Rattle.normalform.proofs.faults.clause.push_edges.Given as goal

@@ -1,4 +1,4 @@
--- What the loop of `reaching` keeps.
+-- The invariant of the loop of `reaching`.
 use Rattle.std.proofs.Common.{◌≡◌, ◌++◌, drop, flat_map}
 use Rattle.normalform.specs.faults.Clauses.{reaching, edges_of}
 use Rattle.normalform.proofs.faults.clause.reaching.Given as goal

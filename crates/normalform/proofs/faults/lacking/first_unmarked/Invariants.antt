@@ -1,4 +1,4 @@
--- What the loop of `first_unmarked` keeps.
+-- The invariant of the loop of `first_unmarked`.
 use Rattle.std.proofs.Common.{ℕ, ◌≡◌, ◌<◌, true}
 use Rattle.closure.specs.Following.{is_marked}
 use Rattle.normalform.proofs.faults.lacking.first_unmarked.Given as goal

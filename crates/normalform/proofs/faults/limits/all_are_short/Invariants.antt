@@ -1,4 +1,4 @@
--- What the loop of `all_are_short` keeps.
+-- The invariant of the loop of `all_are_short`.
 use Rattle.std.proofs.Common.{◌≡◌, drop, map, List, ℕ}
 use Rattle.std.specs.Borrow.{Bor}
 use Rattle.std.specs.List.{list_all}

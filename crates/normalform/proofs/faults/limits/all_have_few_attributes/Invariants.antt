@@ -1,4 +1,4 @@
--- What the loop of `all_have_few_attributes` keeps.
+-- The invariant of the loop of `all_have_few_attributes`.
 use Rattle.std.proofs.Common.{◌≡◌, map, drop}
 use Rattle.std.specs.List.{list_all}
 use Rattle.normalform.specs.faults.Faults.{few_attributes}

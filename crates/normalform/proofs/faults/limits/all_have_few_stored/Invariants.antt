@@ -1,4 +1,4 @@
--- What the loop of `all_have_few_stored` keeps.
+-- The invariant of the loop of `all_have_few_stored`.
 use Rattle.std.proofs.Common.{◌≡◌, drop}
 use Rattle.std.specs.List.{list_all}
 use Rattle.normalform.specs.faults.Faults.{few_stored}

@@ -1,4 +1,4 @@
--- What the loop of `list_literals` keeps.
+-- The invariant of the loop of `list_literals`.
 use Rattle.std.proofs.Common.{◌≡◌, fold, take}
 use Rattle.normalform.specs.numbers.Numbers.{with_item}
 use Rattle.normalform.proofs.faults.limits.list_literals.Given as goal

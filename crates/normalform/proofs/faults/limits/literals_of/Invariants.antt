@@ -1,4 +1,4 @@
--- What the loop of `literals_of` keeps.
+-- The invariant of the loop of `literals_of`.
 use Rattle.std.proofs.Common.{◌≡◌, fold, take, []}
 use Rattle.normalform.specs.numbers.Numbers.{with_production}
 use Rattle.normalform.proofs.faults.limits.literals_of.Given as goal

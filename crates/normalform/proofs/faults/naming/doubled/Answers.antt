@@ -1,4 +1,4 @@
--- The goals of `doubled` that are left.
+-- The remaining goals of `doubled`.
 use Rattle.std.proofs.Common.{◌∙◌, sym}
 use Rattle.normalform.specs.faults.Faults.{symbol_checks, with_symbol}
 use Rattle.normalform.proofs.found.Wrong.{along_here, along_past}

@@ -1,4 +1,4 @@
--- What the loop of `doubled` keeps.
+-- The invariant of the loop of `doubled`.
 use Rattle.std.proofs.Common.{◌≡◌, drop}
 use Rattle.normalform.specs.faults.Faults.{first_wrong, doubled, checks_along, symbol_checks, with_symbol}
 use Rattle.normalform.proofs.faults.naming.doubled.Given as goal

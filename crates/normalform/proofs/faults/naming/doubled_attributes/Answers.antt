@@ -1,4 +1,4 @@
--- The goals of `doubled_attributes` that are left.
+-- The remaining goals of `doubled_attributes`.
 use Rattle.normalform.proofs.found.Wrong.{doubled_here, doubled_past}
 use Rattle.normalform.proofs.faults.naming.doubled_attributes.Goals as goal
 

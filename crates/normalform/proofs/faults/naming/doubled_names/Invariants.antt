@@ -1,4 +1,4 @@
--- What the loop of `doubled_names` keeps.
+-- The invariant of the loop of `doubled_names`.
 use Rattle.std.proofs.Common.{◌≡◌, drop, take, fold}
 use Rattle.normalform.specs.faults.Faults.{first_wrong, doubled_names, with_name}
 use Rattle.normalform.proofs.faults.naming.doubled_names.Given as goal

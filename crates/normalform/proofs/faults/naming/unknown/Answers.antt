@@ -1,4 +1,4 @@
--- The goals of `unknown` that are left.
+-- The remaining goals of `unknown`.
 use Rattle.std.proofs.Common.{sym, ◌∙◌}
 use Rattle.normalform.specs.faults.Faults.{unknown_in}
 use Rattle.normalform.proofs.found.Wrong.{wrong_here, wrong_past}

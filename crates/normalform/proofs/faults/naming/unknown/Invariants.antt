@@ -1,4 +1,4 @@
--- What the loop of `unknown` keeps.
+-- The invariant of the loop of `unknown`.
 use Rattle.std.proofs.Common.{◌≡◌, drop}
 use Rattle.normalform.specs.faults.Faults.{first_wrong, unknown}
 use Rattle.normalform.proofs.faults.naming.unknown.Given as goal

@@ -1,4 +1,4 @@
--- What the loop of `unknown_in_items` keeps.
+-- The invariant of the loop of `unknown_in_items`.
 use Rattle.std.proofs.Common.{◌≡◌, drop, flat_map}
 use Rattle.normalform.specs.faults.Faults.{first_wrong, item_checks}
 use Rattle.normalform.specs.numbers.Numbers.{symbol_names}

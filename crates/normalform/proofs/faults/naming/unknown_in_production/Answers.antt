@@ -1,4 +1,4 @@
--- The goals of `unknown_in_production` that are left.
+-- The remaining goals of `unknown_in_production`.
 use Rattle.std.proofs.Common.{◌≡◌, ◌∷◌, [], ◌++◌, List, flat_map, IfOk, subst, ◌∙◌}
 use Rattle.normalform.specs.faults.Faults.{Check, name_check, item_checks, rule_checks}
 use Rattle.normalform.specs.numbers.Numbers.{placed, symbol_names}

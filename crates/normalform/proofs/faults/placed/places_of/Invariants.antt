@@ -1,4 +1,4 @@
--- What the loop of `places_of` keeps.
+-- The invariant of the loop of `places_of`.
 use Rattle.std.proofs.Common.{◌≡◌, ◌++◌, drop, map}
 use Rattle.normalform.specs.numbers.Numbers.{placed, stored_of, symbol_names}
 use Rattle.normalform.specs.faults.Placed.{item_placed}

@@ -1,4 +1,4 @@
--- What the loop of `are_readable` keeps.
+-- The invariant of the loop of `are_readable`.
 use Rattle.std.proofs.Common.{◌≡◌, drop}
 use Rattle.std.specs.List.{list_all}
 use Rattle.normalform.specs.faults.Readable.{readable_in}

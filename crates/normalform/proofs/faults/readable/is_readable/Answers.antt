@@ -1,4 +1,4 @@
--- The goals of `is_readable` that are left.
+-- The remaining goals of `is_readable`.
 use Rattle.normalform.proofs.found.Tested.{readable_tells}
 use Rattle.normalform.proofs.faults.readable.is_readable.Goals as goal
 

@@ -1,4 +1,4 @@
--- What the loop of `is_readable_in` keeps.
+-- The invariant of the loop of `is_readable_in`.
 use Rattle.std.proofs.Common.{◌≡◌, drop}
 use Rattle.std.specs.List.{list_all}
 use Rattle.normalform.specs.faults.Readable.{readable_item, readable_in}

@@ -1,4 +1,4 @@
--- What the loop of `is_readable_text` keeps.
+-- The invariant of the loop of `is_readable_text`.
 use Rattle.std.proofs.Common.{◌≡◌, drop, not}
 use Rattle.std.specs.List.{list_all}
 use Rattle.normalform.specs.faults.Readable.{is_separator}

@@ -1,4 +1,4 @@
--- The goals of `doubled_among` that are left.
+-- The remaining goals of `doubled_among`.
 use Rattle.std.proofs.Common.{sym, ◌∙◌, map}
 use Rattle.normalform.specs.faults.Faults.{new_target, with_rule}
 use Rattle.normalform.specs.faults.Placed.{item_placed}

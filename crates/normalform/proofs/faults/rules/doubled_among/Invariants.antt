@@ -1,4 +1,4 @@
--- What the loop of `doubled_among` keeps.
+-- The invariant of the loop of `doubled_among`.
 use Rattle.std.proofs.Common.{◌≡◌, drop, map, []}
 use Rattle.normalform.specs.faults.Placed.{item_placed}
 use Rattle.normalform.specs.faults.Faults.{first_wrong, checks_along, with_rule, new_target}

@@ -1,4 +1,4 @@
--- The goals of `doubled_rules` that are left.
+-- The remaining goals of `doubled_rules`.
 use Rattle.std.proofs.Common.{sym, ◌∙◌}
 use Rattle.normalform.specs.faults.Faults.{doubled_in}
 use Rattle.normalform.proofs.found.Wrong.{wrong_here, wrong_past}

@@ -1,4 +1,4 @@
--- What the loop of `doubled_rules` keeps.
+-- The invariant of the loop of `doubled_rules`.
 use Rattle.std.proofs.Common.{◌≡◌, drop}
 use Rattle.normalform.specs.faults.Faults.{first_wrong, doubled_rules}
 use Rattle.normalform.proofs.faults.rules.doubled_rules.Given as goal

@@ -1,4 +1,4 @@
--- The goals of `missing` that are left.
+-- The remaining goals of `missing`.
 use Rattle.std.proofs.Common.{◌+◌, sym, refl, ◌∙◌}
 use Rattle.normalform.specs.faults.Faults.{missing_in, after}
 use Rattle.normalform.proofs.found.Wrong.{along_here, along_past}

@@ -1,4 +1,4 @@
--- What the loop of `missing` keeps.
+-- The invariant of the loop of `missing`.
 use Rattle.std.proofs.Common.{◌≡◌, drop}
 use Rattle.normalform.specs.faults.Faults.{first_wrong, checks_along, after, missing_in, missing}
 use Rattle.normalform.proofs.faults.rules.missing.Given as goal

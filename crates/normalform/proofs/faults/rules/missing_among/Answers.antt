@@ -1,4 +1,4 @@
--- The goals of `missing_among` that are left.
+-- The remaining goals of `missing_among`.
 use Rattle.std.proofs.Common.{◌+◌, refl, map}
 use Rattle.normalform.specs.faults.Faults.{missing_at, after}
 use Rattle.normalform.specs.declared.faults.placed.Placed.TheVariants as placed

@@ -1,4 +1,4 @@
--- What the loop of `missing_among` keeps.
+-- The invariant of the loop of `missing_among`.
 use Rattle.std.proofs.Common.{◌≡◌, drop, map}
 use Rattle.normalform.specs.faults.Placed.{item_placed}
 use Rattle.normalform.specs.faults.Faults.{first_wrong, checks_along, after, missing_at}

@@ -1,4 +1,4 @@
--- The goals of `missing_at` that are left.
+-- The remaining goals of `missing_at`.
 use Rattle.std.proofs.Common.{arith, sym, ◌∙◌}
 use Rattle.normalform.specs.faults.Faults.{missing_check}
 use Rattle.normalform.proofs.found.Wrong.{range_past}

@@ -1,4 +1,4 @@
--- What the loop of `missing_at` keeps.
+-- The invariant of the loop of `missing_at`.
 use Rattle.std.proofs.Common.{◌≡◌, ◌-◌, ◌≤◌, map}
 use Rattle.std.specs.List.{range_with_len}
 use Rattle.normalform.specs.faults.Faults.{first_wrong, missing_check}

@@ -1,4 +1,4 @@
--- Targets stand alone in their rules.
+-- The check of targets has one target for each rule.
 use Rattle.std.proofs.Common.{IfOk, ◌≡◌, subst}
 use Rattle.normalform.specs.faults.Faults.{first_wrong}
 use Rattle.normalform.proofs.found.Wrong.{given_asked}

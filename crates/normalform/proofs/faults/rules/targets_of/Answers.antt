@@ -1,4 +1,4 @@
--- The goals of `targets_of` that are left.
+-- The remaining goals of `targets_of`.
 use Rattle.std.proofs.Common.{map, []}
 use Rattle.std.proofs.lemmas.List.Sums.{fold_more}
 use Rattle.normalform.specs.faults.Faults.{with_rule}

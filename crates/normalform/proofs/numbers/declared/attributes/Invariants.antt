@@ -1,4 +1,4 @@
--- What the loop of `attributes` keeps.
+-- The invariant of the loop of `attributes`.
 use Rattle.std.proofs.Common.{◌≡◌, map, take}
 use Rattle.ag_grammar.specs.grammars.AttributeGrammar.{attribute_names}
 use Rattle.normalform.specs.numbers.Numbers.{symbol_of}

@@ -1,4 +1,4 @@
--- What the loop of `names_of` keeps.
+-- The invariant of the loop of `names_of`.
 use Rattle.std.proofs.Common.{◌≡◌, map, take}
 use Rattle.normalform.specs.numbers.Numbers.{symbol_of, symbol_names}
 use Rattle.normalform.proofs.numbers.declared.names_of.Given as goal

@@ -1,4 +1,4 @@
--- What the loop of `push_names` keeps.
+-- The invariant of the loop of `push_names`.
 use Rattle.std.proofs.Common.{◌≡◌, ◌++◌, take}
 use Rattle.ag_grammar.specs.grammars.Raw.{texts_of}
 use Rattle.normalform.proofs.numbers.declared.push_names.Given as goal

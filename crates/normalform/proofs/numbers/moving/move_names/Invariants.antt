@@ -1,4 +1,4 @@
--- What the loop of `move_names` keeps.
+-- The invariant of the loop of `move_names`.
 use Rattle.std.proofs.Common.{◌≡◌}
 use Rattle.ag_grammar.specs.grammars.Raw.{texts_of}
 use Rattle.normalform.proofs.numbers.moving.move_names.Given as goal

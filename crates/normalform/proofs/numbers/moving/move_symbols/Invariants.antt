@@ -1,4 +1,4 @@
--- What the loop of `move_symbols` keeps.
+-- The invariant of the loop of `move_symbols`.
 use Rattle.std.proofs.Common.{◌≡◌, map}
 use Rattle.normalform.specs.numbers.Numbers.{symbol_of}
 use Rattle.normalform.proofs.numbers.moving.move_symbols.Given as goal

@@ -1,4 +1,4 @@
--- What the loop of `classes_among` keeps.
+-- The invariant of the loop of `classes_among`.
 use Rattle.std.proofs.Common.{◌≡◌, take, filter, ℕ}
 use Rattle.normalform.specs.numbers.Numbers.{is_class}
 use Rattle.std.specs.List.{list_any}

@@ -1,4 +1,4 @@
--- The goals of `item_of` that are left.
+-- The remaining goals of `item_of`.
 use Rattle.normalform.proofs.numbered.Small.{symbol_small, text_small}
 use Rattle.normalform.proofs.numbers.numbering.item_of.Goals as goal
 

@@ -1,4 +1,4 @@
--- What the loop of `items_of` keeps.
+-- The invariant of the loop of `items_of`.
 use Rattle.std.proofs.Common.{◌≡◌, take, map}
 use Rattle.normalform.specs.numbers.Numbers.{item_of, symbol_names}
 use Rattle.normalform.proofs.numbers.numbering.items_of.Given as goal

@@ -1,4 +1,4 @@
--- What the loop of `literal_texts` keeps.
+-- The invariant of the loop of `literal_texts`.
 use Rattle.std.proofs.Common.{◌≡◌, take, map, List, ℕ}
 use Rattle.std.specs.Borrow.{Bor}
 use Rattle.normalform.proofs.numbers.numbering.literal_texts.Given as goal

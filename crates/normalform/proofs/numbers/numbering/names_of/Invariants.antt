@@ -1,4 +1,4 @@
--- What the loop of `names_of` keeps.
+-- The invariant of the loop of `names_of`.
 use Rattle.std.proofs.Common.{◌≡◌, take}
 use Rattle.normalform.proofs.numbers.numbering.names_of.Given as goal
 

@@ -1,4 +1,4 @@
--- The goals of `production_of` that are left.
+-- The remaining goals of `production_of`.
 use Rattle.normalform.proofs.numbered.Small.{symbol_small}
 use Rattle.normalform.proofs.numbers.numbering.production_of.Goals as goal
 

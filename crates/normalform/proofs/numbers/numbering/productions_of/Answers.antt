@@ -1,4 +1,4 @@
--- The goals of `productions_of` that are left.
+-- The remaining goals of `productions_of`.
 use Rattle.std.proofs.Common.{◌∙◌}
 use Rattle.std.proofs.lemmas.List.{map_push}
 use Rattle.std.proofs.lemmas.List.Elements.{All-push}

@@ -1,4 +1,4 @@
--- What the loop of `productions_of` keeps.
+-- The invariant of the loop of `productions_of`.
 use Rattle.std.proofs.Common.{◌≡◌, map, All}
 use Rattle.normalform.specs.numbers.Numbers.{production_of}
 use Rattle.normalform.specs.faults.Faults.{AreListedIn}

@@ -1,4 +1,4 @@
--- The goals of `rules_of` that are left.
+-- The remaining goals of `rules_of`.
 use Rattle.std.proofs.Common.{map, ◌∙◌}
 use Rattle.std.proofs.lemmas.List.{map_push}
 use Rattle.std.proofs.lemmas.List.Elements.{All-push}

@@ -1,4 +1,4 @@
--- What the loop of `rules_of` keeps.
+-- The invariant of the loop of `rules_of`.
 use Rattle.std.proofs.Common.{◌≡◌, map, All}
 use Rattle.normalform.specs.numbers.Numbers.{rule_of}
 use Rattle.normalform.specs.faults.Placed.{item_placed}

@@ -1,4 +1,4 @@
--- The goals of `start_of` that are left.
+-- The remaining goals of `start_of`.
 use Rattle.normalform.proofs.numbered.Small.{symbol_small}
 use Rattle.normalform.proofs.numbers.numbering.start_of.Goals as goal
 

@@ -1,4 +1,4 @@
--- The goals of `target_of` that are left.
+-- The remaining goals of `target_of`.
 use Rattle.std.proofs.Common.{map}
 use Rattle.normalform.specs.faults.Placed.{item_placed}
 use Rattle.normalform.proofs.numbered.Small.{attribute_small}

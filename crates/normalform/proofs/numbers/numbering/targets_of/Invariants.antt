@@ -1,4 +1,4 @@
--- What the loop of `targets_of` keeps.
+-- The invariant of the loop of `targets_of`.
 use Rattle.std.proofs.Common.{◌≡◌, take, map}
 use Rattle.normalform.specs.numbers.Numbers.{target_of}
 use Rattle.normalform.specs.faults.Placed.{item_placed}

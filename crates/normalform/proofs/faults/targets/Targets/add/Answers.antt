@@ -1,4 +1,4 @@
--- A pair is a new key exactly where its target is not among those listed.
+-- A pair is a new key exactly if its target is not one of those listed.
 use Rattle.std.proofs.Common.{◌∙◌, ap, not}
 use Rattle.normalform.proofs.numbered.Pairs.{among, with_pair}
 use Rattle.normalform.proofs.faults.targets.Targets.add.Goals as goal

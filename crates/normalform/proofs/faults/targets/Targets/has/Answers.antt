@@ -1,4 +1,4 @@
--- A target is among those listed exactly where its pair is a key.
+-- A target is one of those listed exactly if its pair is a key.
 use Rattle.std.proofs.Common.{◌∙◌}
 use Rattle.normalform.proofs.numbered.Pairs.{among}
 use Rattle.normalform.proofs.faults.targets.Targets.has.Goals as goal

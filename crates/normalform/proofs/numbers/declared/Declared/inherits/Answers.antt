@@ -1,4 +1,4 @@
--- The goals of `inherits` that are left.
+-- The remaining goals of `inherits`.
 use Rattle.normalform.proofs.numbered.KindAt.{inherits_behind, inherits_none}
 use Rattle.normalform.proofs.numbers.declared.Declared.inherits.Goals as goal
 

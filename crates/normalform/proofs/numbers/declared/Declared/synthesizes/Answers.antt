@@ -1,4 +1,4 @@
--- The goals of `synthesizes` that are left.
+-- The remaining goals of `synthesizes`.
 use Rattle.normalform.proofs.numbered.KindAt.{synthesizes_is}
 use Rattle.normalform.proofs.numbers.declared.Declared.synthesizes.Goals as goal
 

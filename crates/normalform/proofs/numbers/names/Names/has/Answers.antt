@@ -1,4 +1,4 @@
--- The set has the key of a text's first appearance exactly where the list has the text.
+-- The set has the key of a text's first appearance exactly if the list has the text.
 use Rattle.std.proofs.Common.{ap, sym, ◌∙◌, is_some, bytes_eq}
 use Rattle.normalform.specs.numbers.Names.{is_first}
 use Rattle.normalform.proofs.numbered.Texts.{found}

@@ -1,4 +1,4 @@
--- The set goes on with the key of a text's first appearance, or has it.
+-- The set has the key of a text's first appearance already, or gets it.
 use Rattle.std.proofs.Common.{ap, not, refl, ◌∙◌}
 use Rattle.normalform.proofs.numbered.Keys.{inserted_numbered, inserted_texts, there_is}
 use Rattle.normalform.proofs.numbers.names.Names.insert.Goals as goal

@@ -1,4 +1,4 @@
--- The key's index is the first place of the text, and the length is that after all.
+-- The key's index is the first position of the text; for a missing text it is the length.
 use Rattle.std.proofs.Common.{sym, ◌∙◌, bytes_eq}
 use Rattle.std.proofs.lemmas.List.{length-map}
 use Rattle.normalform.proofs.numbered.Texts.{index_at}

@@ -1,4 +1,4 @@
--- The set goes on with the key of a text's first appearance, or with its index beside it.
+-- The set gets the key of a text's first appearance, or that with its index.
 use Rattle.std.proofs.Common.{sym, refl, ◌∙◌}
 use Rattle.normalform.proofs.numbered.Keys.{inserted_numbered, pushed_again}
 use Rattle.normalform.proofs.numbers.names.Names.push.Goals as goal

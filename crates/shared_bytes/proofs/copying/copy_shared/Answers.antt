@@ -1,7 +1,7 @@
 use Rattle.std.proofs.Common.{rules, ◌≡◌, ◌≤◌, ◌+◌, ◌-◌, min, length, take, drop, ap, ◌∙◌, arith}
 use Rattle.std.proofs.lemmas.List.{length-drop, length-take-le}
 use Rattle.shared_bytes.proofs.Reading.{some_read}
-use Rattle.shared_bytes.proofs.shared_bytes.copy_shared.Goals as goal
+use Rattle.shared_bytes.proofs.copying.copy_shared.Goals as goal
 
 pub returns-clause-read : goal.returns-clause-read
 returns-clause-read c = λ content rest e h.

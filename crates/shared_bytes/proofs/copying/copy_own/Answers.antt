@@ -1,6 +1,6 @@
 use Rattle.std.proofs.Common.{rules, ◌≡◌, ◌≤◌, ◌+◌, ◌-◌, min, length, take, drop, ap, ◌∙◌, arith}
 use Rattle.shared_bytes.proofs.Reading.{some_read}
-use Rattle.shared_bytes.proofs.shared_bytes.copy_own.Goals as goal
+use Rattle.shared_bytes.proofs.copying.copy_own.Goals as goal
 
 pub returns-clause-read : goal.returns-clause-read
 returns-clause-read c = λ content rest e h.

@@ -1,0 +1,68 @@
+//! Copying of bytes into a slice, piece by piece.
+
+ghost use Rattle.std.specs.Prelude.{◌≡◌, ◌++◌, ◌+◌, ◌-◌, ◌<◌, ◌≤◌, ◌^◌, ℕ, List, drop, length};
+ghost use Rattle.std.specs.Prelude.{min, None, IfSome};
+ghost use Rattle.shared_bytes.specs.Reads.{HasRead};
+
+use ag_carried::Encoded;
+
+/// A slice of `size` bytes is filled from offset `at` on, and has `done` of them. Returns which part of
+/// the `len` bytes at offset `place` comes next, by its index and length, or `None` if none of them does.
+fn lacking(place: u64, len: usize, at: u64, done: usize, size: usize) -> Option<(usize, usize)>
+    requires within { done ≤ size }
+    requires room { at + size < 2 ^ 64 }
+    ensures here { IfSome result (λ part. at + done ≡ place + part.0) }
+    ensures there { IfSome result (λ part. part.0 ≤ len) }
+    ensures count { IfSome result (λ part. part.1 ≡ min (len - part.0) (size - done)) }
+    ensures none { result ≡ None → done < size → place ≤ at + done → place + len ≤ at + done }
+{
+    let here = at + done as u64;
+    if done == size || here < place {
+        return None;
+    }
+    let skip = here - place;
+    if len as u64 <= skip {
+        return None;
+    }
+    let skip = skip as usize;
+    Some((skip, (len - skip).min(size - done)))
+}
+
+/// Copies the next bytes of a slice that is filled from offset `at` on, and has `done` of them, out of a
+/// piece at offset `place`. Returns how many it then has.
+pub(crate) fn copy_own(piece: &[u8], place: u64, at: u64, done: usize, out: &mut [u8]) -> usize
+    requires within { done ≤ length out.old }
+    requires room { at + length out.old < 2 ^ 64 }
+    ensures within { result ≤ length out.old }
+    ensures read { (content rest : List ℕ) → drop place content ≡ piece.now ++ rest
+        → HasRead place at done content out.old
+        → HasRead (place + length piece.now) at result content out.new }
+{
+    let Some((skip, count)) = lacking(place, piece.len(), at, done, out.len()) else {
+        return done;
+    };
+    out[done..done + count].copy_from_slice(&piece[skip..skip + count]);
+    done + count
+}
+
+/// Copies them out of an encoding, as `copy_own` does.
+pub(crate) fn copy_shared(
+    piece: &Encoded,
+    place: u64,
+    at: u64,
+    done: usize,
+    out: &mut [u8],
+) -> usize
+    requires within { done ≤ length out.old }
+    requires room { at + length out.old < 2 ^ 64 }
+    ensures within { result ≤ length out.old }
+    ensures read { (content rest : List ℕ) → drop place content ≡ piece.now ++ rest
+        → HasRead place at done content out.old
+        → HasRead (place + length piece.now) at result content out.new }
+{
+    let Some((skip, count)) = lacking(place, piece.len(), at, done, out.len()) else {
+        return done;
+    };
+    piece.copy_part(skip, &mut out[done..done + count]);
+    done + count
+}
