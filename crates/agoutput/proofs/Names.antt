@@ -1,10 +1,10 @@
--- A number that no attribute of a symbol has.
+-- A number that is not the number of an attribute of a symbol.
 use Rattle.std.proofs.Common.{ℕ, zero, suc, ◌≡◌, ◌<◌, List, [], ◌∷◌, Some, None, length, slice_get, slice_index_or, refl, sym, ap, ◌∙◌}
 use Rattle.std.proofs.lemmas.Option.{slice_get-get_or}
 use Rattle.ag_grammar.specs.declared.grammar.Symbol.{Symbol}
 use Rattle.ag_grammar.specs.grammars.AttributeGrammar.{attribute_names, symbol_names}
 
--- where nothing is at an index, what stands in its place is given
+-- the default is returned for an index without an element
 none_there : {A : Type 0} (xs : List A) (i : ℕ) (d : A) → slice_get xs i ≡ None → slice_index_or xs i d ≡ d
 none_there [] i d none = refl
 none_there (x ∷ xs) zero d none = let bad : ⊥ = cc in absurd bad

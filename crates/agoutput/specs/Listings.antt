@@ -13,15 +13,16 @@ use Rattle.passcode.specs.declared.instr.Instr.{Instr}
 use Rattle.passcode.specs.declared.instr.Instr.TheVariants as instr
 use Rattle.agoutput.specs.Writing.{AppendsBeginning}
 
--- an attribute's name and its pass: where that is pass k, a space, the symbol's name, a point and the attribute's name
+-- the text of an attribute in the line of pass k, by its symbol's name, and its own name and pass: a space and `SYMBOL.ATTRIBUTE`
+-- if its pass is k, else nothing
 abbrev pub attribute_text : ℕ → List ℕ → List ℕ × ℕ → List ℕ
 attribute_text k name x = if x.1 == k then codes " " ++ name ++ codes "." ++ x.0 else []
 
--- a symbol with the passes of its attributes, by their numbers: those of pass k
+-- the attributes of a symbol in the line of pass k, by the symbol and the passes of its attributes
 abbrev pub symbol_text : ℕ → Symbol × List ℕ → List ℕ
 symbol_text k x = flat_map (attribute_text k x.0.name) (zip (attribute_names x.0) x.1)
 
--- the line of pass k: its number and its direction, and then its attributes, symbol by symbol
+-- the line of pass k: its number, its direction, and the attributes that it computes, symbol by symbol
 abbrev pub pass_line : Grammar → List (List ℕ) → ℕ → List ℕ
 pass_line g rows k = codes "pass " ++ decimal k ++ codes " " ++ direction_name (direction_of k) ++ codes ":" ++ flat_map (symbol_text k) (zip g.symbols rows) ++ codes "\n"
 
@@ -30,17 +31,17 @@ abbrev pub plan_text : Grammar → List (List ℕ) → ℕ → List ℕ
 plan_text g rows zero = []
 plan_text g rows (suc n) = plan_text g rows n ++ pass_line g rows (suc n)
 
--- The listing of an assignment: the lines of all its passes.
+-- The text is the listing of an assignment: the lines of all its passes.
 pub record IsPlanListing (g : Grammar) (rows : List (List ℕ)) (text : List ℕ) : Type 0 where
   pub passes : ℕ
   pub greatest : IsGreatest passes rows
   pub lines : text ≡ plan_text g rows passes
 
--- the name of an attribute at a place
+-- the name of attribute a at place j of a production; empty if it does not exist
 abbrev pub attribute_name : Grammar → Production → ℕ → ℕ → List ℕ
 attribute_name g q j a = slice_index_or (item_names g (item_at q j)) a []
 
--- an instruction for a node of a production, with an attribute's name for its number
+-- the text of an instruction for a node of a production, with the names of attributes instead of their numbers
 abbrev pub instruction_text : Grammar → Production → Instr → List ℕ
 instruction_text g q (instr.Get j) = codes "get " ++ decimal j
 instruction_text g q (instr.Set j a r) = codes "set " ++ decimal j ++ codes "." ++ attribute_name g q j a ++ codes " rule " ++ decimal r
@@ -49,12 +50,12 @@ instruction_text g q (instr.Put j) = codes "put " ++ decimal j
 instruction_text g q (instr.Def a r) = codes "def " ++ attribute_name g q 0 a ++ codes " rule " ++ decimal r
 instruction_text g q instr.End = codes "end"
 
--- the line of production p and a pass, by the pass and its list: the two numbers, and the instructions with a comma and a
--- space between neighbours
+-- the line of production p and a pass, by the pass and its list: both numbers, and the instructions, separated by a comma and a
+-- space
 abbrev pub code_line : Grammar → ℕ → Production → ℕ × List Instr → List ℕ
 code_line g p q x = decimal p ++ codes " pass " ++ decimal x.0 ++ codes ": " ++ separated (map (instruction_text g q) x.1) ++ codes "\n"
 
--- the lines of a production, by its number and itself, with its lists: one for each pass from 1
+-- the lines of a production, by its number, itself and its lists: one line for each pass from 1
 abbrev pub production_text : Grammar → (ℕ × Production) × List (List Instr) → List ℕ
 production_text g x = flat_map (code_line g x.0.0 x.0.1) (enumerate_from 1 x.1)
 
@@ -62,10 +63,10 @@ production_text g x = flat_map (code_line g x.0.0 x.0.1) (enumerate_from 1 x.1)
 abbrev pub code_text : Grammar → Lists → List ℕ
 code_text g code = flat_map (production_text g) (zip (enumerate_from 0 g.productions) code)
 
--- a writer that tells its bytes has the listing of an assignment more
+-- the listing of an assignment was appended to a writer's bytes, if these are known
 abbrev pub AppendsPlan : Grammar → List (List ℕ) → Option (List ℕ) → Option (List ℕ) → Type 0
 AppendsPlan g rows old new = (text : List ℕ) × IsPlanListing g rows text × Appends old new text
 
--- or a beginning of it
+-- a prefix of the listing of an assignment was appended to a writer's bytes, if these are known
 abbrev pub AppendsPlanBeginning : Grammar → List (List ℕ) → Option (List ℕ) → Option (List ℕ) → Type 0
 AppendsPlanBeginning g rows old new = (text : List ℕ) × IsPlanListing g rows text × AppendsBeginning old new text

@@ -1,7 +1,7 @@
--- Examples of listings, of the first sample grammar of ag_grammar.
+-- Examples of listings for the first sample grammar of ag_grammar.
 use Rattle.std.specs.Prelude.{ℕ, List, [], ◌∷◌, codes}
 
--- all its attributes are of the first pass, which goes from right to left
+-- all attributes belong to pass 1, which goes from right to left
 abbrev pub sample_rows : List (List ℕ)
 sample_rows = (1 ∷ []) ∷ (1 ∷ 1 ∷ []) ∷ []
 
@@ -9,6 +9,6 @@ sample_rows = (1 ∷ []) ∷ (1 ∷ 1 ∷ []) ∷ []
 abbrev pub sample_plan : List ℕ
 sample_plan = codes "pass 1 right-to-left: R.out A.s A.i\n"
 
--- the line of the first production, `R = A A`, in that pass
+-- the line of production 0, `R = A A`, and pass 1
 abbrev pub sample_line : List ℕ
 sample_line = codes "0 pass 1: get 2, set 2.i rule 2, go 2, put 2, get 1, set 1.i rule 1, go 1, put 1, def out rule 0, end\n"

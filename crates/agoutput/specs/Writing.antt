@@ -1,15 +1,15 @@
--- What the writing of a text leaves, also where a write is refused.
+-- The bytes of a writer after writing a text, completely or up to a failed write.
 use Rattle.std.specs.Prelude.{◌≡◌, ℕ, List, ◌++◌, Option}
 use Rattle.std.specs.Io.KnownBytes.{Appends}
 
--- a writer that tells its bytes has a beginning of the bytes more
+-- a prefix of these bytes was appended to the writer's bytes, if those are known
 pub record AppendsBeginning (old new : Option (List ℕ)) (bytes : List ℕ) : Type 0 where
   pub front : List ℕ
   pub rest : List ℕ
   pub cut : bytes ≡ front ++ rest
   pub put : Appends old new front
 
--- all of the bytes but the rest were written
+-- the bytes without their suffix `rest` were appended to the writer's bytes, if those are known
 pub record HasWritten (old new : Option (List ℕ)) (bytes rest : List ℕ) : Type 0 where
   pub front : List ℕ
   pub cut : bytes ≡ front ++ rest

@@ -1,4 +1,4 @@
-//! The listing of a plan's code.
+//! Writes the listing of a plan's code.
 
 ghost use Rattle.std.specs.Prelude.{◌≡◌, ◌++◌, IfOk, IsErrOf, OnOk, codes, decimal, map};
 ghost use Rattle.std.specs.Prelude.{string_bytes};
@@ -19,7 +19,7 @@ use planchecker::Plan;
 use std::alloc::{AllocError, Global};
 use std::io::Write;
 
-/// Appends the name of an instruction and a place.
+/// Appends the name of an instruction and a place in decimal.
 fn show_place(alloc: Global, out: &mut String, name: &str, place: u16) -> Result<(), AllocError>
     ensures { OnOk result (string_bytes out.new ≡ string_bytes out.old
         ++ (name.now ++ decimal place)) }
@@ -28,7 +28,7 @@ fn show_place(alloc: Global, out: &mut String, name: &str, place: u16) -> Result
     show_number(alloc, out, place as usize)
 }
 
-/// Appends the name of an attribute at a place, and the rule that gives it its value.
+/// Appends the name of an attribute at a place, and the number of the rule that computes it.
 fn show_given(
     alloc: Global,
     out: &mut String,
@@ -46,7 +46,7 @@ fn show_given(
     show_number(alloc, out, rule as usize)
 }
 
-/// Appends an instruction for a node of a production.
+/// Appends the text of an instruction for a node of a production.
 fn show_instruction(
     alloc: Global,
     out: &mut String,
@@ -75,7 +75,7 @@ fn show_instruction(
     Ok(())
 }
 
-/// Appends instructions, with a comma and a space between neighbours.
+/// Appends the texts of instructions, separated by a comma and a space.
 fn show_list(
     alloc: Global,
     out: &mut String,
@@ -97,7 +97,7 @@ fn show_list(
     Ok(())
 }
 
-/// Appends the line of a production and a pass.
+/// Appends the line of a production and a pass: both numbers, and the instructions of the list.
 fn show_line(
     alloc: Global,
     out: &mut String,
@@ -119,7 +119,7 @@ fn show_line(
     Ok(())
 }
 
-/// Appends the lines of a production.
+/// Appends the lines of a production, one for each pass from 1.
 fn show_production(
     alloc: Global,
     out: &mut String,
@@ -145,7 +145,7 @@ fn show_production(
     Ok(())
 }
 
-/// The listing of code.
+/// Returns the listing of a plan's code.
 fn code_lines(alloc: Global, grammar: &Grammar, code: &Code) -> Result<String, AllocError>
     ensures { IfOk result (λ text. string_bytes text ≡ code_text grammar.now code.now) }
 {
@@ -164,12 +164,13 @@ fn code_lines(alloc: Global, grammar: &Grammar, code: &Code) -> Result<String, A
     Ok(out)
 }
 
-/// Writes the listing of a plan's code: a line for each production, in the order of the grammar's
-/// text, and in that for each pass from 1, with the instructions of its list.
+/// Writes the listing of a plan's code: one line for each production and pass, with the
+/// instructions of its list. Productions are in the order of the grammar's text, and the lines of a
+/// production in the order of the passes, from 1.
 ///
-/// O2 Write where a write fails or takes no byte; a beginning of the listing has gone out then.
-/// NoMemory where a growth was refused; nothing has gone out then. Takes memory for the whole
-/// listing, which is made before its first byte goes out.
+/// Fails with O2 Write if a write fails or takes no byte; a prefix of the listing is written then.
+/// Fails with NoMemory if memory is refused; nothing is written then. Takes memory for the whole
+/// listing, which is complete before its first byte is written.
 pub fn write_code<W: Write>(
     alloc: Global,
     out: &mut W,
@@ -179,10 +180,10 @@ pub fn write_code<W: Write>(
     requires plan { IsPlan grammar.now plan.now.0 plan.now.1 }
     ensures ok { OnOk result (Appends (W.contents out.old) (W.contents out.new)
         (code_text grammar.now plan.now.1)) }
-    // O2: a beginning of the listing
+    // O2: a prefix of the listing was written
     ensures write { IsErrOf result ListingFault.Write → AppendsBeginning (W.contents out.old)
         (W.contents out.new) (code_text grammar.now plan.now.1) }
-    // no memory: nothing has gone out
+    // NoMemory: nothing was written
     ensures memory { IsErrOf result ListingFault.NoMemory → out.new ≡ out.old }
 {
     let listing = code_lines(alloc, grammar, plan.code())?;

@@ -1,23 +1,23 @@
-//! Why a text was not written.
+//! The reasons why a text or a listing is not written completely.
 
 ghost use Rattle.std.specs.Prelude.{◌≡◌};
 ghost use Rattle.agoutput.specs.declared.fault.ListingFault.TheVariants as listing_fault;
 
 use std::alloc::AllocError;
 
-/// Why a text was not written whole.
+/// The reason why a text is not written completely.
 #[derive(Clone, Copy, Debug, PartialEq, Eq)]
 pub enum TextOutFault {
-    /// O2: a write failed, or took no byte. A beginning of the text may have gone out.
+    /// O2: a write failed, or took no byte. A prefix of the text may have been written.
     Write,
 }
 
-/// Why a listing was not written whole.
+/// The reason why a listing is not written completely.
 #[derive(Clone, Copy, Debug, PartialEq, Eq)]
 pub enum ListingFault {
-    /// O2: a write failed, or took no byte. A beginning of the listing may have gone out.
+    /// O2: a write failed, or took no byte. A prefix of the listing may have been written.
     Write,
-    /// A growth was refused. Nothing has gone out.
+    /// The allocator refused memory. Nothing was written.
     NoMemory,
 }
 

@@ -1,4 +1,5 @@
-//! Texts that go out: lines, and listings of a plan and of its code for a reader.
+//! Writes texts and the listings of plans and code to a writer, and makes lines of values and of
+//! counts.
 #![tactic(auto)]
 
 mod code_listing;

@@ -1,4 +1,4 @@
-//! The lines that are printed, but for listings and translations.
+//! Makes the lines of values and of counts.
 
 ghost use Rattle.std.specs.Prelude.{◌≡◌, IfOk, string_bytes};
 ghost use Rattle.agoutput.specs.Lines.{counts_line as counts_text, nodes_line as nodes_text};
@@ -8,7 +8,7 @@ use ag_grammar::Grammar;
 use ag_value::{NoMemory, Value, show};
 use std::alloc::{AllocError, Global};
 
-/// The text of a value, and LF.
+/// Returns the text of a value, and LF. Fails with NoMemory if memory is refused.
 pub fn value_line(alloc: Global, value: &Value) -> Result<String, NoMemory>
     ensures { IfOk result (λ line. string_bytes line ≡ value_text value.now) }
 {
@@ -17,7 +17,8 @@ pub fn value_line(alloc: Global, value: &Value) -> Result<String, NoMemory>
     Ok(line)
 }
 
-/// Returns the line with the numbers of a grammar's symbols and productions.
+/// Returns the line with the number of symbols and the number of productions of a grammar. Fails
+/// with AllocError if memory is refused.
 pub fn counts_line(alloc: Global, grammar: &Grammar) -> Result<String, AllocError>
     ensures { IfOk result (λ line. string_bytes line ≡ counts_text grammar.now) }
 {
@@ -31,7 +32,7 @@ pub fn counts_line(alloc: Global, grammar: &Grammar) -> Result<String, AllocErro
     Ok(line)
 }
 
-/// Returns the line with the number of a tree's nodes.
+/// Returns the line with the number of nodes of a tree. Fails with AllocError if memory is refused.
 pub fn nodes_line(alloc: Global, count: u32) -> Result<String, AllocError>
     ensures { IfOk result (λ line. string_bytes line ≡ nodes_text count) }
 {
@@ -40,7 +41,7 @@ pub fn nodes_line(alloc: Global, count: u32) -> Result<String, AllocError>
     Ok(line)
 }
 
-/// Returns the noun after a number: that in the singular, or that in the plural.
+/// Returns the noun after a number: the singular after 1, else the plural.
 fn noun_for<'a>(count: usize, one: &'a str, many: &'a str) -> &'a str
     ensures { result.now ≡ noun_text count one.now many.now }
 {

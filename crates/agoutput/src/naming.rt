@@ -1,4 +1,4 @@
-//! Numbers, and the names of attributes, as a listing has them.
+//! The numbers and the names of attributes in listings.
 
 ghost use Rattle.std.specs.Prelude.{◌≡◌, ◌++◌, [], OnOk, decimal, slice_get, slice_index_or};
 ghost use Rattle.std.specs.Prelude.{string_bytes};
@@ -16,7 +16,8 @@ pub(crate) fn show_number(alloc: Global, out: &mut String, number: usize) -> Res
     out.push_str(digits.as_str())
 }
 
-/// The name of a symbol's attribute, empty where there is none of the number.
+/// Returns the name of an attribute of a symbol, by their numbers from 0, or an empty text if the
+/// symbol or the attribute does not exist.
 fn symbol_attribute(symbols: &[Symbol], symbol: u16, attr: u16) -> &str
     ensures { result.now ≡ slice_index_or (symbol_names (slice_get symbols.now symbol)) attr [] }
 {
@@ -29,7 +30,8 @@ fn symbol_attribute(symbols: &[Symbol], symbol: u16, attr: u16) -> &str
     }
 }
 
-/// The name of an attribute at a place of a production, empty where there is none of the number.
+/// Returns the name of an attribute at a place of a production, by its number from 0, or an empty
+/// text if it does not exist. Place 0 is the left side. Attribute 0 of a token is `lex`.
 pub(crate) fn attribute_name<'a>(
     grammar: &'a Grammar,
     production: &Production,

@@ -1,4 +1,4 @@
-//! The listing of the passes of a plan.
+//! Writes the listing of a plan's passes.
 
 ghost use Rattle.std.specs.Prelude.{◌≡◌, ◌++◌, IfOk, IsErrOf, OnOk, decimal, string_bytes};
 ghost use Rattle.std.specs.List.{flat_map, zip};
@@ -16,7 +16,7 @@ use planchecker::Plan;
 use std::alloc::{AllocError, Global};
 use std::io::Write;
 
-/// Appends an attribute of a symbol, where its pass is the one that is told.
+/// Appends the names of a symbol and of its attribute, if `own`, the attribute's pass, is `pass`.
 fn show_attribute(
     out: &mut String,
     pass: u16,
@@ -36,7 +36,8 @@ fn show_attribute(
     Ok(())
 }
 
-/// Appends a symbol's attributes of a pass.
+/// Appends the attributes of a symbol that a pass computes. `passes` has the pass of each
+/// attribute, the synthesized ones first.
 fn show_symbol(
     out: &mut String,
     pass: u16,
@@ -57,7 +58,7 @@ fn show_symbol(
     Ok(())
 }
 
-/// Appends the attributes of a pass, symbol by symbol.
+/// Appends the attributes that a pass computes, symbol by symbol.
 fn show_symbols(
     out: &mut String,
     pass: u16,
@@ -73,7 +74,7 @@ fn show_symbols(
     Ok(())
 }
 
-/// Appends the line of a pass.
+/// Appends the line of a pass: its number, its direction, and the attributes that it computes.
 fn show_pass(
     alloc: Global,
     out: &mut String,
@@ -94,7 +95,7 @@ fn show_pass(
     Ok(())
 }
 
-/// The listing of an assignment.
+/// Returns the listing of an assignment.
 fn plan_lines(
     alloc: Global,
     grammar: &Grammar,
@@ -110,11 +111,11 @@ fn plan_lines(
 }
 
 /// Writes the listing of a plan's passes: a line for each pass from 1, with its direction and the
-/// attributes that it gives values, in the order in which they are declared.
+/// attributes that it computes, in declared order.
 ///
-/// O2 Write where a write fails or takes no byte; a beginning of the listing has gone out then.
-/// NoMemory where a growth was refused; nothing has gone out then. Takes memory for the whole
-/// listing, which is made before its first byte goes out.
+/// Fails with O2 Write if a write fails or takes no byte; a prefix of the listing is written then.
+/// Fails with NoMemory if memory is refused; nothing is written then. Takes memory for the whole
+/// listing, which is complete before its first byte is written.
 pub fn write_plan<W: Write>(
     alloc: Global,
     out: &mut W,
@@ -124,10 +125,10 @@ pub fn write_plan<W: Write>(
     requires plan { IsPlan grammar.now plan.now.0 plan.now.1 }
     ensures ok { OnOk result
         (AppendsPlan grammar.now plan.now.0 (W.contents out.old) (W.contents out.new)) }
-    // O2: a beginning of the listing
+    // O2: a prefix of the listing was written
     ensures write { IsErrOf result ListingFault.Write → AppendsPlanBeginning grammar.now plan.now.0
         (W.contents out.old) (W.contents out.new) }
-    // no memory: nothing has gone out
+    // NoMemory: nothing was written
     ensures memory { IsErrOf result ListingFault.NoMemory → out.new ≡ out.old }
 {
     let listing = plan_lines(alloc, grammar, plan.assignment())?;

@@ -1,4 +1,4 @@
-//! Examples of the definitions, each a law.
+//! Examples for the definitions; each is a law.
 
 ghost use Rattle.std.specs.Prelude.{◌≡◌};
 ghost use Rattle.ag_grammar.specs.grammars.Sample.{sample};
@@ -6,12 +6,12 @@ ghost use Rattle.passcode.specs.Sample.{sample_list, sample_production};
 ghost use Rattle.agoutput.specs.Listings.{IsPlanListing, code_line};
 ghost use Rattle.agoutput.specs.Sample.{sample_line, sample_plan, sample_rows};
 
-/// The listing of the passes of the first sample,
+/// States that `sample_plan` is the listing of the passes of the first sample grammar.
 pub fn sample_passes_listed()
     ensures { IsPlanListing sample sample_rows sample_plan }
 {}
 
-/// and a line of the listing of its code.
+/// States that `sample_line` is the line of production 0 and pass 1 in the listing of its code.
 pub fn sample_code_listed()
     ensures { code_line sample 0 sample_production (1, sample_list) ≡ sample_line }
 {}

@@ -1,4 +1,4 @@
-//! Writing bytes until the writer has taken all of them.
+//! Writes bytes and texts to a writer that may take a part of them at each write.
 
 ghost use Rattle.std.specs.Prelude.{OnErr, OnOk};
 ghost use Rattle.std.specs.Io.KnownBytes.{Appends};
@@ -7,7 +7,7 @@ ghost use Rattle.agoutput.specs.Writing.{AppendsBeginning};
 use crate::fault::TextOutFault;
 use std::io::Write;
 
-/// Writes bytes, one write after another until the writer has taken all of them. Takes no memory.
+/// Writes bytes with as many writes as the writer needs to take all of them. Takes no memory.
 ///
 /// Fails with O2 Write if a write fails or takes no byte; a prefix of the bytes is written then.
 #[tactic(auto, using(crate::proofs::Written::one_more, crate::proofs::Written::beginning))]
@@ -30,7 +30,7 @@ pub fn write_bytes<W: Write>(out: &mut W, bytes: &[u8]) -> Result<(), TextOutFau
     Ok(())
 }
 
-/// Writes a text as `write_bytes` writes its bytes. Takes no memory.
+/// Writes the bytes of a text as `write_bytes` does, and fails as it does. Takes no memory.
 pub fn write_text<W: Write>(out: &mut W, text: &str) -> Result<(), TextOutFault>
     ensures ok { OnOk result (Appends (W.contents out.old) (W.contents out.new) text.now) }
     ensures err { OnErr result

@@ -1,5 +1,6 @@
-//! What no clause says: how a reader goes over a file by blocks, how often it asks for one, and
-//! that it lends large bodies. Each row is told in a line, and the lines are compared.
+//! Tests of properties that no clause states: the number of reads with which a reader reads a file
+//! in blocks, and that it lends large bodies. A test writes a line for each file, and compares the
+//! lines.
 
 ghost use Rattle.std.specs.Prelude.{[], false};
 
@@ -8,10 +9,10 @@ use std::alloc::{AllocError, Global};
 use std::test::Fail;
 use treefile::{Device, DeviceFault, FileVersion, FrameFault, MemDevice};
 
-/// How long the body of a frame is at most that fits into the buffer of a reader.
+/// The greatest number of bytes of a body whose frame fits into the initial buffer of a reader.
 const FITS: usize = 4092;
 
-/// A device in memory that counts how often it is read.
+/// A device in memory that counts the calls of `read_at`.
 #[derive(Drop)]
 struct CountingDevice {
     memory: MemDevice,
@@ -43,7 +44,7 @@ impl Device for CountingDevice {
     }
 }
 
-/// A device that has these bytes, and was not read.
+/// Makes a device that has these bytes, with 0 reads.
 fn device_of(bytes: Vec<u8>) -> CountingDevice {
     CountingDevice {
         memory: MemDevice::from_bytes(bytes),
@@ -51,7 +52,8 @@ fn device_of(bytes: Vec<u8>) -> CountingDevice {
     }
 }
 
-/// The file of pass 0 of a name of so many letters and `if`, in the grammar `S = NAME "if"`.
+/// Returns the file of pass 0 of a name with this number of letters and `if`, in the grammar
+/// `S = NAME "if"`.
 fn file_of_name(alloc: Global, letters: u32) -> Result<Vec<u8>, AllocError> {
     let mut bytes = Vec::from_slice(alloc, b"AGT2\0\0\x01\0\0\x01")?;
     bytes.extend_from_slice(&letters.to_be_bytes())?;
@@ -61,7 +63,8 @@ fn file_of_name(alloc: Global, letters: u32) -> Result<Vec<u8>, AllocError> {
     Ok(bytes)
 }
 
-/// Returns a file of a version, of pass 0, with bodies of these lengths: all bytes of a body are its number in the file.
+/// Returns a file of a version and pass 0, with bodies of these lengths in bytes. Each byte of a
+/// body is its number in the file, from 0, modulo 256.
 pub(crate) fn file_of_lengths(
     alloc: Global,
     version: FileVersion,
@@ -80,7 +83,7 @@ pub(crate) fn file_of_lengths(
     Ok(bytes)
 }
 
-/// These bytes, and behind them so many frames of 7 bytes.
+/// Returns the bytes of `front`, and after them this number of frames of 7 bytes.
 fn file_of_frames(alloc: Global, front: &[u8], frames: u32) -> Result<Vec<u8>, AllocError> {
     let mut bytes = Vec::from_slice(alloc, front)?;
     for _frame in 0..frames {
@@ -89,8 +92,8 @@ fn file_of_frames(alloc: Global, front: &[u8], frames: u32) -> Result<Vec<u8>, A
     Ok(bytes)
 }
 
-/// The length of the next body that a reader lends, whose frame ends at this offset; 0 where it is
-/// not what the device has there.
+/// Returns the length in bytes of the next body that a reader lends, or `None` at the header.
+/// Returns 0 if the body is not that of the frame that ends at offset `at` of the device.
 fn lent(
     back: &mut Back,
     device: &mut CountingDevice,
@@ -107,7 +110,8 @@ fn lent(
     Ok(Some(if there == Some(body) { body.len() } else { 0 }))
 }
 
-/// The same, where a large body for which memory was refused is asked for once more.
+/// Returns the result of `lent`. After NoMemory the call is made a second time; NoMemory for a body
+/// of at most `FITS` bytes is returned, since a reader needs no memory for it.
 fn lent_at_last(
     back: &mut Back,
     device: &mut CountingDevice,
@@ -122,7 +126,7 @@ fn lent_at_last(
     }
 }
 
-/// Writes the lengths of the bodies that a reader of a version lends, and its next answer.
+/// Writes the lengths of the bodies that a reader of a version lends, and its next result.
 fn tell(
     alloc: Global,
     version: FileVersion,
@@ -137,7 +141,8 @@ fn tell(
     tell_bodies(&mut started?, &mut device, lines)
 }
 
-/// Writes the lengths of the bodies that a reader lends, and its next answer.
+/// Writes the lengths of the bodies that a reader lends, and its next result, in a line. At most 10
+/// results are written.
 fn tell_bodies(
     back: &mut Back,
     device: &mut CountingDevice,
@@ -159,8 +164,8 @@ fn tell_bodies(
     Ok(())
 }
 
-/// Tells how many frames of 7 bytes a reader takes, what it answers then, and how often it has read
-/// the device.
+/// Writes a line with the number of bodies that a reader lends, the first result that is not a body
+/// of 3 bytes, and the number of reads of the device.
 fn tell_frames(alloc: Global, bytes: Vec<u8>, lines: &mut String) -> Result<(), Fail> {
     let mut device = device_of(bytes);
     let mut back = Back::start(alloc, &mut device)?;
@@ -170,7 +175,7 @@ fn tell_frames(alloc: Global, bytes: Vec<u8>, lines: &mut String) -> Result<(), 
     Ok(())
 }
 
-/// The first answer of a reader that is not a body of 3 bytes, of 100,000 answers.
+/// Returns the first result of a reader that is not a body of 3 bytes, or the last one of 100,000.
 fn last_answer(back: &mut Back, device: &mut CountingDevice) -> Result<Option<usize>, FrameFault> {
     let mut at = device.memory.bytes().len();
     let mut told = Ok(Some(3));
@@ -239,7 +244,8 @@ fn bodies_of_many_lengths(rt: HostRuntime) -> Result<(), Fail> {
     Ok(())
 }
 
-/// A body has at most 16,777,219 bytes in version 1, and a file of one version is none of the other.
+/// Checks that a body of version 1 has at most 16,777,219 bytes, and that a reader of one version
+/// rejects a file of the other.
 #[test]
 fn files_of_version_1(rt: HostRuntime) -> Result<(), Fail> {
     let alloc = rt.alloc();
@@ -252,7 +258,7 @@ fn files_of_version_1(rt: HostRuntime) -> Result<(), Fail> {
         lines.as_str(),
         "16777219 4093 4092 3 Ok(None)\nErr(Damaged(16777237))\n"
     );
-    // a reader of version 2 over a file of version 1, and the other way round
+    // a reader of version 2 on a file of version 1, and vice versa
     let mut old = device_of(file_of_lengths(alloc, FileVersion::One, &[3])?);
     let started = Back::start(alloc, &mut old);
     assert!(rt; matches!(started, Err(FrameFault::NotATreeFile)));

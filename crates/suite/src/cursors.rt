@@ -1,4 +1,4 @@
-//! Cursors by hand: the tokens of a text one by one, and where none begins.
+//! Tests of cursors: over the tokens of a text, and at a character that begins no token.
 
 use ag_expr::{Cursor, Punctuation, Token, unescaped};
 use std::test::Fail;
@@ -25,7 +25,7 @@ fn tokens_one_by_one(rt: HostRuntime) -> Result<(), Fail> {
     Ok(())
 }
 
-/// A cursor goes no further where no token begins.
+/// Checks that `bump` does not move a cursor where no token begins.
 #[test]
 fn no_token_in_front(rt: HostRuntime) -> Result<(), Fail> {
     let mut cursor = Cursor::new("a @ b");

@@ -1,7 +1,8 @@
-//! The tests that are no rows of data: cursors, devices that lie or fail, files, and files that something else
-//! changes. Refused memory is tested by `tests/refused-memory`. A crate that has tests is proved a second time with
-//! them, so the tests of the libraries below the translator are in this crate, which has no other code. Rows of data
-//! are in the crates `cases`, `translations` and `failures`.
+//! Tests that are not rows of data: cursors, devices that fail or return wrong bytes, files, and
+//! files that change while they are read. Refused memory is tested by `tests/refused-memory`. A
+//! crate that has tests is proved a second time with them, so the tests of the libraries below the
+//! translator are in this crate, which has no other code. The crates `cases`, `translations` and
+//! `failures` run the rows of data.
 #![tactic(auto)]
 
 #[cfg(test)]

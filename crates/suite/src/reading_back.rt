@@ -1,4 +1,4 @@
-//! What no clause says: files read back by hand, and devices that fail or lie.
+//! Tests of reading a file from its end, on devices that fail or return wrong bytes.
 
 ghost use Rattle.std.specs.Prelude.{◌≡◌, [], false, IfOk, length, map};
 ghost use Rattle.treefile.specs.ways.Backward.{ReadsBack};
@@ -10,7 +10,8 @@ use std::alloc::{AllocError, Global};
 use std::test::Fail;
 use treefile::{Device, DeviceFault, FrameFault, FuseDevice, MemDevice};
 
-/// A device that keeps nothing, and says that it has a tree file of 2^63 bytes.
+/// A device that keeps no bytes. It returns 2^63 as its length, and sets the first four bytes of
+/// each read to `AGT2`.
 #[derive(Drop)]
 struct LyingDevice {}
 
@@ -41,7 +42,7 @@ impl Device for LyingDevice {
     }
 }
 
-/// The bodies of a tree file, from the last to the first.
+/// Returns the bodies of a tree file, from the last to the first.
 fn bodies_back<D: Device>(alloc: Global, device: &mut D) -> Result<Vec<Vec<u8>>, Fail>
     ensures { WhenHonest (D.is_honest device.new)
         (IfOk result (λ found. ReadsBack version_two (D.content device.old)
@@ -56,7 +57,8 @@ fn bodies_back<D: Device>(alloc: Global, device: &mut D) -> Result<Vec<Vec<u8>>,
     Ok(found)
 }
 
-/// The file of pass 0 with bodies of three bytes: nodes of these productions.
+/// Returns the file of pass 0 with the records of nodes of these productions, without values: each
+/// body has 3 bytes.
 pub(crate) fn file_of(alloc: Global, productions: &[u8]) -> Result<Vec<u8>, AllocError> {
     let mut bytes = Vec::from_slice(alloc, b"AGT2\0\0")?;
     for production in productions {
@@ -65,8 +67,9 @@ pub(crate) fn file_of(alloc: Global, productions: &[u8]) -> Result<Vec<u8>, Allo
     Ok(bytes)
 }
 
-/// The first refusal of a reader, its next answer if that is a refusal too, and how many bodies
-/// were lent before; `None` where all are lent. A want of memory ends the test.
+/// Returns the first fault of a reader, the fault of the next call if that fails too, and the
+/// number of bodies that were lent. Returns `None` if the reader lends all bodies, or 100 of them,
+/// without a fault. Fails the test if a first fault is NoMemory.
 fn refusal_of<D: Device>(
     alloc: Global,
     device: &mut D,

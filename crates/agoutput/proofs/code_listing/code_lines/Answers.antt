@@ -10,7 +10,7 @@ use Rattle.agoutput.proofs.Loops.{shown_all, through}
 use Rattle.agoutput.specs.Listings.{code_text, production_text}
 use Rattle.agoutput.proofs.code_listing.code_lines.Goals as goal
 
--- at the end all productions were given with their lists
+-- at the end the loop has visited all productions with their lists
 pub returns : goal.returns
 returns c =
     let g = c.args.grammar.now in

@@ -1,7 +1,7 @@
 use Rattle.agoutput.proofs.Names.{no_name}
 use Rattle.agoutput.proofs.naming.symbol_attribute.Goals as goal
 
--- the number is past the names
+-- the attribute's number is past the last name
 pub returns-in-None : goal.returns-in-None
 returns-in-None c =
     no_name c.args.symbols.now c.args.symbol c.args.attr c.index-symbols-symbol.result c.if-symbol-symbols.false c.index-symbols-symbol.is (c.attribute_name.ensures.none c.in-None.is)

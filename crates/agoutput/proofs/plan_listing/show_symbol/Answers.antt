@@ -5,7 +5,7 @@ use Rattle.agoutput.proofs.Loops.{shown_all}
 use Rattle.agoutput.specs.Listings.{attribute_text}
 use Rattle.agoutput.proofs.plan_listing.show_symbol.Goals as goal
 
--- at the end all attributes were given with their passes
+-- at the end the loop has visited all attributes with their passes
 pub returns : goal.returns
 returns c =
     let symbol = c.args.symbol.now in

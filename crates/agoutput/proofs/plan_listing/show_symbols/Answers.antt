@@ -7,7 +7,7 @@ use Rattle.agoutput.proofs.Loops.{shown_all, through}
 use Rattle.agoutput.specs.Listings.{symbol_text}
 use Rattle.agoutput.proofs.plan_listing.show_symbols.Goals as goal
 
--- at the end all symbols were given with their rows
+-- at the end the loop has visited all symbols with their rows
 pub returns : goal.returns
 returns c =
     let k = c.args.pass in
