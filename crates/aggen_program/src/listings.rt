@@ -1,9 +1,9 @@
 //! The commands that print a part of a grammar, and the value of an expression.
 
-use crate::files::read_input;
 use aggen::{Fault, print_code, print_counts, print_plan, show_value};
 use command_line::InputPath;
 use messages::{Report, Source};
+use program_io::read_input;
 use std::alloc::Global;
 use std::io;
 use std::rt::Files;

@@ -12,45 +12,23 @@
 
 ghost use Rattle.aggen.specs.Status.{IsCommandFault};
 
-mod batch;
-mod cause;
-mod clashes;
-mod evaluations;
-mod explain;
-mod files;
-mod indexed;
 mod listings;
-mod output;
-mod paths;
-mod progress;
-mod progress_lines;
-mod same_file;
-mod screen;
-mod sentence_places;
-mod show;
-mod system_faults;
-mod translations;
-mod trees;
 mod why;
-mod work_folder;
 
 use aggen::{Fault, status};
-use batch::run_all;
 use command_line::{CommandLine, CommandLineFault, Request};
-use evaluations::evaluate;
-use explain::explain_tree;
 use listings::{Part, print_part, print_value};
 use messages::Report;
-use screen::Screen;
-use show::show_tree;
+use program_io::fault_or;
 use std::alloc::{AllocError, Global};
 use std::fs;
 use std::io::IsTerminal;
 use std::process::ExitCode;
 use std::rt::{Clock, Env, Files};
-use system_faults::fault_or;
-use translations::{run_files, run_input};
-use trees::{convert_file, parse_file};
+use translation_commands::{
+    Screen, convert_file, evaluate, parse_file, run_all, run_files, run_input,
+};
+use tree_commands::{explain_tree, show_tree};
 use why::explain_plan;
 
 /// A file that can be opened, and neither read nor written.

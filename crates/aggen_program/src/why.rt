@@ -3,7 +3,6 @@
 ghost use Rattle.std.specs.Prelude.{◌≡◌, ◌≢◌, IfErr, IfOk, IsErr, IsErrOf, OnOk, string_bytes};
 ghost use Rattle.std.specs.Io.KnownBytes.{Appends};
 
-use crate::files::read_input;
 use ag_grammar::Grammar;
 use ag_value::NoMemory;
 use aggen::{BuildFault, CertifiedPlan, Fault, StuckGrammar, certify_plan};
@@ -11,6 +10,7 @@ use agoutput::write_text;
 use command_line::WhyWords;
 use messages::{Report, Source};
 use plan_reasons::{Attribute, Explanation, LeastPlan, NameFault, attribute_named};
+use program_io::read_input;
 use std::alloc::Global;
 use std::io::{self, Write};
 use std::rt::Files;

@@ -1,6 +1,5 @@
 //! The command that explains values in a tree file: `explain`.
 
-use crate::files::{build_translator, read_input};
 use crate::indexed::{
     describe_last_pass, no_attribute, no_memory, no_node, places_of, read_index, report_of_tree,
 };
@@ -12,6 +11,7 @@ use command_line::{ExplainWords, NodeWords, PlaceInSentence};
 use message_texts::display::Plain;
 use messages::{Position, Report, Source};
 use noted_file::Record;
+use program_io::{build_translator, read_input};
 use std::alloc::{AllocError, Global};
 use std::io;
 use std::rt::Files;

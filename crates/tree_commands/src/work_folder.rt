@@ -1,10 +1,8 @@
 //! The tree file of a folder that `run --work` wrote.
 
-use crate::clashes::WORK_FILES;
-use crate::paths::path_in;
-use crate::same_file::FileId;
 use ag_value::NoMemory;
 use noted_file::Record;
+use program_io::{FileId, WORK_FILES, path_in};
 use std::alloc::Global;
 use std::rt::Files;
 use tree_index::{TreeFault, pass_of_file};

@@ -1,12 +1,12 @@
 //! The command that prints a tree file as text: `show`.
 
-use crate::files::read_translator;
 use crate::indexed::{no_memory, no_node, places_of, read_index, report_of_tree};
 use ag_grammar::Grammar;
 use aggen::{Fault, Translator};
 use command_line::ShowWords;
 use messages::Report;
 use noted_file::Record;
+use program_io::read_translator;
 use std::alloc::Global;
 use std::io;
 use std::rt::Files;

@@ -3,10 +3,6 @@
 ghost use Rattle.std.specs.Prelude.{◌≡◌, ◌≢◌, IfErr, IsErr, OnOk};
 ghost use Rattle.std.specs.Io.KnownBytes.{Appends};
 
-use crate::cause::{Translated, with_cause};
-use crate::clashes::check_output;
-use crate::files::{build_translator, read_input, report_of_sentence};
-use crate::output::write_file;
 use crate::progress::{Progress, ShownDevice};
 use crate::screen::Screen;
 use ag_job::Job;
@@ -16,6 +12,10 @@ use agoutput::write_bytes;
 use command_line::RunPaths;
 use messages::{Report, Source};
 use noted_file::Record;
+use program_io::{
+    Translated, build_translator, check_output, read_input, report_of_sentence, with_cause,
+    write_file,
+};
 use std::alloc::Global;
 use std::fs::OpenFile;
 use std::io::{self, Write};

@@ -1,6 +1,5 @@
 //! The node of a tree at a place of its sentence.
 
-use crate::files::report_of_sentence;
 use crate::indexed::{no_memory, report_of_tree};
 use ag_grammar::Terminal;
 use ag_grammar::limits::{MOST_TEXT_BYTES, TEXT};
@@ -10,6 +9,7 @@ use aggen::{Fault, Translator};
 use message_texts::Location;
 use message_texts::display::Plain;
 use messages::{Position, Report, Source};
+use program_io::report_of_sentence;
 use std::alloc::{AllocError, Global};
 use tree_index::{FileFormat, TokenCounts, TokenRange, TokenWalk, TreeFault, TreeIndex, TreeToken};
 use tree_text::ShowFault;

@@ -1,11 +1,11 @@
 //! The commands that write tree files: `parse` and `upgrade`.
 
-use crate::files::{read_input, read_translator, report_of_sentence};
 use aggen::{Fault, Translator};
 use aggen_files::{parse_to_file, upgrade_file};
 use command_line::{ParsePaths, UpgradePaths};
 use messages::{ConvertedPaths, Report, Source};
 use noted_file::Record;
+use program_io::{read_input, read_translator, report_of_sentence};
 use std::alloc::Global;
 use std::io;
 use std::rt::Files;

@@ -1,14 +1,11 @@
 //! The command that translates several sentences: `run` with a folder for the translations.
 
-use crate::clashes::check_outputs;
-use crate::files::{build_translator, read_input};
-use crate::paths::path_in;
 use crate::screen::Screen;
-use crate::system_faults::fault_or;
 use crate::translations::Translating;
 use aggen::{Fault, status};
 use command_line::{BatchPaths, InputPath, name_of};
 use messages::{Report, Source};
+use program_io::{build_translator, check_outputs, fault_or, path_in, read_input};
 use std::alloc::{AllocError, Global};
 use std::fs;
 use std::process::ExitCode;

@@ -1,9 +1,5 @@
 //! The command that translates the tree in a tree file: `eval`.
 
-use crate::cause::{Translated, with_cause};
-use crate::clashes::{check_output, check_tree};
-use crate::files::{build_translator, read_input, report_of_input};
-use crate::output::write_file;
 use crate::progress::{Progress, ShownDevice};
 use crate::screen::Screen;
 use crate::translations::{finish, of_buffer, write_translation};
@@ -13,6 +9,10 @@ use aggen_files::{WorkFiles, evaluate_file};
 use command_line::{EvalPaths, InputPath};
 use messages::{Report, Source};
 use noted_file::Record;
+use program_io::{
+    Translated, build_translator, check_output, check_tree, read_input, report_of_input,
+    with_cause, write_file,
+};
 use std::alloc::Global;
 use std::io::{self, Write};
 use std::rt::{Clock, Files};

@@ -1,0 +1,21 @@
+//! What the commands of the program have in common: reading their input, the checks that no output replaces a
+//! file that is read, writing output files, and the report of a failed translation with the cause of the error.
+#![tactic(auto)]
+
+mod cause;
+mod clashes;
+mod files;
+mod output;
+mod paths;
+mod same_file;
+mod system_faults;
+
+pub use cause::{Translated, with_cause};
+pub use clashes::{WORK_FILES, check_output, check_outputs, check_tree};
+pub use files::{
+    build_translator, read_input, read_translator, report_of_input, report_of_sentence,
+};
+pub use output::write_file;
+pub use paths::path_in;
+pub use same_file::FileId;
+pub use system_faults::fault_or;

@@ -1,0 +1,17 @@
+//! The commands that translate and those that write tree files: `run` of one sentence or of many, `eval`, jobs,
+//! `parse` and `upgrade`, and how messages and progress are shown on standard error.
+#![tactic(auto)]
+
+mod batch;
+mod evaluations;
+mod progress;
+mod progress_lines;
+mod screen;
+mod translations;
+mod trees;
+
+pub use batch::run_all;
+pub use evaluations::evaluate;
+pub use screen::Screen;
+pub use translations::{run_files, run_input};
+pub use trees::{convert_file, parse_file};
