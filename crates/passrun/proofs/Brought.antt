@@ -16,7 +16,7 @@ use Rattle.ag_grammar.specs.grammars.Accepted.{IsAccepted}
 use Rattle.ag_grammar.specs.grammars.AttributeGrammar.{Grammar, IsProduction, stored_items}
 use Rattle.ag_grammar.specs.grammars.Tree as tree
 use Rattle.ag_grammar.specs.grammars.Tree.{FitsAll, Forest, deepest, node_counts}
-use Rattle.treefile.specs.ways.Awaited.{Breaks, Child, HasNoTree, HasNoTreeWithin, IsNoRecord, IsRecordOf, ToCome, before_others, root_to_come, told}
+use Rattle.treefile.specs.ways.Awaited.{Breaks, Child, HasNoTree, HasNoTreeWithin, IsNoRecord, IsRecordOf, ToCome, before_others, root_to_come, children_with_copies}
 use Rattle.treefile.specs.ways.Backward.{ReadsTo, before_frame, next_before}
 use Rattle.treefile.specs.ways.Ending.{Told, version_one_usable}
 use Rattle.treefile.specs.devices.Device.{WhenHonest}

@@ -10,7 +10,7 @@ use Rattle.ag_grammar.specs.declared.grammar.Production.{Production}
 use Rattle.ag_grammar.specs.declared.grammar.Terminal.TheVariants.{Class}
 use Rattle.ag_grammar.specs.grammars.AttributeGrammar.{Grammar, IsProduction, stored_items}
 use Rattle.ag_grammar.specs.grammars.Tree.{FitsAll, Forest, IsTokenText, IsTreeOf, IsWithinLimits, Tree, deepest, node_count, node_counts}
-use Rattle.treefile.specs.ways.Awaited.{Child, ToCome, before_others, told}
+use Rattle.treefile.specs.ways.Awaited.{Child, ToCome, before_others, children_with_copies}
 use Rattle.treefile.specs.ways.Backward.{ReadsTo, before_frame, next_before}
 use Rattle.treefile.specs.devices.Device.{WhenHonest}
 use Rattle.treefile.specs.records.FirstFile.{HasNoFirstTree, HasNoFirstTreeWithin, IsFirstFile, first_bodies, first_bodies_all, leaf_texts, unassigned}
@@ -68,7 +68,7 @@ body_in (old.Token d v) = body_of Token d (v ∷ [])
 
 -- The children of a right side that are to be read.
 abbrev pub to_come : Grammar → List Item → List Child
-to_come g xs = told false g unassigned 0 (stored_items xs) []
+to_come g xs = children_with_copies false g unassigned 0 (stored_items xs) []
 
 -- The children of some items to be read at a level, from right to left, before others.
 abbrev pub coming : Grammar → ℕ → List Item → ToCome → ToCome

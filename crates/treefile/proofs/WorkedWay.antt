@@ -11,7 +11,7 @@ use Rattle.ag_grammar.specs.grammars.AttributeGrammar.{IsProduction, stored_item
 use Rattle.ag_grammar.specs.grammars.Sample.{iffy, token_sample}
 use Rattle.ag_grammar.specs.grammars.Tree.{depth_of, most_depth, most_nodes}
 use Rattle.ag_grammar.proofs.grammars.samples.TokenSample.{text as token_text}
-use Rattle.treefile.specs.ways.Awaited.{AreThere, Awaits, Breaks, HasNoTree, HasNoTreeWithin, IsNoRecord, IsNodeRecord, IsOnTheWay, IsRecordOf, root_to_come, told}
+use Rattle.treefile.specs.ways.Awaited.{AreThere, Awaits, Breaks, HasNoTree, HasNoTreeWithin, IsNoRecord, IsNodeRecord, IsOnTheWay, IsRecordOf, root_to_come, children_with_copies}
 use Rattle.treefile.specs.ways.Backward.{next_before}
 use Rattle.treefile.specs.ways.Ending.{body_before, fits_before, version_one_usable}
 use Rattle.treefile.specs.records.Records.{node_body}
@@ -31,7 +31,7 @@ numbers a = Num (pos 65536)
 abbrev known : (k p s : ℕ) (q : Production) (body : List ℕ) → IsProduction binary p q → q.left ≡ s → body ≡ node_body version_one binary binary_passes k p numbers [] → IsNodeRecord version_one binary binary_passes k s body p q numbers
 known k p s q body is left stands = record { production = is; left = left; well = λ a n has le. well_number 65536 (omega arith); copies = []; are_copies = refl; stands = stands }
 
-recorded : (k p s : ℕ) (q : Production) (body : List ℕ) → IsProduction binary p q → q.left ≡ s → body ≡ node_body version_one binary binary_passes k p numbers [] → IsRecordOf version_one binary binary_passes k (item.Symbol s, None) body (told false binary binary_passes k (stored_items q.items) [])
+recorded : (k p s : ℕ) (q : Production) (body : List ℕ) → IsProduction binary p q → q.left ≡ s → body ≡ node_body version_one binary binary_passes k p numbers [] → IsRecordOf version_one binary binary_passes k (item.Symbol s, None) body (children_with_copies false binary binary_passes k (stored_items q.items) [])
 recorded k p s q body is left stands = (p, q, numbers, known k p s q body is left stands, refl, tt)
 
 pub t_is_record : IsRecordOf version_one binary binary_passes 1 (item.Symbol 3, None) record_of_t []

@@ -11,7 +11,7 @@ use Rattle.ag_grammar.specs.grammars.AttributeGrammar.{Grammar, stored_items}
 use Rattle.ag_grammar.specs.grammars.Passes.{Passes, IsLegal, direction_of, nth, other}
 use Rattle.ag_grammar.specs.grammars.Solution.{Same, SameAt, Valuation, children}
 use Rattle.ag_grammar.specs.grammars.Tree.{Forest, Tree, IsTreeOf, node}
-use Rattle.treefile.specs.ways.Awaited.{AreThere, Awaits, Breaks, Child, HasNoTree, HasNoTreeWithin, IsNodeRecord, IsOnTheWay, IsRecordOf, IsTooLarge, ToCome, before_others, root_to_come, told, unvisited}
+use Rattle.treefile.specs.ways.Awaited.{AreThere, Awaits, Breaks, Child, HasNoTree, HasNoTreeWithin, IsNodeRecord, IsOnTheWay, IsRecordOf, IsTooLarge, ToCome, before_others, root_to_come, children_with_copies, unvisited}
 use Rattle.treefile.specs.ways.Backward.{before_frame, next_before, pass_of}
 use Rattle.treefile.specs.ways.Ending.{IsUsable, is_tree_file, last_body_of}
 use Rattle.treefile.specs.records.Listed.{AreSpelled, BeginsNoValue, HasRead, IsListedRecord, count_up_to}

@@ -18,7 +18,7 @@ use Rattle.treefile.specs.ways.Ending.{Told}
 use Rattle.treefile.specs.records.Records.{node_body, values_up_to}
 use Rattle.treefile.specs.records.TreeFile.{body_of, version_two}
 use Rattle.treefile.specs.ways.Awaited as awaited
-use Rattle.treefile.specs.ways.Awaited.{Child, IsAsTold, IsNodeRecord, IsRecordOf, ToCome, before_others, told}
+use Rattle.treefile.specs.ways.Awaited.{Child, IsAsTold, IsNodeRecord, IsRecordOf, ToCome, before_others, children_with_copies}
 use Rattle.treefile.proofs.ways.Coming.{all_to_come, next_to_come}
 use Rattle.treefile.proofs.ways.Backward.{damage_is_there, never_no_file}
 use Rattle.treefile.proofs.records.Fitting.{fits_version_two}
@@ -43,7 +43,7 @@ use Rattle.passrun.proofs.places.Tables.{same_values, text_row}
 
 -- The children of the record that was read for an item.
 abbrev pub children_read : (c : Setting) (x : Item) (p : ℕ) (body : List ℕ) (old new : List Value) → IsRead c x p body old new → List Child
-children_read c (item.Symbol s) p body old new h = told true c.grammar c.passes c.read (stored_items h.production.items) (copies c c.read (stored_items h.production.items) h.table)
+children_read c (item.Symbol s) p body old new h = children_with_copies true c.grammar c.passes c.read (stored_items h.production.items) (copies c c.read (stored_items h.production.items) h.table)
 children_read c (item.Terminal (Class d)) p body old new h = []
 children_read c (item.Terminal (Literal l)) p body old new h = []
 
@@ -97,7 +97,7 @@ behind_last c q e i level others full =
 
 -- They are the same for a table with the same copies of earlier passes.
 pub behind_same : (c : Setting) (q : Production) (e h : Table) (i level : ℕ) (others : ToCome) → copies c c.read (stored_items q.items) (in_children e) ≡ copies c c.read (stored_items q.items) (in_children h) → behind c q e i level others ≡ behind c q h i level others
-behind_same c q e h i level others same = ap (λ cs. before_others (way c) level (awaited.unvisited (way c) (told true c.grammar c.passes c.read (stored_items q.items) cs) i) others) same
+behind_same c q e h i level others same = ap (λ cs. before_others (way c) level (awaited.unvisited (way c) (children_with_copies true c.grammar c.passes c.read (stored_items q.items) cs) i) others) same
 
 module _ (c : Setting) (sound : IsSound c) where
   dir : way c ≡ other (direction_of c.read)

@@ -12,7 +12,7 @@ use Rattle.ag_grammar.specs.grammars.AttributeGrammar.{item_at, stored_items}
 use Rattle.ag_grammar.specs.grammars.Passes.{HasPass, item_passes}
 use Rattle.ag_grammar.specs.grammars.Solution.{Solves, SolvesAll, Valuation, rest}
 use Rattle.ag_grammar.specs.grammars.Tree.{Tree, Forest, leaf, node, none, more, Fits, FitsAll}
-use Rattle.treefile.specs.ways.Awaited.{Child, told}
+use Rattle.treefile.specs.ways.Awaited.{Child, children_with_copies}
 use Rattle.treefile.specs.records.Records.{copies_of, copy_of, left_synthesized, synthesized_passes, values_up_to}
 use Rattle.treefile.proofs.records.Values.{count_of_values}
 use Rattle.planchecker.specs.courses.Settings.{Setting}
@@ -23,12 +23,12 @@ use Rattle.passrun.proofs.Recorded.{count_copied}
 use Rattle.passrun.proofs.places.Slots.{copied_is, copies_same, same_at}
 use Rattle.passrun.proofs.places.Tables.{same_values, set_other, with_here, with_other}
 
-pub told_length : (c : Setting) (k : ℕ) (xs : List Item) (vs : List Value) → length (told true c.grammar c.passes k xs vs) ≡ length xs
+pub told_length : (c : Setting) (k : ℕ) (xs : List Item) (vs : List Value) → length (children_with_copies true c.grammar c.passes k xs vs) ≡ length xs
 told_length c k [] vs = refl
 told_length c k (x ∷ xs) vs = ap suc (told_length c k xs (drop _ vs))
 
 -- The copy of a child's values in the record of its parent.
-pub told_at : (c : Setting) (k : ℕ) (xs : List Item) (e : Table) (j : ℕ) (x : Item) → slice_get xs j ≡ Some x → slice_get (told true c.grammar c.passes k xs (copies c k xs e)) j ≡ Some (x, Some (values_up_to k (copied_passes c x) (e j)))
+pub told_at : (c : Setting) (k : ℕ) (xs : List Item) (e : Table) (j : ℕ) (x : Item) → slice_get xs j ≡ Some x → slice_get (children_with_copies true c.grammar c.passes k xs (copies c k xs e)) j ≡ Some (x, Some (values_up_to k (copied_passes c x) (e j)))
 told_at c k [] e j x at = let bad : ⊥ = cc in absurd bad
 told_at c k (y ∷ xs) e zero x at =
     let same : y ≡ x = cc in
@@ -41,7 +41,7 @@ told_at c k (y ∷ xs) e zero x at =
 told_at c k (y ∷ xs) e (suc j) x at =
     let front = values_up_to k (copied_passes c y) (e 0) in
     let long = count_of_values k (copied_passes c y) (e 0) ∙ sym (count_copied c k y) in
-    ap (λ vs. slice_get (told true c.grammar c.passes k xs vs) j) (drop_at front (copies c k xs (λ j. e (suc j))) _ long) ∙ told_at c k xs (λ j. e (suc j)) j x at
+    ap (λ vs. slice_get (children_with_copies true c.grammar c.passes k xs vs) j) (drop_at front (copies c k xs (λ j. e (suc j))) _ long) ∙ told_at c k xs (λ j. e (suc j)) j x at
 
 -- The copy of a tree consists of the values at its root.
 copy_is : (c : Setting) (W : Production → Rule → Type 0) (k : ℕ) (x : Item) (t : Tree) (w : Valuation) → Fits c.grammar x t → Solves W c.grammar t w → copy_of c.grammar c.passes k t w ≡ values_up_to k (copied_passes c x) (w [])

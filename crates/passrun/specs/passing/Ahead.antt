@@ -2,7 +2,7 @@
 use Rattle.std.specs.Prelude.{ℕ, suc, Bool, true, false, List, [], ◌∷◌, Option, Some, None, slice_get}
 use Rattle.ag_grammar.specs.declared.grammar.Production.{Production}
 use Rattle.ag_grammar.specs.grammars.AttributeGrammar.{stored_items}
-use Rattle.treefile.specs.ways.Awaited.{Child, ToCome, before_others, told, unvisited}
+use Rattle.treefile.specs.ways.Awaited.{Child, ToCome, before_others, children_with_copies, unvisited}
 use Rattle.passcode.specs.declared.instr.Instr.{Instr}
 use Rattle.passcode.specs.declared.instr.Instr.TheVariants as instr
 use Rattle.passcode.specs.declared.phase.Phase.{Phase}
@@ -26,7 +26,7 @@ goes_next (instr.End ∷ xs) = false
 
 -- The children of a node, with what its record says of each: the copies of its values, taken from the table.
 abbrev pub children_of : Setting → Production → Table → List Child
-children_of c q e = told true c.grammar c.passes c.read (stored_items q.items) (copies c c.read (stored_items q.items) (in_children e))
+children_of c q e = children_with_copies true c.grammar c.passes c.read (stored_items q.items) (copies c c.read (stored_items q.items) (in_children e))
 
 -- The children still to be read after the first n, at a level, before others.
 abbrev pub behind : Setting → Production → Table → (n level : ℕ) → ToCome → ToCome

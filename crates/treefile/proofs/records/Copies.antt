@@ -12,7 +12,7 @@ use Rattle.ag_grammar.specs.grammars.AttributeGrammar.{Grammar}
 use Rattle.ag_grammar.specs.grammars.Passes.{Passes}
 use Rattle.ag_grammar.specs.grammars.Solution.{AtEachNodeOf, IsWellOn, NoRule, Solves, SolvesAll, Valuation, WellAt, left_passes, rest}
 use Rattle.ag_grammar.specs.grammars.Tree.{Forest, Tree, Fits, FitsAll, leaf, more, node, none}
-use Rattle.treefile.specs.ways.Awaited.{AreCopies, Child, IsAsTold, told}
+use Rattle.treefile.specs.ways.Awaited.{AreCopies, Child, IsAsTold, children_with_copies}
 use Rattle.treefile.specs.records.Listed.{copied_count, copies_count, count_up_to}
 use Rattle.treefile.specs.records.Records.{copies_of, copy_of, left_synthesized, most_copied, most_copies, synthesized_count, synthesized_passes, with_copies}
 use Rattle.treefile.proofs.records.Values.{count_of_values, values_few, values_well}
@@ -87,7 +87,7 @@ module _ (g : Grammar) (m : Passes) (k : ℕ) where
   kept true copies = copies
 
   -- the trees of children match the copies in their parent's record,
-  pub are_as_told : (has : Bool) (xs : List Item) (ts : Forest) (vs : ℕ → Valuation) → FitsAll g xs ts → AreAsTold (told has g m k xs (kept has (copies_of g m k ts vs))) ts vs
+  pub are_as_told : (has : Bool) (xs : List Item) (ts : Forest) (vs : ℕ → Valuation) → FitsAll g xs ts → AreAsTold (children_with_copies has g m k xs (kept has (copies_of g m k ts vs))) ts vs
   are_as_told has [] none vs f = tt
   are_as_told has [] (more t ts) vs f = elim f [ ]
   are_as_told has (x ∷ xs) none vs f = elim f [ ]
@@ -96,14 +96,14 @@ module _ (g : Grammar) (m : Passes) (k : ℕ) where
       let one = copy_of g m k t (vs 0) in
       let others = copies_of g m k ts (rest vs) in
       let long = copy_length x t (vs 0) f.0 in
-      (f.0, sym (take_at one others (copied_count g m k x) long), subst (λ cs. AreAsTold (told true g m k xs cs) ts (rest vs)) (sym (drop_at one others (copied_count g m k x) long)) (are_as_told true xs ts (rest vs) f.1))
+      (f.0, sym (take_at one others (copied_count g m k x) long), subst (λ cs. AreAsTold (children_with_copies true g m k xs cs) ts (rest vs)) (sym (drop_at one others (copied_count g m k x) long)) (are_as_told true xs ts (rest vs) f.1))
 
   pub are_copies : (has : Bool) (xs : List Item) (ts : Forest) (vs : ℕ → Valuation) → FitsAll g xs ts → SolvesAll NoRule g ts vs → AtEachNodeOf (WellAt (λ p. p ≤ k)) g m ts vs vs → AreCopies has g m k xs (kept has (copies_of g m k ts vs))
   are_copies false xs ts vs f texts well = refl
   are_copies true xs ts vs f texts well = (copies_length xs ts vs f, copies_well ts vs texts well)
 
   -- and trees that match their copies are trees of the items, and have these copies
-  pub fits_told : (has : Bool) (xs : List Item) (cs : List Value) (ts : Forest) (vs : ℕ → Valuation) → AreAsTold (told has g m k xs cs) ts vs → FitsAll g xs ts
+  pub fits_told : (has : Bool) (xs : List Item) (cs : List Value) (ts : Forest) (vs : ℕ → Valuation) → AreAsTold (children_with_copies has g m k xs cs) ts vs → FitsAll g xs ts
   fits_told has [] cs none vs a = tt
   fits_told has [] cs (more t ts) vs a = elim a [ ]
   fits_told false (x ∷ xs) cs none vs a = elim a [ ]
@@ -111,7 +111,7 @@ module _ (g : Grammar) (m : Passes) (k : ℕ) where
   fits_told false (x ∷ xs) cs (more t ts) vs a = (a.0, fits_told false xs cs ts (rest vs) a.2)
   fits_told true (x ∷ xs) cs (more t ts) vs a = (a.0, fits_told true xs (drop (copied_count g m k x) cs) ts (rest vs) a.2)
 
-  copies_told : (xs : List Item) (cs : List Value) (ts : Forest) (vs : ℕ → Valuation) → length cs ≡ copies_count g m k xs → AreAsTold (told true g m k xs cs) ts vs → cs ≡ copies_of g m k ts vs
+  copies_told : (xs : List Item) (cs : List Value) (ts : Forest) (vs : ℕ → Valuation) → length cs ≡ copies_count g m k xs → AreAsTold (children_with_copies true g m k xs cs) ts vs → cs ≡ copies_of g m k ts vs
   copies_told [] [] none vs long a = refl
   copies_told [] (c ∷ cs) none vs long a = absurd (omega arith)
   copies_told [] cs (more t ts) vs long a = elim a [ ]
@@ -121,7 +121,7 @@ module _ (g : Grammar) (m : Passes) (k : ℕ) where
       let others = copies_told xs (drop n cs) ts (rest vs) (omega (arith, length-drop n cs)) a.2 in
       sym (take-append-drop n cs) ∙ ap (λ (zs : List Value). zs ++ drop n cs) (sym a.1) ∙ ap (λ (zs : List Value). copy_of g m k t (vs 0) ++ zs) others
 
-  pub stored_told : (has : Bool) (xs : List Item) (own cs : List Value) (ts : Forest) (vs : ℕ → Valuation) → AreCopies has g m k xs cs → AreAsTold (told has g m k xs cs) ts vs → with_copies has own cs ≡ with_copies has own (copies_of g m k ts vs)
+  pub stored_told : (has : Bool) (xs : List Item) (own cs : List Value) (ts : Forest) (vs : ℕ → Valuation) → AreCopies has g m k xs cs → AreAsTold (children_with_copies has g m k xs cs) ts vs → with_copies has own cs ≡ with_copies has own (copies_of g m k ts vs)
   stored_told false xs own cs ts vs are a = refl
   stored_told true xs own cs ts vs are a = ap (λ (zs : List Value). own ++ zs) (copies_told xs cs ts vs are.0 a)
 

@@ -13,7 +13,7 @@ use Rattle.ag_grammar.specs.grammars.Solution.{AtEachNodeOf, NoRule, SolvesAll, 
 use Rattle.ag_grammar.specs.grammars.Tree.{Forest, deepest, leaf, node, none, more}
 use Rattle.ag_grammar.proofs.grammars.EachNode.{no_rules}
 use Rattle.ag_grammar.proofs.values.Wells.{well_text}
-use Rattle.treefile.specs.ways.Awaited.{AreThere, Awaits, Child, IsAsTold, IsRecordOf, ToCome, before_others, told}
+use Rattle.treefile.specs.ways.Awaited.{AreThere, Awaits, Child, IsAsTold, IsRecordOf, ToCome, before_others, children_with_copies}
 use Rattle.treefile.specs.Laws.{AllToCome, AwaitedAreThere, NextToCome}
 use Rattle.treefile.specs.records.Orders.{prefix, prefix_all}
 use Rattle.treefile.specs.records.Records.{bodies_of, bodies_of_all, copies_of, node_body, values_up_to}
@@ -132,7 +132,7 @@ module _ (version : Version) (g : Grammar) (m : Passes) (k most : ℕ) where
       let q = is.1 in
       let e = is.2 in
       let has = version.has_copies in
-      let children_told = told has g m k (stored_items q.items) is.3.copies in
+      let children_told = children_with_copies has g m k (stored_items q.items) is.3.copies in
       let on = gather d (suc level) children_told todo bodies (omega arith) (subst (λ (zs : List Child). AreThere version g m k d most (before_others d (suc level) zs todo) bodies) is.4 are) in
       let passes : m s ≡ left_passes m (slice_get g.productions p) = sym (ap (left_passes m) is.3.production ∙ ap m is.3.left) in
       let own = values_up_to k (left_passes m (slice_get g.productions p)) e in

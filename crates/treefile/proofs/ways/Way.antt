@@ -13,7 +13,7 @@ use Rattle.ag_grammar.specs.grammars.AttributeGrammar.{Grammar, stored_items, Is
 use Rattle.ag_grammar.specs.grammars.Passes.{Passes, direction_of, other}
 use Rattle.ag_grammar.specs.grammars.Solution.{AtEachNodeOf, IsWellOn, NoRule, Solves, SolvesAll, Valuation, WellAt, children, left_passes, rest}
 use Rattle.ag_grammar.specs.grammars.Tree.{Tree, Forest, Fits, deepest, depth_of, leaf, node, none, more, node_count}
-use Rattle.treefile.specs.ways.Awaited.{Awaits, Breaks, Child, IsAsTold, IsNodeRecord, IsRecordOf, IsTooLarge, ToCome, before_others, root_to_come, told}
+use Rattle.treefile.specs.ways.Awaited.{Awaits, Breaks, Child, IsAsTold, IsNodeRecord, IsRecordOf, IsTooLarge, ToCome, before_others, root_to_come, children_with_copies}
 use Rattle.treefile.specs.ways.Backward.{ReadsBack, before_frame, next_before, pass_of}
 use Rattle.treefile.specs.ways.Ending.{is_tree_file}
 use Rattle.treefile.specs.Laws.{NoFileHasNoTree, OneRecord, WayBegins, WayBreaks, WayEnds, WayGoesOn, WayIsTooLong}
@@ -51,7 +51,7 @@ module _ (version : Version) (g : Grammar) (m : Passes) (k most : ℕ) where
           stands = ap (body_of Node p) (sym (kept_same g m k has own (copies_of g m k ts (children v))));
         } in
         let told_is = subst (λ ps. IsAsTold copy (values_up_to k ps (v []))) (left_of g m k s p f.0 f.1 f.2) as_told in
-        let ys = told has g m k (stored_items f.0.items) copies in
+        let ys = children_with_copies has g m k (stored_items f.0.items) copies in
         (omega arith, (ys, (p, f.0, v [], is, refl, told_is), forest_awaited d ys ts (children v) (suc level) todo behind (are_as_told g m k has (stored_items f.0.items) ts (children v) f.3) texts.1 well.1 (omega arith) later))
 
     forest_awaited : (d : Direction) (xs : List Child) (ts : Forest) (vs : ℕ → Valuation) (level : ℕ) (todo : ToCome) (behind : List (List ℕ)) → AreAsTold g m k xs ts vs → SolvesAll NoRule g ts vs → AtEachNodeOf (WellAt (λ p. p ≤ k)) g m ts vs vs → level + deepest ts ≤ suc most → Awaits version g m k d most todo behind → Awaits version g m k d most (before_others d level xs todo) (prefix_all d (bodies_of_all version g m k ts vs) ++ behind)
@@ -68,11 +68,11 @@ module _ (version : Version) (g : Grammar) (m : Passes) (k most : ℕ) where
         subst (Awaits version g m k RightToLeft most (before_others RightToLeft level xs ((level, x) ∷ todo))) (sym (append_assoc (prefix_all RightToLeft (bodies_of_all version g m k ts (rest vs))) (prefix RightToLeft (bodies_of version g m k t (vs 0))) behind)) others
 
 -- two records of one production have the same children if they have the same copies
-same_children : (has : Bool) (g : Grammar) (m : Passes) (k p r : ℕ) (q s : Production) (cs ds : List Value) → IsProduction g p q → IsProduction g r s → p ≡ r → cs ≡ ds → told has g m k (stored_items q.items) cs ≡ told has g m k (stored_items s.items) ds
+same_children : (has : Bool) (g : Grammar) (m : Passes) (k p r : ℕ) (q s : Production) (cs ds : List Value) → IsProduction g p q → IsProduction g r s → p ≡ r → cs ≡ ds → children_with_copies has g m k (stored_items q.items) cs ≡ children_with_copies has g m k (stored_items s.items) ds
 same_children has g m k p r q s cs ds a b e copies =
     let z : Some q ≡ Some s = sym a ∙ ap (slice_get g.productions) e ∙ b in
     let same : q ≡ s = cc in
-    ap (λ (q : Production). told has g m k (stored_items q.items) cs) same ∙ ap (told has g m k (stored_items s.items)) copies
+    ap (λ (q : Production). children_with_copies has g m k (stored_items q.items) cs) same ∙ ap (children_with_copies has g m k (stored_items s.items)) copies
 
 pub one_record : OneRecord
 one_record version g m k (item.Terminal (Literal l), copy) body ys zs few a b = elim a [ ]

@@ -44,10 +44,10 @@ abbrev pub Child : Type 0
 Child = Item × Option (List Value)
 
 -- The children of a node, each with its part of the copies in the node's record.
-abbrev pub told : Bool → Grammar → Passes → ℕ → List Item → List Value → List Child
-told has_copies g m k [] copies = []
-told false g m k (x ∷ xs) copies = (x, None) ∷ told false g m k xs copies
-told true g m k (x ∷ xs) copies = (x, Some (take (copied_count g m k x) copies)) ∷ told true g m k xs (drop (copied_count g m k x) copies)
+abbrev pub children_with_copies : Bool → Grammar → Passes → ℕ → List Item → List Value → List Child
+children_with_copies has_copies g m k [] copies = []
+children_with_copies false g m k (x ∷ xs) copies = (x, None) ∷ children_with_copies false g m k xs copies
+children_with_copies true g m k (x ∷ xs) copies = (x, Some (take (copied_count g m k x) copies)) ∷ children_with_copies true g m k xs (drop (copied_count g m k x) copies)
 
 -- values are those of the copy, if there is one
 abbrev pub IsAsTold : Option (List Value) → List Value → Type 0
