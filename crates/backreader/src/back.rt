@@ -197,11 +197,11 @@ impl Back {
             (λ body. length body + length_bytes ≤ self.old.progress.at) }
         ensures none { IfNone result (self.new ≡ self.old) }
     {
+        let at = self.window.at();
+        let body = device.lend_before(at)?;
         if self.fault.is_some() || !self.window.is_second() {
             return None;
         }
-        let at = self.window.at();
-        let body = device.lend_before(at)?;
         let length = body.len();
         if length > u64::from(u32::MAX) || !fits_before(FileVersion::Two, at, length) {
             return None;

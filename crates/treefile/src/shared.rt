@@ -90,46 +90,19 @@ impl Device for SharedDevice {
         }
     }
 
+    #[inline(always)]
     fn lend_before(&self, at: u64) -> Option<Body<'_>> {
-        match self.bytes.as_slice() {
-            Some(content) => own_body_before(content, at),
-            None => body_between(&self.bytes, at),
+        if self.bytes.as_slice().is_some() {
+            // without shared values, bodies are read in blocks, which is faster
+            return None;
         }
+        body_between(&self.bytes, at)
     }
-}
-
-/// Lends the body of the frame that ends at offset `at` of a content without shared values. Returns
-/// `None` if no frame ends there.
-fn own_body_before(content: &[u8], at: u64) -> Option<Body<'_>>
-    ensures body { IfSome result (λ body. body_before version_two content.now at ≡ Ok body) }
-    ensures bytes { IfSome result
-        (λ body. IsBytes (drop (at - length_bytes - length body) content.now)) }
-{
-    Some(Body::from_slice(slice_before(content, at)?))
-}
-
-/// Lends the body of the frame that ends at offset `at` of a content, as a slice. Returns `None` if
-/// no frame ends there.
-fn slice_before(content: &[u8], at: u64) -> Option<&[u8]>
-    ensures body { IfSome result (λ body. body_before version_two content.now at ≡ Ok body.now) }
-    ensures bytes { IfSome result
-        (λ body. IsBytes (drop (at - length_bytes - length body.now) content.now)) }
-{
-    if at < HEADER_BYTES + LENGTH_BYTES || at > content.len() as u64 {
-        return None;
-    }
-    let (frame, _rest) = content.split_at(at as usize);
-    let (rest, last) = frame.split_at(frame.len() - LENGTH_BYTES as usize);
-    let length = number_in(last)?;
-    if !fits_before(FileVersion::Two, at, u64::from(length)) {
-        return None;
-    }
-    let (_before, body) = rest.split_at(rest.len() - length as usize);
-    Some(body)
 }
 
 /// Lends the body of the frame that ends at offset `at` of a content. Returns `None` if no frame
 /// ends there.
+#[inline(never)]
 fn body_between(bytes: &SharedBytes, at: u64) -> Option<Body<'_>>
     ensures body { IfSome result (λ body. body_before version_two bytes.now at ≡ Ok body) }
     ensures bytes { IfSome result
@@ -161,17 +134,6 @@ fn number_of(part: &Body<'_>) -> Option<u32>
 {
     match part.own() {
         [a, b, c, d] if part.len() == 4 => Some(u32::from_be_bytes([*a, *b, *c, *d])),
-        _ => None,
-    }
-}
-
-/// Returns the big-endian number in four bytes, or `None` for another length.
-#[inline(always)]
-fn number_in(bytes: &[u8]) -> Option<u32>
-    ensures { IfSome result (λ n. n ≡ from_be_bytes w32 bytes.now) }
-{
-    match bytes {
-        [a, b, c, d] => Some(u32::from_be_bytes([*a, *b, *c, *d])),
         _ => None,
     }
 }

@@ -479,6 +479,7 @@ fn carried_triple(kind: Kind, number: u16, values: &[Carried]) -> Option<[u8; 34
 }
 
 /// Fills the buffer with the frame of a record of carried values.
+#[inline(always)]
 fn fill_carried(
     buffer: &mut Vec<u8>,
     kind: Kind,
@@ -522,6 +523,7 @@ fn append_carried_values(buffer: &mut Vec<u8>, values: &[Carried]) -> Result<(),
 }
 
 /// Appends the spelling of a carried value; a number's in one step.
+#[inline(always)]
 fn append_carried(buffer: &mut Vec<u8>, value: &Carried) -> Result<(), NoMemory>
     requires { IsWell value.now }
     ensures { OnOk result (buffer.new.items ≡ buffer.old.items ++ spelling_of value.now) }

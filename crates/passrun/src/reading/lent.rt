@@ -156,7 +156,6 @@ fn read_shared_node(
 }
 
 /// Reads a body in which values are shared, as `read_record` does.
-#[inline(never)]
 fn read_shared(
     alloc: Global,
     job: &Job<'_>,
@@ -178,7 +177,7 @@ fn read_shared(
 }
 
 /// Reads the record of an item from a body that a device lends, as `read_record` does from bytes.
-#[inline(always)]
+#[inline(never)]
 pub(crate) fn read_lent(
     alloc: Global,
     job: &Job<'_>,

@@ -14,7 +14,7 @@ ghost use Rattle.planchecker.specs.courses.Settings.{setting_of};
 
 use crate::laid::hints::{Hints, RowContext, RowSite, Site};
 use crate::laid::job::Job;
-use crate::laid::rows::{row_length, row_passes};
+use crate::laid::rows::row_passes;
 use ag_carried::Carried;
 use ag_grammar::limits::MOST_TOKEN_BYTES;
 use ag_grammar::{Grammar, Item, Terminal};
@@ -194,7 +194,7 @@ fn take_values(
     ensures none { IsErrOf result RecordFault.Damaged → IsNoRow (k - 1) passes.now bytes.now }
     ensures front { StandInFront values.old.items values.new.items }
 {
-    let context = row.context(values.len(), row_length(passes, k));
+    let context = row.context();
     let mut rest = bytes;
     for pass in passes {
         rest = take_value(alloc, *pass, k, rest, values, &context)?;
@@ -289,6 +289,7 @@ pub fn read_node(
         hints: &hints,
         production: number,
         parent: Site::default(),
+        start: values.len(),
     };
     take_row(alloc, passes.as_slice(), k, spellings, values, row)?;
     Ok(number)
@@ -317,6 +318,7 @@ fn read_laid_node(
         hints: job.hints,
         production: number,
         parent: site,
+        start: values.len(),
     };
     take_row(
         alloc,
