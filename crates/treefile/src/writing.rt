@@ -202,7 +202,7 @@ impl Writer {
 
     /// Appends the frame of a record of carried values by one call of the device: `append_parts` if
     /// some of the values are shared, else `append`.
-    #[inline(never)]
+    #[inline(always)]
     fn append_row<D: Device>(
         &mut self,
         device: &mut D,
@@ -479,7 +479,6 @@ fn carried_triple(kind: Kind, number: u16, values: &[Carried]) -> Option<[u8; 34
 }
 
 /// Fills the buffer with the frame of a record of carried values.
-#[inline(always)]
 fn fill_carried(
     buffer: &mut Vec<u8>,
     kind: Kind,

@@ -230,24 +230,26 @@ pub(crate) struct Site {
     pub(crate) place: u16,
 }
 
-/// The row that a record is read into: that of a node of a production, read at a site. `start` is its
-/// index among all stored values.
+/// The row that a record is read into: that of a node of a production, read at a site.
 #[derive(Clone, Copy)]
 pub(crate) struct RowSite<'a> {
     pub(crate) hints: &'a Hints,
     pub(crate) production: u16,
     pub(crate) parent: Site,
-    pub(crate) start: usize,
 }
 
 impl<'a> RowSite<'a> {
-    /// Returns the context of the row.
-    pub(crate) fn context(self) -> RowContext<'a> {
+    /// Returns the context of the row. `unread` has the passes of its values that are still to be
+    /// read. `stored` is the number of all stored values, including those of the row that were read.
+    pub(crate) fn context(self, stored: usize, unread: &[u16], k: u16) -> RowContext<'a> {
+        let own = self.hints.own(self.production);
         let parent_width = self.hints.own(self.parent.production).len();
+        let left = unread.iter().filter(|pass| **pass <= k).count();
+        let start = stored.saturating_add(left).saturating_sub(own.len());
         RowContext {
-            start: self.start,
-            own: self.hints.own(self.production),
-            parent_start: self.start.saturating_sub(parent_width),
+            start,
+            own,
+            parent_start: start.saturating_sub(parent_width),
             parent: self.hints.child(self.parent),
         }
     }

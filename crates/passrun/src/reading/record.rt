@@ -194,7 +194,7 @@ fn take_values(
     ensures none { IsErrOf result RecordFault.Damaged → IsNoRow (k - 1) passes.now bytes.now }
     ensures front { StandInFront values.old.items values.new.items }
 {
-    let context = row.context();
+    let context = row.context(values.len(), passes, k);
     let mut rest = bytes;
     for pass in passes {
         rest = take_value(alloc, *pass, k, rest, values, &context)?;
@@ -289,7 +289,6 @@ pub fn read_node(
         hints: &hints,
         production: number,
         parent: Site::default(),
-        start: values.len(),
     };
     take_row(alloc, passes.as_slice(), k, spellings, values, row)?;
     Ok(number)
@@ -318,7 +317,6 @@ fn read_laid_node(
         hints: job.hints,
         production: number,
         parent: site,
-        start: values.len(),
     };
     take_row(
         alloc,
