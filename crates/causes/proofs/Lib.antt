@@ -1,3 +1,4 @@
 pub mod ChainSteps
 pub mod Found
+pub mod InIndex
 pub mod InTree

@@ -1,7 +1,8 @@
 //! The chain of rules that passed an error on.
 
-ghost use Rattle.std.specs.Prelude.{◌≡◌, ◌++◌, ◌∷◌, [], IfOk, IfSome, IsErrOf, IsTrue};
-ghost use Rattle.causes.specs.Chains.{Follows, GoesTo, IsCause, IsInRecord, in_content, places_of};
+ghost use Rattle.std.specs.Prelude.{◌≡◌, ◌++◌, ◌∷◌, [], IfOk, IfSome, IsErrOf, IsTrue, OnOk};
+ghost use Rattle.causes.specs.Chains.{Follows, GoesTo, IsCause, in_content, places_of};
+ghost use Rattle.causes.specs.Indexed.{IsCauseIn, IsEndAt, IsNumberAt, Leads, in_file};
 ghost use Rattle.treefile.specs.devices.Device.{LeavesContent, Persists, WhenHonest};
 
 use crate::bodies::body_before;
@@ -73,8 +74,10 @@ impl<'a> Chain<'a> {
         target: Target,
         device: &mut D,
     ) -> Result<Option<Next>, TreeFault>
+        requires leads { Leads self.now.grammar.now self.now.index.now self.now.nodes.items }
         ensures next { IfOk result (λ next. IfSome next (λ does. WhenHonest (D.is_honest device.new)
-            (IsInRecord self.now.grammar.now (D.content device.old) target does))) }
+            (in_file self.now.grammar.now self.now.index.now (D.content device.old)
+            (places_of self.now.nodes.items) target does))) }
         ensures content { LeavesContent (D.is_honest device.new)
             (D.content device.old) (D.content device.new) }
         ensures persists { Persists (D.is_honest device.old) (D.is_honest device.new)
@@ -95,7 +98,11 @@ impl<'a> Chain<'a> {
     }
 
     /// Returns the number of the node at which the chain is.
-    fn node(&self) -> u32 {
+    fn node(&self) -> u32
+        requires leads { Leads self.now.grammar.now self.now.index.now self.now.nodes.items }
+        ensures { IsNumberAt self.now.grammar.now self.now.index.now
+            (places_of self.now.nodes.items) result }
+    {
         match self.nodes.last() {
             Some(last) => last.node,
             None => 0,
@@ -103,15 +110,22 @@ impl<'a> Chain<'a> {
     }
 
     /// Returns the end of the record of the node at which the chain is, and its item.
-    fn record(&self) -> Option<(u64, Item)> {
+    fn record(&self) -> Option<(u64, Item)>
+        requires leads { Leads self.now.grammar.now self.now.index.now self.now.nodes.items }
+        ensures { IfSome result (λ parts. IsEndAt self.now.grammar.now self.now.index.now
+            (places_of self.now.nodes.items) parts.0) }
+    {
         let node = self.node();
         Some((self.index.end(node)?, self.index.item(self.grammar, node)?))
     }
 
     /// Goes to the child at a place. Returns whether there is one.
     fn go_to_child(&mut self, place: u16) -> Result<bool, TreeFault>
+        requires leads { Leads self.old.grammar.now self.old.index.now self.old.nodes.items }
         ensures places { IfOk result (λ found. IsTrue found → places_of self.new.nodes.items
             ≡ places_of self.old.nodes.items ++ place ∷ []) }
+        ensures leads { OnOk result (Leads self.new.grammar.now self.new.index.now self.new.nodes.items) }
+        ensures index { self.new.index ≡ self.old.index }
         ensures grammar { self.new.grammar ≡ self.old.grammar }
         ensures device { IsErrOf result TreeFault.Device → ⊥ }
     {
@@ -129,6 +143,8 @@ impl<'a> Chain<'a> {
         requires root { self.old.nodes.items ≡ [] }
         ensures places { IfOk result (λ found. IsTrue found
             → places_of self.new.nodes.items ≡ places.now) }
+        ensures leads { OnOk result (Leads self.new.grammar.now self.new.index.now self.new.nodes.items) }
+        ensures index { self.new.index ≡ self.old.index }
         ensures grammar { self.new.grammar ≡ self.old.grammar }
         ensures device { IsErrOf result TreeFault.Device → ⊥ }
     {
@@ -143,8 +159,11 @@ impl<'a> Chain<'a> {
     /// Goes to the node of the rule for an argument, and returns the target of that rule. Returns `None` if
     /// the index does not have that node.
     fn go_to(&mut self, argument: Target) -> Result<Option<Target>, TreeFault>
+        requires leads { Leads self.old.grammar.now self.old.index.now self.old.nodes.items }
         ensures goes { IfOk result (λ target. IfSome target (GoesTo
             (places_of self.old.nodes.items) argument (places_of self.new.nodes.items))) }
+        ensures leads { OnOk result (Leads self.new.grammar.now self.new.index.now self.new.nodes.items) }
+        ensures index { self.new.index ≡ self.old.index }
         ensures grammar { self.new.grammar ≡ self.old.grammar }
         ensures device { IsErrOf result TreeFault.Device → ⊥ }
     {
@@ -160,8 +179,11 @@ impl<'a> Chain<'a> {
 
     /// Goes to the parent, and returns the target of the rule there for an inherited attribute of the node.
     fn go_up(&mut self, attr: u16) -> Option<Target>
+        requires leads { Leads self.old.grammar.now self.old.index.now self.old.nodes.items }
         ensures goes { IfSome result (λ target. (target.attr ≡ attr) × (places_of self.old.nodes.items
             ≡ places_of self.new.nodes.items ++ target.place ∷ [])) }
+        ensures leads { Leads self.new.grammar.now self.new.index.now self.new.nodes.items }
+        ensures index { self.new.index ≡ self.old.index }
         ensures grammar { self.new.grammar ≡ self.old.grammar }
     {
         let left = self.nodes.pop()?;
@@ -178,9 +200,12 @@ impl<'a> Chain<'a> {
         target: Target,
         device: &mut D,
     ) -> Result<Step, TreeFault>
+        requires leads { Leads self.old.grammar.now self.old.index.now self.old.nodes.items }
         ensures step { IfOk result (λ step. WhenHonest (D.is_honest device.new) (Follows
-            (in_content self.old.grammar.now (D.content device.old)) (places_of self.old.nodes.items)
-            target (places_of self.new.nodes.items) step)) }
+            (in_file self.old.grammar.now self.old.index.now (D.content device.old))
+            (places_of self.old.nodes.items) target (places_of self.new.nodes.items) step)) }
+        ensures leads { OnOk result (Leads self.new.grammar.now self.new.index.now self.new.nodes.items) }
+        ensures index { self.new.index ≡ self.old.index }
         ensures grammar { self.new.grammar ≡ self.old.grammar }
         ensures content { LeavesContent (D.is_honest device.new)
             (D.content device.old) (D.content device.new) }
@@ -228,6 +253,11 @@ pub fn find_cause<D: Device>(
     // The error arises in the rule, and the rules of that number passed it on, each from one of its arguments
     ensures found { IfOk result (λ cause. IfSome cause (λ cause. WhenHonest (D.is_honest device.new)
         (IsCause (in_content grammar.now (D.content device.old)) start.now.places.now
+        start.now.target cause.places.items cause.rule cause.steps))) }
+    // If the index is that of the file, each rule is one of the node there, with the values of the tree; so
+    // the error of what the first rule computes has a cause
+    ensures in_tree { IfOk result (λ cause. IfSome cause (λ cause. WhenHonest (D.is_honest device.new)
+        (IsCauseIn grammar.now index.now (D.content device.old) start.now.places.now
         start.now.target cause.places.items cause.rule cause.steps))) }
     ensures content { LeavesContent (D.is_honest device.new)
         (D.content device.old) (D.content device.new) }

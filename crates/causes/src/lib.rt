@@ -12,4 +12,4 @@ mod tokens;
 
 pub use chain::{Cause, Start, find_cause};
 pub use next_rule::rule_for;
-pub use tokens::{TokenCounts, tokens_before};
+pub use tokens::tokens_before;

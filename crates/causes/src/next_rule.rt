@@ -3,6 +3,7 @@
 ghost use Rattle.std.specs.Prelude.{◌≡◌, All, IfOk, IfSome, length};
 ghost use Rattle.ag_grammar.specs.Lists.{Each};
 ghost use Rattle.ag_grammar.specs.declared.grammar.Rule.{Rule as TheRule};
+ghost use Rattle.ag_grammar.specs.grammars.Accepted.{IsAccepted};
 ghost use Rattle.ag_value.specs.Well.{IsWell};
 ghost use Rattle.origins.specs.Rows.{table_of};
 ghost use Rattle.causes.specs.Chains.{DoesNext, DoesNextAt, IsNumberFor};
@@ -67,8 +68,9 @@ pub(crate) fn next_at(
     target: Target,
 ) -> Result<Option<Next>, NoMemory>
     requires well { All IsWell values.now }
-    ensures { IfOk result (λ next. IfSome next
+    ensures next { IfOk result (λ next. IfSome next
         (DoesNextAt grammar.now number values.now target)) }
+    ensures accepted { IsAccepted grammar.now }
 {
     if grammar.productions().len() <= number as usize {
         return Ok(None);

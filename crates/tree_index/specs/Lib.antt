@@ -1,2 +1,4 @@
 pub mod Faults
+pub mod Nodes
+pub mod Reading
 pub mod Ready

@@ -1,7 +1,9 @@
 //! How the records of a tree file are read.
 
-ghost use Rattle.std.specs.Prelude.{IsErrOf};
+ghost use Rattle.std.specs.Prelude.{IfOk, IfSome, IsErrOf};
+ghost use Rattle.ag_grammar.specs.grammars.AttributeGrammar.{IsProduction};
 ghost use Rattle.treefile.specs.devices.Device.{LeavesContent, Persists};
+ghost use Rattle.tree_index.specs.Reading.{BeginsRecord};
 
 use crate::bodies::body_before;
 use crate::fault::{RecordFault, TreeFault};
@@ -36,7 +38,9 @@ pub struct NodeRecord {
 
 impl<'a> FileFormat<'a> {
     /// Returns the production of a number.
-    pub fn production(&self, number: u16) -> Option<&'a Production> {
+    pub fn production(&self, number: u16) -> Option<&'a Production>
+        ensures { IfSome result (λ production. IsProduction self.now.grammar.now number production.now) }
+    {
         self.grammar.productions().get(usize::from(number))
     }
 
@@ -106,7 +110,9 @@ impl<'a> FileFormat<'a> {
         item: Item,
         body: &[u8],
         row: &mut Vec<Carried>,
-    ) -> Result<u16, RecordFault> {
+    ) -> Result<u16, RecordFault>
+        ensures begins { IfOk result (λ number. BeginsRecord self.now.grammar.now item body.now number) }
+    {
         let Some((number, spellings)) = split_record(self.grammar, item, body) else {
             return Err(RecordFault::Damaged);
         };

@@ -1,5 +1,13 @@
 //! The index of a tree file.
 
+ghost use Rattle.std.specs.Prelude.{◌≡◌, ◌-◌, ◌^◌, ◌<◌, ◌≤◌, IfOk, IfSome, OnOk, [], length};
+ghost use Rattle.ag_grammar.specs.declared.grammar.Production.{Production as TheProduction};
+ghost use Rattle.ag_grammar.specs.grammars.Accepted.{IsAccepted};
+ghost use Rattle.ag_grammar.specs.grammars.AttributeGrammar.{IsProduction, stored_items};
+ghost use Rattle.ag_grammar.specs.grammars.Passes.{nth};
+ghost use Rattle.tree_index.specs.Nodes.{HasChild, HasCount, HasLater, end_of, kind_in, size_of};
+ghost use Rattle.tree_index.specs.Reading.{HasAdded, HasClosed, in_four_bytes};
+
 use ag_grammar::{Direction, Grammar, Item, Terminal};
 use ag_value::NoMemory;
 use std::alloc::Global;
@@ -26,7 +34,12 @@ pub struct TreeIndex {
 
 impl TreeIndex {
     /// Returns the index of no nodes, of the file of a pass.
-    pub(crate) fn new(alloc: Global, pass: u16) -> TreeIndex {
+    pub(crate) fn new(alloc: Global, pass: u16) -> TreeIndex
+        ensures pass { result.pass ≡ pass }
+        ensures ends { result.ends.items ≡ [] }
+        ensures kinds { result.kinds.items ≡ [] }
+        ensures sizes { result.sizes.items ≡ [] }
+    {
         TreeIndex {
             pass,
             ends: Vec::new(alloc),
@@ -36,7 +49,10 @@ impl TreeIndex {
     }
 
     /// Adds the node whose record ends at an offset, and returns its number. Fails if memory is refused.
-    pub(crate) fn add(&mut self, end: u64, kind: NodeKind) -> Result<u32, NoMemory> {
+    pub(crate) fn add(&mut self, end: u64, kind: NodeKind) -> Result<u32, NoMemory>
+        ensures added { OnOk result (HasAdded end kind self.old self.new) }
+        ensures number { IfOk result (λ number. number ≡ in_four_bytes (length self.old.ends.items)) }
+    {
         let number = number_of(self.ends.len());
         self.ends.push(end)?;
         self.kinds.push(kind)?;
@@ -45,7 +61,9 @@ impl TreeIndex {
     }
 
     /// Closes a node: all nodes added after it are in its subtree.
-    pub(crate) fn close(&mut self, node: u32) {
+    pub(crate) fn close(&mut self, node: u32)
+        ensures { HasClosed node self.old self.new }
+    {
         let count = number_of(self.sizes.len().saturating_sub(node as usize));
         if let Some(size) = self.sizes.get_mut(node as usize) {
             *size = count;
@@ -63,17 +81,23 @@ impl TreeIndex {
     }
 
     /// Returns the offset in bytes at which the record of a node ends.
-    pub fn end(&self, node: u32) -> Option<u64> {
+    pub fn end(&self, node: u32) -> Option<u64>
+        ensures { result ≡ end_of self.now node }
+    {
         self.ends.get(node as usize).copied()
     }
 
     /// Returns what a node is.
-    pub fn kind(&self, node: u32) -> Option<NodeKind> {
+    pub fn kind(&self, node: u32) -> Option<NodeKind>
+        ensures { result ≡ kind_in self.now node }
+    {
         self.kinds.get(node as usize).copied()
     }
 
     /// Returns the number of nodes of the subtree of a node.
-    pub fn size(&self, node: u32) -> Option<u32> {
+    pub fn size(&self, node: u32) -> Option<u32>
+        ensures { result ≡ size_of self.now node }
+    {
         self.sizes.get(node as usize).copied()
     }
 
@@ -89,7 +113,9 @@ impl TreeIndex {
     }
 
     /// Returns the number of children of a node.
-    pub fn child_count(&self, grammar: &Grammar, node: u32) -> u16 {
+    pub fn child_count(&self, grammar: &Grammar, node: u32) -> u16
+        ensures { HasCount grammar.now (kind_in self.now node) result }
+    {
         match self.kind(node) {
             Some(NodeKind::Node(number)) => child_count(grammar, number),
             _ => 0,
@@ -97,16 +123,22 @@ impl TreeIndex {
     }
 
     /// Returns a child of a node, by its place from 1.
-    pub fn child(&self, grammar: &Grammar, node: u32, place: u16) -> Option<u32> {
+    pub fn child(&self, grammar: &Grammar, node: u32, place: u16) -> Option<u32>
+        ensures { IfSome result (HasChild grammar.now self.now node place) }
+    {
         let count = self.child_count(grammar, node);
         if place == 0 || count < place {
             return None;
         }
         // the file of an odd pass is read from left to right
-        let before = match Direction::of_pass(self.pass).turned() {
-            Direction::LeftToRight => place - 1,
-            Direction::RightToLeft => count - place,
-        };
+        let direction = Direction::of_pass(self.pass).turned();
+        self.child_after(node, others_before(direction, count, place))
+    }
+
+    /// Returns the child of a node that comes after `before` others in the order of the index.
+    fn child_after(&self, node: u32, before: u16) -> Option<u32>
+        ensures { IfSome result (HasLater self.now node before) }
+    {
         let mut child = node.checked_add(1)?;
         for _ in 0..before {
             child = child.checked_add(self.size(child)?)?;
@@ -124,20 +156,47 @@ impl TreeIndex {
     }
 }
 
+/// Returns the number of the children, of `count`, that come in a direction before the one at a place.
+fn others_before(direction: Direction, count: u16, place: u16) -> u16
+    requires from_one { 0 < place }
+    requires within { place ≤ count }
+    ensures nth { nth direction count result ≡ place - 1 }
+    ensures less { result < count }
+{
+    match direction {
+        Direction::LeftToRight => place - 1,
+        Direction::RightToLeft => count - place,
+    }
+}
+
 /// Returns a count of nodes as a number.
-fn number_of(count: usize) -> u32 {
+fn number_of(count: usize) -> u32
+    ensures { result ≡ in_four_bytes count }
+{
     count.min(u32::MAX as usize) as u32
 }
 
 /// Returns the number of children of a node of a production.
-pub(crate) fn child_count(grammar: &Grammar, production: u16) -> u16 {
-    let Some(production) = grammar.productions().get(usize::from(production)) else {
-        return 0;
-    };
-    let mut count = 0u16;
-    for item in production.items.as_slice() {
+pub(crate) fn child_count(grammar: &Grammar, production: u16) -> u16
+    ensures count { (q : TheProduction) → IsProduction grammar.now production q
+        → result ≡ length (stored_items q.items) }
+    ensures accepted { IsAccepted grammar.now }
+{
+    match grammar.productions().get(usize::from(production)) {
+        Some(production) => stored_among(production.items.as_slice()),
+        None => 0,
+    }
+}
+
+/// Returns the number of items that are children.
+fn stored_among(items: &[Item]) -> u16
+    requires { length items.now < 2 ^ 16 }
+    ensures { result ≡ length (stored_items items.now) }
+{
+    let mut count = 0;
+    for item in items {
         if item.has_place() {
-            count = count.saturating_add(1);
+            count += 1;
         }
     }
     count

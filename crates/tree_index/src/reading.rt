@@ -1,7 +1,13 @@
 //! The reading of a whole tree file, which makes its index.
 
-ghost use Rattle.std.specs.Prelude.{◌≡◌, IsErrOf, OnOk};
-ghost use Rattle.treefile.specs.devices.Device.{LeavesContent, Persists};
+ghost use Rattle.std.specs.Prelude.{◌≡◌, ◌∷◌, IfOk, IfSome, IsErrOf, OnOk, Some, reverse, slice_get};
+ghost use Rattle.ag_grammar.specs.declared.grammar.Production.{Production as TheProduction};
+ghost use Rattle.ag_grammar.specs.grammars.Accepted.{IsAccepted};
+ghost use Rattle.ag_grammar.specs.grammars.AttributeGrammar.{IsProduction, stored_items};
+ghost use Rattle.ag_grammar.specs.grammars.Passes.{nth};
+ghost use Rattle.treefile.specs.devices.Device.{LeavesContent, Persists, WhenHonest};
+ghost use Rattle.tree_index.specs.Nodes.{IsIndexIn, back_from};
+ghost use Rattle.tree_index.specs.Reading.{BeginsRecord, ComesNext, HasComeTo, HasClosed, HasFetched, HasOpened};
 ghost use Rattle.tree_index.specs.Ready.{IsReady};
 
 use crate::fault::{RecordFault, TreeFault};
@@ -79,7 +85,10 @@ impl Mode<'_> {
         item: Item,
         body: &[u8],
         values: &mut Vec<Carried>,
-    ) -> Result<u16, RecordFault> {
+    ) -> Result<u16, RecordFault>
+        ensures begins { IfOk result (λ number. BeginsRecord self.now.format.grammar.now
+            item body.now number) }
+    {
         if self.with_values {
             return self.format.read_into(self.alloc, item, body, values);
         }
@@ -106,12 +115,17 @@ impl Mode<'_> {
     }
 
     /// Returns the record that is expected next at a node with a child that was not visited.
-    fn expected_child(&self, node: OpenNode) -> Option<Expected> {
+    fn expected_child(&self, node: OpenNode) -> Option<Expected>
+        ensures { IfSome result (λ expected. (q : TheProduction)
+            → IsProduction self.now.format.grammar.now node.production q
+            → slice_get (stored_items q.items) (nth (back_from self.now.format.pass)
+            node.children node.visited) ≡ Some expected.item) }
+    {
         if node.children <= node.visited {
             return None;
         }
         let direction = Direction::of_pass(self.format.pass).turned();
-        let index = direction.nth(usize::from(node.children), usize::from(node.visited));
+        let index = direction.nth(node.children as usize, node.visited as usize);
         let place = (index as u16).saturating_add(1);
         let production = self.format.production(node.production)?;
         Some(Expected {
@@ -131,6 +145,8 @@ fn fetch<D: Device>(
     device: &mut D,
 ) -> Result<Fetched, TreeFault>
     requires ready { IsReady (D.is_honest device.old) (D.content device.old) back.old }
+    ensures fetched { IfOk result (λ fetched. HasFetched mode.now.format.grammar.now
+        (D.is_honest device.new) (D.content device.old) item back.old back.new fetched) }
     ensures ready { OnOk result (IsReady (D.is_honest device.new) (D.content device.old) back.new) }
     ensures content { LeavesContent (D.is_honest device.new)
         (D.content device.old) (D.content device.new) }
@@ -190,8 +206,14 @@ impl Reading {
         device: &mut D,
     ) -> Result<(), TreeFault>
         requires ready { IsReady (D.is_honest device.old) (D.content device.old) self.old.back }
+        requires next { WhenHonest (D.is_honest device.old) (ComesNext mode.now.format.grammar.now
+            (D.content device.old) self.old.back expected.item (reverse self.old.nodes.items) self.old.index) }
         ensures ready { OnOk result (IsReady (D.is_honest device.new) (D.content device.old)
             self.new.back) }
+        ensures come { OnOk result (WhenHonest (D.is_honest device.new) (HasComeTo
+            mode.now.format.grammar.now (D.content device.old) self.new.back
+            (reverse self.new.nodes.items) self.new.index)) }
+        ensures pass { OnOk result (self.new.index.pass ≡ self.old.index.pass) }
         ensures content { LeavesContent (D.is_honest device.new)
             (D.content device.old) (D.content device.new) }
         ensures persists { Persists (D.is_honest device.old) (D.is_honest device.new)
@@ -223,6 +245,8 @@ impl Reading {
 
     /// Adds a record that was read to the index, and opens its node. The text of a token is not kept.
     fn open(&mut self, grammar: &Grammar, fetched: Fetched) -> Result<(), TreeFault>
+        ensures opened { OnOk result (HasOpened grammar.now fetched.item fetched.end fetched.number
+            self.old.index self.new.index self.old.nodes.items self.new.nodes.items) }
         ensures back { self.new.back ≡ self.old.back }
         ensures device { IsErrOf result TreeFault.Device → ⊥ }
     {
@@ -248,7 +272,9 @@ impl Reading {
 
     /// Closes a node that was taken from the open ones.
     fn close(&mut self, node: OpenNode)
-        ensures { self.new.back ≡ self.old.back }
+        ensures closed { HasClosed node.number self.old.index self.new.index }
+        ensures nodes { self.new.nodes ≡ self.old.nodes }
+        ensures back { self.new.back ≡ self.old.back }
     {
         self.index.close(node.number);
         self.values.truncate(node.row);
@@ -262,8 +288,15 @@ impl Reading {
         device: &mut D,
     ) -> Result<(), TreeFault>
         requires ready { IsReady (D.is_honest device.old) (D.content device.old) self.old.back }
+        requires come { WhenHonest (D.is_honest device.old) (HasComeTo mode.now.format.grammar.now
+            (D.content device.old) self.old.back (node ∷ reverse self.old.nodes.items) self.old.index) }
+        requires pass { self.old.index.pass ≡ mode.now.format.pass }
         ensures ready { OnOk result (IsReady (D.is_honest device.new) (D.content device.old)
             self.new.back) }
+        ensures come { OnOk result (WhenHonest (D.is_honest device.new) (HasComeTo
+            mode.now.format.grammar.now (D.content device.old) self.new.back
+            (reverse self.new.nodes.items) self.new.index)) }
+        ensures pass { OnOk result (self.new.index.pass ≡ self.old.index.pass) }
         ensures content { LeavesContent (D.is_honest device.new)
             (D.content device.old) (D.content device.new) }
         ensures persists { Persists (D.is_honest device.old) (D.is_honest device.new)
@@ -289,6 +322,7 @@ impl Reading {
     /// Ends the reading when no node is open. Fails with R1 if something is left to read.
     fn end<D: Device>(mut self, device: &mut D) -> Result<TreeIndex, TreeFault>
         requires ready { IsReady (D.is_honest device.old) (D.content device.old) self.back }
+        ensures index { IfOk result (λ index. index ≡ self.index) }
         ensures content { LeavesContent (D.is_honest device.new)
             (D.content device.old) (D.content device.new) }
         ensures persists { Persists (D.is_honest device.old) (D.is_honest device.new)
@@ -333,6 +367,8 @@ fn read_file<D: Device>(
     with_values: bool,
     device: &mut D,
 ) -> Result<TreeIndex, TreeFault>
+    ensures indexed { IfOk result (λ index. WhenHonest (D.is_honest device.new)
+        (IsIndexIn grammar.now (D.content device.old) index)) }
     ensures content { LeavesContent (D.is_honest device.new)
         (D.content device.old) (D.content device.new) }
     ensures persists { Persists (D.is_honest device.old) (D.is_honest device.new)
@@ -384,6 +420,8 @@ impl TreeIndex {
         plan: &Plan,
         device: &mut D,
     ) -> Result<TreeIndex, TreeFault>
+        ensures indexed { IfOk result (λ index. WhenHonest (D.is_honest device.new)
+            (IsIndexIn grammar.now (D.content device.old) index)) }
         ensures content { LeavesContent (D.is_honest device.new)
             (D.content device.old) (D.content device.new) }
         ensures persists { Persists (D.is_honest device.old) (D.is_honest device.new)
@@ -400,6 +438,8 @@ impl TreeIndex {
         plan: &Plan,
         device: &mut D,
     ) -> Result<TreeIndex, TreeFault>
+        ensures indexed { IfOk result (λ index. WhenHonest (D.is_honest device.new)
+            (IsIndexIn grammar.now (D.content device.old) index)) }
         ensures content { LeavesContent (D.is_honest device.new)
             (D.content device.old) (D.content device.new) }
         ensures persists { Persists (D.is_honest device.old) (D.is_honest device.new)

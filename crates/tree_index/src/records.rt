@@ -1,5 +1,8 @@
 //! The parts of a record.
 
+ghost use Rattle.std.specs.Prelude.{IfSome};
+ghost use Rattle.tree_index.specs.Reading.{BeginsRecord};
+
 use crate::fault::RecordFault;
 use ag_carried::Carried;
 use ag_grammar::limits::MOST_TOKEN_BYTES;
@@ -14,7 +17,9 @@ pub(crate) fn split_record<'b>(
     grammar: &Grammar,
     item: Item,
     body: &'b [u8],
-) -> Option<(u16, &'b [u8])> {
+) -> Option<(u16, &'b [u8])>
+    ensures { IfSome result (λ parts. BeginsRecord grammar.now item body.now parts.0) }
+{
     match (item, split_body(body)?) {
         (Item::Symbol(symbol), (Kind::Node, number, spellings)) => {
             let production = grammar.productions().get(usize::from(number))?;

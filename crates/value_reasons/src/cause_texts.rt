@@ -7,11 +7,11 @@ use crate::explained::ExplainedTree;
 use crate::tokens::position_of_token;
 use ag_grammar::{Grammar, Target};
 use ag_value::{NoMemory, Text};
-use causes::{Cause, Start, TokenCounts, find_cause, tokens_before};
+use causes::{Cause, Start, find_cause, tokens_before};
 use message_texts::Source;
 use planchecker::Plan;
 use std::alloc::Global;
-use tree_index::{FileFormat, NodePath, TreeFault, TreeIndex};
+use tree_index::{FileFormat, NodePath, TokenCounts, TreeFault, TreeIndex};
 use treefile::Device;
 
 /// A translation that is an error.

@@ -1,0 +1,154 @@
+-- The nodes of a tree in the order in which its file is read from its end, and the index that has them. All of this is this project's.
+use Rattle.std.specs.Prelude.{ℕ, suc, ◌≡◌, ◌<◌, ◌^◌, List, [], ◌∷◌, ◌++◌, ◌≤◌, drop, map, reverse, length, slice_get, Option, None, Some, Ok}
+use Rattle.std.specs.List.{flat_map}
+use Rattle.ag_grammar.specs.declared.direction.Direction.{Direction}
+use Rattle.ag_grammar.specs.declared.direction.Direction.TheVariants.{LeftToRight, RightToLeft}
+use Rattle.ag_grammar.specs.declared.grammar.Item.{Item}
+use Rattle.ag_grammar.specs.declared.grammar.Production.{Production}
+use Rattle.ag_grammar.specs.grammars.AttributeGrammar.{Grammar, IsProduction, stored_items}
+use Rattle.ag_grammar.specs.grammars.Passes.{IsLegal, Passes, direction_of, other}
+use Rattle.ag_grammar.specs.grammars.Solution.{Valuation, children, rest}
+use Rattle.ag_grammar.specs.grammars.Tree.{Fits, Forest, IsTreeOf, Tree, leaf, node, node_count, none, more}
+use Rattle.treefile.specs.records.Records.{IsFileOfTree, copies_of, node_body, token_body}
+use Rattle.treefile.specs.records.TreeFile.{version_two}
+use Rattle.treefile.specs.ways.Backward.{next_before}
+use Rattle.tree_index.specs.declared.index.NodeKind.{NodeKind}
+use Rattle.tree_index.specs.declared.index.NodeKind.TheVariants as kind
+use Rattle.tree_index.specs.declared.index.TreeIndex.{TreeIndex}
+
+-- a node of a tree, as the tree below it with its values
+pub record Subtree : Type 0 where
+  pub tree : Tree
+  pub values : Valuation
+
+-- the children of a node from left to right
+abbrev pub kids : Forest → (ℕ → Valuation) → List Subtree
+kids none vs = []
+kids (more t ts) vs = record { tree = t; values = vs 0 } ∷ kids ts (rest vs)
+
+-- in a direction
+abbrev pub in_order : {X : Type 0} → Direction → List X → List X
+in_order LeftToRight xs = xs
+in_order RightToLeft xs = reverse xs
+
+-- the lists of a child and of the children right of it, joined in a direction
+abbrev pub both : {X : Type 0} → Direction → List X → List X → List X
+both LeftToRight child others = child ++ others
+both RightToLeft child others = others ++ child
+
+-- The nodes of a tree in the prefix order of a direction: each node before its children, and these in the direction.
+abbrev mutual
+  pub nodes_of : Direction → Tree → Valuation → List Subtree
+  nodes_of d (leaf c x) v = record { tree = leaf c x; values = v } ∷ []
+  nodes_of d (node p ts) v = record { tree = node p ts; values = v } ∷ nodes_of_all d ts (children v)
+
+  pub nodes_of_all : Direction → Forest → (ℕ → Valuation) → List Subtree
+  nodes_of_all d none vs = []
+  nodes_of_all d (more t ts) vs = both d (nodes_of d t (vs 0)) (nodes_of_all d ts (rest vs))
+
+abbrev pub nodes_below : Direction → Subtree → List Subtree
+nodes_below d s = nodes_of d s.tree s.values
+
+-- the nodes of some subtrees, one after the other
+abbrev pub nodes_in : Direction → List Subtree → List Subtree
+nodes_in d subtrees = flat_map (nodes_below d) subtrees
+
+-- what a node is
+abbrev pub kind_of : Tree → NodeKind
+kind_of (leaf c x) = kind.Token c
+kind_of (node p ts) = kind.Node p
+
+abbrev pub kind_at : Subtree → NodeKind
+kind_at s = kind_of s.tree
+
+-- the number of nodes of its subtree
+abbrev pub size_at : Subtree → ℕ
+size_at s = node_count s.tree
+
+-- the body of its record in the file of a pass
+abbrev pub record_of : Grammar → Passes → ℕ → Tree → Valuation → List ℕ
+record_of g m k (leaf c x) v = token_body c x
+record_of g m k (node p ts) v = node_body version_two g m k p (v []) (copies_of g m k ts (children v))
+
+abbrev pub record_at : Grammar → Passes → ℕ → Subtree → List ℕ
+record_at g m k s = record_of g m k s.tree s.values
+
+-- Records of a content, one after the other, end at these offsets.
+abbrev pub AreEnds : List ℕ → List ℕ → List (List ℕ) → Type 0
+AreEnds content [] [] = Unit {0}
+AreEnds content [] (body ∷ bodies) = ⊥
+AreEnds content (end ∷ ends) [] = ⊥
+AreEnds content (end ∷ ends) (body ∷ bodies) = (next_before version_two content end ≡ Ok (Some body)) × AreEnds content ends bodies
+
+-- the direction in which the file of a pass is read from its end
+abbrev pub back_from : ℕ → Direction
+back_from pass = other (direction_of pass)
+
+-- An index has the nodes of a tree: what each is, and the number of nodes of its subtree.
+pub record HasNodes (k : ℕ) (t : Tree) (v : Valuation) (index : TreeIndex) : Type 0 where
+  pub pass : index.pass ≡ k
+  pub kinds : index.kinds.items ≡ map kind_at (nodes_of (back_from k) t v)
+  pub sizes : index.sizes.items ≡ map size_at (nodes_of (back_from k) t v)
+
+-- It is the index of a tree, of which a content is the file of pass k: the records of the nodes end where it says.
+pub record IsIndexOf (g : Grammar) (m : Passes) (k : ℕ) (t : Tree) (v : Valuation) (content : List ℕ) (index : TreeIndex) : Type 0 where
+  pub nodes : HasNodes k t v index
+  pub ends : AreEnds content index.ends.items (map (record_at g m k) (nodes_of (back_from k) t v))
+
+-- Something is true of each tree and values whose file a content is.
+abbrev pub OfEach : (Passes → ℕ → Tree → Valuation → Type 0) → Grammar → List ℕ → Type 0
+OfEach P g content = (m : Passes) (k : ℕ) (t : Tree) (v : Valuation) → k < 2 ^ 16 → IsLegal g m → IsTreeOf g t → IsFileOfTree version_two g m k t v content → P m k t v
+
+-- the index of each tree whose file a content is
+abbrev pub IsIndexIn : Grammar → List ℕ → TreeIndex → Type 0
+IsIndexIn g content index = OfEach (λ m k t v. IsIndexOf g m k t v content index) g content
+
+-- what an index says of a node
+abbrev pub end_of : TreeIndex → ℕ → Option ℕ
+end_of index number = slice_get index.ends.items number
+
+abbrev pub kind_in : TreeIndex → ℕ → Option NodeKind
+kind_in index number = slice_get index.kinds.items number
+
+abbrev pub size_of : TreeIndex → ℕ → Option ℕ
+size_of index number = slice_get index.sizes.items number
+
+-- the number of children of what a node is
+abbrev pub HasCount : Grammar → Option NodeKind → ℕ → Type 0
+HasCount g None count = count ≡ 0
+HasCount g (Some (kind.Token c)) count = count ≡ 0
+HasCount g (Some (kind.Node p)) count = (q : Production) → IsProduction g p q → count ≡ length (stored_items q.items)
+
+-- The nodes of a subtree are in a list of nodes from a number on.
+pub record StandsAt (d : Direction) (nodes : List Subtree) (number : ℕ) (t : Tree) (v : Valuation) : Type 0 where
+  pub front : List Subtree
+  pub others : List Subtree
+  pub split : nodes ≡ front ++ (nodes_of d t v ++ others)
+  pub at : length front ≡ number
+
+-- those of some subtrees, one after the other
+pub record StandAt (d : Direction) (nodes : List Subtree) (number : ℕ) (subtrees : List Subtree) : Type 0 where
+  pub front : List Subtree
+  pub others : List Subtree
+  pub split : nodes ≡ front ++ (nodes_in d subtrees ++ others)
+  pub at : length front ≡ number
+
+-- The number is that of the child at a place, which counts from 1, of a node with these children.
+pub record IsKid (d : Direction) (nodes : List Subtree) (ts : Forest) (v : Valuation) (place number : ℕ) : Type 0 where
+  pub index : ℕ
+  pub counted : place ≡ suc index
+  pub kid : Subtree
+  pub there : slice_get (kids ts (children v)) index ≡ Some kid
+  pub stands : StandsAt d nodes number kid.tree kid.values
+
+abbrev pub IsKidOf : Direction → List Subtree → Tree → Valuation → ℕ → ℕ → Type 0
+IsKidOf d nodes (leaf c x) v place number = ⊥
+IsKidOf d nodes (node p ts) v place number = IsKid d nodes ts v place number
+
+-- In each tree of the grammar that the index has, a number is that of the child at a place of the node of another number.
+abbrev pub HasChild : Grammar → TreeIndex → ℕ → ℕ → ℕ → Type 0
+HasChild g index number place child = (k : ℕ) (t : Tree) (v : Valuation) (x : Item) (tree : Tree) (w : Valuation) → HasNodes k t v index → Fits g x tree → StandsAt (back_from k) (nodes_of (back_from k) t v) number tree w → IsKidOf (back_from k) (nodes_of (back_from k) t v) tree w place child
+
+-- The number is that of the child of a node that comes after `before` others, in the direction in which the file is read.
+abbrev pub HasLater : TreeIndex → ℕ → ℕ → ℕ → Type 0
+HasLater index number before child = (k : ℕ) (t : Tree) (v : Valuation) (p : ℕ) (ts : Forest) (w : Valuation) → HasNodes k t v index → before ≤ length (kids ts (children w)) → StandsAt (back_from k) (nodes_of (back_from k) t v) number (node p ts) w → StandAt (back_from k) (nodes_of (back_from k) t v) child (drop before (in_order (back_from k) (kids ts (children w))))
