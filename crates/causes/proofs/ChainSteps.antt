@@ -7,7 +7,11 @@ use Rattle.std.proofs.lemmas.Option.{slice_get-get_or}
 use Rattle.ag_grammar.specs.declared.grammar.Rule.{Rule}
 use Rattle.ag_grammar.specs.declared.grammar.Target.{Target}
 use Rattle.ag_grammar.specs.grammars.AttributeGrammar.{Grammar}
-use Rattle.causes.specs.Chains.{IsChain, IsNumberFor, IsPassedFrom, in_content, longer}
+use Rattle.tree_index.specs.declared.index.TreeIndex.{TreeIndex}
+use Rattle.causes.specs.Chains.{Follows, IsCause, IsChain, IsNumberFor, IsPassedFrom, longer}
+use Rattle.causes.specs.declared.chain.Step.TheVariants as step
+use Rattle.causes.specs.declared.next_rule.Next.TheVariants as rule_does
+use Rattle.causes.specs.Indexed.{in_file}
 
 -- two targets with the same numbers
 target_same : (a b : Target) → a.place ≡ b.place → a.attr ≡ b.attr → a ≡ b
@@ -34,10 +38,26 @@ rule_there rules list at number target rule same same_number within is found =
     let one : found.rule ≡ rule = cc in
     (ap (λ (xs : List Rule). slice_get xs number) (sym same) ∙ there, ap (λ (r : Rule). r.target) (sym one) ∙ found.gives)
 
--- A chain that is read in a content goes on by one rule; the grammar and the content have two names.
-pub reads_on : (g h : Grammar) (old new : List ℕ) → g ≡ h → old ≡ new → (places : List ℕ) (target : Target) (there : List ℕ) (from : Target) (n : ℕ) (beyond : List ℕ) (origin : Target) → IsChain (in_content h new) places target there from n → IsPassedFrom (in_content g old) there from beyond origin → IsChain (in_content h new) places target beyond origin (n + 1)
-reads_on g h old new same_grammar same_content places target there from n beyond origin chain link =
-    let with_content : IsPassedFrom (in_content g new) there from beyond origin = subst (λ (b : List ℕ). IsPassedFrom (in_content g b) there from beyond origin) same_content link in
-    let with_both : IsPassedFrom (in_content h new) there from beyond origin = subst (λ (x : Grammar). IsPassedFrom (in_content x new) there from beyond origin) same_grammar with_content in
+-- A chain that is read in a file goes on by one rule; the grammar, the index and the content have two names.
+pub reads_on : (g h : Grammar) (i j : TreeIndex) (old new : List ℕ) → g ≡ h → i ≡ j → old ≡ new → (places : List ℕ) (target : Target) (there : List ℕ) (from : Target) (n : ℕ) (beyond : List ℕ) (origin : Target)
+    → IsChain (in_file h j new) places target there from n → IsPassedFrom (in_file g i old) there from beyond origin → IsChain (in_file h j new) places target beyond origin (n + 1)
+reads_on g h i j old new same_grammar same_index same_content places target there from n beyond origin chain link =
+    let with_content : IsPassedFrom (in_file g i new) there from beyond origin = subst (λ (b : List ℕ). IsPassedFrom (in_file g i b) there from beyond origin) same_content link in
+    let with_index : IsPassedFrom (in_file g j new) there from beyond origin = subst (λ (b : TreeIndex). IsPassedFrom (in_file g b new) there from beyond origin) same_index with_content in
+    let with_both : IsPassedFrom (in_file h j new) there from beyond origin = subst (λ (x : Grammar). IsPassedFrom (in_file x j new) there from beyond origin) same_grammar with_index in
     let one_more : suc n ≡ n + 1 = omega arith in
-    subst (IsChain (in_content h new) places target beyond origin) one_more (longer there from n beyond origin chain with_both)
+    subst (IsChain (in_file h j new) places target beyond origin) one_more (longer there from n beyond origin chain with_both)
+
+-- A chain that is read in a file ends in the rule in which the error arises.
+pub arises_in : (g h : Grammar) (i j : TreeIndex) (old new : List ℕ) → g ≡ h → i ≡ j → old ≡ new → (places : List ℕ) (target : Target) (there : List ℕ) (from : Target) (n : ℕ) (beyond at : List ℕ) (number : ℕ) → at ≡ beyond
+    → IsChain (in_file h j new) places target there from n → Follows (in_file g i old) there from beyond (step.Arises number) → IsCause (in_file h j new) places target at number n
+arises_in g h i j old new same_grammar same_index same_content places target there from n beyond at number ends chain follows =
+    let with_content : in_file g i new there from (rule_does.Arises number) = subst (λ (b : List ℕ). in_file g i b there from (rule_does.Arises number)) same_content follows.1 in
+    let with_index : in_file g j new there from (rule_does.Arises number) = subst (λ (b : TreeIndex). in_file g b new there from (rule_does.Arises number)) same_index with_content in
+    let with_both : in_file h j new there from (rule_does.Arises number) = subst (λ (x : Grammar). in_file x j new there from (rule_does.Arises number)) same_grammar with_index in
+    let one : there ≡ at = sym (ends ∙ follows.0) in
+    record {
+      from = from;
+      chain = subst (λ (z : List ℕ). IsChain (in_file h j new) places target z from n) one chain;
+      arises = subst (λ (z : List ℕ). in_file h j new z from (rule_does.Arises number)) one with_both;
+    }

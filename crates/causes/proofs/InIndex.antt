@@ -1,27 +1,26 @@
 -- What is read along the nodes of an index is what the tree has there.
-use Rattle.std.proofs.Common.{ℕ, zero, suc, ◌≡◌, ◌<◌, List, [], ◌∷◌, ◌++◌, All, map, reverse, length, Bool, true, false, cond, Option, Some, None, Result, Ok, Err, slice_get, refl, ap, sym, subst, ◌∙◌, arith}
+use Rattle.std.proofs.Common.{ℕ, zero, suc, ◌≡◌, ◌-◌, ◌≤◌, List, [], ◌∷◌, ◌++◌, All, map, reverse, length, Bool, true, false, cond, Option, Some, None, Result, Ok, Err, slice_get, refl, ap, sym, subst, ◌∙◌, arith}
 use Rattle.std.specs.Prelude.{nat_eq}
 use Rattle.std.proofs.lemmas.List.{map-append, reverse-append, reverse-reverse}
 use Rattle.std.proofs.lemmas.Option.{slice_get_within}
 use Rattle.ag_value.specs.declared.value.Value.{Value}
 use Rattle.ag_value.specs.Well.{IsWell}
+use Rattle.ag_grammar.specs.declared.direction.Direction.{Direction}
 use Rattle.ag_grammar.specs.declared.grammar.Item.TheVariants as item
 use Rattle.ag_grammar.specs.declared.grammar.Item.{Item}
 use Rattle.ag_grammar.specs.declared.grammar.Production.{Production}
 use Rattle.ag_grammar.specs.declared.grammar.Rule.{Rule}
 use Rattle.ag_grammar.specs.declared.grammar.Target.{Target}
-use Rattle.ag_grammar.specs.declared.grammar.Terminal.TheVariants.{Literal, Class}
 use Rattle.ag_grammar.specs.grammars.Accepted.{IsAccepted, IsNormal}
-use Rattle.ag_grammar.specs.grammars.AttributeGrammar.{Grammar, IsProduction, stored_items}
+use Rattle.ag_grammar.specs.grammars.AttributeGrammar.{Grammar, stored_items}
 use Rattle.ag_grammar.specs.grammars.Passes.{IsLegal, Passes}
 use Rattle.ag_grammar.specs.grammars.Running.{IsLastPass}
 use Rattle.ag_grammar.specs.grammars.Solution.{NoRule, SolvesAll, AtEachNodeOf, Valuation, WellAt, at, below, children, left_passes, rest}
-use Rattle.ag_grammar.specs.grammars.Tree.{Fits, FitsAll, Forest, IsTreeOf, Tree, leaf, more, node, none}
-use Rattle.treefile.specs.declared.body.Kind.TheVariants.{Node, Token}
+use Rattle.ag_grammar.specs.grammars.Tree.{Fits, FitsAll, Forest, Tree, leaf, more, node, none}
 use Rattle.treefile.specs.declared.reading.FrameFault.{FrameFault}
 use Rattle.treefile.specs.records.OneTree.{IsRecorded}
-use Rattle.treefile.specs.records.Records.{IsFileOfTree, copies_of, values_up_to}
-use Rattle.treefile.specs.records.TreeFile.{body_from, body_of, version_two}
+use Rattle.treefile.specs.records.Records.{copies_of, values_up_to}
+use Rattle.treefile.specs.records.TreeFile.{version_two}
 use Rattle.treefile.specs.ways.Backward.{next_before, some_body}
 use Rattle.treefile.specs.ways.Ending.{body_before, header_bytes}
 use Rattle.treefile.proofs.records.Copies.{copies_well, stored_well}
@@ -30,17 +29,17 @@ use Rattle.treefile.proofs.records.Values.{values_well}
 use Rattle.ag_grammar.specs.expressions.Evaluation.{value_of}
 use Rattle.ag_grammar.specs.values.Arguments.{fault_of}
 use Rattle.origins.specs.Arising.{Table, arises, environment, is_same_error, value_at}
-use Rattle.origins.specs.Causes.{IsSource, exchanged_below, is_still, tree_at, values_at}
+use Rattle.origins.specs.Causes.{exchanged_below, is_still, tree_at, values_at}
 use Rattle.origins.specs.Origins.{child, child_of}
 use Rattle.origins.specs.Records.{IsNode}
 use Rattle.origins.specs.Rows.{table_of}
 use Rattle.origins.proofs.Arguments.{argument_value, row}
 use Rattle.origins.proofs.Same.{node_is_no_token, one_body}
-use Rattle.tree_index.specs.Nodes.{HasChild, HasNodes, IsIndexIn, IsIndexOf, IsKid, StandsAt, Subtree, back_from, end_of, kids, nodes_of, record_of}
+use Rattle.tree_index.specs.Nodes.{HasChild, HasNodes, IsIndexOf, IsKid, StandsAt, Subtree, back_from, kids, nodes_of, record_of}
 use Rattle.tree_index.specs.declared.index.TreeIndex.{TreeIndex}
 use Rattle.tree_index.proofs.Kids.{record_there, root_stands}
-use Rattle.causes.specs.Chains.{Arises, DoesNext, DoesNextAt, IsCause, IsChain, IsInRecord, IsPassedFrom, Passes as PassesOn, Reading, itself, longer, places_of}
-use Rattle.causes.specs.Indexed.{AreLed, IsAtPlaces, IsCauseIn, IsCauseOf, IsEndAt, IsNumberAt, Leads, OfEachLast, in_file, way}
+use Rattle.causes.specs.Chains.{DoesNext, DoesNextAt, IsCause, IsChain, Reading, itself, longer, places_of}
+use Rattle.causes.specs.Indexed.{AreLed, IsAtPlaces, IsCauseIn, IsEndAt, IsNumberAt, Leads, in_file, way}
 use Rattle.causes.specs.Laws.{IsInTree, in_tree}
 use Rattle.causes.specs.declared.chain.PathNode.{PathNode}
 use Rattle.causes.specs.declared.next_rule.Next.{Next}
@@ -264,3 +263,24 @@ cause_in_tree g index content places target there number n cause indexed m k t v
       found = found;
       caused = λ path is. found_is_cause g t v path target there number n (subst (λ (z : List ℕ). IsCause (in_tree g t v) z target there number n) is found);
     }
+
+-- the last of some nodes
+split_last : (nodes : List PathNode) (n : PathNode) → slice_get nodes (length nodes - 1) ≡ Some n → (front : List PathNode) × (nodes ≡ front ++ n ∷ [])
+split_last [] n is = absurd (let bad : ⊥ = cc in bad)
+split_last (x ∷ []) n is = let same : x ≡ n = cc in ([], ap (λ (z : PathNode). z ∷ []) same)
+split_last (x ∷ y ∷ nodes) n is =
+    let less : length (x ∷ y ∷ nodes) - 1 ≡ suc (length (y ∷ nodes) - 1) = omega arith in
+    let later = split_last (y ∷ nodes) n (sym (ap (slice_get (x ∷ y ∷ nodes)) less) ∙ is) in
+    (x ∷ later.0, ap (λ (z : List PathNode). x ∷ z) later.1)
+
+none_left : (nodes : List PathNode) → length nodes ≤ 0 → nodes ≡ []
+none_left [] few = refl
+none_left (n ∷ nodes) few = absurd (omega arith)
+
+pub number_of_last : (g : Grammar) (index : TreeIndex) (nodes lent : List PathNode) (n : PathNode) → lent ≡ nodes → Some n ≡ slice_get lent (length lent - 1) → Leads g index nodes → IsNumberAt g index (places_of nodes) n.node
+number_of_last g index nodes lent n same is leads =
+    let last = split_last lent n (sym is) in
+    last_number g index nodes last.0 n (sym same ∙ last.1) leads
+
+pub number_of_root : (g : Grammar) (index : TreeIndex) (nodes lent : List PathNode) → lent ≡ nodes → length lent ≤ 0 → IsNumberAt g index (places_of nodes) 0
+number_of_root g index nodes lent same few = subst (λ (z : List PathNode). IsNumberAt g index (places_of z) 0) (sym (none_left lent few) ∙ same) (root_number g index)

@@ -1,6 +1,9 @@
-use Rattle.std.proofs.Common.{◌≡◌, List, ℕ, refl, subst, sym, ◌∙◌, arith, rules}
-use Rattle.causes.specs.Chains.{Follows, IsChain, in_content, itself, places_of}
-use Rattle.causes.proofs.ChainSteps.{reads_on}
+use Rattle.std.proofs.Common.{◌≡◌, List, ℕ, refl, true, subst, sym, ◌∙◌, arith, rules}
+use Rattle.causes.specs.Chains.{Follows, IsCause, IsChain, in_content, itself, places_of}
+use Rattle.causes.specs.Indexed.{in_file}
+use Rattle.causes.proofs.ChainSteps.{arises_in, reads_on}
+use Rattle.causes.proofs.InIndex.{cause_in, cause_in_tree}
+use Rattle.causes.proofs.chain.find_cause.Given as given
 use Rattle.causes.proofs.chain.find_cause.Goals as goal
 
 pub loop-steps-init : goal.loop-steps-init
@@ -11,8 +14,10 @@ loop-steps-init g c =
     let grammar = down.grammar in record {
       chain = λ honest.
           let there : places_of c.go_down.new.self.nodes.items ≡ begin.places.now = down.places (search rules) in
-          subst (λ (p : List ℕ). IsChain (in_content c.args.grammar.now (g.D.Device.content c.args.device.now)) begin.places.now begin.target p begin.target 0) (sym there) itself;
+          subst (λ (p : List ℕ). IsChain (in_file c.args.grammar.now c.args.index.now (g.D.Device.content c.args.device.now)) begin.places.now begin.target p begin.target 0) (sym there) itself;
       grammar = cc;
+      index = cc;
+      leads = down.leads;
       content = λ honest. refl;
       persists = record { honest = λ h. h; kept = omega arith; bounded = λ h. h; cause = λ failed. absurd failed };
     }
@@ -24,13 +29,17 @@ loop-steps-preserved g c =
     let chain = c.loop-steps.chain in
     let same = now.grammar in
     let was = before.grammar in
+    let same_index = now.index in
+    let was_index = before.index in
     let kept = before.persists.kept in
     let kept_now = now.persists.kept in record {
       chain = λ honest.
           let honest_before = now.persists.honest honest in
-          let link = subst (Follows (in_content chain.grammar.now (g.D.Device.content c.loop-steps.device)) (places_of chain.nodes.items) c.loop-steps.target (places_of c.step.new.self.nodes.items)) c.in-To.is (now.step honest) in
-          reads_on chain.grammar.now c.args.grammar.now (g.D.Device.content c.loop-steps.device) (g.D.Device.content c.args.device.now) was (before.content honest_before) c.args.start.now.places.now c.args.start.now.target (places_of chain.nodes.items) c.loop-steps.target c.loop-steps.steps (places_of c.step.new.self.nodes.items) c.in-To.next (before.chain honest_before) link;
+          let link = subst (Follows (in_file chain.grammar.now chain.index.now (g.D.Device.content c.loop-steps.device)) (places_of chain.nodes.items) c.loop-steps.target (places_of c.step.new.self.nodes.items)) c.in-To.is (now.step honest) in
+          reads_on chain.grammar.now c.args.grammar.now chain.index.now c.args.index.now (g.D.Device.content c.loop-steps.device) (g.D.Device.content c.args.device.now) was was_index (before.content honest_before) c.args.start.now.places.now c.args.start.now.target (places_of chain.nodes.items) c.loop-steps.target c.loop-steps.steps (places_of c.step.new.self.nodes.items) c.in-To.next (before.chain honest_before) link;
       grammar = cc;
+      index = cc;
+      leads = now.leads;
       content = λ honest. now.content honest ∙ before.content (now.persists.honest honest);
       persists = record {
         honest = λ h. before.persists.honest (now.persists.honest h);
@@ -39,3 +48,24 @@ loop-steps-preserved g c =
         cause = λ failed. absurd failed;
       };
     }
+
+found : (g : given.Over) (c : goal.After-drop-chain-in-Arises g) → g.D.Device.is_honest c.step.new.device ≡ true → IsCause (in_file c.args.grammar.now c.args.index.now (g.D.Device.content c.args.device.now)) c.args.start.now.places.now c.args.start.now.target c.in_ok-places-in-Arises.places.items c.in-Arises.rule c.loop-steps.steps
+found g c honest =
+    let before = c.loop-steps.invariant in
+    let now = c.in_ok-next.ensures in
+    let chain = c.loop-steps.chain in
+    let start = c.args.start.now in
+    let honest_before = now.persists.honest honest in
+    let follows = subst (Follows (in_file chain.grammar.now chain.index.now (g.D.Device.content c.loop-steps.device)) (places_of chain.nodes.items) c.loop-steps.target (places_of c.step.new.self.nodes.items)) c.in-Arises.is (now.step honest) in
+    arises_in chain.grammar.now c.args.grammar.now chain.index.now c.args.index.now (g.D.Device.content c.loop-steps.device) (g.D.Device.content c.args.device.now) before.grammar before.index (before.content honest_before)
+    start.places.now start.target (places_of chain.nodes.items) c.loop-steps.target c.loop-steps.steps (places_of c.step.new.self.nodes.items) c.in_ok-places-in-Arises.places.items c.in-Arises.rule c.in_ok-places-in-Arises.ensures.places (before.chain honest_before) follows
+
+pub returns-in-Arises-clause-found : goal.returns-in-Arises-clause-found
+returns-in-Arises-clause-found g c = λ honest.
+    let grammar = c.args.grammar.now in
+    let content = g.D.Device.content c.args.device.now in
+    cause_in (in_file grammar c.args.index.now content) (in_content grammar content) (λ places target does read. read.0) c.args.start.now.places.now c.args.start.now.target c.in_ok-places-in-Arises.places.items c.in-Arises.rule c.loop-steps.steps (found g c honest)
+
+pub returns-in-Arises-clause-in_tree : goal.returns-in-Arises-clause-in_tree
+returns-in-Arises-clause-in_tree g c = λ honest.
+    cause_in_tree c.args.grammar.now c.args.index.now (g.D.Device.content c.args.device.now) c.args.start.now.places.now c.args.start.now.target c.in_ok-places-in-Arises.places.items c.in-Arises.rule c.loop-steps.steps (found g c honest)
