@@ -7,14 +7,16 @@ use Rattle.ag_grammar.specs.declared.direction.Direction.{Direction}
 use Rattle.ag_grammar.specs.declared.grammar.Item.TheVariants as item
 use Rattle.ag_grammar.specs.declared.grammar.Item.{Item}
 use Rattle.ag_grammar.specs.declared.grammar.Production.{Production}
+use Rattle.ag_grammar.specs.declared.grammar.Terminal.TheVariants.{Class, Literal}
 use Rattle.ag_grammar.specs.grammars.AttributeGrammar.{Grammar, IsProduction, stored_items}
 use Rattle.ag_grammar.specs.grammars.Passes.{Passes, nth}
 use Rattle.ag_grammar.specs.grammars.Solution.{Valuation, children}
 use Rattle.ag_grammar.specs.grammars.Tree.{Fits, Forest, Tree, leaf, node, node_count}
 use Rattle.treefile.specs.records.TreeFile.{version_two}
 use Rattle.treefile.specs.ways.Backward.{next_before}
-use Rattle.tree_index.specs.Nodes.{AreEnds, HasChild, HasCount, HasLater, HasNodes, IsIndexOf, IsKidOf, StandAt, StandsAt, Subtree, back_from, end_of, in_order, kids, kind_at, kind_in, nodes_in, nodes_of, nodes_of_all, record_at, record_of, size_at, size_of}
+use Rattle.tree_index.specs.Nodes.{AreEnds, HasChild, HasCount, HasItem, HasLater, HasNodes, IsIndexOf, IsKidOf, StandAt, StandsAt, Subtree, back_from, end_of, in_order, kids, kind_at, kind_in, nodes_in, nodes_of, nodes_of_all, record_at, record_of, size_at, size_of}
 use Rattle.tree_index.specs.declared.index.NodeKind.{NodeKind}
+use Rattle.tree_index.specs.declared.index.NodeKind.TheVariants as kind
 use Rattle.tree_index.specs.declared.index.TreeIndex.{TreeIndex}
 use Rattle.tree_index.proofs.Children.{drop_there, is_there, kids_length, kids_nodes, nodes_length, order_length, ordered_at}
 
@@ -154,3 +156,28 @@ record_there g m k t v content index n end tree w indexed s is =
     let nodes = nodes_of (back_from k) t v in
     end_at content index.ends.items (map (record_at g m k) nodes) n end (record_of g m k tree w) indexed.ends is
     (slice_get-map (record_at g m k) nodes n ∙ ap (option_map (record_at g m k)) (first_of (back_from k) nodes n tree w s))
+
+-- the item of a node, by its production,
+node_item : (g : Grammar) (p : ℕ) (q : Production) (x : Item) (tree : Tree) (w : Valuation) → IsProduction g p q → Some (kind_at (record { tree = tree; values = w })) ≡ Some (kind.Node p) → Fits g x tree → x ≡ item.Symbol q.left
+node_item g p q x (leaf c y) w is what fits = absurd (let bad : ⊥ = cc in bad)
+node_item g p q (item.Terminal a) (node r ts) w is what fits = elim fits [ ]
+node_item g p q (item.Symbol s) (node r ts) w is what fits =
+    let same : r ≡ p = cc in
+    let both : Some fits.0 ≡ Some q = sym fits.1 ∙ ap (slice_get g.productions) same ∙ is in
+    let production : fits.0 ≡ q = cc in
+    ap item.Symbol (sym fits.2 ∙ ap (λ (z : Production). z.left) production)
+
+pub has_node_item : (g : Grammar) (index : TreeIndex) (number p : ℕ) (q : Production) → kind_in index number ≡ Some (kind.Node p) → IsProduction g p q → HasItem g index number (item.Symbol q.left)
+has_node_item g index number p q what is k t v x tree w has fits s = node_item g p q x tree w is (sym (kind_there k t v index number tree w has s) ∙ what) fits
+
+-- or by its class
+token_item : (g : Grammar) (c : ℕ) (x : Item) (tree : Tree) (w : Valuation) → Some (kind_at (record { tree = tree; values = w })) ≡ Some (kind.Token c) → Fits g x tree → x ≡ item.Terminal (Class c)
+token_item g c x (node r ts) w what fits = absurd (let bad : ⊥ = cc in bad)
+token_item g c (item.Symbol s) (leaf d y) w what fits = elim fits [ ]
+token_item g c (item.Terminal (Literal l)) (leaf d y) w what fits = elim fits [ ]
+token_item g c (item.Terminal (Class e)) (leaf d y) w what fits =
+    let same : d ≡ c = cc in
+    ap (λ (z : ℕ). item.Terminal (Class z)) (fits.0 ∙ same)
+
+pub has_token_item : (g : Grammar) (index : TreeIndex) (number c : ℕ) → kind_in index number ≡ Some (kind.Token c) → HasItem g index number (item.Terminal (Class c))
+has_token_item g index number c what k t v x tree w has fits s = token_item g c x tree w (sym (kind_there k t v index number tree w has s) ∙ what) fits

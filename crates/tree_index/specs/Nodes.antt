@@ -152,3 +152,7 @@ HasChild g index number place child = (k : ℕ) (t : Tree) (v : Valuation) (x : 
 -- The number is that of the child of a node that comes after `before` others, in the direction in which the file is read.
 abbrev pub HasLater : TreeIndex → ℕ → ℕ → ℕ → Type 0
 HasLater index number before child = (k : ℕ) (t : Tree) (v : Valuation) (p : ℕ) (ts : Forest) (w : Valuation) → HasNodes k t v index → before ≤ length (kids ts (children w)) → StandsAt (back_from k) (nodes_of (back_from k) t v) number (node p ts) w → StandAt (back_from k) (nodes_of (back_from k) t v) child (drop before (in_order (back_from k) (kids ts (children w))))
+
+-- The item of the node of a number, in each tree of the grammar that an index has.
+abbrev pub HasItem : Grammar → TreeIndex → ℕ → Item → Type 0
+HasItem g index number found = (k : ℕ) (t : Tree) (v : Valuation) (x : Item) (tree : Tree) (w : Valuation) → HasNodes k t v index → Fits g x tree → StandsAt (back_from k) (nodes_of (back_from k) t v) number tree w → x ≡ found

@@ -5,7 +5,7 @@ ghost use Rattle.ag_grammar.specs.declared.grammar.Production.{Production as The
 ghost use Rattle.ag_grammar.specs.grammars.Accepted.{IsAccepted};
 ghost use Rattle.ag_grammar.specs.grammars.AttributeGrammar.{IsProduction, stored_items};
 ghost use Rattle.ag_grammar.specs.grammars.Passes.{nth};
-ghost use Rattle.tree_index.specs.Nodes.{HasChild, HasCount, HasLater, end_of, kind_in, size_of};
+ghost use Rattle.tree_index.specs.Nodes.{HasChild, HasCount, HasItem, HasLater, end_of, kind_in, size_of};
 ghost use Rattle.tree_index.specs.Reading.{HasAdded, HasClosed, in_four_bytes};
 
 use ag_grammar::{Direction, Grammar, Item, Terminal};
@@ -102,7 +102,9 @@ impl TreeIndex {
     }
 
     /// Returns what a node is, as an item of a right side.
-    pub fn item(&self, grammar: &Grammar, node: u32) -> Option<Item> {
+    pub fn item(&self, grammar: &Grammar, node: u32) -> Option<Item>
+        ensures { IfSome result (HasItem grammar.now self.now node) }
+    {
         match self.kind(node)? {
             NodeKind::Node(number) => {
                 let production = grammar.productions().get(usize::from(number))?;
