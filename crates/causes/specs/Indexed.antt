@@ -26,7 +26,8 @@ pub record IsAtPlaces (d : Direction) (t : Tree) (v : Valuation) (places : List 
 
 -- so it is in each tree of the grammar that the index has
 abbrev pub IsNumberAt : Grammar → TreeIndex → List ℕ → ℕ → Type 0
-IsNumberAt g index places number = (k : ℕ) (t : Tree) (v : Valuation) → HasNodes k t v index → IsTreeOf g t → IsAtPlaces (back_from k) t v places number
+IsNumberAt g index places number = (k : ℕ) (t : Tree) (v : Valuation) → HasNodes k t v index → IsTreeOf g t
+    → IsAtPlaces (back_from k) t v places number
 
 -- An offset is the end of the record, in the index, of the node at the end of some places.
 pub record IsEndAt (g : Grammar) (index : TreeIndex) (places : List ℕ) (end : ℕ) : Type 0 where
@@ -50,17 +51,21 @@ Leads g index nodes = AreLed g index (reverse nodes)
 
 -- Something is true of each tree and values whose file of the last pass a content is.
 abbrev pub OfEachLast : (Tree → Valuation → Type 0) → Grammar → List ℕ → Type 0
-OfEachLast P g content = (m : Passes) (k : ℕ) (t : Tree) (v : Valuation) → k < 2 ^ 16 → IsLegal g m → IsLastPass k m → IsTreeOf g t → IsFileOfTree version_two g m k t v content → P t v
+OfEachLast P g content = (m : Passes) (k : ℕ) (t : Tree) (v : Valuation) → k < 2 ^ 16 → IsLegal g m → IsLastPass k m
+    → IsTreeOf g t → IsFileOfTree version_two g m k t v content → P t v
 
 -- What is read in a content with an index: a record of it, and with the index of the content what the tree says there.
 abbrev pub in_file : Grammar → TreeIndex → List ℕ → Reading
-in_file g index content places target does = IsInRecord g content target does × (IsIndexIn g content index → OfEachLast (λ t v. IsInTree g t v places target does) g content)
+in_file g index content places target does = IsInRecord g content target does
+    × (IsIndexIn g content index → OfEachLast (λ t v. IsInTree g t v places target does) g content)
 
 -- A cause that is found along the nodes of a tree: the error of what the first rule computes has it.
-pub record IsCauseOf (g : Grammar) (places : List ℕ) (target : Target) (there : List ℕ) (number n : ℕ) (t : Tree) (v : Valuation) : Type 0 where
+pub record IsCauseOf (g : Grammar) (places : List ℕ) (target : Target) (there : List ℕ) (number n : ℕ) (t : Tree) (v : Valuation)
+    : Type 0 where
   pub found : IsCause (in_tree g t v) places target there number n
   pub caused : (path : List ℕ) → places ≡ map suc path → HasCause g t v (place_path path target.place) target.attr
 
 -- so it is in each tree whose file a content is, if the index is that of the content
 abbrev pub IsCauseIn : Grammar → TreeIndex → List ℕ → List ℕ → Target → List ℕ → ℕ → ℕ → Type 0
-IsCauseIn g index content places target there number n = IsIndexIn g content index → OfEachLast (IsCauseOf g places target there number n) g content
+IsCauseIn g index content places target there number n = IsIndexIn g content index
+    → OfEachLast (IsCauseOf g places target there number n) g content

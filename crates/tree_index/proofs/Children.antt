@@ -27,7 +27,8 @@ kid_of t v = record { tree = t; values = v }
 pub kids_nodes : (d : Direction) (ts : Forest) (vs : ℕ → Valuation) → nodes_in d (in_order d (kids ts vs)) ≡ nodes_of_all d ts vs
 kids_nodes LeftToRight none vs = refl
 kids_nodes RightToLeft none vs = refl
-kids_nodes LeftToRight (more t ts) vs = ap (λ (ns : List Subtree). nodes_of LeftToRight t (vs 0) ++ ns) (kids_nodes LeftToRight ts (rest vs))
+kids_nodes LeftToRight (more t ts) vs = ap (λ (ns : List Subtree). nodes_of LeftToRight t (vs 0) ++ ns)
+    (kids_nodes LeftToRight ts (rest vs))
 kids_nodes RightToLeft (more t ts) vs =
     let kid : Subtree = kid_of t (vs 0) in
     let others : List Subtree = kids ts (rest vs) in
@@ -46,13 +47,17 @@ ap_joined d xs ys zs ws a b = ap (λ (l : List (List ℕ)). joined d l ys) a ∙
 -- the records of the nodes are those of the file
 module _ (g : Grammar) (m : Passes) (k : ℕ) (d : Direction) where
   mutual
-    pub records_of_nodes : (t : Tree) (v : Valuation) → map (record_at g m k) (nodes_of d t v) ≡ prefix d (bodies_of version_two g m k t v)
+    pub records_of_nodes : (t : Tree) (v : Valuation) → map (record_at g m k) (nodes_of d t v) ≡ prefix d
+        (bodies_of version_two g m k t v)
     records_of_nodes (leaf c x) v = refl
-    records_of_nodes (node p ts) v = ap (λ (bodies : List (List ℕ)). record_of g m k (node p ts) v ∷ bodies) (records_of_all ts (children v))
+    records_of_nodes (node p ts) v = ap (λ (bodies : List (List ℕ)). record_of g m k (node p ts) v ∷ bodies)
+        (records_of_all ts (children v))
 
-    records_of_all : (ts : Forest) (vs : ℕ → Valuation) → map (record_at g m k) (nodes_of_all d ts vs) ≡ prefix_all d (bodies_of_all version_two g m k ts vs)
+    records_of_all : (ts : Forest) (vs : ℕ → Valuation) → map (record_at g m k) (nodes_of_all d ts vs) ≡ prefix_all d
+        (bodies_of_all version_two g m k ts vs)
     records_of_all none vs = refl
-    records_of_all (more t ts) vs = map_both (record_at g m k) d (nodes_of d t (vs 0)) (nodes_of_all d ts (rest vs)) ∙ ap_joined d _ _ _ _ (records_of_nodes t (vs 0)) (records_of_all ts (rest vs))
+    records_of_all (more t ts) vs = map_both (record_at g m k) d (nodes_of d t (vs 0)) (nodes_of_all d ts (rest vs))
+        ∙ ap_joined d _ _ _ _ (records_of_nodes t (vs 0)) (records_of_all ts (rest vs))
 
 length_both : {X : Type 0} (d : Direction) (xs ys : List X) → length (both d xs ys) ≡ length xs + length ys
 length_both LeftToRight xs ys = length-append xs ys
@@ -66,10 +71,16 @@ mutual
 
   pub nodes_length_all : (d : Direction) (ts : Forest) (vs : ℕ → Valuation) → length (nodes_of_all d ts vs) ≡ node_counts ts
   nodes_length_all d none vs = refl
-  nodes_length_all d (more t ts) vs = omega (arith, length_both d (nodes_of d t (vs 0)) (nodes_of_all d ts (rest vs)), nodes_length d t (vs 0), nodes_length_all d ts (rest vs))
+  nodes_length_all d (more t ts) vs = omega (
+    arith,
+    length_both d (nodes_of d t (vs 0)) (nodes_of_all d ts (rest vs)),
+    nodes_length d t (vs 0),
+    nodes_length_all d ts (rest vs),
+  )
 
 -- a child fits the item of its number
-pub kid_fits : (g : Grammar) (xs : List Item) (ts : Forest) (vs : ℕ → Valuation) (i : ℕ) (kid : Subtree) (x : Item) → FitsAll g xs ts → slice_get (kids ts vs) i ≡ Some kid → slice_get xs i ≡ Some x → Fits g x kid.tree
+pub kid_fits : (g : Grammar) (xs : List Item) (ts : Forest) (vs : ℕ → Valuation) (i : ℕ) (kid : Subtree) (x : Item)
+    → FitsAll g xs ts → slice_get (kids ts vs) i ≡ Some kid → slice_get xs i ≡ Some x → Fits g x kid.tree
 kid_fits g xs none vs i kid x f at is = absurd (let bad : ⊥ = cc in bad)
 kid_fits g [] (more t ts) vs i kid x f at is = elim f [ ]
 kid_fits g (y ∷ xs) (more t ts) vs zero kid x f at is =
@@ -79,7 +90,8 @@ kid_fits g (y ∷ xs) (more t ts) vs zero kid x f at is =
 kid_fits g (y ∷ xs) (more t ts) vs (suc i) kid x f at is = kid_fits g xs ts (rest vs) i kid x f.1 at is
 
 -- and there are as many as items
-pub kids_length : (g : Grammar) (xs : List Item) (ts : Forest) (vs : ℕ → Valuation) → FitsAll g xs ts → length (kids ts vs) ≡ length xs
+pub kids_length : (g : Grammar) (xs : List Item) (ts : Forest) (vs : ℕ → Valuation) → FitsAll g xs ts
+    → length (kids ts vs) ≡ length xs
 kids_length g [] none vs f = refl
 kids_length g [] (more t ts) vs f = elim f [ ]
 kids_length g (x ∷ xs) none vs f = elim f [ ]
@@ -90,14 +102,16 @@ order_length LeftToRight xs = refl
 order_length RightToLeft xs = length-reverse xs
 
 -- the child at an index in the order of the reading
-pub ordered_at : {X : Type 0} (d : Direction) (xs : List X) (i : ℕ) (x : X) → slice_get (in_order d xs) i ≡ Some x → slice_get xs (nth d (length xs) i) ≡ Some x
+pub ordered_at : {X : Type 0} (d : Direction) (xs : List X) (i : ℕ) (x : X) → slice_get (in_order d xs) i ≡ Some x
+    → slice_get xs (nth d (length xs) i) ≡ Some x
 ordered_at LeftToRight xs i x e = e
 ordered_at RightToLeft xs i x e =
     let within = slice_get_within (reverse xs) i x e in
     let long = length-reverse xs in
     let less : i < length xs = omega arith in
     let place : length xs - suc i ≡ length xs - 1 - i = omega arith in
-    let value : get_or xs (length xs - 1 - i) x ≡ x = sym (get_or-reverse xs i x less) ∙ get_or_from_slice_get (reverse xs) i x x e in
+    let value : get_or xs (length xs - 1 - i) x ≡ x = sym (get_or-reverse xs i x less)
+    ∙ get_or_from_slice_get (reverse xs) i x x e in
     ap (slice_get xs) place ∙ slice_get-get_or xs (length xs - 1 - i) x (omega arith) ∙ ap Some value
 
 pub is_there : {X : Type 0} (xs : List X) (i : ℕ) → i < length xs → (x : X) × (slice_get xs i ≡ Some x)

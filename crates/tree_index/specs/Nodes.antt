@@ -1,4 +1,5 @@
--- The nodes of a tree in the order in which its file is read from its end, and the index that has them. All of this is this project's.
+-- The nodes of a tree in the order in which its file is read from its end, and the index that has them. All of this is this
+-- project's.
 use Rattle.std.specs.Prelude.{ℕ, suc, ◌≡◌, ◌<◌, ◌^◌, List, [], ◌∷◌, ◌++◌, ◌≤◌, drop, map, reverse, length, slice_get, Option, None, Some, Ok}
 use Rattle.std.specs.List.{flat_map}
 use Rattle.ag_grammar.specs.declared.direction.Direction.{Direction}
@@ -78,7 +79,8 @@ abbrev pub AreEnds : List ℕ → List ℕ → List (List ℕ) → Type 0
 AreEnds content [] [] = Unit {0}
 AreEnds content [] (body ∷ bodies) = ⊥
 AreEnds content (end ∷ ends) [] = ⊥
-AreEnds content (end ∷ ends) (body ∷ bodies) = (next_before version_two content end ≡ Ok (Some body)) × AreEnds content ends bodies
+AreEnds content (end ∷ ends) (body ∷ bodies) = (next_before version_two content end ≡ Ok (Some body))
+    × AreEnds content ends bodies
 
 -- the direction in which the file of a pass is read from its end
 abbrev pub back_from : ℕ → Direction
@@ -91,13 +93,15 @@ pub record HasNodes (k : ℕ) (t : Tree) (v : Valuation) (index : TreeIndex) : T
   pub sizes : index.sizes.items ≡ map size_at (nodes_of (back_from k) t v)
 
 -- It is the index of a tree, of which a content is the file of pass k: the records of the nodes end where it says.
-pub record IsIndexOf (g : Grammar) (m : Passes) (k : ℕ) (t : Tree) (v : Valuation) (content : List ℕ) (index : TreeIndex) : Type 0 where
-  pub nodes : HasNodes k t v index
-  pub ends : AreEnds content index.ends.items (map (record_at g m k) (nodes_of (back_from k) t v))
+pub record IsIndexOf (g : Grammar) (m : Passes) (k : ℕ) (t : Tree) (v : Valuation) (content : List ℕ) (index : TreeIndex) : Type 0
+  where
+    pub nodes : HasNodes k t v index
+    pub ends : AreEnds content index.ends.items (map (record_at g m k) (nodes_of (back_from k) t v))
 
 -- Something is true of each tree and values whose file a content is.
 abbrev pub OfEach : (Passes → ℕ → Tree → Valuation → Type 0) → Grammar → List ℕ → Type 0
-OfEach P g content = (m : Passes) (k : ℕ) (t : Tree) (v : Valuation) → k < 2 ^ 16 → IsLegal g m → IsTreeOf g t → IsFileOfTree version_two g m k t v content → P m k t v
+OfEach P g content = (m : Passes) (k : ℕ) (t : Tree) (v : Valuation) → k < 2 ^ 16 → IsLegal g m → IsTreeOf g t
+    → IsFileOfTree version_two g m k t v content → P m k t v
 
 -- the index of each tree whose file a content is
 abbrev pub IsIndexIn : Grammar → List ℕ → TreeIndex → Type 0
@@ -147,12 +151,18 @@ IsKidOf d nodes (node p ts) v place number = IsKid d nodes ts v place number
 
 -- In each tree of the grammar that the index has, a number is that of the child at a place of the node of another number.
 abbrev pub HasChild : Grammar → TreeIndex → ℕ → ℕ → ℕ → Type 0
-HasChild g index number place child = (k : ℕ) (t : Tree) (v : Valuation) (x : Item) (tree : Tree) (w : Valuation) → HasNodes k t v index → Fits g x tree → StandsAt (back_from k) (nodes_of (back_from k) t v) number tree w → IsKidOf (back_from k) (nodes_of (back_from k) t v) tree w place child
+HasChild g index number place child = (k : ℕ) (t : Tree) (v : Valuation) (x : Item) (tree : Tree) (w : Valuation)
+    → HasNodes k t v index → Fits g x tree → StandsAt (back_from k) (nodes_of (back_from k) t v) number tree w
+    → IsKidOf (back_from k) (nodes_of (back_from k) t v) tree w place child
 
 -- The number is that of the child of a node that comes after `before` others, in the direction in which the file is read.
 abbrev pub HasLater : TreeIndex → ℕ → ℕ → ℕ → Type 0
-HasLater index number before child = (k : ℕ) (t : Tree) (v : Valuation) (p : ℕ) (ts : Forest) (w : Valuation) → HasNodes k t v index → before ≤ length (kids ts (children w)) → StandsAt (back_from k) (nodes_of (back_from k) t v) number (node p ts) w → StandAt (back_from k) (nodes_of (back_from k) t v) child (drop before (in_order (back_from k) (kids ts (children w))))
+HasLater index number before child = (k : ℕ) (t : Tree) (v : Valuation) (p : ℕ) (ts : Forest) (w : Valuation)
+    → HasNodes k t v index → before ≤ length (kids ts (children w))
+    → StandsAt (back_from k) (nodes_of (back_from k) t v) number (node p ts) w
+    → StandAt (back_from k) (nodes_of (back_from k) t v) child (drop before (in_order (back_from k) (kids ts (children w))))
 
 -- The item of the node of a number, in each tree of the grammar that an index has.
 abbrev pub HasItem : Grammar → TreeIndex → ℕ → Item → Type 0
-HasItem g index number found = (k : ℕ) (t : Tree) (v : Valuation) (x : Item) (tree : Tree) (w : Valuation) → HasNodes k t v index → Fits g x tree → StandsAt (back_from k) (nodes_of (back_from k) t v) number tree w → x ≡ found
+HasItem g index number found = (k : ℕ) (t : Tree) (v : Valuation) (x : Item) (tree : Tree) (w : Valuation) → HasNodes k t v index
+    → Fits g x tree → StandsAt (back_from k) (nodes_of (back_from k) t v) number tree w → x ≡ found

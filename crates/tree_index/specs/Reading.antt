@@ -25,12 +25,14 @@ use Rattle.tree_index.specs.declared.reading.OpenNode.{OpenNode}
 
 -- A body begins as the record of an item, with this number of a production or a class.
 abbrev pub BeginsRecord : Grammar → Item → List ℕ → ℕ → Type 0
-BeginsRecord g (item.Symbol s) body number = (q : Production) × (bytes : List ℕ) × IsProduction g number q × (body ≡ body_from Node number bytes)
+BeginsRecord g (item.Symbol s) body number = (q : Production) × (bytes : List ℕ) × IsProduction g number q
+    × (body ≡ body_from Node number bytes)
 BeginsRecord g (item.Terminal (Class c)) body number = (bytes : List ℕ) × (number ≡ c) × (body ≡ body_from Token number bytes)
 BeginsRecord g (item.Terminal (Literal l)) body number = ⊥
 
 -- A record was read: its body is before the offset at which the reader was.
-pub record HasFetched (g : Grammar) (honest : Bool) (content : List ℕ) (x : Item) (old new : BackState) (fetched : Fetched) : Type 0 where
+pub record HasFetched (g : Grammar) (honest : Bool) (content : List ℕ) (x : Item) (old new : BackState) (fetched : Fetched) : Type
+    0 where
   pub body : List ℕ
   pub found : WhenHonest honest (next_before version_two content old.progress.at ≡ Ok (Some body))
   pub item : fetched.item ≡ x
@@ -68,8 +70,10 @@ pub record IsOpened (g : Grammar) (index : TreeIndex) (production : ℕ) (open_n
 
 -- A record of an item was added to the index, and its node was opened if it is one of a production.
 abbrev pub HasOpened : Grammar → Item → ℕ → ℕ → TreeIndex → TreeIndex → List OpenNode → List OpenNode → Type 0
-HasOpened g (item.Symbol s) end number old new open_old open_new = (o : OpenNode) × HasAdded end (kind.Node number) old new × IsOpened g old number o × (open_new ≡ open_old ++ o ∷ [])
-HasOpened g (item.Terminal a) end number old new open_old open_new = HasAdded end (kind.Token number) old new × (open_new ≡ open_old)
+HasOpened g (item.Symbol s) end number old new open_old open_new = (o : OpenNode) × HasAdded end (kind.Node number) old new
+    × IsOpened g old number o × (open_new ≡ open_old ++ o ∷ [])
+HasOpened g (item.Terminal a) end number old new open_old open_new = HasAdded end (kind.Token number) old new
+    × (open_new ≡ open_old)
 
 -- the children of an open node, with their values
 pub record Family : Type 0 where
@@ -91,13 +95,15 @@ abbrev pub AreOpen : Grammar → List OpenNode → List Family → Type 0
 AreOpen g [] [] = Unit {0}
 AreOpen g [] (f ∷ fs) = ⊥
 AreOpen g (o ∷ os) [] = ⊥
-AreOpen g (o ∷ os) (f ∷ fs) = (q : Production) × IsProduction g o.production q × FitsAll g (stored_items q.items) f.trees × (o.children ≡ length (stored_items q.items)) × AreOpen g os fs
+AreOpen g (o ∷ os) (f ∷ fs) = (q : Production) × IsProduction g o.production q × FitsAll g (stored_items q.items) f.trees
+    × (o.children ≡ length (stored_items q.items)) × AreOpen g os fs
 
 -- Where the nodes end that are open after n nodes were read, by the sizes of all nodes: with what is to come below them.
 abbrev pub AreEnding : Direction → List ℕ → ℕ → List OpenNode → List Family → Type 0
 AreEnding d sizes n [] fs = Unit {0}
 AreEnding d sizes n (o ∷ os) [] = ⊥
-AreEnding d sizes n (o ∷ os) (f ∷ fs) = (o.number + get_or sizes o.number 0 ≡ n + length (nodes_in d (to_come d o f))) × (o.number < n) × AreEnding d sizes (n + length (nodes_in d (to_come d o f))) os fs
+AreEnding d sizes n (o ∷ os) (f ∷ fs) = (o.number + get_or sizes o.number 0 ≡ n + length (nodes_in d (to_come d o f)))
+    × (o.number < n) × AreEnding d sizes (n + length (nodes_in d (to_come d o f))) os fs
 
 -- the number of an open node
 abbrev pub IsOpenNumber : ℕ → List OpenNode → Type 0
@@ -109,7 +115,8 @@ abbrev pub AreSizes : List ℕ → List ℕ → List OpenNode → Type 0
 AreSizes sizes so_far os = (i : ℕ) → i < length so_far → (get_or so_far i 0 ≡ get_or sizes i 0) ⊎ IsOpenNumber i os
 
 -- The index of the nodes that were read, in front of those that are to come.
-pub record IsBegun (g : Grammar) (m : Passes) (k : ℕ) (t : Tree) (v : Valuation) (content : List ℕ) (records : ℕ) (os : List OpenNode) (index : TreeIndex) (coming : List Subtree) : Type 0 where
+pub record IsBegun (g : Grammar) (m : Passes) (k : ℕ) (t : Tree) (v : Valuation) (content : List ℕ) (records : ℕ)
+    (os : List OpenNode) (index : TreeIndex) (coming : List Subtree) : Type 0 where
   pub read : List Subtree
   pub all : nodes_of (back_from k) t v ≡ read ++ coming
   pub pass : index.pass ≡ k
@@ -121,7 +128,8 @@ pub record IsBegun (g : Grammar) (m : Passes) (k : ℕ) (t : Tree) (v : Valuatio
   pub few : records ≤ MOST_NODES
 
 -- The reading of a tree has come so far.
-pub record IsSoFar (g : Grammar) (m : Passes) (k : ℕ) (t : Tree) (v : Valuation) (content : List ℕ) (at records : ℕ) (os : List OpenNode) (index : TreeIndex) : Type 0 where
+pub record IsSoFar (g : Grammar) (m : Passes) (k : ℕ) (t : Tree) (v : Valuation) (content : List ℕ) (at records : ℕ)
+    (os : List OpenNode) (index : TreeIndex) : Type 0 where
   pub families : List Family
   pub fit : AreOpen g os families
   pub begun : IsBegun g m k t v content records os index (nodes_to_come (back_from k) os families)
@@ -129,19 +137,24 @@ pub record IsSoFar (g : Grammar) (m : Passes) (k : ℕ) (t : Tree) (v : Valuatio
   pub left : ReadsBack version_two content at (map (record_at g m k) (nodes_to_come (back_from k) os families))
 
 -- It comes to a tree of an item next, below open nodes.
-pub record IsComing (g : Grammar) (m : Passes) (k : ℕ) (t : Tree) (v : Valuation) (content : List ℕ) (at records : ℕ) (x : Item) (os : List OpenNode) (index : TreeIndex) : Type 0 where
+pub record IsComing (g : Grammar) (m : Passes) (k : ℕ) (t : Tree) (v : Valuation) (content : List ℕ) (at records : ℕ) (x : Item)
+    (os : List OpenNode) (index : TreeIndex) : Type 0 where
   pub tree : Tree
   pub values : Valuation
   pub fits : Fits g x tree
   pub families : List Family
   pub fit : AreOpen g os families
-  pub begun : IsBegun g m k t v content records os index (nodes_of (back_from k) tree values ++ nodes_to_come (back_from k) os families)
+  pub begun : IsBegun g m k t v content records os index (nodes_of (back_from k) tree values ++ nodes_to_come (back_from k) os
+      families)
   pub ending : AreEnding (back_from k) (map size_at (nodes_of (back_from k) t v)) (records + node_count tree) os families
-  pub left : ReadsBack version_two content at (map (record_at g m k) (nodes_of (back_from k) tree values ++ nodes_to_come (back_from k) os families))
+  pub left : ReadsBack version_two content at (map (record_at g m k)
+      (nodes_of (back_from k) tree values ++ nodes_to_come (back_from k) os families))
 
 -- So it is of each tree and values whose file of a pass the content is.
 abbrev pub HasComeTo : Grammar → List ℕ → BackState → List OpenNode → TreeIndex → Type 0
-HasComeTo g content back os index = OfEach (λ m k t v. IsSoFar g m k t v content back.progress.at back.progress.records os index) g content
+HasComeTo g content back os index = OfEach (λ m k t v. IsSoFar g m k t v content back.progress.at back.progress.records os index)
+    g content
 
 abbrev pub ComesNext : Grammar → List ℕ → BackState → Item → List OpenNode → TreeIndex → Type 0
-ComesNext g content back x os index = OfEach (λ m k t v. IsComing g m k t v content back.progress.at back.progress.records x os index) g content
+ComesNext g content back x os index = OfEach (λ m k t v. IsComing g m k t v content back.progress.at back.progress.records x os
+    index) g content

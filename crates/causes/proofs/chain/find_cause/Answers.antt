@@ -14,7 +14,8 @@ loop-steps-init g c =
     let grammar = down.grammar in record {
       chain = λ honest.
           let there : places_of c.go_down.new.self.nodes.items ≡ begin.places.now = down.places (search rules) in
-          subst (λ (p : List ℕ). IsChain (in_file c.args.grammar.now c.args.index.now (g.D.Device.content c.args.device.now)) begin.places.now begin.target p begin.target 0) (sym there) itself;
+          subst (λ (p : List ℕ). IsChain (in_file c.args.grammar.now c.args.index.now (g.D.Device.content c.args.device.now))
+          begin.places.now begin.target p begin.target 0) (sym there) itself;
       grammar = cc;
       index = cc;
       leads = down.leads;
@@ -35,8 +36,13 @@ loop-steps-preserved g c =
     let kept_now = now.persists.kept in record {
       chain = λ honest.
           let honest_before = now.persists.honest honest in
-          let link = subst (Follows (in_file chain.grammar.now chain.index.now (g.D.Device.content c.loop-steps.device)) (places_of chain.nodes.items) c.loop-steps.target (places_of c.step.new.self.nodes.items)) c.in-To.is (now.step honest) in
-          reads_on chain.grammar.now c.args.grammar.now chain.index.now c.args.index.now (g.D.Device.content c.loop-steps.device) (g.D.Device.content c.args.device.now) was was_index (before.content honest_before) c.args.start.now.places.now c.args.start.now.target (places_of chain.nodes.items) c.loop-steps.target c.loop-steps.steps (places_of c.step.new.self.nodes.items) c.in-To.next (before.chain honest_before) link;
+          let link = subst (Follows (in_file chain.grammar.now chain.index.now (g.D.Device.content c.loop-steps.device))
+          (places_of chain.nodes.items) c.loop-steps.target (places_of c.step.new.self.nodes.items)) c.in-To.is
+          (now.step honest) in
+          reads_on chain.grammar.now c.args.grammar.now chain.index.now c.args.index.now (g.D.Device.content c.loop-steps.device)
+          (g.D.Device.content c.args.device.now) was was_index (before.content honest_before) c.args.start.now.places.now
+          c.args.start.now.target (places_of chain.nodes.items) c.loop-steps.target c.loop-steps.steps
+          (places_of c.step.new.self.nodes.items) c.in-To.next (before.chain honest_before) link;
       grammar = cc;
       index = cc;
       leads = now.leads;
@@ -49,23 +55,33 @@ loop-steps-preserved g c =
       };
     }
 
-found : (g : given.Over) (c : goal.After-drop-chain-in-Arises g) → g.D.Device.is_honest c.step.new.device ≡ true → IsCause (in_file c.args.grammar.now c.args.index.now (g.D.Device.content c.args.device.now)) c.args.start.now.places.now c.args.start.now.target c.in_ok-places-in-Arises.places.items c.in-Arises.rule c.loop-steps.steps
+found : (g : given.Over) (c : goal.After-drop-chain-in-Arises g) → g.D.Device.is_honest c.step.new.device ≡ true
+    → IsCause (in_file c.args.grammar.now c.args.index.now (g.D.Device.content c.args.device.now)) c.args.start.now.places.now
+    c.args.start.now.target c.in_ok-places-in-Arises.places.items c.in-Arises.rule c.loop-steps.steps
 found g c honest =
     let before = c.loop-steps.invariant in
     let now = c.in_ok-next.ensures in
     let chain = c.loop-steps.chain in
     let start = c.args.start.now in
     let honest_before = now.persists.honest honest in
-    let follows = subst (Follows (in_file chain.grammar.now chain.index.now (g.D.Device.content c.loop-steps.device)) (places_of chain.nodes.items) c.loop-steps.target (places_of c.step.new.self.nodes.items)) c.in-Arises.is (now.step honest) in
-    arises_in chain.grammar.now c.args.grammar.now chain.index.now c.args.index.now (g.D.Device.content c.loop-steps.device) (g.D.Device.content c.args.device.now) before.grammar before.index (before.content honest_before)
-    start.places.now start.target (places_of chain.nodes.items) c.loop-steps.target c.loop-steps.steps (places_of c.step.new.self.nodes.items) c.in_ok-places-in-Arises.places.items c.in-Arises.rule c.in_ok-places-in-Arises.ensures.places (before.chain honest_before) follows
+    let follows = subst (Follows (in_file chain.grammar.now chain.index.now (g.D.Device.content c.loop-steps.device))
+    (places_of chain.nodes.items) c.loop-steps.target (places_of c.step.new.self.nodes.items)) c.in-Arises.is
+    (now.step honest) in
+    arises_in chain.grammar.now c.args.grammar.now chain.index.now c.args.index.now (g.D.Device.content c.loop-steps.device)
+    (g.D.Device.content c.args.device.now) before.grammar before.index (before.content honest_before)
+    start.places.now start.target (places_of chain.nodes.items) c.loop-steps.target c.loop-steps.steps
+    (places_of c.step.new.self.nodes.items) c.in_ok-places-in-Arises.places.items c.in-Arises.rule
+    c.in_ok-places-in-Arises.ensures.places (before.chain honest_before) follows
 
 pub returns-in-Arises-clause-found : goal.returns-in-Arises-clause-found
 returns-in-Arises-clause-found g c = λ honest.
     let grammar = c.args.grammar.now in
     let content = g.D.Device.content c.args.device.now in
-    cause_in (in_file grammar c.args.index.now content) (in_content grammar content) (λ places target does read. read.0) c.args.start.now.places.now c.args.start.now.target c.in_ok-places-in-Arises.places.items c.in-Arises.rule c.loop-steps.steps (found g c honest)
+    cause_in (in_file grammar c.args.index.now content) (in_content grammar content) (λ places target does read. read.0)
+    c.args.start.now.places.now c.args.start.now.target c.in_ok-places-in-Arises.places.items c.in-Arises.rule
+    c.loop-steps.steps (found g c honest)
 
 pub returns-in-Arises-clause-in_tree : goal.returns-in-Arises-clause-in_tree
 returns-in-Arises-clause-in_tree g c = λ honest.
-    cause_in_tree c.args.grammar.now c.args.index.now (g.D.Device.content c.args.device.now) c.args.start.now.places.now c.args.start.now.target c.in_ok-places-in-Arises.places.items c.in-Arises.rule c.loop-steps.steps (found g c honest)
+    cause_in_tree c.args.grammar.now c.args.index.now (g.D.Device.content c.args.device.now) c.args.start.now.places.now
+    c.args.start.now.target c.in_ok-places-in-Arises.places.items c.in-Arises.rule c.loop-steps.steps (found g c honest)

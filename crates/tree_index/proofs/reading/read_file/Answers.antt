@@ -14,23 +14,33 @@ pub read-requires-clause-next : goal.read-requires-clause-next
 read-requires-clause-next g c = λ honest.
     let content = g.D.Device.content c.args.device.now in
     let back = c.in_ok-back.back in
-    subst (λ (bytes : List ℕ). ComesNext c.args.grammar.now bytes back (item.Symbol c.start-2.result) (reverse c.new-2.result.items) c.new.result) (sym (c.in_ok-back.ensures.content honest))
-    (begins_reading c.args.grammar.now content back c.start-2.result (reverse c.new-2.result.items) c.new.result c.start-2.ensures.accepted (c.in_ok-back.ensures.started.end honest) c.in_ok-back.ensures.started.fresh (c.in_ok-back.ensures.told honest) c.start-2.ensures.value (ap reverse c.new-2.ensures.items) (c.new.ensures.pass ∙ c.pass-pass.ensures) c.new.ensures.ends c.new.ensures.kinds c.new.ensures.sizes)
+    subst (λ (bytes : List ℕ). ComesNext c.args.grammar.now bytes back (item.Symbol c.start-2.result)
+    (reverse c.new-2.result.items) c.new.result) (sym (c.in_ok-back.ensures.content honest))
+    (begins_reading c.args.grammar.now content back c.start-2.result (reverse c.new-2.result.items) c.new.result
+    c.start-2.ensures.accepted (c.in_ok-back.ensures.started.end honest) c.in_ok-back.ensures.started.fresh
+    (c.in_ok-back.ensures.told honest) c.start-2.ensures.value (ap reverse c.new-2.ensures.items)
+    (c.new.ensures.pass ∙ c.pass-pass.ensures) c.new.ensures.ends c.new.ensures.kinds c.new.ensures.sizes)
 
 pub returns-in_default-clause-indexed : goal.returns-in_default-clause-indexed
 returns-in_default-clause-indexed g c =
     let h = c.in_default.ensures in
     let reading = c.loop-turn.reading in
-    let nothing : reading.nodes.items ≡ [] = h.items ∙ append-nil c.pop.new.self.items ∙ h.rest ∙ ap (λ (n : ℕ). take (n - 1) reading.nodes.items) h.cases.0 in
+    let nothing : reading.nodes.items ≡ [] = h.items ∙ append-nil c.pop.new.self.items ∙ h.rest
+    ∙ ap (λ (n : ℕ). take (n - 1) reading.nodes.items) h.cases.0 in
     let content = g.D.Device.content c.args.device.now in
-    IfOk-weaker c.end.result (λ (index : TreeIndex). index ≡ reading.index) (λ (index : TreeIndex). WhenHonest (g.D.Device.is_honest c.end.new.device) (IsIndexIn c.args.grammar.now content index))
+    IfOk-weaker c.end.result (λ (index : TreeIndex). index ≡ reading.index)
+    (λ (index : TreeIndex). WhenHonest (g.D.Device.is_honest c.end.new.device) (IsIndexIn c.args.grammar.now content index))
     (λ index same honest. subst (IsIndexIn c.args.grammar.now content) (sym same)
-    (ends_reading c.args.grammar.now content reading.back (reverse reading.nodes.items) reading.index (ap reverse nothing) (c.loop-turn.invariant.come (c.end.ensures.persists.honest honest)))) c.end.ensures.index
+    (ends_reading c.args.grammar.now content reading.back (reverse reading.nodes.items) reading.index (ap reverse nothing)
+    (c.loop-turn.invariant.come (c.end.ensures.persists.honest honest)))) c.end.ensures.index
 
 pub turn-requires-clause-come : goal.turn-requires-clause-come
 turn-requires-clause-come g c = λ honest.
     let so_far = c.loop-turn.invariant in
     let reading = c.loop-turn.reading in
-    let turned : reverse reading.nodes.items ≡ c.in-Some.node ∷ reverse c.pop.new.self.items = ap reverse c.in-Some.ensures.items ∙ reverse-append c.pop.new.self.items (c.in-Some.node ∷ []) in
-    subst (λ (bytes : List ℕ). HasComeTo c.args.grammar.now bytes reading.back (c.in-Some.node ∷ reverse c.pop.new.self.items) reading.index) (sym (so_far.content honest))
-    (subst (λ (os : List OpenNode). HasComeTo c.args.grammar.now (g.D.Device.content c.args.device.now) reading.back os reading.index) turned (so_far.come honest))
+    let turned : reverse reading.nodes.items ≡ c.in-Some.node ∷ reverse c.pop.new.self.items = ap reverse c.in-Some.ensures.items
+    ∙ reverse-append c.pop.new.self.items (c.in-Some.node ∷ []) in
+    subst (λ (bytes : List ℕ). HasComeTo c.args.grammar.now bytes reading.back (c.in-Some.node ∷ reverse c.pop.new.self.items)
+    reading.index) (sym (so_far.content honest))
+    (subst (λ (os : List OpenNode). HasComeTo c.args.grammar.now (g.D.Device.content c.args.device.now) reading.back os
+    reading.index) turned (so_far.come honest))

@@ -17,5 +17,6 @@ returns-in-Ok-Node-clause-next g c =
     let read = subst (IsRecord grammar c.as_slice.result.now) c.in-Ok-Node.field-0-is c.in-Ok-Node.ensures in
     let node = subst (λ (b : List ℕ). IsNode grammar b number values) c.as_slice.ensures.value read in
     IfSome_then c.in_ok-next_at-in-Ok-Node.field-0 c.in_ok-next_at-in-Ok-Node.ensures.next (λ does next honest.
-    read_in_tree grammar chain.index.now content (places_of chain.nodes.items) c.args.target does c.in-Some.end body number values c.in_ok-next_at-in-Ok-Node.ensures.accepted c.in-Some.ensures (c.in_ok-body.ensures.body honest) node
+    read_in_tree grammar chain.index.now content (places_of chain.nodes.items) c.args.target does c.in-Some.end body number values
+    c.in_ok-next_at-in-Ok-Node.ensures.accepted c.in-Some.ensures (c.in_ok-body.ensures.body honest) node
     (subst (λ (vs : List Value). DoesNextAt grammar number vs c.args.target does) c.as_slice-in-Ok-Node.ensures next))

@@ -13,5 +13,7 @@ returns c =
     let place = c.args.place in
     let zero = c.if-place-eq0.false in
     let direction : c.turned-direction.result ≡ back_from index.pass = c.turned-direction.ensures ∙ ap other c.of_pass.ensures in
-    let turn : nth (back_from index.pass) count before ≡ place - 1 = sym (ap (λ d. nth d count before) direction) ∙ c.others_before.ensures.nth in
-    IfSome_then c.child_after.result c.child_after.ensures (λ child later. child_is c.args.grammar.now index c.args.node count place before child c.child_count-count.ensures c.others_before.ensures.less turn (omega arith) later)
+    let turn : nth (back_from index.pass) count before ≡ place - 1 = sym (ap (λ d. nth d count before) direction)
+    ∙ c.others_before.ensures.nth in
+    IfSome_then c.child_after.result c.child_after.ensures (λ child later. child_is c.args.grammar.now index c.args.node count
+    place before child c.child_count-count.ensures c.others_before.ensures.less turn (omega arith) later)

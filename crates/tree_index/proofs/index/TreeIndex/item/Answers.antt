@@ -12,12 +12,15 @@ returns-in_ok-production-in-Node c =
     let number = c.in-Node.number in
     let production = c.in_ok-production-in-Node.production.now in
     let lookup = c.in_ok-production-in-Node.ensures.lookup in
-    let there : slice_get lent c.from.result ≡ Some production = slice_get-get_or lent c.from.result production lookup.3.0 ∙ ap Some (sym lookup.1) in
+    let there : slice_get lent c.from.result ≡ Some production = slice_get-get_or lent c.from.result production lookup.3.0
+    ∙ ap Some (sym lookup.1) in
     let is : IsProduction grammar number production =
     ap (slice_get grammar.productions) (sym c.from.ensures)
     ∙ ap (λ (qs : List Production). slice_get qs c.from.result) (sym c.productions.ensures.lent)
     ∙ there in
-    has_node_item grammar c.args.self.now c.args.node number production (sym c.kind.ensures ∙ c.in_ok-number.was ∙ ap Some c.in-Node.is) is
+    has_node_item grammar c.args.self.now c.args.node number production
+    (sym c.kind.ensures ∙ c.in_ok-number.was ∙ ap Some c.in-Node.is) is
 
 pub returns-in-Token : goal.returns-in-Token
-returns-in-Token c = has_token_item c.args.grammar.now c.args.self.now c.args.node c.in-Token.class (sym c.kind.ensures ∙ c.in_ok-number.was ∙ ap Some c.in-Token.is)
+returns-in-Token c = has_token_item c.args.grammar.now c.args.self.now c.args.node c.in-Token.class
+    (sym c.kind.ensures ∙ c.in_ok-number.was ∙ ap Some c.in-Token.is)
