@@ -259,6 +259,8 @@ pub fn find_cause<D: Device>(
     ensures in_tree { IfOk result (λ cause. IfSome cause (λ cause. WhenHonest (D.is_honest device.new)
         (IsCauseIn grammar.now index.now (D.content device.old) start.now.places.now
         start.now.target cause.places.items cause.rule cause.steps))) }
+    ensures node { IfOk result (λ cause. IfSome cause (λ cause.
+        IsNumberAt grammar.now index.now cause.places.items cause.node)) }
     ensures content { LeavesContent (D.is_honest device.new)
         (D.content device.old) (D.content device.new) }
     ensures persists { Persists (D.is_honest device.old) (D.is_honest device.new)

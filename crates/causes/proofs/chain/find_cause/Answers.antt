@@ -1,6 +1,8 @@
-use Rattle.std.proofs.Common.{◌≡◌, List, ℕ, refl, true, subst, sym, ◌∙◌, arith, rules}
+use Rattle.std.proofs.Common.{◌≡◌, Bor, List, ℕ, ap, refl, true, subst, sym, ◌∙◌, arith, rules}
 use Rattle.causes.specs.Chains.{Follows, IsCause, IsChain, in_content, itself, places_of}
-use Rattle.causes.specs.Indexed.{in_file}
+use Rattle.causes.specs.Indexed.{IsNumberAt, in_file}
+use Rattle.ag_grammar.specs.grammars.AttributeGrammar.{Grammar}
+use Rattle.tree_index.specs.declared.index.TreeIndex.{TreeIndex}
 use Rattle.causes.proofs.ChainSteps.{arises_in, reads_on}
 use Rattle.causes.proofs.InIndex.{cause_in, cause_in_tree}
 use Rattle.causes.proofs.chain.find_cause.Given as given
@@ -85,3 +87,17 @@ pub returns-in-Arises-clause-in_tree : goal.returns-in-Arises-clause-in_tree
 returns-in-Arises-clause-in_tree g c = λ honest.
     cause_in_tree c.args.grammar.now c.args.index.now (g.D.Device.content c.args.device.now) c.args.start.now.places.now
     c.args.start.now.target c.in_ok-places-in-Arises.places.items c.in-Arises.rule c.loop-steps.steps (found g c honest)
+
+pub returns-in-Arises-clause-node : goal.returns-in-Arises-clause-node
+returns-in-Arises-clause-node g c =
+    let chain = c.step.new.self in
+    let now = c.in_ok-next.ensures in
+    let before = c.loop-steps.invariant in
+    let node = c.node.result in
+    let places = c.in_ok-places-in-Arises.places.items in
+    let at_places : IsNumberAt chain.grammar.now chain.index.now places node =
+    subst (λ (z : List ℕ). IsNumberAt chain.grammar.now chain.index.now z node) (sym c.in_ok-places-in-Arises.ensures.places) c.node.ensures in
+    let of_index : chain.index.now ≡ c.args.index.now = ap (λ (i : Bor TreeIndex). i.now) now.index ∙ before.index in
+    let of_grammar : chain.grammar.now ≡ c.args.grammar.now = ap (λ (x : Bor Grammar). x.now) now.grammar ∙ before.grammar in
+    subst (λ (x : Grammar). IsNumberAt x c.args.index.now places node) of_grammar
+    (subst (λ (i : TreeIndex). IsNumberAt chain.grammar.now i places node) of_index at_places)
