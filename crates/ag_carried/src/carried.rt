@@ -313,6 +313,7 @@ impl Carried {
     }
 
     /// Appends the encoding of a well value: the bytes that a large one is stored beside.
+    #[inline(always)]
     pub fn encode(&self, out: &mut Vec<u8>) -> Result<(), NoMemory>
         requires { IsWell self.now }
         ensures ok { OnOk result (out.new.items ≡ out.old.items ++ spelling_of self.now) }

@@ -51,7 +51,7 @@ stored_both (item.Symbol s ∷ xs) ys = ap (λ zs. item.Symbol s ∷ zs) (stored
 stored_both (item.Terminal (Class c) ∷ xs) ys = ap (λ zs. item.Terminal (Class c) ∷ zs) (stored_both xs ys)
 stored_both (item.Terminal (Literal l) ∷ xs) ys = stored_both xs ys
 
-told_both : (g : Grammar) (xs ys : List Item) → told version_one.has_copies g unassigned 0 (xs ++ ys) [] ≡ told version_one.has_copies g unassigned 0 xs [] ++ told version_one.has_copies g unassigned 0 ys []
+told_both : (g : Grammar) (xs ys : List Item) → children_with_copies version_one.has_copies g unassigned 0 (xs ++ ys) [] ≡ children_with_copies version_one.has_copies g unassigned 0 xs [] ++ children_with_copies version_one.has_copies g unassigned 0 ys []
 told_both g [] ys = refl
 told_both g (x ∷ xs) ys = ap (λ zs. (x, None) ∷ zs) (told_both g xs ys)
 
@@ -62,13 +62,13 @@ before_both level (x ∷ xs) ys others = before_both level xs ys ((level, x) ∷
 -- The children of the right one are read first.
 pub coming_both : (g : Grammar) (level : ℕ) (xs ys : List Item) (others : ToCome) → coming g level (xs ++ ys) others ≡ coming g level ys (coming g level xs others)
 coming_both g level xs ys others =
-    ap (λ zs. before_others RightToLeft level (told version_one.has_copies g unassigned 0 zs []) others) (stored_both xs ys)
+    ap (λ zs. before_others RightToLeft level (children_with_copies version_one.has_copies g unassigned 0 zs []) others) (stored_both xs ys)
     ∙ ap (λ zs. before_others RightToLeft level zs others) (told_both g (stored_items xs) (stored_items ys))
     ∙ before_both level (to_come g xs) (to_come g ys) others
 
 -- An item that is a child.
 pub coming_one : (g : Grammar) (level : ℕ) (x : Item) (others : ToCome) → stored_items (x ∷ []) ≡ x ∷ [] → coming g level (x ∷ []) others ≡ (level, (x, None)) ∷ others
-coming_one g level x others progress = ap (λ zs. before_others RightToLeft level (told version_one.has_copies g unassigned 0 zs []) others) progress
+coming_one g level x others progress = ap (λ zs. before_others RightToLeft level (children_with_copies version_one.has_copies g unassigned 0 zs []) others) progress
 
 -- ---- records
 
@@ -240,7 +240,7 @@ module _ (g : Grammar) (accepted : IsAccepted g) (content : List ℕ) where
   pub none_brought : (front xs : List Item) (level : ℕ) (progress : Progress) (honest : Bool) (out : List ℕ) → stored_items xs ≡ [] → Brought g content front xs level progress progress honest out out []
   none_brought front xs level progress honest out none =
       let same : (others : ToCome) → coming g level (front ++ xs) others ≡ coming g level front others =
-      λ others. coming_both g level front xs others ∙ ap (λ zs. before_others RightToLeft level (told version_one.has_copies g unassigned 0 zs []) (coming g level front others)) none in
+      λ others. coming_both g level front xs others ∙ ap (λ zs. before_others RightToLeft level (children_with_copies version_one.has_copies g unassigned 0 zs []) (coming g level front others)) none in
       record {
         trees = tree.none;
         fits = subst (λ zs. FitsAll g zs tree.none) (sym none) tt;

@@ -73,7 +73,7 @@ OneRecord = (version : Version) (g : Grammar) (m : Passes) (k : ℕ) (x : Child)
 -- A body is a record of a symbol exactly if it has a production of the symbol and the right number of well
 -- values. Those after its own values are the copies.
 abbrev pub ListedRecord : Type 0
-ListedRecord = (version : Version) (g : Grammar) (m : Passes) (k s : ℕ) (body : List ℕ) (ys : List Child) → IsRecordOf version g m k (item.Symbol s, None) body ys ↔ ((p : ℕ) × (q : Production) × (vs : List Value) × IsListedRecord version g m k s body p q vs × (ys ≡ told version.has_copies g m k (stored_items q.items) (drop (count_up_to k (m s)) vs)))
+ListedRecord = (version : Version) (g : Grammar) (m : Passes) (k s : ℕ) (body : List ℕ) (ys : List Child) → IsRecordOf version g m k (item.Symbol s, None) body ys ↔ ((p : ℕ) × (q : Production) × (vs : List Value) × IsListedRecord version g m k s body p q vs × (ys ≡ children_with_copies version.has_copies g m k (stored_items q.items) (drop (count_up_to k (m s)) vs)))
 
 -- If fewer values were read from some bytes than there should be, and no other value begins after them, the
 -- bytes don't spell that number of values;

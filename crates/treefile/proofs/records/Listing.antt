@@ -94,7 +94,7 @@ told_in false g m k n (x ∷ xs) vs = ap (λ (ys : List Child). (x, None) ∷ ys
 
 -- a listed record is a record, and each record is listed
 module _ (version : Version) (g : Grammar) (m : Passes) (k s : ℕ) (body : List ℕ) where
-  is_record : (p : ℕ) (q : Production) (vs : List Value) → IsListedRecord version g m k s body p q vs → IsRecordOf version g m k (item.Symbol s, None) body (told version.has_copies g m k (stored_items q.items) (drop (count_up_to k (m s)) vs))
+  is_record : (p : ℕ) (q : Production) (vs : List Value) → IsListedRecord version g m k s body p q vs → IsRecordOf version g m k (item.Symbol s, None) body (children_with_copies version.has_copies g m k (stored_items q.items) (drop (count_up_to k (m s)) vs))
   is_record p q vs is =
       let has = version.has_copies in
       let n = count_up_to k (m q.left) in
@@ -119,7 +119,7 @@ module _ (version : Version) (g : Grammar) (m : Passes) (k s : ℕ) (body : List
         tt,
       )
 
-  is_listed : (ys : List Child) → IsRecordOf version g m k (item.Symbol s, None) body ys → (p : ℕ) × (q : Production) × (vs : List Value) × IsListedRecord version g m k s body p q vs × (ys ≡ told version.has_copies g m k (stored_items q.items) (drop (count_up_to k (m s)) vs))
+  is_listed : (ys : List Child) → IsRecordOf version g m k (item.Symbol s, None) body ys → (p : ℕ) × (q : Production) × (vs : List Value) × IsListedRecord version g m k s body p q vs × (ys ≡ children_with_copies version.has_copies g m k (stored_items q.items) (drop (count_up_to k (m s)) vs))
   is_listed ys is =
       let p = is.0 in
       let q = is.1 in

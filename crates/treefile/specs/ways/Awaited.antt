@@ -59,7 +59,7 @@ IsAsTold (Some copy) values = values ≡ copy
 abbrev pub IsRecordOf : Version → Grammar → Passes → ℕ → Child → List ℕ → List Child → Type 0
 IsRecordOf version g m k (item.Symbol s, copy) body ys =
     (p : ℕ) × (q : Production) × (e : ℕ → Value) × (is : IsNodeRecord version g m k s body p q e)
-    × (ys ≡ told version.has_copies g m k (stored_items q.items) is.copies) × IsAsTold copy (values_up_to k (synthesized_passes g m s) e)
+    × (ys ≡ children_with_copies version.has_copies g m k (stored_items q.items) is.copies) × IsAsTold copy (values_up_to k (synthesized_passes g m s) e)
 IsRecordOf version g m k (item.Terminal (Class c), copy) body ys = (x : List ℕ) × IsTokenText x × (body ≡ token_body c x) × (ys ≡ []) × IsAsTold copy (Text x ∷ [])
 IsRecordOf version g m k (item.Terminal (Literal l), copy) body ys = ⊥
 
