@@ -1,3 +1,4 @@
 pub mod Children
 pub mod Kids
+pub mod Paths
 pub mod Steps

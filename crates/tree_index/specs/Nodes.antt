@@ -1,6 +1,6 @@
 -- The nodes of a tree in the order in which its file is read from its end, and the index that has them. All of this is this
 -- project's.
-use Rattle.std.specs.Prelude.{ℕ, suc, ◌≡◌, ◌<◌, ◌^◌, List, [], ◌∷◌, ◌++◌, ◌≤◌, drop, map, reverse, length, slice_get, Option, None, Some, Ok}
+use Rattle.std.specs.Prelude.{ℕ, zero, suc, ◌≡◌, ◌<◌, ◌^◌, List, [], ◌∷◌, ◌++◌, ◌≤◌, drop, map, reverse, length, slice_get, Option, None, Some, Ok}
 use Rattle.std.specs.List.{flat_map}
 use Rattle.ag_grammar.specs.declared.direction.Direction.{Direction}
 use Rattle.ag_grammar.specs.declared.direction.Direction.TheVariants.{LeftToRight, RightToLeft}
@@ -166,3 +166,26 @@ HasLater index number before child = (k : ℕ) (t : Tree) (v : Valuation) (p : �
 abbrev pub HasItem : Grammar → TreeIndex → ℕ → Item → Type 0
 HasItem g index number found = (k : ℕ) (t : Tree) (v : Valuation) (x : Item) (tree : Tree) (w : Valuation) → HasNodes k t v index
     → Fits g x tree → StandsAt (back_from k) (nodes_of (back_from k) t v) number tree w → x ≡ found
+
+-- the child at a place, which counts from 1
+abbrev pub child_in : Tree → Valuation → ℕ → Option Subtree
+child_in t v zero = None
+child_in (leaf c x) v (suc index) = None
+child_in (node p ts) v (suc index) = slice_get (kids ts (children v)) index
+
+-- A node of a tree is at the end of some places from the root.
+abbrev pub IsAtEndOf : List ℕ → Tree → Valuation → Subtree → Type 0
+IsAtEndOf [] t v found = found ≡ record { tree = t; values = v }
+IsAtEndOf (place ∷ places) t v found = (child : Subtree) × (child_in t v place ≡ Some child)
+    × IsAtEndOf places child.tree child.values found
+
+-- A number is that of the node of a tree at the end of some places.
+pub record IsNumberIn (d : Direction) (t : Tree) (v : Valuation) (places : List ℕ) (number : ℕ) : Type 0 where
+  pub found : Subtree
+  pub there : IsAtEndOf places t v found
+  pub numbered : StandsAt d (nodes_of d t v) number found.tree found.values
+
+-- so it is in each tree of the grammar that the index has
+abbrev pub HasNodeAt : Grammar → TreeIndex → List ℕ → ℕ → Type 0
+HasNodeAt g index places number = (k : ℕ) (t : Tree) (v : Valuation) → HasNodes k t v index → IsTreeOf g t
+    → IsNumberIn (back_from k) t v places number

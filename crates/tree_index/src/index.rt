@@ -5,7 +5,7 @@ ghost use Rattle.ag_grammar.specs.declared.grammar.Production.{Production as The
 ghost use Rattle.ag_grammar.specs.grammars.Accepted.{IsAccepted};
 ghost use Rattle.ag_grammar.specs.grammars.AttributeGrammar.{IsProduction, stored_items};
 ghost use Rattle.ag_grammar.specs.grammars.Passes.{nth};
-ghost use Rattle.tree_index.specs.Nodes.{HasChild, HasCount, HasItem, HasLater, end_of, kind_in, size_of};
+ghost use Rattle.tree_index.specs.Nodes.{HasChild, HasCount, HasItem, HasLater, HasNodeAt, end_of, kind_in, size_of};
 ghost use Rattle.tree_index.specs.Reading.{HasAdded, HasClosed, in_four_bytes};
 
 use ag_grammar::{Direction, Grammar, Item, Terminal};
@@ -149,7 +149,9 @@ impl TreeIndex {
     }
 
     /// Returns the node at the end of a path of places from the root.
-    pub fn find(&self, grammar: &Grammar, places: &[u16]) -> Option<u32> {
+    pub fn find(&self, grammar: &Grammar, places: &[u16]) -> Option<u32>
+        ensures { IfSome result (HasNodeAt grammar.now self.now places.now) }
+    {
         let mut node = 0u32;
         for place in places {
             node = self.child(grammar, node, *place)?;

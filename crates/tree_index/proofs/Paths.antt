@@ -1,0 +1,78 @@
+-- The node at the end of some places, and its number in an index.
+use Rattle.std.proofs.Common.{◌≡◌, ℕ, zero, suc, List, [], ◌∷◌, ◌++◌, Some, slice_get, refl, ap, sym, subst, ◌∙◌}
+use Rattle.ag_grammar.specs.declared.direction.Direction.{Direction}
+use Rattle.ag_grammar.specs.declared.grammar.Item.{Item}
+use Rattle.ag_grammar.specs.declared.grammar.Item.TheVariants as item
+use Rattle.ag_grammar.specs.grammars.AttributeGrammar.{Grammar, stored_items}
+use Rattle.ag_grammar.specs.grammars.Solution.{Valuation, children, rest}
+use Rattle.ag_grammar.specs.grammars.Tree.{Fits, FitsAll, Forest, Tree, leaf, more, node, none}
+use Rattle.tree_index.specs.Nodes.{HasChild, HasNodeAt, IsAtEndOf, IsKidOf, StandsAt, Subtree, back_from, child_in, kids, nodes_of}
+use Rattle.tree_index.specs.declared.index.TreeIndex.{TreeIndex}
+use Rattle.tree_index.proofs.Kids.{root_stands}
+
+-- a child is a tree of some item
+kid_item : (g : Grammar) (xs : List Item) (ts : Forest) (vs : ℕ → Valuation) (i : ℕ) (kid : Subtree) → FitsAll g xs ts
+    → slice_get (kids ts vs) i ≡ Some kid → (x : Item) × Fits g x kid.tree
+kid_item g xs none vs i kid f is = absurd (let bad : ⊥ = cc in bad)
+kid_item g [] (more t ts) vs i kid f is = elim f [ ]
+kid_item g (x ∷ xs) (more t ts) vs zero kid f is =
+    let same : record { tree = t; values = vs 0 } ≡ kid = cc in
+    (x, subst (λ (z : Subtree). Fits g x z.tree) same f.0)
+kid_item g (x ∷ xs) (more t ts) vs (suc i) kid f is = kid_item g xs ts (rest vs) i kid f.1 is
+
+child_item : (g : Grammar) (x : Item) (t : Tree) (v : Valuation) (place : ℕ) (child : Subtree) → Fits g x t
+    → child_in t v place ≡ Some child → (y : Item) × Fits g y child.tree
+child_item g x t v zero child f is = absurd (let bad : ⊥ = cc in bad)
+child_item g x (leaf c y) v (suc i) child f is = absurd (let bad : ⊥ = cc in bad)
+child_item g (item.Terminal a) (node p ts) v (suc i) child f is = elim f [ ]
+child_item g (item.Symbol s) (node p ts) v (suc i) child f is = kid_item g (stored_items f.0.items) ts (children v) i child f.3 is
+
+-- so is the node at the end of some places
+pub item_at_end : (g : Grammar) (places : List ℕ) (x : Item) (t : Tree) (v : Valuation) (found : Subtree) → Fits g x t
+    → IsAtEndOf places t v found → (y : Item) × Fits g y found.tree
+item_at_end g [] x t v found f is = (x, subst (λ (z : Subtree). Fits g x z.tree) (sym is) f)
+item_at_end g (place ∷ places) x t v found f (child, there, further) =
+    let fits = child_item g x t v place child f there in
+    item_at_end g places fits.0 child.tree child.values found fits.1 further
+
+-- one place more
+further_at : (places : List ℕ) (place : ℕ) (t : Tree) (v : Valuation) (s child : Subtree) → IsAtEndOf places t v s
+    → child_in s.tree s.values place ≡ Some child → IsAtEndOf (places ++ place ∷ []) t v child
+further_at [] place t v s child is there = (
+  child,
+  subst (λ (z : Subtree). child_in z.tree z.values place ≡ Some child) is there,
+  refl,
+)
+further_at (p ∷ places) place t v s child (kid, at, further) there = (
+  kid,
+  at,
+  further_at places place kid.tree kid.values s child
+      further there,
+)
+
+-- the child that the index has is that of the tree
+pub kid_in : (d : Direction) (nodes : List Subtree) (t : Tree) (v : Valuation) (place number : ℕ) → IsKidOf d nodes t v place number
+    → (child : Subtree) × (child_in t v place ≡ Some child) × StandsAt d nodes number child.tree child.values
+kid_in d nodes (leaf c x) v place number is = absurd is
+kid_in d nodes (node p ts) v place number is = (is.kid, ap (child_in (node p ts) v) is.counted ∙ is.there, is.stands)
+
+pub root_at : (g : Grammar) (index : TreeIndex) → HasNodeAt g index [] 0
+root_at g index k t v has tree = record {
+  found = record { tree = t; values = v };
+  there = refl;
+  numbered = root_stands (back_from k) t v;
+}
+
+pub child_at_end : (g : Grammar) (index : TreeIndex) (places : List ℕ) (number place child : ℕ) → HasNodeAt g index places number
+    → HasChild g index number place child → HasNodeAt g index (places ++ place ∷ []) child
+child_at_end g index places number place child at is k t v has tree =
+    let d = back_from k in
+    let before = at k t v has tree in
+    let fits = item_at_end g places (item.Symbol g.start) t v before.found tree before.there in
+    let kid = kid_in d (nodes_of d t v) before.found.tree before.found.values place child
+    (is k t v fits.0 before.found.tree before.found.values has fits.1 before.numbered) in
+    record {
+      found = kid.0;
+      there = further_at places place t v before.found kid.0 before.there kid.1;
+      numbered = kid.2;
+    }
