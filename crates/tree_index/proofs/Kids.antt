@@ -93,7 +93,7 @@ kind_there k t v index n tree w has s =
     ∙ slice_get-map kind_at (nodes_of (back_from k) t v) n
     ∙ ap (option_map kind_at) (first_of (back_from k) (nodes_of (back_from k) t v) n tree w s)
 
-size_there : (k : ℕ) (t : Tree) (v : Valuation) (index : TreeIndex) (n : ℕ) (tree : Tree) (w : Valuation) → HasNodes k t v index
+pub size_there : (k : ℕ) (t : Tree) (v : Valuation) (index : TreeIndex) (n : ℕ) (tree : Tree) (w : Valuation) → HasNodes k t v index
     → StandsAt (back_from k) (nodes_of (back_from k) t v) n tree w → size_of index n ≡ Some (node_count tree)
 size_there k t v index n tree w has s =
     ap (λ (ss : List ℕ). slice_get ss n) has.sizes

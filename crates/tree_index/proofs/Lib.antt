@@ -1,4 +1,5 @@
 pub mod Children
+pub mod Counts
 pub mod Kids
 pub mod Paths
 pub mod Steps

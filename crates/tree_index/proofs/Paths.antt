@@ -51,8 +51,8 @@ further_at (p ∷ places) place t v s child (kid, at, further) there = (
 )
 
 -- the child that the index has is that of the tree
-pub kid_in : (d : Direction) (nodes : List Subtree) (t : Tree) (v : Valuation) (place number : ℕ) → IsKidOf d nodes t v place number
-    → (child : Subtree) × (child_in t v place ≡ Some child) × StandsAt d nodes number child.tree child.values
+pub kid_in : (d : Direction) (nodes : List Subtree) (t : Tree) (v : Valuation) (place number : ℕ)
+    → IsKidOf d nodes t v place number → (child : Subtree) × (child_in t v place ≡ Some child) × StandsAt d nodes number child.tree child.values
 kid_in d nodes (leaf c x) v place number is = absurd is
 kid_in d nodes (node p ts) v place number is = (is.kid, ap (child_in (node p ts) v) is.counted ∙ is.there, is.stands)
 

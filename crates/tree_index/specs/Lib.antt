@@ -2,3 +2,4 @@ pub mod Faults
 pub mod Nodes
 pub mod Reading
 pub mod Ready
+pub mod Tokens

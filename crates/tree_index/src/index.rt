@@ -76,7 +76,9 @@ impl TreeIndex {
     }
 
     /// Returns the number of nodes of the tree.
-    pub fn node_count(&self) -> u32 {
+    pub fn node_count(&self) -> u32
+        ensures { result ≡ in_four_bytes (length self.now.ends.items) }
+    {
         number_of(self.ends.len())
     }
 

@@ -1,5 +1,9 @@
 //! The numbers of tokens in the subtrees of a tree.
 
+ghost use Rattle.std.specs.Prelude.{◌≡◌, ◌^◌, ◌<◌, IfOk, IfSome, length};
+ghost use Rattle.tree_index.specs.Nodes.{kind_in};
+ghost use Rattle.tree_index.specs.Tokens.{AreCounts, HasTokens, literal_count, own_count};
+
 use crate::index::{NodeKind, TreeIndex};
 use ag_grammar::{Grammar, Item, Production, Terminal};
 use ag_value::NoMemory;
@@ -16,11 +20,9 @@ pub struct TokenCounts {
 impl TokenCounts {
     /// Counts the tokens of a tree. Takes memory for 4 bytes a node. Fails if memory is refused, or if there
     /// are more than 4,294,967,295 tokens.
-    pub fn new(
-        alloc: Global,
-        grammar: &Grammar,
-        index: &TreeIndex,
-    ) -> Result<TokenCounts, NoMemory> {
+    pub fn new(alloc: Global, grammar: &Grammar, index: &TreeIndex) -> Result<TokenCounts, NoMemory>
+        ensures { IfOk result (AreCounts grammar.now index.now) }
+    {
         let mut before = Vec::new(alloc);
         let mut count = 0u32;
         before.push(count)?;
@@ -35,7 +37,9 @@ impl TokenCounts {
     }
 
     /// Returns the number of tokens of the subtree of a node.
-    pub fn of_subtree(&self, index: &TreeIndex, node: u32) -> Option<u32> {
+    pub fn of_subtree(&self, index: &TreeIndex, node: u32) -> Option<u32>
+        ensures { IfSome result (HasTokens index.now self.now node) }
+    {
         let end = node.checked_add(index.size(node)?)?;
         let first = *self.before.get(node as usize)?;
         self.before.get(end as usize)?.checked_sub(first)
@@ -43,7 +47,9 @@ impl TokenCounts {
 }
 
 /// Returns 1 for a token, and the number of literals of a node's production.
-fn own_tokens(grammar: &Grammar, index: &TreeIndex, node: u32) -> u32 {
+fn own_tokens(grammar: &Grammar, index: &TreeIndex, node: u32) -> u32
+    ensures { result ≡ own_count grammar.now (kind_in index.now node) }
+{
     match index.kind(node) {
         Some(NodeKind::Token(_)) => 1,
         Some(NodeKind::Node(number)) => match grammar.productions().get(usize::from(number)) {
@@ -55,7 +61,10 @@ fn own_tokens(grammar: &Grammar, index: &TreeIndex, node: u32) -> u32 {
 }
 
 /// Returns the number of literals of a production.
-fn literals_of(production: &Production) -> u32 {
+fn literals_of(production: &Production) -> u32
+    requires { length production.now.items < 2 ^ 16 }
+    ensures { result ≡ literal_count production.now.items }
+{
     let mut literals = 0u32;
     for item in production.items.as_slice() {
         if let Item::Terminal(Terminal::Literal(_)) = item {

@@ -1,0 +1,59 @@
+-- The numbers of tokens of the nodes of a tree, literals among them. All of this is this project's.
+use Rattle.std.specs.Prelude.{ℕ, zero, suc, ◌≡◌, ◌+◌, List, [], ◌∷◌, Option, None, Some, length, slice_get}
+use Rattle.ag_grammar.specs.declared.grammar.Item.TheVariants as item
+use Rattle.ag_grammar.specs.declared.grammar.Item.{Item}
+use Rattle.ag_grammar.specs.declared.grammar.Production.{Production}
+use Rattle.ag_grammar.specs.declared.grammar.Terminal.TheVariants.{Class, Literal}
+use Rattle.ag_grammar.specs.grammars.AttributeGrammar.{Grammar}
+use Rattle.ag_grammar.specs.grammars.Solution.{Valuation}
+use Rattle.ag_grammar.specs.grammars.Tree.{Forest, Tree, leaf, more, node, none}
+use Rattle.tree_index.specs.Nodes.{HasNodes, StandsAt, back_from, nodes_of}
+use Rattle.tree_index.specs.Reading.{in_four_bytes}
+use Rattle.tree_index.specs.declared.index.NodeKind.{NodeKind}
+use Rattle.tree_index.specs.declared.index.NodeKind.TheVariants as kind
+use Rattle.tree_index.specs.declared.index.TreeIndex.{TreeIndex}
+use Rattle.tree_index.specs.declared.tokens.TokenCounts.{TokenCounts}
+
+-- the number of literals of a right side
+abbrev pub literal_count : List Item → ℕ
+literal_count [] = 0
+literal_count (item.Symbol s ∷ xs) = literal_count xs
+literal_count (item.Terminal (Class c) ∷ xs) = literal_count xs
+literal_count (item.Terminal (Literal l) ∷ xs) = suc (literal_count xs)
+
+abbrev pub literals_in : Option Production → ℕ
+literals_in None = 0
+literals_in (Some q) = literal_count q.items
+
+-- The number of tokens of a node without those below it: a token is one, and a node has the literals of its production.
+abbrev pub own_count : Grammar → Option NodeKind → ℕ
+own_count g None = 0
+own_count g (Some (kind.Token c)) = 1
+own_count g (Some (kind.Node p)) = literals_in (slice_get g.productions p)
+
+-- the number of tokens of the first n nodes
+abbrev pub count_before : Grammar → List NodeKind → ℕ → ℕ
+count_before g [] n = 0
+count_before g (what ∷ kinds) zero = 0
+count_before g (what ∷ kinds) (suc n) = own_count g (Some what) + count_before g kinds n
+
+-- the number of tokens of a tree
+abbrev mutual
+  pub token_count : Grammar → Tree → ℕ
+  token_count g (leaf c x) = 1
+  token_count g (node p ts) = literals_in (slice_get g.productions p) + token_counts g ts
+
+  pub token_counts : Grammar → Forest → ℕ
+  token_counts g none = 0
+  token_counts g (more t ts) = token_count g t + token_counts g ts
+
+-- For each node of an index there is the number of tokens before it, and at last that of all.
+pub record AreCounts (g : Grammar) (index : TreeIndex) (counts : TokenCounts) : Type 0 where
+  pub long : length counts.before.items ≡ suc (in_four_bytes (length index.ends.items))
+  pub each : (i n : ℕ) → slice_get counts.before.items i ≡ Some n → n ≡ count_before g index.kinds.items i
+
+-- The number of tokens of the subtree of a node, in each tree that the index has.
+abbrev pub HasTokens : TreeIndex → TokenCounts → ℕ → ℕ → Type 0
+HasTokens index counts number count = (g : Grammar) (k : ℕ) (t : Tree) (v : Valuation) (tree : Tree) (w : Valuation)
+    → AreCounts g index counts → HasNodes k t v index → StandsAt (back_from k) (nodes_of (back_from k) t v) number tree w
+    → count ≡ token_count g tree
