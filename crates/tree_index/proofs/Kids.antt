@@ -72,7 +72,7 @@ next_stand d nodes n kid later s =
     }
 
 -- and the first of them stands there.
-first_stands : (d : Direction) (nodes : List Subtree) (n : ℕ) (kid : Subtree) (later : List Subtree)
+pub first_stands : (d : Direction) (nodes : List Subtree) (n : ℕ) (kid : Subtree) (later : List Subtree)
     → StandAt d nodes n (kid ∷ later) → StandsAt d nodes n kid.tree kid.values
 first_stands d nodes n kid later s =
     let below = nodes_of d kid.tree kid.values in

@@ -189,3 +189,15 @@ pub record IsNumberIn (d : Direction) (t : Tree) (v : Valuation) (places : List 
 abbrev pub HasNodeAt : Grammar → TreeIndex → List ℕ → ℕ → Type 0
 HasNodeAt g index places number = (k : ℕ) (t : Tree) (v : Valuation) → HasNodes k t v index → IsTreeOf g t
     → IsNumberIn (back_from k) t v places number
+
+-- In no tree that the index has, and which has fewer than 2 ^ 32 nodes, a child of the node comes after `before` others.
+abbrev pub HasNoLater : TreeIndex → ℕ → ℕ → Type 0
+HasNoLater index number before = (k : ℕ) (t : Tree) (v : Valuation) (p : ℕ) (ts : Forest) (w : Valuation) → HasNodes k t v index
+    → node_count t < 2 ^ 32 → before < length (kids ts (children w))
+    → StandsAt (back_from k) (nodes_of (back_from k) t v) number (node p ts) w → ⊥
+
+-- In no such tree of the grammar the node has a child at a place.
+abbrev pub HasNoChild : Grammar → TreeIndex → ℕ → ℕ → Type 0
+HasNoChild g index number place = (k : ℕ) (t : Tree) (v : Valuation) (x : Item) (tree : Tree) (w : Valuation)
+    → HasNodes k t v index → node_count t < 2 ^ 32 → Fits g x tree
+    → StandsAt (back_from k) (nodes_of (back_from k) t v) number tree w → child_in tree w place ≡ None

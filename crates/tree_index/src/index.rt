@@ -1,11 +1,11 @@
 //! The index of a tree file.
 
-ghost use Rattle.std.specs.Prelude.{◌≡◌, ◌-◌, ◌^◌, ◌<◌, ◌≤◌, IfOk, IfSome, OnOk, [], length};
+ghost use Rattle.std.specs.Prelude.{◌≡◌, ◌-◌, ◌^◌, ◌<◌, ◌≤◌, IfNone, IfOk, IfSome, OnOk, [], length};
 ghost use Rattle.ag_grammar.specs.declared.grammar.Production.{Production as TheProduction};
 ghost use Rattle.ag_grammar.specs.grammars.Accepted.{IsAccepted};
 ghost use Rattle.ag_grammar.specs.grammars.AttributeGrammar.{IsProduction, stored_items};
 ghost use Rattle.ag_grammar.specs.grammars.Passes.{nth};
-ghost use Rattle.tree_index.specs.Nodes.{HasChild, HasCount, HasItem, HasLater, HasNodeAt, end_of, kind_in, size_of};
+ghost use Rattle.tree_index.specs.Nodes.{HasChild, HasCount, HasItem, HasLater, HasNoChild, HasNoLater, HasNodeAt, end_of, kind_in, size_of};
 ghost use Rattle.tree_index.specs.Reading.{HasAdded, HasClosed, in_four_bytes};
 
 use ag_grammar::{Direction, Grammar, Item, Terminal};
@@ -128,7 +128,8 @@ impl TreeIndex {
 
     /// Returns a child of a node, by its place from 1.
     pub fn child(&self, grammar: &Grammar, node: u32, place: u16) -> Option<u32>
-        ensures { IfSome result (HasChild grammar.now self.now node place) }
+        ensures child { IfSome result (HasChild grammar.now self.now node place) }
+        ensures complete { IfNone result (HasNoChild grammar.now self.now node place) }
     {
         let count = self.child_count(grammar, node);
         if place == 0 || count < place {
@@ -141,7 +142,8 @@ impl TreeIndex {
 
     /// Returns the child of a node that comes after `before` others in the order of the index.
     fn child_after(&self, node: u32, before: u16) -> Option<u32>
-        ensures { IfSome result (HasLater self.now node before) }
+        ensures later { IfSome result (HasLater self.now node before) }
+        ensures complete { IfNone result (HasNoLater self.now node before) }
     {
         let mut child = node.checked_add(1)?;
         for _ in 0..before {

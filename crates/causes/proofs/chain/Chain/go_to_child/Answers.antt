@@ -9,4 +9,4 @@ returns-clause-leads c =
     let old = c.args.self.now.nodes.items in
     leads_down g index old c.push.new.self.items (record { node = c.in-Some.node; place = c.args.place }) c.in-Ok.ensures.items
     c.requires.leads (child_number g index (places_of old) c.node.result c.args.place c.in-Some.node c.node.ensures
-    c.in-Some.ensures)
+    c.in-Some.ensures.child)

@@ -15,7 +15,7 @@ loop-place-preserved c =
     let more = take_more places i 0 (omega arith) in
     subst (λ (ps : List ℕ). HasNodeAt c.args.grammar.now c.args.self.now ps c.in_ok-node.node) (sym more)
     (child_at_end c.args.grammar.now c.args.self.now (take i places) c.loop-place.node (get_or places i 0) c.in_ok-node.node
-    c.loop-place.invariant c.in_ok-node.ensures)
+    c.loop-place.invariant c.in_ok-node.ensures.child)
 
 pub returns : goal.returns
 returns c =
