@@ -1,6 +1,6 @@
 -- The numbers of tokens of the nodes of a tree.
-use Rattle.std.proofs.Common.{◌≡◌, ℕ, zero, suc, ◌+◌, ◌-◌, ◌≤◌, List, [], ◌∷◌, ◌++◌, Option, None, Some, length, map, slice_get, refl, ap, sym, subst, ◌∙◌, append_assoc, arith}
-use Rattle.std.specs.Option.{IfSome, SomeIff}
+use Rattle.std.proofs.Common.{◌≡◌, ℕ, zero, suc, ◌+◌, ◌-◌, ◌<◌, ◌≤◌, List, [], ◌∷◌, ◌++◌, Option, None, Some, length, map, slice_get, refl, ap, sym, subst, ◌∙◌, append_assoc, arith}
+use Rattle.std.specs.Option.{IfNone, IfSome, SomeIff}
 use Rattle.std.proofs.lemmas.List.{length-append}
 use Rattle.ag_grammar.specs.declared.direction.Direction.{Direction}
 use Rattle.ag_grammar.specs.declared.direction.Direction.TheVariants.{LeftToRight, RightToLeft}
@@ -8,7 +8,7 @@ use Rattle.ag_grammar.specs.grammars.AttributeGrammar.{Grammar}
 use Rattle.ag_grammar.specs.grammars.Solution.{Valuation, children, rest}
 use Rattle.ag_grammar.specs.grammars.Tree.{Forest, Tree, leaf, more, node, node_count, none}
 use Rattle.tree_index.specs.Nodes.{HasNodes, StandsAt, Subtree, back_from, both, kind_at, nodes_of, nodes_of_all, size_of}
-use Rattle.tree_index.specs.Tokens.{HasTokens, count_before, own_count, token_count, token_counts}
+use Rattle.tree_index.specs.Tokens.{HasNoTokens, HasTokens, count_before, own_count, token_count, token_counts}
 use Rattle.tree_index.specs.declared.index.NodeKind.{NodeKind}
 use Rattle.tree_index.specs.declared.index.TreeIndex.{TreeIndex}
 use Rattle.tree_index.specs.declared.tokens.TokenCounts.{TokenCounts}
@@ -118,3 +118,62 @@ pub if_tokens : (P : ℕ → Type 0) (r : Option ℕ) (a b : ℕ) → SomeIff r 
     → ((n : ℕ) → (a ≤ b) × (n ≡ b - a) → P n) → IfSome r P
 if_tokens P None a b is each = tt
 if_tokens P (Some n) a b is each = each n is
+
+-- a subtree ends within the nodes
+ends_within : (k : ℕ) (t : Tree) (v : Valuation) (number : ℕ) (tree : Tree) (w : Valuation)
+    → StandsAt (back_from k) (nodes_of (back_from k) t v) number tree w → number + node_count tree ≤ node_count t
+ends_within k t v number tree w s =
+    let d = back_from k in
+    let below = nodes_of d tree w in
+    let all = ap length s.split in
+    let first = length-append s.front (below ++ s.others) in
+    let second = length-append below s.others in
+    let count = nodes_length d tree w in
+    let whole = nodes_length d t v in
+    let at = s.at in
+    omega arith
+
+pub no_subtree : (index : TreeIndex) (counts : TokenCounts) (number : ℕ) → size_of index number ≡ None
+    → HasNoTokens index counts number
+no_subtree index counts number nothing g k t v tree w are has long few s =
+    let there = size_there k t v index number tree w has s in
+    absurd (let bad : ⊥ = cc in bad)
+
+size_is : (k : ℕ) (t : Tree) (v : Valuation) (index : TreeIndex) (number size : ℕ) (tree : Tree) (w : Valuation)
+    → size_of index number ≡ Some size → HasNodes k t v index
+    → StandsAt (back_from k) (nodes_of (back_from k) t v) number tree w → node_count tree ≡ size
+size_is k t v index number size tree w of_size has s =
+    let both : Some (node_count tree) ≡ Some size = sym (size_there k t v index number tree w has s) ∙ of_size in
+    let same : node_count tree ≡ size = cc in
+    same
+
+pub no_end : (index : TreeIndex) (counts : TokenCounts) (number size : ℕ) → size_of index number ≡ Some size
+    → (number + size < 4294967296 → ⊥) → HasNoTokens index counts number
+no_end index counts number size of_size full g k t v tree w are has long few s =
+    let within = ends_within k t v number tree w s in
+    let same = size_is k t v index number size tree w of_size has s in
+    full (omega (arith, within, few, same))
+
+pub no_count : (index : TreeIndex) (counts : TokenCounts) (number size i : ℕ) → size_of index number ≡ Some size
+    → i ≤ number + size → length counts.before.items ≤ i → HasNoTokens index counts number
+no_count index counts number size i of_size less past g k t v tree w are has long few s =
+    let within = ends_within k t v number tree w s in
+    let same = size_is k t v index number size tree w of_size has s in
+    let many = are.long in
+    omega arith
+
+pub no_difference : (index : TreeIndex) (counts : TokenCounts) (number size end first last : ℕ)
+    → size_of index number ≡ Some size → end ≡ number + size → slice_get counts.before.items number ≡ Some first
+    → slice_get counts.before.items end ≡ Some last → (first ≤ last → ⊥) → HasNoTokens index counts number
+no_difference index counts number size end first last of_size at_end at_first at_last fewer g k t v tree w are has long few s =
+    let same = size_is k t v index number size tree w of_size has s in
+    let from = are.each number first at_first in
+    let to = are.each end last at_last in
+    let further : end ≡ number + node_count tree = omega arith in
+    let turned = ap (count_before g index.kinds.items) further in
+    let below = subtree_tokens g k t v index number tree w has s in
+    fewer (omega (arith, from, to, turned, below))
+
+pub if_no_difference : (P : Type 0) (r : Option ℕ) (a b : ℕ) → SomeIff r (a ≤ b) (b - a) → ((a ≤ b → ⊥) → P) → IfNone r P
+if_no_difference P None a b is each = each is
+if_no_difference P (Some n) a b is each = tt

@@ -1,12 +1,12 @@
 -- The numbers of tokens of the nodes of a tree, literals among them. All of this is this project's.
-use Rattle.std.specs.Prelude.{ℕ, zero, suc, ◌≡◌, ◌+◌, List, [], ◌∷◌, Option, None, Some, length, slice_get}
+use Rattle.std.specs.Prelude.{ℕ, zero, suc, ◌≡◌, ◌+◌, ◌<◌, ◌^◌, List, [], ◌∷◌, Option, None, Some, length, slice_get}
 use Rattle.ag_grammar.specs.declared.grammar.Item.TheVariants as item
 use Rattle.ag_grammar.specs.declared.grammar.Item.{Item}
 use Rattle.ag_grammar.specs.declared.grammar.Production.{Production}
 use Rattle.ag_grammar.specs.declared.grammar.Terminal.TheVariants.{Class, Literal}
 use Rattle.ag_grammar.specs.grammars.AttributeGrammar.{Grammar}
 use Rattle.ag_grammar.specs.grammars.Solution.{Valuation}
-use Rattle.ag_grammar.specs.grammars.Tree.{Forest, Tree, leaf, more, node, none}
+use Rattle.ag_grammar.specs.grammars.Tree.{Forest, Tree, leaf, more, node, node_count, none}
 use Rattle.tree_index.specs.Nodes.{HasNodes, StandsAt, back_from, nodes_of}
 use Rattle.tree_index.specs.Reading.{in_four_bytes}
 use Rattle.tree_index.specs.declared.index.NodeKind.{NodeKind}
@@ -57,3 +57,9 @@ abbrev pub HasTokens : TreeIndex → TokenCounts → ℕ → ℕ → Type 0
 HasTokens index counts number count = (g : Grammar) (k : ℕ) (t : Tree) (v : Valuation) (tree : Tree) (w : Valuation)
     → AreCounts g index counts → HasNodes k t v index → StandsAt (back_from k) (nodes_of (back_from k) t v) number tree w
     → count ≡ token_count g tree
+
+-- In no tree that the index has, and which has fewer than 2 ^ 32 nodes, a node has the number.
+abbrev pub HasNoTokens : TreeIndex → TokenCounts → ℕ → Type 0
+HasNoTokens index counts number = (g : Grammar) (k : ℕ) (t : Tree) (v : Valuation) (tree : Tree) (w : Valuation)
+    → AreCounts g index counts → HasNodes k t v index → length index.ends.items ≡ node_count t → node_count t < 2 ^ 32
+    → StandsAt (back_from k) (nodes_of (back_from k) t v) number tree w → ⊥

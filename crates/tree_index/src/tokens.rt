@@ -1,8 +1,8 @@
 //! The numbers of tokens in the subtrees of a tree.
 
-ghost use Rattle.std.specs.Prelude.{◌≡◌, ◌^◌, ◌<◌, IfOk, IfSome, length};
+ghost use Rattle.std.specs.Prelude.{◌≡◌, ◌^◌, ◌<◌, IfNone, IfOk, IfSome, length};
 ghost use Rattle.tree_index.specs.Nodes.{kind_in};
-ghost use Rattle.tree_index.specs.Tokens.{AreCounts, HasTokens, literal_count, own_count};
+ghost use Rattle.tree_index.specs.Tokens.{AreCounts, HasNoTokens, HasTokens, literal_count, own_count};
 
 use crate::index::{NodeKind, TreeIndex};
 use ag_grammar::{Grammar, Item, Production, Terminal};
@@ -38,7 +38,8 @@ impl TokenCounts {
 
     /// Returns the number of tokens of the subtree of a node.
     pub fn of_subtree(&self, index: &TreeIndex, node: u32) -> Option<u32>
-        ensures { IfSome result (HasTokens index.now self.now node) }
+        ensures count { IfSome result (HasTokens index.now self.now node) }
+        ensures complete { IfNone result (HasNoTokens index.now self.now node) }
     {
         let end = node.checked_add(index.size(node)?)?;
         let first = *self.before.get(node as usize)?;
