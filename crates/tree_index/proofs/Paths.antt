@@ -1,12 +1,12 @@
 -- The node at the end of some places, and its number in an index.
-use Rattle.std.proofs.Common.{◌≡◌, ℕ, zero, suc, List, [], ◌∷◌, ◌++◌, Some, slice_get, refl, ap, sym, subst, ◌∙◌}
+use Rattle.std.proofs.Common.{◌≡◌, ℕ, zero, suc, ◌<◌, List, [], ◌∷◌, ◌++◌, Some, get_or, length, slice_get, take, refl, ap, sym, subst, ◌∙◌, arith}
 use Rattle.ag_grammar.specs.declared.direction.Direction.{Direction}
 use Rattle.ag_grammar.specs.declared.grammar.Item.{Item}
 use Rattle.ag_grammar.specs.declared.grammar.Item.TheVariants as item
 use Rattle.ag_grammar.specs.grammars.AttributeGrammar.{Grammar, stored_items}
 use Rattle.ag_grammar.specs.grammars.Solution.{Valuation, children, rest}
 use Rattle.ag_grammar.specs.grammars.Tree.{Fits, FitsAll, Forest, Tree, leaf, more, node, none}
-use Rattle.tree_index.specs.Nodes.{HasChild, HasNodeAt, IsAtEndOf, IsKidOf, StandsAt, Subtree, back_from, child_in, kids, nodes_of}
+use Rattle.tree_index.specs.Nodes.{HasChild, HasNoChild, HasNoNodeAt, HasNodeAt, IsAtEndOf, IsKidOf, StandsAt, Subtree, back_from, child_in, kids, nodes_of}
 use Rattle.tree_index.specs.declared.index.TreeIndex.{TreeIndex}
 use Rattle.tree_index.proofs.Kids.{root_stands}
 
@@ -76,3 +76,41 @@ child_at_end g index places number place child at is k t v has tree =
       there = further_at places place t v before.found kid.0 before.there kid.1;
       numbered = kid.2;
     }
+
+-- one node is at the end of some places
+one_at_end : (places : List ℕ) (t : Tree) (v : Valuation) (a b : Subtree) → IsAtEndOf places t v a → IsAtEndOf places t v b → a ≡ b
+one_at_end [] t v a b first second = first ∙ sym second
+one_at_end (place ∷ places) t v a b (c, there, further) (d, also, other) =
+    let both : Some d ≡ Some c = sym also ∙ there in
+    let same : d ≡ c = cc in
+    one_at_end places c.tree c.values a b further (subst (λ (z : Subtree). IsAtEndOf places z.tree z.values b) same other)
+
+-- on the way to a node there is a child at each place
+on_the_way : (front : List ℕ) (place : ℕ) (others : List ℕ) (t : Tree) (v : Valuation) (found : Subtree)
+    → IsAtEndOf (front ++ place ∷ others) t v found → (above : Subtree) × (child : Subtree) × IsAtEndOf front t v above
+    × (child_in above.tree above.values place ≡ Some child)
+on_the_way [] place others t v found (child, there, further) = (record { tree = t; values = v }, child, refl, there)
+on_the_way (p ∷ front) place others t v found (kid, there, further) =
+    let later = on_the_way front place others kid.tree kid.values found further in
+    (later.0, later.1, (kid, there, later.2), later.3)
+
+split_at : (places : List ℕ) (i : ℕ) → i < length places → (others : List ℕ)
+    × (places ≡ take i places ++ get_or places i 0 ∷ others)
+split_at [] i less = absurd (omega arith)
+split_at (p ∷ places) zero less = (places, refl)
+split_at (p ∷ places) (suc i) less =
+    let later = split_at places i (omega arith) in
+    (later.0, ap (λ (ps : List ℕ). p ∷ ps) later.1)
+
+pub no_node_at : (g : Grammar) (index : TreeIndex) (places : List ℕ) (i number : ℕ) → i < length places
+    → HasNodeAt g index (take i places) number → HasNoChild g index number (get_or places i 0) → HasNoNodeAt g index places
+no_node_at g index places i number less at nowhere k t v found has few tree there =
+    let before = at k t v has tree in
+    let split = split_at places i less in
+    let way = on_the_way (take i places) (get_or places i 0) split.0 t v found
+    (subst (λ (ps : List ℕ). IsAtEndOf ps t v found) split.1 there) in
+    let same = one_at_end (take i places) t v before.found way.0 before.there way.2 in
+    let fits = item_at_end g (take i places) (item.Symbol g.start) t v before.found tree before.there in
+    let nothing = nowhere k t v fits.0 before.found.tree before.found.values has few fits.1 before.numbered in
+    let child = subst (λ (z : Subtree). child_in z.tree z.values (get_or places i 0) ≡ Some way.1) (sym same) way.3 in
+    absurd (let bad : ⊥ = cc in bad)

@@ -201,3 +201,8 @@ abbrev pub HasNoChild : Grammar → TreeIndex → ℕ → ℕ → Type 0
 HasNoChild g index number place = (k : ℕ) (t : Tree) (v : Valuation) (x : Item) (tree : Tree) (w : Valuation)
     → HasNodes k t v index → node_count t < 2 ^ 32 → Fits g x tree
     → StandsAt (back_from k) (nodes_of (back_from k) t v) number tree w → child_in tree w place ≡ None
+
+-- In no tree of the grammar that the index has, and which has fewer than 2 ^ 32 nodes, a node is at the end of some places.
+abbrev pub HasNoNodeAt : Grammar → TreeIndex → List ℕ → Type 0
+HasNoNodeAt g index places = (k : ℕ) (t : Tree) (v : Valuation) (found : Subtree) → HasNodes k t v index
+    → node_count t < 2 ^ 32 → IsTreeOf g t → IsAtEndOf places t v found → ⊥

@@ -5,7 +5,7 @@ ghost use Rattle.ag_grammar.specs.declared.grammar.Production.{Production as The
 ghost use Rattle.ag_grammar.specs.grammars.Accepted.{IsAccepted};
 ghost use Rattle.ag_grammar.specs.grammars.AttributeGrammar.{IsProduction, stored_items};
 ghost use Rattle.ag_grammar.specs.grammars.Passes.{nth};
-ghost use Rattle.tree_index.specs.Nodes.{HasChild, HasCount, HasItem, HasLater, HasNoChild, HasNoLater, HasNodeAt, end_of, kind_in, size_of};
+ghost use Rattle.tree_index.specs.Nodes.{HasChild, HasCount, HasItem, HasLater, HasNoChild, HasNoLater, HasNoNodeAt, HasNodeAt, end_of, kind_in, size_of};
 ghost use Rattle.tree_index.specs.Reading.{HasAdded, HasClosed, in_four_bytes};
 
 use ag_grammar::{Direction, Grammar, Item, Terminal};
@@ -154,7 +154,8 @@ impl TreeIndex {
 
     /// Returns the node at the end of a path of places from the root.
     pub fn find(&self, grammar: &Grammar, places: &[u16]) -> Option<u32>
-        ensures { IfSome result (HasNodeAt grammar.now self.now places.now) }
+        ensures node { IfSome result (HasNodeAt grammar.now self.now places.now) }
+        ensures complete { IfNone result (HasNoNodeAt grammar.now self.now places.now) }
     {
         let mut node = 0u32;
         for place in places {
