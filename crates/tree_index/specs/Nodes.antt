@@ -206,3 +206,7 @@ HasNoChild g index number place = (k : ℕ) (t : Tree) (v : Valuation) (x : Item
 abbrev pub HasNoNodeAt : Grammar → TreeIndex → List ℕ → Type 0
 HasNoNodeAt g index places = (k : ℕ) (t : Tree) (v : Valuation) (found : Subtree) → HasNodes k t v index
     → node_count t < 2 ^ 32 → IsTreeOf g t → IsAtEndOf places t v found → ⊥
+
+-- Some places lead to a node, which has a number in the index.
+abbrev pub LeadsToNode : Grammar → TreeIndex → List ℕ → Type 0
+LeadsToNode g index places = (number : ℕ) × HasNodeAt g index places number

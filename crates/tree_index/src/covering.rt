@@ -1,5 +1,8 @@
 //! The deepest node of a production that has given tokens of the sentence.
 
+ghost use Rattle.std.specs.Prelude.{IfOk, IfSome};
+ghost use Rattle.tree_index.specs.Nodes.{HasChild, LeadsToNode};
+
 use crate::index::{NodeKind, TreeIndex};
 use crate::tokens::TokenCounts;
 use ag_grammar::limits::MOST_DEPTH;
@@ -48,7 +51,9 @@ impl TreeIndex {
         grammar: &Grammar,
         counts: &TokenCounts,
         range: TokenRange,
-    ) -> Result<Vec<u16>, NoMemory> {
+    ) -> Result<Vec<u16>, NoMemory>
+        ensures node { IfOk result (λ places. LeadsToNode grammar.now self.now places.items) }
+    {
         let mut places = Vec::new(alloc);
         let mut node = 0u32;
         let mut range = range;
@@ -72,7 +77,9 @@ impl TreeIndex {
         counts: &TokenCounts,
         node: u32,
         range: TokenRange,
-    ) -> Option<Step> {
+    ) -> Option<Step>
+        ensures child { IfSome result (λ step. HasChild grammar.now self.now node step.place step.node) }
+    {
         let NodeKind::Node(number) = self.kind(node)? else {
             return None;
         };
