@@ -113,7 +113,8 @@ none_later : (g : Grammar) (index : TreeIndex) (number before count place k : �
     → HasNoLater index number before → HasNodes k t v index → node_count t < 2 ^ 32 → Fits g x tree
     → StandsAt (back_from k) (nodes_of (back_from k) t v) number tree w → child_in tree w place ≡ None
 none_later g index number before count place k t v x (leaf c y) w counted less none has few fits s = absurd (omega arith)
-none_later g index number before count place k t v (item.Terminal a) (node p ts) w counted less none has few fits s = elim fits [ ]
+none_later g index number before count place k t v (item.Terminal a) (node p ts) w counted less none has few
+    fits s = elim fits [ ]
 none_later g index number before count place k t v (item.Symbol y) (node p ts) w counted less none has few fits s =
     let many = counted fits.0 fits.1 in
     let long = kids_length g (stored_items fits.0.items) ts (children w) fits.3 in

@@ -52,7 +52,8 @@ further_at (p ∷ places) place t v s child (kid, at, further) there = (
 
 -- the child that the index has is that of the tree
 pub kid_in : (d : Direction) (nodes : List Subtree) (t : Tree) (v : Valuation) (place number : ℕ)
-    → IsKidOf d nodes t v place number → (child : Subtree) × (child_in t v place ≡ Some child) × StandsAt d nodes number child.tree child.values
+    → IsKidOf d nodes t v place number → (child : Subtree) × (child_in t v place ≡ Some child)
+    × StandsAt d nodes number child.tree child.values
 kid_in d nodes (leaf c x) v place number is = absurd is
 kid_in d nodes (node p ts) v place number is = (is.kid, ap (child_in (node p ts) v) is.counted ∙ is.there, is.stands)
 
@@ -78,7 +79,8 @@ child_at_end g index places number place child at is k t v has tree =
     }
 
 -- one node is at the end of some places
-one_at_end : (places : List ℕ) (t : Tree) (v : Valuation) (a b : Subtree) → IsAtEndOf places t v a → IsAtEndOf places t v b → a ≡ b
+one_at_end : (places : List ℕ) (t : Tree) (v : Valuation) (a b : Subtree) → IsAtEndOf places t v a
+    → IsAtEndOf places t v b → a ≡ b
 one_at_end [] t v a b first second = first ∙ sym second
 one_at_end (place ∷ places) t v a b (c, there, further) (d, also, other) =
     let both : Some d ≡ Some c = sym also ∙ there in

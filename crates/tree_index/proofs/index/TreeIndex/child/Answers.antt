@@ -17,7 +17,8 @@ returns-clause-child c =
     let direction : c.turned-direction.result ≡ back_from index.pass = c.turned-direction.ensures ∙ ap other c.of_pass.ensures in
     let turn : nth (back_from index.pass) count before ≡ place - 1 = sym (ap (λ d. nth d count before) direction)
     ∙ c.others_before.ensures.nth in
-    IfSome_then c.child_after.result c.child_after.ensures.later (λ child later. child_is c.args.grammar.now index c.args.node count
+    IfSome_then c.child_after.result c.child_after.ensures.later (λ child later.
+    child_is c.args.grammar.now index c.args.node count
     place before child c.child_count-count.ensures c.others_before.ensures.less turn (omega arith) later)
 
 pub returns-then-place-eq0-clause-complete : goal.returns-then-place-eq0-clause-complete
@@ -28,7 +29,8 @@ returns-then-place-eq0-clause-complete c =
       | then-place-eq0-via-then-place-eq0 w ↦
           no_place g index c.args.node c.args.place w.if-place-eq0.true
       | then-place-eq0-via-else-place-eq0+then-count-place w ↦
-          few_children g index c.args.node c.args.place c.child_count-count.result c.child_count-count.ensures w.if-count-place.true
+          few_children g index c.args.node c.args.place c.child_count-count.result
+          c.child_count-count.ensures w.if-count-place.true
     ]
 
 pub returns-clause-complete : goal.returns-clause-complete

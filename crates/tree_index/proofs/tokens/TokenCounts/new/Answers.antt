@@ -11,7 +11,8 @@ loop-node-init c =
     let none = none_before g kinds in
     let items : c.push.new.self.items ≡ [] ++ 0 ∷ [] = c.in_ok-push.ensures.items
     ∙ ap (λ (ns : List ℕ). ns ++ 0 ∷ []) c.new-before.ensures.items in
-    let first = pushed (λ i n. n ≡ count_before g kinds i) [] 0 (λ i n is. absurd (let bad : ⊥ = cc in bad)) (sym none) in record {
+    let first = pushed (λ i n. n ≡ count_before g kinds i) [] 0 (λ i n is. absurd (let bad : ⊥ = cc in bad))
+    (sym none) in record {
       long = ap length items;
       count = sym none;
       each = λ i n is. first i n (sym (ap (λ (ns : List ℕ). slice_get ns i) items) ∙ is);
