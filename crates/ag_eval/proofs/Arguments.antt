@@ -6,7 +6,7 @@ use Rattle.ag_value.specs.declared.value.Value.TheVariants as value
 use Rattle.ag_value.specs.declared.value.Value.TheVariants.{outs-Fault, outs-Num}
 use Rattle.ag_grammar.specs.declared.syntax.node.Operator.{Operator}
 use Rattle.ag_grammar.specs.values.Arguments.{fault_at, fault_of, fault_or, first_fault, leftmost}
-use Rattle.ag_grammar.specs.values.Operators.{applied, operated}
+use Rattle.ag_grammar.specs.values.Operators.{operation_result, operator_result}
 
 parts : (f g : Option ErrorCode) → first_fault f g ≡ None → (f ≡ None) × (g ≡ None)
 parts None g h = (refl, h)
@@ -29,17 +29,17 @@ number_is_none : (n : ℤ) → fault_of (value.Num n) ≡ None
 number_is_none n = ap fault_at (outs-Num n)
 
 -- The value of an operator is its left argument's error,
-pub left_is_fault : (o : Operator) (left right : Value) (code : ErrorCode) → left ≡ value.Fault code → value.Fault code ≡ applied o left right
+pub left_is_fault : (o : Operator) (left right : Value) (code : ErrorCode) → left ≡ value.Fault code → value.Fault code ≡ operation_result o left right
 unfolding leftmost
 left_is_fault o left right code h =
     let f : fault_of left ≡ Some code = ap fault_of h ∙ fault_is code in
-    sym (ap (λ (x : Option ErrorCode). fault_or (first_fault x (first_fault (fault_of right) None)) (operated o left right)) f)
+    sym (ap (λ (x : Option ErrorCode). fault_or (first_fault x (first_fault (fault_of right) None)) (operator_result o left right)) f)
 
 -- and after a number its right argument's.
-pub right_is_fault : (o : Operator) (n : ℤ) (right : Value) (code : ErrorCode) → right ≡ value.Fault code → value.Fault code ≡ applied o (value.Num n) right
+pub right_is_fault : (o : Operator) (n : ℤ) (right : Value) (code : ErrorCode) → right ≡ value.Fault code → value.Fault code ≡ operation_result o (value.Num n) right
 unfolding leftmost
 right_is_fault o n right code h =
     let f : fault_of right ≡ Some code = ap fault_of h ∙ fault_is code in
     sym
-    (ap (λ (x : Option ErrorCode). fault_or (first_fault x (first_fault (fault_of right) None)) (operated o (value.Num n) right)) (number_is_none n)
-    ∙ ap (λ (x : Option ErrorCode). fault_or (first_fault x None) (operated o (value.Num n) right)) f)
+    (ap (λ (x : Option ErrorCode). fault_or (first_fault x (first_fault (fault_of right) None)) (operator_result o (value.Num n) right)) (number_is_none n)
+    ∙ ap (λ (x : Option ErrorCode). fault_or (first_fault x None) (operator_result o (value.Num n) right)) f)

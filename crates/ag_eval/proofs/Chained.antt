@@ -7,7 +7,7 @@ use Rattle.ag_grammar.specs.declared.syntax.node.Node.{Node}
 use Rattle.ag_grammar.specs.declared.syntax.node.Operator.{Operator}
 use Rattle.ag_grammar.specs.expressions.Evaluation.{Meaning, chain_value, value_in}
 use Rattle.ag_grammar.specs.expressions.Trees.{all_below, is_within}
-use Rattle.ag_grammar.specs.values.Operators.{applied}
+use Rattle.ag_grammar.specs.values.Operators.{operation_result}
 
 module _ (others : List (Operator × Node)) (i : ℕ) (x : Operator × Node) (lt : i < length others) where
   -- the rest begins with the operand
@@ -16,12 +16,12 @@ module _ (others : List (Operator × Node)) (i : ℕ) (x : Operator × Node) (lt
 
   -- The rest of a chain has the same value for the value so far as the rest after the operand for the next
   -- value.
-  pub chained_more : (env : ℕ → Value) (bound : List Value) (old new right whole : Value) → x ≡ get_or others i x → right ≡ value_in x.1 env bound → new ≡ applied x.0 old right
+  pub chained_more : (env : ℕ → Value) (bound : List Value) (old new right whole : Value) → x ≡ get_or others i x → right ≡ value_in x.1 env bound → new ≡ operation_result x.0 old right
       → chain_value env bound old (map (λ (p : Operator × Node). (p.0, value_in p.1)) (drop i others)) ≡ whole
       → chain_value env bound new (map (λ (p : Operator × Node). (p.0, value_in p.1)) (drop (i + 1) others)) ≡ whole
   chained_more env bound old new right whole same right_is new_is so_far =
       let f : Operator × Node → Operator × Meaning = λ p. (p.0, value_in p.1) in
-      ap (λ (v : Value). chain_value env bound v (map f (drop (i + 1) others))) (new_is ∙ ap (applied x.0 old) right_is)
+      ap (λ (v : Value). chain_value env bound v (map f (drop (i + 1) others))) (new_is ∙ ap (operation_result x.0 old) right_is)
       ∙ ap (λ (y : Operator × Node). chain_value env bound old (map f (y ∷ drop (i + 1) others))) same
       ∙ sym (ap (λ (ys : List (Operator × Node)). chain_value env bound old (map f ys)) left)
       ∙ so_far

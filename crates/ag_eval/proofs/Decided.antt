@@ -5,7 +5,7 @@ use Rattle.ag_value.specs.declared.value.ErrorCode.{ErrorCode}
 use Rattle.ag_value.specs.declared.value.Value.{Value, out-Value}
 use Rattle.ag_value.specs.declared.value.Value.TheOpen.{Value-F}
 use Rattle.ag_value.specs.declared.value.Value.TheVariants as value
-use Rattle.ag_grammar.specs.values.Calls.{chosen, chosen_at}
+use Rattle.ag_grammar.specs.values.Calls.{choice_of, chosen_at}
 use Rattle.ag_eval.specs.Conditions.{decision, decision_at}
 
 module _ (e f : Value) where
@@ -18,5 +18,5 @@ module _ (e f : Value) where
   chooses_at (Value-F.Table pairs) = refl
   chooses_at (Value-F.Fault code) = refl
 
-  pub chooses : (c : Value) (r : Result Bool ErrorCode) → r ≡ decision c → MatchResult r (λ holds. chosen c e f ≡ cond holds e f) (λ code. chosen c e f ≡ value.Fault code)
-  chooses c r is = subst (λ (r : Result Bool ErrorCode). MatchResult r (λ holds. chosen c e f ≡ cond holds e f) (λ code. chosen c e f ≡ value.Fault code)) (sym is) (chooses_at (out-Value c))
+  pub chooses : (c : Value) (r : Result Bool ErrorCode) → r ≡ decision c → MatchResult r (λ holds. choice_of c e f ≡ cond holds e f) (λ code. choice_of c e f ≡ value.Fault code)
+  chooses c r is = subst (λ (r : Result Bool ErrorCode). MatchResult r (λ holds. choice_of c e f ≡ cond holds e f) (λ code. choice_of c e f ≡ value.Fault code)) (sym is) (chooses_at (out-Value c))

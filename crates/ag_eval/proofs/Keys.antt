@@ -74,21 +74,21 @@ rising_rest a [] h = refl
 rising_rest a (b ∷ keys) h = (rising_parts a b keys h).1
 
 -- pairs whose keys are all after a key
-record AreBehind (key : List ℕ) (pairs : List Pair) : Type 0 where
+record AreAfter (key : List ℕ) (pairs : List Pair) : Type 0 where
   back : filter (λ (p : Pair). is_before key p.0) pairs ≡ pairs
-  front : filter (λ (p : Pair). is_before p.0 key) pairs ≡ []
+  prefix : filter (λ (p : Pair). is_before p.0 key) pairs ≡ []
   absent : find (λ (p : Pair). bytes_eq p.0 key) pairs ≡ None
 
-later : (key a : List ℕ) (pairs : List Pair) → is_before a key ≡ false → is_rising (a ∷ map key_of pairs) ≡ true → AreBehind key pairs
-later key a [] n rising = record { back = refl; front = refl; absent = refl }
+later : (key a : List ℕ) (pairs : List Pair) → is_before a key ≡ false → is_rising (a ∷ map key_of pairs) ≡ true → AreAfter key pairs
+later key a [] n rising = record { back = refl; prefix = refl; absent = refl }
 later key a (x ∷ xs) n rising =
     let parts = rising_parts a x.0 (map key_of xs) rising in
-    let behind : is_before key x.0 ≡ true = past key a x.0 n parts.0 in
-    let rest = later key x.0 xs (not_back key x.0 behind) parts.1 in
+    let following : is_before key x.0 ≡ true = past key a x.0 n parts.0 in
+    let rest = later key x.0 xs (not_back key x.0 following) parts.1 in
     record {
-      back = rw behind (ap (λ (ys : List Pair). x ∷ ys) rest.back);
-      front = rw (not_back key x.0 behind) rest.front;
-      absent = rw (other_back key x.0 behind) rest.absent;
+      back = rw following (ap (λ (ys : List Pair). x ∷ ys) rest.back);
+      prefix = rw (not_back key x.0 following) rest.prefix;
+      absent = rw (other_back key x.0 following) rest.absent;
     }
 
 abbrev Fronts : List ℕ → List Pair → ℕ → Type 0
@@ -98,19 +98,19 @@ abbrev Backs : List ℕ → List Pair → ℕ → Type 0
 Backs key pairs i = (k : ℕ) (d : Pair) → i ≤ k → k < length pairs → is_before (get_or pairs k d).0 key ≡ false
 
 index_found : (key : List ℕ) (pairs : List Pair) (i : ℕ) → is_rising (map key_of pairs) ≡ true → i ≤ length pairs → Fronts key pairs i → Backs key pairs i → IsIndex key pairs i
-index_found key [] zero rising le fronts backs = record { front = refl; stands = λ same. let bad : ⊥ = cc in absurd bad; belongs = λ differs. (refl, refl) }
+index_found key [] zero rising le fronts backs = record { prefix = refl; occurs = λ same. let bad : ⊥ = cc in absurd bad; belongs = λ differs. (refl, refl) }
 index_found key [] (suc i) rising le fronts backs = absurd (omega arith)
 index_found key (x ∷ xs) zero rising le fronts backs =
     let n : is_before x.0 key ≡ false = backs zero x (omega arith) (omega arith) in
     let rest = later key x.0 xs n rising in
     record {
-      front = rw n rest.front;
-      stands = λ is.
+      prefix = rw n rest.prefix;
+      occurs = λ is.
           let itself : is_before key x.0 ≡ false = ap (is_before key) ((bytes_eq-Decides x.0 key).0 is) ∙ not_itself key in
           (rw itself rest.back, rw is refl);
       belongs = λ is.
-          let behind : is_before key x.0 ≡ true = after key x.0 n is in
-          (rw behind (ap (λ (ys : List Pair). x ∷ ys) rest.back), rw is rest.absent);
+          let following : is_before key x.0 ≡ true = after key x.0 n is in
+          (rw following (ap (λ (ys : List Pair). x ∷ ys) rest.back), rw is rest.absent);
     }
 index_found key (x ∷ xs) (suc i) rising le fronts backs =
     let here : is_before x.0 key ≡ true = fronts zero x (omega arith) in
@@ -118,8 +118,8 @@ index_found key (x ∷ xs) (suc i) rising le fronts backs =
     let n : is_before key x.0 ≡ false = not_back x.0 key here in
     let differs : bytes_eq x.0 key ≡ false = other x.0 key here in
     record {
-      front = rw here (ap (λ (ys : List Pair). x ∷ ys) rest.front);
-      stands = λ same. let e = rest.stands same in (rw n e.0, rw differs e.1);
+      prefix = rw here (ap (λ (ys : List Pair). x ∷ ys) rest.prefix);
+      occurs = λ same. let e = rest.occurs same in (rw n e.0, rw differs e.1);
       belongs = λ none. let e = rest.belongs none in (rw n e.0, rw differs e.1);
     }
 
@@ -160,13 +160,13 @@ rising_with key v (x ∷ xs) rising = go (is_before x.0 key) refl (rising_with k
         inner : (b : Bool) → is_before y.0 key ≡ b → Rises (cond b (y ∷ filter (λ (p : Pair). is_before p.0 key) ys) (filter (λ (p : Pair). is_before p.0 key) ys) ++ (key, v) ∷ filter (λ (p : Pair). is_before key p.0) (y ∷ ys)) → Rises (x ∷ (cond b (y ∷ filter (λ (p : Pair). is_before p.0 key) ys) (filter (λ (p : Pair). is_before p.0 key) ys) ++ (key, v) ∷ filter (λ (p : Pair). is_before key p.0) (y ∷ ys)))
         inner true e rest = rising_pair x.0 y.0 _ (rising_parts x.0 y.0 (map key_of ys) rising).0 rest
         inner false e rest =
-            let none = (later key y.0 ys e (rising_parts x.0 y.0 (map key_of ys) rising).1).front in
+            let none = (later key y.0 ys e (rising_parts x.0 y.0 (map key_of ys) rising).1).prefix in
             let rest' = rw none at rest in
             rw none (rising_pair x.0 key _ here rest')
 
     go : (b : Bool) → is_before x.0 key ≡ b → Rises (with_pair key v xs) → Rises (with_pair key v (x ∷ xs))
     go true here rest = rw (here, not_back x.0 key here) (head xs rising here rest)
-    go false n rest = let past = later key x.0 xs n rising in rw (n, past.front, past.back) (tail (is_before key x.0) refl n)
+    go false n rest = let past = later key x.0 xs n rising in rw (n, past.prefix, past.back) (tail (is_before key x.0) refl n)
       where
         tail : (b : Bool) → is_before key x.0 ≡ b → is_before x.0 key ≡ false → Rises ((key, v) ∷ cond b (x ∷ xs) xs)
         tail true e n = rising_pair key x.0 (map key_of xs) e rising

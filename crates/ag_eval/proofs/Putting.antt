@@ -29,25 +29,25 @@ all_filter f test (x ∷ xs) all = go (test x) (all_filter f test xs (and_parts 
 
 all_with : (f : Pair → Bool) (key : List ℕ) (x : Value) (pairs : List Pair) → f (key, x) ≡ true → all_true (map f pairs) ≡ true → all_true (map f (with_pair key x pairs)) ≡ true
 all_with f key x pairs here all =
-    let front : List Pair = filter (λ (p : Pair). is_before p.0 key) pairs in
+    let prefix : List Pair = filter (λ (p : Pair). is_before p.0 key) pairs in
     let back : List Pair = filter (λ (p : Pair). is_before key p.0) pairs in
     let rest : all_true (map f back) ≡ true = all_filter f (λ (p : Pair). is_before key p.0) pairs all in
-    ap all_true (map-append f front ((key, x) ∷ back)) ∙ all_true-append (map f front) (f (key, x) ∷ map f back) (all_filter f (λ (p : Pair). is_before p.0 key) pairs all) (rw (here, rest) refl)
+    ap all_true (map-append f prefix ((key, x) ∷ back)) ∙ all_true-append (map f prefix) (f (key, x) ∷ map f back) (all_filter f (λ (p : Pair). is_before p.0 key) pairs all) (rw (here, rest) refl)
 
 -- a well table with a pair added can be an item of a list
 pub item_with : (key : List ℕ) (x : Value) (pairs : List Pair) → IsWell (v.Table pairs) → is_utf8 key ≡ true → is_item x ≡ true → is_item (v.Table (with_pair key x pairs)) ≡ true
 item_with key x pairs well utf8 item =
-    let grown : List Pair = with_pair key x pairs in
+    let growth_result : List Pair = with_pair key x pairs in
     let parts = table_parts pairs well in
-    let rising : is_rising (map key_of grown) ≡ true = rising_with key x pairs parts.0 in
-    let texts : all_true (map is_utf8 (map key_of grown)) ≡ true = ap all_true (map-map is_utf8 key_of grown) ∙ all_with (λ p. is_utf8 p.0) key x pairs utf8 (ap all_true (sym (map-map is_utf8 key_of pairs)) ∙ parts.1) in
-    let items : all_true (map is_item_pair grown) ≡ true = all_with is_item_pair key x pairs item parts.2 in
-    let keys : are_keys (map key_of grown) ≡ true = rw (rising, texts) refl in
-    item-Table grown ∙ rw (keys, items) refl
+    let rising : is_rising (map key_of growth_result) ≡ true = rising_with key x pairs parts.0 in
+    let texts : all_true (map is_utf8 (map key_of growth_result)) ≡ true = ap all_true (map-map is_utf8 key_of growth_result) ∙ all_with (λ p. is_utf8 p.0) key x pairs utf8 (ap all_true (sym (map-map is_utf8 key_of pairs)) ∙ parts.1) in
+    let items : all_true (map is_item_pair growth_result) ≡ true = all_with is_item_pair key x pairs item parts.2 in
+    let keys : are_keys (map key_of growth_result) ≡ true = rw (rising, texts) refl in
+    item-Table growth_result ∙ rw (keys, items) refl
 
 -- at its index
 pub inserts : (key : List ℕ) (x : Value) (pairs : List Pair) (i : ℕ) → IsIndex key pairs i → has_key key (slice_get pairs i) ≡ false → with_pair key x pairs ≡ insert pairs i (key, x)
-inserts key x pairs i index_is none = rw (index_is.front, (index_is.belongs none).0) refl
+inserts key x pairs i index_is none = rw (index_is.prefix, (index_is.belongs none).0) refl
 
 set_split : {A : Type 0} (xs : List A) (i : ℕ) (y : A) → i < length xs → set xs i y ≡ take i xs ++ y ∷ drop (suc i) xs
 set_split [] i y lt = absurd (omega arith)
@@ -57,7 +57,7 @@ set_split (x ∷ xs) (suc i) y lt = ap (λ (zs : List _). x ∷ zs) (set_split x
 pub replaces : (key : List ℕ) (x : Value) (pairs : List Pair) (i : ℕ) (p : Pair) → i < length pairs → IsIndex key pairs i → slice_get pairs i ≡ Some p → has_key key (slice_get pairs i) ≡ true → with_pair key x pairs ≡ set pairs i (p.0, x)
 replaces key x pairs i p lt index_is at here =
     let same : p.0 ≡ key = (bytes_eq-Decides p.0 key).0 (sym (ap (has_key key) at) ∙ here) in
-    rw (index_is.front, (index_is.stands here).0) (sym (set_split pairs i (p.0, x) lt ∙ ap (λ k. take i pairs ++ (k, x) ∷ drop (suc i) pairs) same))
+    rw (index_is.prefix, (index_is.occurs here).0) (sym (set_split pairs i (p.0, x) lt ∙ ap (λ k. take i pairs ++ (k, x) ∷ drop (suc i) pairs) same))
 
 sum_insert : {A : Type 0} (f : A → ℕ) (xs : List A) (i : ℕ) (y : A) → sum (map f (insert xs i y)) ≡ sum (map f xs) + f y
 sum_insert f xs zero y = let e = sum_by-cons (λ n. n) (f y) (map f xs) in omega arith
@@ -74,10 +74,10 @@ greatest_insert f [] (suc i) y = omega arith
 greatest_insert f (x ∷ xs) (suc i) y = let rest = greatest_insert f xs i y in omega arith
 
 -- the premises of `fit` on a table with one more pair
-pub fits-inserted : (pairs grown : List Pair) (i : ℕ) (key : List ℕ) (x : Value) (weight depth : ℕ) → grown ≡ insert pairs i (key, x) → IsWell (v.Table pairs) → IsWell x → length key ≤ 1048576
+pub fits-inserted : (pairs growth_result : List Pair) (i : ℕ) (key : List ℕ) (x : Value) (weight depth : ℕ) → growth_result ≡ insert pairs i (key, x) → IsWell (v.Table pairs) → IsWell x → length key ≤ 1048576
     → weight ≡ weight_of (v.Table pairs) + 4 + length key + weight_of x → depth ≡ max (depth_of (v.Table pairs)) (depth_of x + 1)
-    → (weight ≡ min (weight_of (v.Table grown)) 18446744073709551615) × (depth ≡ min (depth_of (v.Table grown)) 4294967295)
-fits-inserted pairs grown i key x weight depth is well well' short heavy deep = rw is (
+    → (weight ≡ min (weight_of (v.Table growth_result)) 18446744073709551615) × (depth ≡ min (depth_of (v.Table growth_result)) 4294967295)
+fits-inserted pairs growth_result i key x weight depth is well well' short heavy deep = rw is (
   (let a = well.light in let b = well'.light in let e = weight-Table (insert pairs i (key, x)) in let d = weight-Table pairs in let s = sum_insert weight_of_pair pairs i (key, x) in omega arith),
   (let a = well.shallow in let b = well'.shallow in let e = depth-Table (insert pairs i (key, x)) in let d = depth-Table pairs in let s = greatest_insert (λ (p : Pair). depth_of p.1) pairs i (key, x) in omega arith),
 )

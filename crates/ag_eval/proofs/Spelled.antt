@@ -10,7 +10,7 @@ use Rattle.std.specs.Result.{OkIff, result_ok}
 use Rattle.std.specs.Str.Parse.{digits_value, ParsesSigned}
 use mir.Syntax.{w64}
 use Rattle.ag_value.specs.Well.{is_i64}
-use Rattle.ag_grammar.specs.values.Numbers.{is_digits, signed, spelled}
+use Rattle.ag_grammar.specs.values.Numbers.{is_digits, signed_number, spelled_number}
 
 own : IsNumeralModel (λ ds. list_all is_ascii_digit ds ≡ true) (digits_value 10)
 own = numerals_by_value _ (search rules)
@@ -34,7 +34,7 @@ digits ds = Decides-and (nat_lt 0 (length ds)) (list_all is_ascii_digit ds) (Dec
 both : {A B C : Type 0} (x y : Bool) → Decides x (A × B) → Decides y C → Decides (x && y) (B × A × C)
 both x y p q = Decides-like (x && y) (λ h. (h.0.1, h.0.0, h.1)) (λ h. ((h.1, h.0), h.2)) (Decides-and x y p q)
 
-pub parses : {E : Type 0} (bs : List ℕ) (r : Result ℤ E) → get_or bs 0 0 ≢ 43 → ParsesSigned w64 10 bs r → result_ok r ≡ spelled bs
+pub parses : {E : Type 0} (bs : List ℕ) (r : Result ℤ E) → get_or bs 0 0 ≢ 43 → ParsesSigned w64 10 bs r → result_ok r ≡ spelled_number bs
 parses {E = E} [] r plain is = go r (parse_signed_plain own w64 [] r is plain (λ e. omega arith))
   where
     go : (r : Result ℤ E) → OkIff r ((list_all is_ascii_digit [] ≡ true) × (0 < 0) × (digits_value 10 [] < 2 ^ 63)) (pos (digits_value 10 [])) → result_ok r ≡ None
@@ -42,6 +42,6 @@ parses {E = E} [] r plain is = go r (parse_signed_plain own w64 [] r is plain (�
     go (Err e) h = refl
 parses {E = E} (b ∷ bs) r plain is = go (b == 45) refl
   where
-    go : (t : Bool) → (b == 45) ≡ t → result_ok r ≡ cond t (signed neg_ℤ bs) (signed (λ z. z) (b ∷ bs))
+    go : (t : Bool) → (b == 45) ≡ t → result_ok r ≡ cond t (signed_number neg_ℤ bs) (signed_number (λ z. z) (b ∷ bs))
     go true e = answered (is_digits bs && is_i64 (neg_ℤ (pos (digits_value 10 bs)))) (neg_ℤ (pos (digits_value 10 bs))) r (both (is_digits bs) (is_i64 (neg_ℤ (pos (digits_value 10 bs)))) (digits bs) (negative (digits_value 10 bs))) (parse_signed_minus own w64 (b ∷ bs) r is (eqb-true b 45 e))
     go false e = answered (is_digits (b ∷ bs) && is_i64 (pos (digits_value 10 (b ∷ bs)))) (pos (digits_value 10 (b ∷ bs))) r (both (is_digits (b ∷ bs)) (is_i64 (pos (digits_value 10 (b ∷ bs)))) (digits (b ∷ bs)) (positive (digits_value 10 (b ∷ bs)))) (parse_signed_plain own w64 (b ∷ bs) r is plain (eqb-false b 45 e))

@@ -4,12 +4,12 @@ ghost use Rattle.std.specs.Prelude.{◌≡◌, ◌≢◌, IfOk, IfSome, None};
 ghost use Rattle.ag_value.specs.Well.{IsWell};
 ghost use Rattle.ag_value.specs.declared.value.Value.TheVariants as value;
 ghost use Rattle.ag_eval.specs.declared.operand.Held.{Held as HeldValue};
-ghost use Rattle.ag_eval.specs.Growing.{grown};
+ghost use Rattle.ag_eval.specs.Growing.{growth_result};
 ghost use Rattle.ag_eval.specs.Operands.{Gives, IsIn, held_value, operand_value, scalar_value};
 ghost use Rattle.ag_grammar.specs.values.Arguments.{fault_of};
-ghost use Rattle.ag_grammar.specs.values.Calls.{called, called_with, put};
-ghost use Rattle.ag_grammar.specs.values.Lists.{appended, concatenated};
-ghost use Rattle.ag_grammar.specs.values.Operators.{applied};
+ghost use Rattle.ag_grammar.specs.values.Calls.{call_result, called_with, put};
+ghost use Rattle.ag_grammar.specs.values.Lists.{append_result, concatenation};
+ghost use Rattle.ag_grammar.specs.values.Operators.{operation_result};
 
 use crate::bindings::Bindings;
 use crate::builtins::comparing::{equal, less, truth};
@@ -55,7 +55,7 @@ pub fn apply<'e>(
 ) -> Result<Operand<'e>, NoMemory>
     requires left { IsIn bindings.now left }
     requires right { IsIn bindings.now right }
-    ensures value { IfOk result (Gives bindings.now (applied operator) left.entry right.entry) }
+    ensures value { IfOk result (Gives bindings.now (operation_result operator) left.entry right.entry) }
     ensures within { IfOk result (λ o. IsIn bindings.now o) }
 {
     if operator == Operator::Join {
@@ -69,7 +69,7 @@ fn calculate(operator: Operator, left: &Value, right: &Value) -> Value
     requires number { operator ≢ Operator.Join }
     requires left { IsWell left.now }
     requires right { IsWell right.now }
-    ensures value { result ≡ applied operator left.now right.now }
+    ensures value { result ≡ operation_result operator left.now right.now }
     ensures well { IsWell result }
 {
     if let Some(code) = fault_of_two(left, right) {
@@ -93,7 +93,7 @@ fn calculate(operator: Operator, left: &Value, right: &Value) -> Value
 #[inline(always)]
 pub fn apply_to_scalars(operator: Operator, left: Scalar, right: Scalar) -> Option<Scalar>
     ensures { IfSome result
-        (λ s. scalar_value s ≡ applied operator (scalar_value left) (scalar_value right)) }
+        (λ s. scalar_value s ≡ operation_result operator (scalar_value left) (scalar_value right)) }
 {
     match left {
         Scalar::Number(m) => apply_to_number(operator, m, right),
@@ -105,7 +105,7 @@ pub fn apply_to_scalars(operator: Operator, left: Scalar, right: Scalar) -> Opti
 #[inline(always)]
 fn apply_to_number(operator: Operator, m: i64, right: Scalar) -> Option<Scalar>
     ensures { IfSome result
-        (λ s. scalar_value s ≡ applied operator (value.Num m) (scalar_value right)) }
+        (λ s. scalar_value s ≡ operation_result operator (value.Num m) (scalar_value right)) }
 {
     match right {
         Scalar::Number(n) => apply_to_numbers(operator, m, n),
@@ -117,7 +117,7 @@ fn apply_to_number(operator: Operator, m: i64, right: Scalar) -> Option<Scalar>
 #[tactic(auto, unfolding(ag_grammar::specs::values::Arguments::leftmost))]
 #[inline(always)]
 fn apply_to_numbers(operator: Operator, m: i64, n: i64) -> Option<Scalar>
-    ensures { IfSome result (λ s. scalar_value s ≡ applied operator (value.Num m) (value.Num n)) }
+    ensures { IfSome result (λ s. scalar_value s ≡ operation_result operator (value.Num m) (value.Num n)) }
 {
     match operator {
         Operator::Equal => Scalar::from_value(&equal(&Value::Num(m), &Value::Num(n))),
@@ -153,7 +153,7 @@ fn grow<'e>(
 ) -> Result<Operand<'e>, NoMemory>
     requires first { IsIn bindings.now first }
     requires second { IsIn bindings.now second }
-    ensures value { IfOk result (Gives bindings.now (grown growth) first.entry second.entry) }
+    ensures value { IfOk result (Gives bindings.now (growth_result growth) first.entry second.entry) }
     ensures within { IfOk result (λ o. IsIn bindings.now o) }
 {
     if let Some(code) = fault_of_two(first.get(&*bindings), second.get(&*bindings)) {
@@ -175,7 +175,7 @@ fn extended<'e>(
     bindings: &Bindings<'e>,
 ) -> Result<Measured, NoMemory>
     requires { IsIn bindings.now right }
-    ensures { IfOk result (λ m. m ≡ concatenated left (operand_value bindings.now right.entry)) }
+    ensures { IfOk result (λ m. m ≡ concatenation left (operand_value bindings.now right.entry)) }
 {
     if let Value::Text(more) = right.get(&*bindings) {
         return extend_text(alloc, left, more.as_str());
@@ -192,7 +192,7 @@ pub fn call_unary<'e>(
 ) -> Result<Operand<'e>, NoMemory>
     requires { IsIn bindings.now argument }
     ensures { IfOk result (λ o. o
-        ≡ Operand.Held (HeldValue.Owned (called call (operand_value bindings.now argument.entry)))) }
+        ≡ Operand.Held (HeldValue.Owned (call_result call (operand_value bindings.now argument.entry)))) }
 {
     Ok(Operand::owned(made_of(alloc, call, argument.get(&*bindings))?))
 }
@@ -201,7 +201,7 @@ pub fn call_unary<'e>(
 #[tactic(auto, unfolding(ag_grammar::specs::values::Arguments::leftmost))]
 fn made_of(alloc: Global, call: UnaryCall, argument: &Value) -> Result<Measured, NoMemory>
     requires { IsWell argument.now }
-    ensures { IfOk result (λ m. m ≡ called call argument.now) }
+    ensures { IfOk result (λ m. m ≡ call_result call argument.now) }
 {
     if call == UnaryCall::IsError {
         return Ok(Measured::new(truth(fault_of(argument).is_some())));

@@ -12,10 +12,10 @@ ghost use Rattle.ag_eval.specs.Conditions.{decision};
 ghost use Rattle.ag_eval.specs.declared.operand.Held.{Held as HeldValue};
 ghost use Rattle.ag_eval.specs.Operands.{IsIn, each_within, held_value, operand_value, scalar_value};
 ghost use Rattle.ag_grammar.specs.expressions.Trees.{all_below, is_within};
-ghost use Rattle.ag_grammar.specs.values.Calls.{called_with, chosen, put};
+ghost use Rattle.ag_grammar.specs.values.Calls.{called_with, choice_of, put};
 ghost use Rattle.ag_grammar.specs.values.Lists.{listed};
 
-use crate::at_hand::{copied, literal_value};
+use crate::available::{copied, literal_value};
 use crate::bindings::Bindings;
 use crate::builtins::faults::fault_of;
 use crate::calls::{apply, call_binary, call_put, call_unary, fault};
@@ -335,8 +335,8 @@ fn empty_table<'e>(alloc: Global) -> Operand<'e>
 fn decide(condition: Operand<'_>, bindings: &Bindings<'_>) -> Result<bool, ErrorCode>
     requires { IsIn bindings.now condition }
     ensures { (e f : AttributeValue) → MatchResult result
-        (λ holds. chosen (operand_value bindings.now condition.entry) e f ≡ cond holds e f)
-        (λ code. chosen (operand_value bindings.now condition.entry) e f ≡ value.Fault code) }
+        (λ holds. choice_of (operand_value bindings.now condition.entry) e f ≡ cond holds e f)
+        (λ code. choice_of (operand_value bindings.now condition.entry) e f ≡ value.Fault code) }
 {
     decided(condition.get(bindings))
 }

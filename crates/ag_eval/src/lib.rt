@@ -2,7 +2,7 @@
 //! the limits of weight and depth.
 #![tactic(auto)]
 
-mod at_hand;
+mod available;
 mod bindings;
 mod builtins;
 mod calls;
@@ -16,7 +16,7 @@ mod meter;
 mod operand;
 mod scalar;
 
-pub use at_hand::eval_number;
+pub use available::eval_number;
 pub use carried::{eval_carried, eval_scalar};
 pub use environment::{CarriedEnvironment, Environment};
 pub use evaluation::eval;

@@ -5,7 +5,7 @@ ghost use Rattle.ag_value.specs.Measure.{depth_of, max_depth, max_weight, weight
 ghost use Rattle.ag_value.specs.Well.{IsWell, is_item};
 ghost use Rattle.ag_grammar.specs.values.Fitting.{fit};
 
-use ag_value::{ErrorCode, MAX_DEPTH, MAX_WEIGHT, Value, depth, weight};
+use ag_value::{ErrorCode, MAX_VALUE_DEPTH, MAX_WEIGHT, Value, depth, weight};
 use std::marker::Model;
 
 /// The weight of a number.
@@ -63,7 +63,7 @@ impl Measured {
         requires sounded { depth ≡ min (depth_of value) (2 ^ 32 - 1) }
         ensures { result ≡ fit value }
     {
-        if depth > MAX_DEPTH {
+        if depth > MAX_VALUE_DEPTH {
             return Measured::new(Value::Fault(ErrorCode::Deep));
         }
         if weight > MAX_WEIGHT {

@@ -4,13 +4,13 @@
 use crate::expression::read_expr;
 use crate::fault::ExprFault;
 use crate::names::is_reserved;
-use ag_tokens::{Cursor, Token};
+use ag_tokens::{Cursor, GrammarToken};
 use ag_value::NoMemory;
 use std::alloc::Global;
 
 /// Something that could be at an offset of a text.
 #[derive(Clone, Copy, Debug, PartialEq, Eq)]
-pub enum Expected {
+pub enum ExpectedPart {
     /// An expression, which may be a `let` or an `if`.
     Expression,
     /// An expression other than a `let` or an `if`.
@@ -36,7 +36,7 @@ const SIGNS: [&str; 9] = ["=", "(", ")", "]", "}", ",", "in", "then", "else"];
 /// rejected there with X2. Tries each candidate after the text before the offset, so it parses that
 /// a few times. Returns an empty list if no level of expressions is left, or if `at` is not a
 /// character boundary of the text. Fails with `NoMemory` if memory runs out.
-pub fn expected_at(alloc: Global, text: &str, at: usize) -> Result<Vec<Expected>, NoMemory> {
+pub fn expected_at(alloc: Global, text: &str, at: usize) -> Result<Vec<ExpectedPart>, NoMemory> {
     let mut found = Vec::new(alloc);
     if let Some(before) = text.get(..at) {
         gather(alloc, text, before, &mut found)?;
@@ -49,20 +49,20 @@ fn gather(
     alloc: Global,
     text: &str,
     before: &str,
-    found: &mut Vec<Expected>,
+    found: &mut Vec<ExpectedPart>,
 ) -> Result<(), NoMemory> {
-    let operand = can_stand(alloc, before, "1")?;
+    let operand = can_follow(alloc, before, "1")?;
     if operand {
         found.push(operand_at(alloc, text, before)?)?;
     } else {
-        note(alloc, before, "_", Expected::NewName, found)?;
+        note(alloc, before, "_", ExpectedPart::NewName, found)?;
     }
-    if !note(alloc, before, "==", Expected::Operator, found)? {
-        note(alloc, before, "*", Expected::TighterOperator, found)?;
+    if !note(alloc, before, "==", ExpectedPart::Operator, found)? {
+        note(alloc, before, "*", ExpectedPart::TighterOperator, found)?;
     }
     gather_signs(alloc, before, operand, found)?;
     if refused_at(alloc, before)?.is_none() {
-        found.push(Expected::End)?;
+        found.push(ExpectedPart::End)?;
     }
     Ok(())
 }
@@ -73,11 +73,11 @@ fn gather_signs(
     alloc: Global,
     before: &str,
     operand: bool,
-    found: &mut Vec<Expected>,
+    found: &mut Vec<ExpectedPart>,
 ) -> Result<(), NoMemory> {
     for sign in SIGNS {
         if !(operand && sign == "(") {
-            note(alloc, before, sign, Expected::Sign(sign), found)?;
+            note(alloc, before, sign, ExpectedPart::Sign(sign), found)?;
         }
     }
     Ok(())
@@ -88,34 +88,34 @@ fn note(
     alloc: Global,
     before: &str,
     token: &str,
-    expected: Expected,
-    found: &mut Vec<Expected>,
+    expected: ExpectedPart,
+    found: &mut Vec<ExpectedPart>,
 ) -> Result<bool, NoMemory> {
-    let stands = can_stand(alloc, before, token)?;
-    if stands {
+    let occurs = can_follow(alloc, before, token)?;
+    if occurs {
         found.push(expected)?;
     }
-    Ok(stands)
+    Ok(occurs)
 }
 
 /// Returns the description of an operand that could follow `before`.
-fn operand_at(alloc: Global, text: &str, before: &str) -> Result<Expected, NoMemory> {
+fn operand_at(alloc: Global, text: &str, before: &str) -> Result<ExpectedPart, NoMemory> {
     if let Some(rest) = text.get(before.len()..) {
-        if let Some(Token::Name(name)) = Cursor::new(rest).peek() {
+        if let Some(GrammarToken::Name(name)) = Cursor::new(rest).peek() {
             if !is_reserved(name) {
-                return Ok(Expected::BoundName);
+                return Ok(ExpectedPart::BoundName);
             }
         }
     }
-    if can_stand(alloc, before, "if")? {
-        return Ok(Expected::Expression);
+    if can_follow(alloc, before, "if")? {
+        return Ok(ExpectedPart::Expression);
     }
-    Ok(Expected::Operand)
+    Ok(ExpectedPart::Operand)
 }
 
 /// Returns whether `token` could follow `before`: whether the parser does not reject the token
 /// itself.
-fn can_stand(alloc: Global, before: &str, token: &str) -> Result<bool, NoMemory> {
+fn can_follow(alloc: Global, before: &str, token: &str) -> Result<bool, NoMemory> {
     let tried = format!(in alloc; "{before} {token}")?;
     match refused_at(alloc, tried.as_str())? {
         Some(at) => Ok(at > before.len().saturating_add(1)),

@@ -12,7 +12,7 @@ ghost use Rattle.ag_expr.specs.language.Until.{ReadsUntil};
 
 use crate::fault::ExprFault;
 use crate::reader::Reader;
-use ag_grammar::limits::MOST_LEVELS;
+use ag_grammar::limits::MAX_EXPR_LEVELS;
 use ag_grammar::{Expr, Node};
 use ag_tokens::Cursor;
 use std::alloc::Global;
@@ -78,7 +78,7 @@ fn statement(reader: &mut Reader<'_>) -> Result<Node, ExprFault>
     ensures refused { IfErr result (λ e.
         IsReadEnded reader.old.tokens (Err e) reader.new.tokens) }
 {
-    let tree = reader.expression(MOST_LEVELS)?;
+    let tree = reader.expression(MAX_EXPR_LEVELS)?;
     if !reader.sees_semicolon() {
         return Err(reader.refusal());
     }
@@ -102,7 +102,7 @@ fn tree_to_end(reader: &mut Reader<'_>) -> Result<Node, ExprFault>
     ensures below { IfOk result (λ tree. is_below (length reader.new.listed) tree ≡ true) }
     ensures refused { IfErr result (λ e. IsReadToEnd reader.old (Err e)) }
 {
-    let tree = reader.expression(MOST_LEVELS)?;
+    let tree = reader.expression(MAX_EXPR_LEVELS)?;
     if !reader.is_at_end() {
         return Err(reader.refusal());
     }

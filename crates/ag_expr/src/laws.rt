@@ -8,7 +8,7 @@ ghost use Rattle.ag_expr.specs.language.Laws.{OneExpression};
 ghost use Rattle.ag_expr.specs.language.Laws.{RefusesAtTheFirst};
 ghost use Rattle.ag_tokens.specs.Tokens.{AreTokens};
 ghost use Rattle.ag_expr.specs.language.Names.{is_reserved, number_in};
-ghost use Rattle.ag_tokens.specs.Placed.{tokens};
+ghost use Rattle.ag_tokens.specs.PlacedToken.{tokens};
 ghost use Rattle.ag_expr.specs.language.Syntax.{IsExpr};
 ghost use Rattle.ag_expr.specs.language.Until.{first_semicolon, semicolon};
 ghost use Rattle.ag_expr.specs.language.Worked.{occurrence_and_number, sum_and_product};
@@ -23,7 +23,7 @@ pub fn reading_agrees_with_the_syntax()
 
 /// States that the parser fails at the first token that cannot be accepted.
 #[tactic(auto, using(crate::proofs::language::Offsets::refuses_at_the_first))]
-pub fn the_first_wrong_token_is_told()
+pub fn the_first_wrong_token_is_reported()
     ensures { RefusesAtTheFirst }
 {}
 

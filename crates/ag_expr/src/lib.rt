@@ -12,8 +12,8 @@ mod parser;
 mod reader;
 
 pub use ag_grammar::occurrences;
-pub use ag_tokens::{Cursor, Punctuation, Token, unescaped};
-pub use expected::{Expected, expected_at};
+pub use ag_tokens::{Cursor, GrammarToken, Punctuation, unescaped};
+pub use expected::{ExpectedPart, expected_at};
 pub use expression::{read_ended, read_expr, read_until};
 pub use fault::ExprFault;
 pub use reader::refusal;

@@ -85,7 +85,7 @@ impl<'t> OccurrenceTable<'t> {
     /// Returns the listed occurrences. Does not allocate.
     pub fn into_list(self) -> SmallVec<Occ, 4>
         ensures listed { result.items ≡ self.entry }
-        ensures different { AreDifferent result.items }
+        ensures distinct_occurrences { AreDifferent result.items }
     {
         self.listed
     }

@@ -5,17 +5,17 @@ ghost use Rattle.ag_expr.specs.language.Syntax as syntax;
 ghost use Rattle.ag_expr.specs.language.Syntax.{closer};
 ghost use Rattle.ag_expr.specs.language.State.{Reads, ReadsAs, input};
 ghost use Rattle.ag_tokens.specs.Lexing.{token_of};
-ghost use Rattle.ag_tokens.specs.Parsing.{front, further_from, sees, sign_of, offset};
+ghost use Rattle.ag_tokens.specs.Parsing.{prefix, further_from, sees, sign_of, offset};
 ghost use Rattle.ag_expr.specs.language.Chains as chains;
 ghost use Rattle.ag_expr.specs.language.Reading as reading;
 ghost use Rattle.ag_expr.specs.language.Reading.{atom_from, expr_in, other_from, ranked_from};
-ghost use Rattle.ag_tokens.specs.Token as token;
+ghost use Rattle.ag_tokens.specs.GrammarToken as token;
 
 use crate::fault::ExprFault;
 use crate::names::{Call, call_of, is_reserved};
 use crate::reader::Reader;
 use ag_grammar::{Literal, Node, Operator};
-use ag_tokens::{Punctuation, Token, unescaped};
+use ag_tokens::{GrammarToken, Punctuation, unescaped};
 use ag_value::{Boxed, Items, NoMemory};
 use std::alloc::Global;
 
@@ -69,18 +69,18 @@ fn named_operator(name: &str) -> Option<(Precedence, Operator)>
 }
 
 /// Returns the operator that a token spells and its precedence, or `None`.
-fn binary_operator(token: Token<'_>) -> Option<(Precedence, Operator)>
+fn binary_operator(token: GrammarToken<'_>) -> Option<(Precedence, Operator)>
     ensures { result ≡ syntax.binary_operator (token_of token.entry) }
 {
     match token {
-        Token::Punctuation(mark) => marked_operator(mark),
-        Token::Name(name) => named_operator(name),
+        GrammarToken::Punctuation(mark) => marked_operator(mark),
+        GrammarToken::Name(name) => named_operator(name),
         _ => None,
     }
 }
 
 /// Returns the operator that a token spells, if it has this precedence.
-fn operator_of(precedence: Precedence, token: Token<'_>) -> Option<Operator>
+fn operator_of(precedence: Precedence, token: GrammarToken<'_>) -> Option<Operator>
     ensures { result ≡ syntax.operator_of precedence (token_of token.entry) }
 {
     match binary_operator(token) {
@@ -109,7 +109,7 @@ fn is_closer(precedence: Precedence, other: Precedence) -> bool
 
 /// Returns whether a token is an operator that binds more strongly than `precedence`.
 #[tactic(auto, using(crate::proofs::language::Chains::operator_among, crate::proofs::language::Chains::no_operator))]
-fn is_closer_operator(precedence: Precedence, token: Token<'_>) -> bool
+fn is_closer_operator(precedence: Precedence, token: GrammarToken<'_>) -> bool
     ensures { result ≡ chains.is_operator_among (closer precedence) (token_of token.entry) }
 {
     match binary_operator(token) {
@@ -120,7 +120,7 @@ fn is_closer_operator(precedence: Precedence, token: Token<'_>) -> bool
 
 /// Returns whether a token is an operator.
 #[tactic(auto, using(crate::proofs::language::Chains::any_operator))]
-fn is_operator(token: Token<'_>) -> bool
+fn is_operator(token: GrammarToken<'_>) -> bool
     ensures { result ≡ chains.is_operator_among syntax.precedences (token_of token.entry) }
 {
     binary_operator(token).is_some()
@@ -154,20 +154,20 @@ fn marked_atom(mark: Punctuation) -> Atom
 }
 
 /// Returns the form of the atom that begins with this token.
-fn atom_of(token: Token<'_>) -> Atom
+fn atom_of(token: GrammarToken<'_>) -> Atom
     ensures { result ≡ reading.atom_of (token_of token.entry) }
 {
     match token {
-        Token::Punctuation(mark) => marked_atom(mark),
-        Token::Name(name) if call_of(name).is_some() => Atom::Call,
+        GrammarToken::Punctuation(mark) => marked_atom(mark),
+        GrammarToken::Name(name) if call_of(name).is_some() => Atom::Call,
         _ => Atom::Operand,
     }
 }
 
 /// Makes the tree of a chain: the first operand itself if it is the only one. Fails with `NoMemory`
 /// if memory runs out.
-fn chained(alloc: Global, first: Node, others: Vec<(Operator, Node)>) -> Result<Node, NoMemory>
-    ensures { IfOk result (λ e. e ≡ syntax.chained first others.items) }
+fn chain_of(alloc: Global, first: Node, others: Vec<(Operator, Node)>) -> Result<Node, NoMemory>
+    ensures { IfOk result (λ e. e ≡ syntax.chain_of first others.items) }
 {
     if others.is_empty() {
         return Ok(first);
@@ -190,7 +190,7 @@ impl<'t> Reader<'t> {
     /// Returns the next token as an operator of this precedence, or `None` if it is not one.
     fn next_operator(&self, precedence: Precedence) -> Option<Operator>
         ensures { result ≡ sign_of (λ _. syntax.operator_of precedence)
-            (offset (input self.now)) (front (input self.now)) }
+            (offset (input self.now)) (prefix (input self.now)) }
     {
         match self.peek() {
             Some(token) => operator_of(precedence, token),
@@ -240,7 +240,7 @@ impl<'t> Reader<'t> {
     }
 
     /// Returns the form of the atom that begins with the next token.
-    fn front_atom(&self) -> Atom
+    fn prefix_atom(&self) -> Atom
         ensures { reading.BeginsAtom result (input self.now) }
     {
         match self.peek() {
@@ -252,10 +252,10 @@ impl<'t> Reader<'t> {
     /// Returns the call that the next token names, or `None`.
     fn next_call(&self) -> Option<Call>
         ensures { result ≡ sign_of (λ _. syntax.call_in)
-            (offset (input self.now)) (front (input self.now)) }
+            (offset (input self.now)) (prefix (input self.now)) }
     {
         match self.peek() {
-            Some(Token::Name(name)) => call_of(name),
+            Some(GrammarToken::Name(name)) => call_of(name),
             _ => None,
         }
     }
@@ -348,47 +348,47 @@ impl<'t> Reader<'t> {
         if !self.sees_operator() {
             return Ok(first);
         }
-        self.chain_behind(levels, Precedence::Comparison, first)
+        self.chain_after(levels, Precedence::Comparison, first)
     }
 
     /// Parses the rest of a chain of this precedence after its first atom; returns the tree of the
     /// whole chain.
     #[cycle(parsing)]
-    #[tactic(auto, using(crate::proofs::language::Chains::operand_alone), unfolding(crate::specs::language::Chains::ranked_behind, crate::specs::language::Chains::chain_behind))]
-    fn chain_behind(
+    #[tactic(auto, using(crate::proofs::language::Chains::operand_alone), unfolding(crate::specs::language::Chains::ranked_after, crate::specs::language::Chains::chain_after))]
+    fn chain_after(
         &mut self,
         levels: usize,
         precedence: Precedence,
         atom: Node,
     ) -> Result<Node, ExprFault>
-        ensures { Reads (λ all names. chains.ranked_behind (atom_from (expr_in all levels) names all)
+        ensures { Reads (λ all names. chains.ranked_after (atom_from (expr_in all levels) names all)
             (precedence ∷ closer precedence) atom) self.old result self.new }
     {
-        let first = self.operand_behind(levels, precedence, atom)?;
+        let first = self.operand_after(levels, precedence, atom)?;
         if !self.goes_on(precedence) {
             return Ok(first);
         }
         let others = self.others(levels, precedence)?;
-        Ok(chained(self.alloc(), first, others)?)
+        Ok(chain_of(self.alloc(), first, others)?)
     }
 
     /// Parses the rest of an operand of a chain of this precedence after its first atom; returns
     /// the tree of the whole operand.
     #[cycle(parsing)]
-    #[tactic(auto, unfolding(crate::specs::language::Chains::ranked_behind))]
-    fn operand_behind(
+    #[tactic(auto, unfolding(crate::specs::language::Chains::ranked_after))]
+    fn operand_after(
         &mut self,
         levels: usize,
         precedence: Precedence,
         atom: Node,
     ) -> Result<Node, ExprFault>
-        ensures { Reads (λ all names. chains.ranked_behind (atom_from (expr_in all levels) names all)
+        ensures { Reads (λ all names. chains.ranked_after (atom_from (expr_in all levels) names all)
             (closer precedence) atom) self.old result self.new }
     {
         match precedence {
-            Precedence::Comparison => self.chain_behind(levels, Precedence::Join, atom),
-            Precedence::Join => self.chain_behind(levels, Precedence::Sum, atom),
-            Precedence::Sum => self.chain_behind(levels, Precedence::Product, atom),
+            Precedence::Comparison => self.chain_after(levels, Precedence::Join, atom),
+            Precedence::Join => self.chain_after(levels, Precedence::Sum, atom),
+            Precedence::Sum => self.chain_after(levels, Precedence::Product, atom),
             Precedence::Product => Ok(atom),
         }
     }
@@ -408,7 +408,7 @@ impl<'t> Reader<'t> {
         if !self.goes_on_closer(precedence) {
             return Ok(first);
         }
-        self.operand_behind(levels, precedence, first)
+        self.operand_after(levels, precedence, first)
     }
 
     /// Parses the further operands of a chain, each after its operator.
@@ -462,11 +462,11 @@ impl<'t> Reader<'t> {
         ensures { Reads (λ all names. atom_from (expr_in all levels) names all)
             self.old result self.new }
     {
-        if let Some(Token::Number(number)) = self.peek() {
+        if let Some(GrammarToken::Number(number)) = self.peek() {
             self.bump();
             return Ok(Node::Literal(Literal::number(number)));
         }
-        match self.front_atom() {
+        match self.prefix_atom() {
             Atom::Parenthesized => self.parenthesized(levels),
             Atom::List => self.list(levels),
             Atom::Table => self.table(),
@@ -481,17 +481,17 @@ impl<'t> Reader<'t> {
             self.old result self.new }
     {
         match self.peek() {
-            Some(Token::Number(number)) => {
+            Some(GrammarToken::Number(number)) => {
                 self.bump();
                 Ok(Node::Literal(Literal::number(number)))
             }
-            Some(Token::Text(body)) => {
+            Some(GrammarToken::Text(body)) => {
                 let text = unescaped(self.alloc(), body)?;
                 self.bump();
                 Ok(Node::Literal(Literal::text(text)))
             }
-            Some(Token::Name(name)) => self.bound_operand(name),
-            Some(Token::Occurrence(place, attr)) => {
+            Some(GrammarToken::Name(name)) => self.bound_operand(name),
+            Some(GrammarToken::Occurrence(place, attr)) => {
                 Ok(Node::Occurrence(self.take_occurrence(place, attr)?))
             }
             _ => Err(self.refusal()),
@@ -501,7 +501,7 @@ impl<'t> Reader<'t> {
     /// Reads the next token, which is this name, as a bound name. Fails with `refusal` if the name
     /// is reserved or not bound.
     fn bound_operand(&mut self, name: &'t str) -> Result<Node, ExprFault>
-        requires { front (input self.old) ≡ Some (token.Name name.now) }
+        requires { prefix (input self.old) ≡ Some (token.Name name.now) }
         ensures { Reads (λ all names. reading.token_as (syntax.operand_of all names))
             self.old result self.new }
     {

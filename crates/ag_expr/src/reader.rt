@@ -3,8 +3,8 @@
 
 ghost use Rattle.std.specs.Prelude.{◌≡◌, ◌++◌, ◌∷◌, [], Some, true, IfOk, OnOk, is_some, option_map};
 ghost use Rattle.ag_tokens.specs.Lexing.{token_of};
-ghost use Rattle.ag_tokens.specs.Parsing.{front, is_end, is_sign, next, sees};
-ghost use Rattle.ag_tokens.specs.Token as tokens;
+ghost use Rattle.ag_tokens.specs.Parsing.{prefix, is_end, is_sign, next, sees};
+ghost use Rattle.ag_tokens.specs.GrammarToken as tokens;
 ghost use Rattle.ag_tokens.specs.declared.token.Punctuation.TheVariants as punctuation;
 ghost use Rattle.ag_expr.specs.language.Names as names_spec;
 ghost use Rattle.ag_expr.specs.language.Reading as reading;
@@ -18,7 +18,7 @@ use crate::fault::ExprFault;
 use crate::names::{Scope, call_of, is_reserved};
 use crate::occurrence_table::OccurrenceTable;
 use ag_grammar::Occ;
-use ag_tokens::{Cursor, Punctuation, Token, TokenFault, is_mark, is_word};
+use ag_tokens::{Cursor, GrammarToken, Punctuation, TokenFault, is_mark, is_word};
 use ag_value::NoMemory;
 use smallvec::SmallVec;
 use std::alloc::Global;
@@ -53,7 +53,7 @@ impl<'t> Model for Reader<'t> {
 /// Returns the fault for the token at a cursor that no expression can continue with: X2 at its
 /// offset. Without a token: X1 if none begins there, X3 if its number is too large, X2 at the end
 /// of the text.
-#[tactic(auto, using(crate::proofs::language::States::told_is))]
+#[tactic(auto, using(crate::proofs::language::States::reported_is))]
 pub fn refusal(cursor: &Cursor<'_>) -> ExprFault
     ensures { result ≡ reading.refusal cursor.now }
 {
@@ -66,12 +66,12 @@ pub fn refusal(cursor: &Cursor<'_>) -> ExprFault
 }
 
 /// Returns the token, unless it is a `;`, which ends the tokens of a statement.
-fn before_semicolon(front: Option<Token<'_>>) -> Option<Token<'_>>
-    ensures { option_map token_of result ≡ state.kept true (option_map token_of front.entry) }
+fn before_semicolon(prefix: Option<GrammarToken<'_>>) -> Option<GrammarToken<'_>>
+    ensures { option_map token_of result ≡ state.kept true (option_map token_of prefix.entry) }
 {
-    match front {
+    match prefix {
         Some(token) if is_mark(Punctuation::Semicolon, token) => None,
-        _ => front,
+        _ => prefix,
     }
 }
 
@@ -86,13 +86,13 @@ fn begins_with(scope: &Scope<'_>, name: &str) -> bool
 }
 
 /// Returns whether an expression can begin with the token, with these names in scope.
-fn begins_expression(scope: &Scope<'_>, token: Token<'_>) -> bool
+fn begins_expression(scope: &Scope<'_>, token: GrammarToken<'_>) -> bool
     ensures { result ≡ state.begins_here scope.now (token_of token.entry) }
 {
     match token {
-        Token::Number(_) | Token::Text(_) | Token::Occurrence(_, _) => true,
-        Token::Name(name) => begins_with(scope, name),
-        Token::Punctuation(mark) => matches!(
+        GrammarToken::Number(_) | GrammarToken::Text(_) | GrammarToken::Occurrence(_, _) => true,
+        GrammarToken::Name(name) => begins_with(scope, name),
+        GrammarToken::Punctuation(mark) => matches!(
             mark,
             Punctuation::Open | Punctuation::OpenList | Punctuation::OpenTable
         ),
@@ -122,14 +122,14 @@ impl<'t> Reader<'t> {
     /// Returns the next token, or `None` at the end of the tokens and where no token can be read.
     /// Does not allocate.
     #[tactic(auto, using(crate::proofs::language::States::front_is))]
-    pub fn peek(&self) -> Option<Token<'t>>
-        ensures { option_map token_of result ≡ front (input self.now) }
+    pub fn peek(&self) -> Option<GrammarToken<'t>>
+        ensures { option_map token_of result ≡ prefix (input self.now) }
     {
-        let front = self.cursor.peek();
+        let prefix = self.cursor.peek();
         if self.is_statement {
-            return before_semicolon(front);
+            return before_semicolon(prefix);
         }
-        front
+        prefix
     }
 
     /// Returns the fault for the next token, if that cannot be accepted.
@@ -156,7 +156,7 @@ impl<'t> Reader<'t> {
 
     /// Advances past the next token. Does not list an occurrence.
     pub fn bump(&mut self)
-        requires { is_some (front (input self.old)) ≡ true }
+        requires { is_some (prefix (input self.old)) ≡ true }
         ensures exact { self.new ≡ state.passed self.old }
         ensures tokens { input self.new ≡ next (input self.old) }
         ensures keeps { PassesOther self.old → Keeps self.old self.new }
@@ -169,7 +169,7 @@ impl<'t> Reader<'t> {
     /// impossible.
     #[tactic(auto, using(crate::proofs::language::States::taken_number))]
     pub fn take_occurrence(&mut self, place: u16, attr: &'t str) -> Result<usize, NoMemory>
-        requires { front (input self.old) ≡ Some (tokens.Occurrence place attr.now) }
+        requires { prefix (input self.old) ≡ Some (tokens.Occurrence place attr.now) }
         ensures number { IfOk result (λ k. HasNumber self.old place attr.now k) }
         ensures tokens { OnOk result (input self.new ≡ next (input self.old)) }
         ensures keeps { OnOk result (Keeps self.old self.new) }
@@ -230,7 +230,7 @@ impl<'t> Reader<'t> {
     /// Returns the distinct occurrences that were read, and the cursor. Does not allocate.
     pub fn into_parts(self) -> (SmallVec<Occ, 4>, Cursor<'t>)
         ensures listed { result.0.items ≡ self.entry.listed }
-        ensures different { AreDifferent result.0.items }
+        ensures distinct_occurrences { AreDifferent result.0.items }
         ensures tokens { result.1 ≡ self.entry.tokens }
     {
         (self.occurrences.into_list(), self.cursor)
@@ -290,7 +290,7 @@ impl<'t> Reader<'t> {
             self.old result self.new }
     {
         match self.peek() {
-            Some(Token::Name(name)) if !is_reserved(name) => {
+            Some(GrammarToken::Name(name)) if !is_reserved(name) => {
                 self.bump();
                 Ok(name)
             }

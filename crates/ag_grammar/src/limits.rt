@@ -2,33 +2,33 @@
 //! constants.
 
 /// The maximum number of symbols of a grammar.
-pub const MOST_SYMBOLS: usize = 256;
+pub const MAX_SYMBOLS: usize = 256;
 
 /// The maximum number of attributes of a symbol.
-pub const MOST_ATTRIBUTES: usize = 16;
+pub const MAX_ATTRIBUTES: usize = 16;
 
 /// The maximum number of productions of a grammar.
-pub const MOST_PRODUCTIONS: usize = 512;
+pub const MAX_PRODUCTIONS: usize = 512;
 
 /// The maximum number of items of a right side.
-pub const MOST_ITEMS: usize = 64;
+pub const MAX_ITEMS: usize = 64;
 
 /// The maximum number of children of a production: items of its right side other than literals.
-pub const MOST_STORED: usize = 16;
+pub const MAX_STORED: usize = 16;
 
 /// The number of rules of a production, or of arguments of a rule, that 16 bits can index. An
 /// accepted grammar never has more, since each of them is for another attribute at one of at most
 /// 17 places.
-pub const MOST_RULES: usize = 65_536;
+pub const MAX_RULES: usize = 65_536;
 
 /// The maximum number of distinct literals of a grammar.
-pub const MOST_LITERALS: usize = 1_024;
+pub const MAX_LITERALS: usize = 1_024;
 
 /// The maximum length of a literal, in bytes.
-pub const MOST_LITERAL_BYTES: usize = 255;
+pub const MAX_LITERAL_BYTES: usize = 255;
 
 /// The maximum length of the text of a grammar, and of a sentence, in bytes.
-pub const MOST_TEXT_BYTES: usize = 1_048_576;
+pub const MAX_TEXT_BYTES: usize = 1_048_576;
 
 /// The number of the token class NAME.
 pub const NAME: u16 = 0;
@@ -43,26 +43,26 @@ pub const TEXT: u16 = 2;
 pub const CLASS_COUNT: u16 = 3;
 
 /// The maximum length of the text of a token, in bytes.
-pub const MOST_TOKEN_BYTES: usize = 65_535;
+pub const MAX_TOKEN_BYTES: usize = 65_535;
 
 /// The maximum nesting depth of an expression.
-pub const MOST_LEVELS: usize = 64;
+pub const MAX_EXPR_LEVELS: usize = 64;
 
 /// The greatest place that an occurrence in a text may name.
-pub const MOST_PLACE: u16 = 65_535;
+pub const MAX_PLACE: u16 = 65_535;
 
 /// The maximum number of passes that a grammar needs: two for each attribute that it may have.
-pub const MOST_PASSES: u16 = 8_192;
+pub const MAX_PASSES: u16 = 8_192;
 
 /// The maximum depth of a tree; the depth of a leaf is 1.
-pub const MOST_DEPTH: usize = 65_536;
+pub const MAX_DEPTH: usize = 65_536;
 
 /// The maximum number of stored nodes of a tree.
-pub const MOST_NODES: u32 = 1_048_576;
+pub const MAX_NODES: u32 = 1_048_576;
 
 /// The maximum depth of a tree whose file is reversed, or converted from version 1. Both recurse
 /// over the depth, and no file of version 1 has a deeper tree.
-pub const MOST_TURNED_DEPTH: usize = 256;
+pub const MAX_TURNED_DEPTH: usize = 256;
 
 /// The maximum number of stored nodes of such a tree.
-pub const MOST_TURNED_NODES: u32 = 65_536;
+pub const MAX_TURNED_NODES: u32 = 65_536;

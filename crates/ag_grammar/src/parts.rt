@@ -5,7 +5,7 @@ ghost use Rattle.std.specs.Prelude.{length, slice_get};
 ghost use Rattle.ag_grammar.specs.declared.grammar.Item.{Item as TheItem};
 ghost use Rattle.ag_grammar.specs.grammars.AttributeGrammar.{attribute_names, item_at, places_of};
 ghost use Rattle.ag_grammar.specs.grammars.AttributeGrammar.{stored_items};
-ghost use Rattle.ag_grammar.specs.grammars.Accepted.{most_attributes};
+ghost use Rattle.ag_grammar.specs.grammars.Accepted.{max_attributes};
 
 use crate::grammar::{Item, Production, Symbol, Terminal};
 use ag_value::NoMemory;
@@ -14,7 +14,7 @@ use std::alloc::Global;
 impl Item {
     /// Returns whether the item is a child: declared symbols and token classes are, literals are
     /// not (this project's).
-    pub fn has_place(self) -> bool
+    pub fn is_stored_child(self) -> bool
         ensures { (xs : List TheItem) → stored_items (self ∷ xs)
             ≡ cond result (self ∷ stored_items xs) (stored_items xs) }
     {
@@ -32,7 +32,7 @@ fn stored_at(items: &[Item], index: usize) -> Option<Item>
 {
     let mut left = index;
     for item in items {
-        if item.has_place() {
+        if item.is_stored_child() {
             if left == 0 {
                 return Some(*item);
             }
@@ -63,7 +63,7 @@ impl Production {
         let mut places = Vec::new(alloc);
         places.push(Item::Symbol(self.left))?;
         for item in self.items.as_slice() {
-            if item.has_place() {
+            if item.is_stored_child() {
                 places.push(*item)?;
             }
         }
@@ -74,7 +74,7 @@ impl Production {
 impl Symbol {
     /// Returns the number of attributes of the symbol.
     pub fn attribute_count(&self) -> usize
-        requires { length (attribute_names self.now) ≤ most_attributes }
+        requires { length (attribute_names self.now) ≤ max_attributes }
         ensures { result ≡ length (attribute_names self.now) }
     {
         self.syn.as_slice().len() + self.inh.as_slice().len()

@@ -65,7 +65,7 @@ pub enum RawItem {
 impl RawItem {
     /// Returns whether the item is a child: names of symbols and token classes are, literals are
     /// not (this project's).
-    pub fn has_place(&self) -> bool
+    pub fn is_stored_child(&self) -> bool
         ensures { (xs : List TheRawItem) → raw_stored (self.now ∷ xs)
             ≡ cond result (self.now ∷ raw_stored xs) (raw_stored xs) }
     {
@@ -110,7 +110,7 @@ impl RawProduction {
         }
         let mut left = place - 1;
         for item in self.items.as_slice() {
-            if item.has_place() {
+            if item.is_stored_child() {
                 if left == 0 {
                     return Some(item);
                 }
@@ -126,7 +126,7 @@ impl RawProduction {
     {
         let mut last = 0;
         for item in self.items.as_slice() {
-            if item.has_place() {
+            if item.is_stored_child() {
                 last += 1;
             }
         }

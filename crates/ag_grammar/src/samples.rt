@@ -9,7 +9,7 @@ ghost use Rattle.ag_grammar.specs.grammars.Accepted.{IsAccepted, IsComplete, IsN
 ghost use Rattle.ag_grammar.specs.grammars.Accepted.{IsReached};
 ghost use Rattle.ag_grammar.specs.grammars.Order.{IsInOrder};
 ghost use Rattle.ag_grammar.specs.grammars.Tree.{node, none, more, IsTreeOf, depth_of, node_count};
-ghost use Rattle.ag_grammar.specs.grammars.Tree.{IsWithinLimits, most_depth, most_nodes};
+ghost use Rattle.ag_grammar.specs.grammars.Tree.{IsWithinLimits, max_depth, max_nodes};
 ghost use Rattle.ag_grammar.specs.grammars.Yield.{yield_of};
 ghost use Rattle.ag_grammar.specs.grammars.Passes.{IsLegal, Passes};
 ghost use Rattle.ag_grammar.specs.grammars.Counts.{rules_of, rules_of_pass};
@@ -64,7 +64,7 @@ pub fn sample_fits()
 pub fn sample_size()
     ensures depth { depth_of sample_tree ≡ 2 }
     ensures nodes { node_count sample_tree ≡ 3 }
-    ensures limits { IsWithinLimits most_depth most_nodes sample_tree }
+    ensures limits { IsWithinLimits max_depth max_nodes sample_tree }
 {}
 
 /// States that it yields the literal `x` twice.
@@ -119,7 +119,7 @@ pub fn sample_ran()
 /// the same value for occurrence 0 give the expression the same value.
 #[tactic(auto, using(crate::proofs::expressions::Depending::one_occurrence))]
 pub fn one_occurrence()
-    ensures stands { has_occurrence 0 rule_s.expr.0 ≡ true }
+    ensures occurs { has_occurrence 0 rule_s.expr.0 ≡ true }
     ensures alone { has_occurrence 1 rule_s.expr.0 ≡ false }
     ensures same { (env other : ℕ → AttributeValue) → env 0 ≡ other 0
         → value_of rule_s.expr.0 env ≡ value_of rule_s.expr.0 other }

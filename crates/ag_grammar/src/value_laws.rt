@@ -11,11 +11,11 @@ ghost use Rattle.ag_grammar.specs.declared.syntax.node.UnaryCall.TheVariants as 
 ghost use Rattle.ag_grammar.specs.expressions.Evaluation.{value_of};
 ghost use Rattle.ag_grammar.specs.expressions.Laws.{OccurrencesAreListed, RuleHasOneValue};
 ghost use Rattle.ag_grammar.specs.expressions.Laws.{RuleHoldsByOne, ValueOfOccurrences};
-ghost use Rattle.ag_grammar.specs.values.Calls.{called, called_with, chosen};
+ghost use Rattle.ag_grammar.specs.values.Calls.{call_result, called_with, choice_of};
 ghost use Rattle.ag_grammar.specs.values.Laws.{BigComesNext, DeepComesFirst, WhatFitsStays};
 ghost use Rattle.ag_grammar.specs.values.Laws.{GotIsWell, KeysAreWell, SameIsOne};
 ghost use Rattle.ag_grammar.specs.values.Lists.{listed};
-ghost use Rattle.ag_grammar.specs.values.Operators.{applied};
+ghost use Rattle.ag_grammar.specs.values.Operators.{operation_result};
 ghost use Rattle.ag_grammar.specs.values.Tables.{put_in, with_pair};
 ghost use Rattle.ag_grammar.specs.values.Worked.{bound_error, least, number, other_branch, two_keys};
 
@@ -28,7 +28,7 @@ pub fn a_value_beyond_the_limits_is_an_error()
 {}
 
 /// States that `==` returns 1 for two well values if and only if they are the same value.
-pub fn equality_tells_values_apart()
+pub fn equality_distinguishes_values()
     ensures { SameIsOne }
 {}
 
@@ -55,11 +55,11 @@ pub fn a_rule_has_one_value()
 /// States which error an operation returns: the leftmost error among its arguments, else the error
 /// `kind`, else the operation's own error.
 pub fn worked_errors()
-    ensures leftmost { applied operator.Add (value.Fault code.Index) (value.Fault code.Key)
+    ensures leftmost { operation_result operator.Add (value.Fault code.Index) (value.Fault code.Key)
         ≡ value.Fault code.Index }
-    ensures before_kind { applied operator.Add (value.Text (codes "a")) (value.Fault code.Divide)
+    ensures before_kind { operation_result operator.Add (value.Text (codes "a")) (value.Fault code.Divide)
         ≡ value.Fault code.Divide }
-    ensures kind_by_zero { applied operator.Divide (value.Text (codes "a")) (number 0)
+    ensures kind_by_zero { operation_result operator.Divide (value.Text (codes "a")) (number 0)
         ≡ value.Fault code.Kind }
     ensures kind_at_place { called_with binary.Nth (value.Text (codes "a")) (number 9)
         ≡ value.Fault code.Kind }
@@ -68,45 +68,45 @@ pub fn worked_errors()
     ensures either { called_with binary.OrElse (number 7) (value.Fault code.Key) ≡ number 7 }
     ensures other { called_with binary.OrElse (value.Fault code.Key) (number 7) ≡ number 7 }
     ensures condition { (e f : AttributeValue)
-        → chosen (value.Text (codes "a")) e f ≡ value.Fault code.Kind }
+        → choice_of (value.Text (codes "a")) e f ≡ value.Fault code.Kind }
     ensures bound { (env : ℕ → AttributeValue) → value_of bound_error env ≡ number 1 }
     ensures branch { (env : ℕ → AttributeValue) → value_of other_branch env ≡ number 2 }
 {}
 
 /// States results at the ends of the range of numbers, and the signs of quotients and remainders.
 pub fn worked_numbers()
-    ensures quotient { applied operator.Divide (value.Num (negsuc 6)) (number 4)
+    ensures quotient { operation_result operator.Divide (value.Num (negsuc 6)) (number 4)
         ≡ value.Num (negsuc 0) }
-    ensures remainder { applied operator.Remainder (value.Num (negsuc 6)) (number 4)
+    ensures remainder { operation_result operator.Remainder (value.Num (negsuc 6)) (number 4)
         ≡ value.Num (negsuc 2) }
-    ensures least_quotient { applied operator.Divide (value.Num least) (value.Num (negsuc 0))
+    ensures least_quotient { operation_result operator.Divide (value.Num least) (value.Num (negsuc 0))
         ≡ value.Fault code.Overflow }
-    ensures least_remainder { applied operator.Remainder (value.Num least) (value.Num (negsuc 0))
+    ensures least_remainder { operation_result operator.Remainder (value.Num least) (value.Num (negsuc 0))
         ≡ number 0 }
-    ensures zeros { called unary.Number (value.Text (codes "-007")) ≡ value.Num (negsuc 6) }
-    ensures zero { called unary.Number (value.Text (codes "-0")) ≡ number 0 }
-    ensures least_spelled { called unary.Number (value.Text (codes "-9223372036854775808"))
+    ensures zeros { call_result unary.Number (value.Text (codes "-007")) ≡ value.Num (negsuc 6) }
+    ensures zero { call_result unary.Number (value.Text (codes "-0")) ≡ number 0 }
+    ensures least_spelled { call_result unary.Number (value.Text (codes "-9223372036854775808"))
         ≡ value.Num least }
-    ensures too_large { called unary.Number (value.Text (codes "9223372036854775808"))
+    ensures too_large { call_result unary.Number (value.Text (codes "9223372036854775808"))
         ≡ value.Fault code.Number }
-    ensures sign_alone { called unary.Number (value.Text (codes "-")) ≡ value.Fault code.Number }
-    ensures plus { called unary.Number (value.Text (codes "+5")) ≡ value.Fault code.Number }
-    ensures empty { called unary.Number (value.Text []) ≡ value.Fault code.Number }
+    ensures sign_alone { call_result unary.Number (value.Text (codes "-")) ≡ value.Fault code.Number }
+    ensures plus { call_result unary.Number (value.Text (codes "+5")) ≡ value.Fault code.Number }
+    ensures empty { call_result unary.Number (value.Text []) ≡ value.Fault code.Number }
     // an Arabic digit one, in UTF-8
-    ensures other_digits { called unary.Number (value.Text (217 ∷ 161 ∷ []))
+    ensures other_digits { call_result unary.Number (value.Text (217 ∷ 161 ∷ []))
         ≡ value.Fault code.Number }
 {}
 
 /// States that texts are measured in bytes, lists are indexed from 0, and tables are sorted by key.
 pub fn worked_parts()
     // an `ä` in UTF-8
-    ensures bytes { called unary.Len (value.Text (195 ∷ 164 ∷ [])) ≡ number 2 }
-    ensures order { applied operator.Less (value.Text (codes "z")) (value.Text (195 ∷ 164 ∷ []))
+    ensures bytes { call_result unary.Len (value.Text (195 ∷ 164 ∷ [])) ≡ number 2 }
+    ensures order { operation_result operator.Less (value.Text (codes "z")) (value.Text (195 ∷ 164 ∷ []))
         ≡ number 1 }
-    ensures kinds { applied operator.Equal (number 1) (value.Text (codes "1")) ≡ number 0 }
+    ensures kinds { operation_result operator.Equal (number 1) (value.Text (codes "1")) ≡ number 0 }
     ensures below { called_with binary.Nth (value.List (number 5 ∷ [])) (value.Num (negsuc 0))
         ≡ value.Fault code.Index }
-    ensures behind { called_with binary.Nth (value.List (number 5 ∷ [])) (number 1)
+    ensures following { called_with binary.Nth (value.List (number 5 ∷ [])) (number 1)
         ≡ value.Fault code.Index }
     ensures first { called_with binary.Nth (value.List (number 5 ∷ [])) (number 0) ≡ number 5 }
     ensures absent { called_with binary.Get (value.Table two_keys) (value.Text (codes "c"))

@@ -14,6 +14,6 @@ longer None bytes n read many = tt
 longer (Some left) bytes n read many = let e : length bytes ≡ min (n + 1) (length left) = ap (λ (w : List ℕ). length w) read ∙ length-take (n + 1) left in omega (arith, e, many)
 
 -- a property of the bytes that were read holds for the bytes of the reader if these are the same
-pub told : (P : List ℕ → Type 0) (known : Option (List ℕ)) (bytes : List ℕ) → IfSome known (λ left. left ≡ bytes) → P bytes → IfSome known P
-told P None bytes same p = tt
-told P (Some left) bytes same p = subst P (sym same) p
+pub exact : (P : List ℕ → Type 0) (known : Option (List ℕ)) (bytes : List ℕ) → IfSome known (λ left. left ≡ bytes) → P bytes → IfSome known P
+exact P None bytes same p = tt
+exact P (Some left) bytes same p = subst P (sym same) p

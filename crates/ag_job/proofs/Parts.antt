@@ -19,8 +19,8 @@ rest_one x y p q (inr (inr a)) (inr (inr b)) e = a.1 ∙ sym b.1
 front_one : (a b p q : List ℕ) → length a ≡ length b → a ++ p ≡ b ++ q → a ≡ b
 front_one a b p q e same = sym (take-append_seam a p) ∙ ap (λ n. take n (a ++ p)) e ∙ ap (take (length b)) same ∙ take-append_seam b q
 
-behind_one : (a b p q : List ℕ) → length a ≡ length b → a ++ p ≡ b ++ q → p ≡ q
-behind_one a b p q e same = sym (drop-append_seam a p) ∙ ap (λ n. drop n (a ++ p)) e ∙ ap (drop (length b)) same ∙ drop-append_seam b q
+after_one : (a b p q : List ℕ) → length a ≡ length b → a ++ p ≡ b ++ q → p ≡ q
+after_one a b p q e same = sym (drop-append_seam a p) ∙ ap (λ n. drop n (a ++ p)) e ∙ ap (drop (length b)) same ∙ drop-append_seam b q
 
 pub one_pair : OnePairOfParts
 one_pair bytes text sentence other following one two =
@@ -28,5 +28,5 @@ one_pair bytes text sentence other following one two =
     let there = two.parts.first text sentence one.parts.cut in
     let long : length text ≡ length other = omega (arith, here, there) in
     let all = sym one.parts.cut.all ∙ two.parts.cut.all in
-    let behind = behind_one text other _ _ long all in
-    (front_one text other _ _ long all, rest_one one.parts.cut.separator two.parts.cut.separator sentence following one.parts.cut.is_separator two.parts.cut.is_separator behind)
+    let after_it = after_one text other _ _ long all in
+    (front_one text other _ _ long all, rest_one one.parts.cut.separator two.parts.cut.separator sentence following one.parts.cut.is_separator two.parts.cut.is_separator after_it)

@@ -6,18 +6,18 @@ use Rattle.ag_job.specs.Jobs.{AreWholeLines, HasNoSeparator, IsCut, IsSeparator}
 use Rattle.ag_job.specs.Worked.{CrAloneIsNone, CrAndLfEnd, LongerIsNone, NothingBefore, SpacedIsNone, TheFirstCuts, TheLastEnds}
 
 -- the last byte of a byte followed by a text
-abbrev last_behind : ℕ → List ℕ → ℕ
-last_behind before [] = before
-last_behind before (byte ∷ bytes) = last_behind byte bytes
+abbrev last_after : ℕ → List ℕ → ℕ
+last_after before [] = before
+last_after before (byte ∷ bytes) = last_after byte bytes
 
-joined_ends : (before : ℕ) (front : List ℕ) → last_behind before (front ++ codes "\n") ≡ 10
+joined_ends : (before : ℕ) (prefix : List ℕ) → last_after before (prefix ++ codes "\n") ≡ 10
 joined_ends before [] = refl
 joined_ends before (byte ∷ bytes) = joined_ends byte bytes
 
 -- after LF, a text of whole lines ends with LF
-whole_ends : (text : List ℕ) → AreWholeLines text → last_behind 10 text ≡ 10
-whole_ends text (inl none) = ap (last_behind 10) none
-whole_ends text (inr (front, e)) = ap (last_behind 10) e ∙ joined_ends 10 front
+whole_ends : (text : List ℕ) → AreWholeLines text → last_after 10 text ≡ 10
+whole_ends text (inl none) = ap (last_after 10) none
+whole_ends text (inr (prefix, e)) = ap (last_after 10) e ∙ joined_ends 10 prefix
 
 -- the bytes begin with LF
 abbrev feeds : List ℕ → Bool
@@ -47,18 +47,18 @@ is_free before [] (suc n) = true
 is_free before (byte ∷ bytes) (suc n) = not ((before == 10) && separates (byte ∷ bytes)) && is_free byte bytes n
 
 -- then a text that is followed by a line `%%` has at least n bytes
-behind_free : (n before : ℕ) (text rest : List ℕ) → is_free before (text ++ rest) n ≡ true → last_behind before text ≡ 10 → separates rest ≡ true → n ≤ length text
-behind_free zero before text rest free ended separated = omega arith
-behind_free (suc n) before [] [] free ended separated = let bad : ⊥ = cc in absurd bad
-behind_free (suc n) before [] (byte ∷ rest) free ended separated =
+after_free : (n before : ℕ) (text rest : List ℕ) → is_free before (text ++ rest) n ≡ true → last_after before text ≡ 10 → separates rest ≡ true → n ≤ length text
+after_free zero before text rest free ended separated = omega arith
+after_free (suc n) before [] [] free ended separated = let bad : ⊥ = cc in absurd bad
+after_free (suc n) before [] (byte ∷ rest) free ended separated =
     let here : not ((10 == 10) && true) && is_free byte rest n ≡ true = subst (λ it. not ((10 == 10) && it) && is_free byte rest n ≡ true) separated (subst (λ it. not ((it == 10) && separates (byte ∷ rest)) && is_free byte rest n ≡ true) ended free) in
     let bad : ⊥ = cc in absurd bad
-behind_free (suc n) before (byte ∷ text) rest free ended separated =
-    let more : n ≤ length text = behind_free n byte text rest ((and_parts (not ((before == 10) && separates (byte ∷ (text ++ rest)))) (is_free byte (text ++ rest) n) free).1) ended separated in
+after_free (suc n) before (byte ∷ text) rest free ended separated =
+    let more : n ≤ length text = after_free n byte text rest ((and_parts (not ((before == 10) && separates (byte ∷ (text ++ rest)))) (is_free byte (text ++ rest) n) free).1) ended separated in
     omega (arith, more)
 
 free_until : (n : ℕ) (bytes text sentence : List ℕ) → is_free 10 bytes n ≡ true → IsCut bytes text sentence → n ≤ length text
-free_until n bytes text sentence free cut = behind_free n 10 text (cut.separator ++ sentence) (subst (λ all. is_free 10 all n ≡ true) cut.all free) (whole_ends text cut.lines) (separated cut.separator sentence cut.is_separator)
+free_until n bytes text sentence free cut = after_free n 10 text (cut.separator ++ sentence) (subst (λ all. is_free 10 all n ≡ true) cut.all free) (whole_ends text cut.lines) (separated cut.separator sentence cut.is_separator)
 
 -- if no line `%%` begins at any offset, the bytes have no separator
 free_of_all : (bytes : List ℕ) → is_free 10 bytes (length bytes) ≡ true → HasNoSeparator bytes
@@ -76,25 +76,25 @@ free_of_all bytes free text sentence cut =
 pub cr_and_lf_end : CrAndLfEnd
 cr_and_lf_end = record {
   cut = record { lines = inr (codes "a", refl); separator = codes "%%\r\n"; is_separator = inr (inl refl); all = refl };
-  first = λ before behind cut. free_until 2 _ before behind refl cut;
+  first = λ before following cut. free_until 2 _ before following refl cut;
 }
 
 pub the_last_ends : TheLastEnds
 the_last_ends = record {
   cut = record { lines = inr (codes "a", refl); separator = codes "%%"; is_separator = inr (inr (refl, refl)); all = refl };
-  first = λ before behind cut. free_until 2 _ before behind refl cut;
+  first = λ before following cut. free_until 2 _ before following refl cut;
 }
 
 pub the_first_cuts : TheFirstCuts
 the_first_cuts = record {
   cut = record { lines = inr (codes "a", refl); separator = codes "%%\n"; is_separator = inl refl; all = refl };
-  first = λ before behind cut. free_until 2 _ before behind refl cut;
+  first = λ before following cut. free_until 2 _ before following refl cut;
 }
 
 pub nothing_before : NothingBefore
 nothing_before = record {
   cut = record { lines = inl refl; separator = codes "%%\n"; is_separator = inl refl; all = refl };
-  first = λ before behind cut. free_until 0 _ before behind refl cut;
+  first = λ before following cut. free_until 0 _ before following refl cut;
 }
 
 pub cr_alone_is_none : CrAloneIsNone

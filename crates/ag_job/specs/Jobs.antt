@@ -5,15 +5,15 @@ use Rattle.ag_job.specs.declared.fault.JobFault.{JobFault}
 use Rattle.ag_job.specs.declared.fault.JobFault.TheVariants as fault
 use Rattle.ag_job.specs.declared.reading.ReadFault.{ReadFault}
 use Rattle.ag_job.specs.declared.reading.ReadFault.TheVariants as read
-use Rattle.ag_job.specs.declared.job.TheConstants.{MOST_JOB_BYTES}
+use Rattle.ag_job.specs.declared.job.TheConstants.{MAX_JOB_BYTES}
 
 -- the maximal number of bytes of a job: that of a grammar's text, that of a sentence, and that of the longest separator
-abbrev pub most_job_bytes : ℕ
-most_job_bytes = MOST_JOB_BYTES
+abbrev pub max_job_bytes : ℕ
+max_job_bytes = MAX_JOB_BYTES
 
 -- A text of whole lines: it is empty or ends with LF.
 abbrev pub AreWholeLines : List ℕ → Type 0
-AreWholeLines text = (text ≡ []) ⊎ ((front : List ℕ) × (text ≡ front ++ codes "\n"))
+AreWholeLines text = (text ≡ []) ⊎ ((prefix : List ℕ) × (text ≡ prefix ++ codes "\n"))
 
 -- The line `%%` with its end. A CR directly before its LF is ignored. If it is the last line it may end without LF, and then also without CR.
 abbrev pub IsSeparator : (separator rest : List ℕ) → Type 0
@@ -29,11 +29,11 @@ pub record IsCut (bytes text sentence : List ℕ) : Type 0 where
 -- The parts of a job: the text before its first line `%%`, and the sentence after it.
 pub record AreParts (bytes text sentence : List ℕ) : Type 0 where
   pub cut : IsCut bytes text sentence
-  pub first : (before behind : List ℕ) → IsCut bytes before behind → length text ≤ length before
+  pub first : (before following : List ℕ) → IsCut bytes before following → length text ≤ length before
 
--- The bytes are at most `most_job_bytes`, and these are their parts.
+-- The bytes are at most `max_job_bytes`, and these are their parts.
 pub record IsJob (bytes text sentence : List ℕ) : Type 0 where
-  pub within : length bytes ≤ most_job_bytes
+  pub within : length bytes ≤ max_job_bytes
   pub parts : AreParts bytes text sentence
 
 -- no line is exactly `%%`
@@ -42,9 +42,9 @@ HasNoSeparator bytes = (text sentence : List ℕ) → IsCut bytes text sentence 
 
 -- If the bytes of the reader are known, J1 and J3 hold for them. Read and NoMemory claim nothing about the bytes.
 abbrev pub IsJobFault : Option (List ℕ) → JobFault → Type 0
-IsJobFault known fault.NoSeparator = IfSome known (λ bytes. (length bytes ≤ most_job_bytes) × HasNoSeparator bytes)
+IsJobFault known fault.NoSeparator = IfSome known (λ bytes. (length bytes ≤ max_job_bytes) × HasNoSeparator bytes)
 IsJobFault known fault.Read = Unit {0}
-IsJobFault known fault.TooLong = IfSome known (λ bytes. most_job_bytes < length bytes)
+IsJobFault known fault.TooLong = IfSome known (λ bytes. max_job_bytes < length bytes)
 IsJobFault known fault.NoMemory = Unit {0}
 
 -- the fault of a job whose bytes can't be read

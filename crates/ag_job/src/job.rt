@@ -6,14 +6,14 @@ ghost use Rattle.ag_job.specs.Jobs.{IsJob, IsJobFault};
 use crate::cutting::{Cut, cut_of};
 use crate::fault::JobFault;
 use crate::reading::read_front;
-use ag_grammar::limits::MOST_TEXT_BYTES;
+use ag_grammar::limits::MAX_TEXT_BYTES;
 use std::alloc::Global;
 use std::io::Read;
 use std::marker::Model;
 
 /// The maximal number of bytes of a job: that of a grammar's text, that of a sentence, and the 4 bytes of
 /// the longest separator.
-pub const MOST_JOB_BYTES: usize = 2 * MOST_TEXT_BYTES + 4;
+pub const MAX_JOB_BYTES: usize = 2 * MAX_TEXT_BYTES + 4;
 
 /// A job that was read. In contracts it is the pair of its grammar's text and its sentence.
 #[derive(Debug, Drop)]
@@ -44,8 +44,8 @@ impl Job {
             (λ bytes. IsJob bytes job.0 job.1)) }
         ensures refused { IfErr result (λ e. IsJobFault (R.remaining reader) e) }
     {
-        let bytes = read_front(alloc, reader, MOST_JOB_BYTES as u64 + 1)?;
-        if MOST_JOB_BYTES < bytes.len() {
+        let bytes = read_front(alloc, reader, MAX_JOB_BYTES as u64 + 1)?;
+        if MAX_JOB_BYTES < bytes.len() {
             return Err(JobFault::TooLong);
         }
         match cut_of(bytes.as_slice()) {

@@ -10,5 +10,5 @@ pub mod laws;
 mod reading;
 
 pub use fault::JobFault;
-pub use job::{Job, MOST_JOB_BYTES};
+pub use job::{Job, MAX_JOB_BYTES};
 pub use reading::{ReadFault, read_front};

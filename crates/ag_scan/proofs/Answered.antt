@@ -8,14 +8,14 @@ use Rattle.std.specs.Str.{is_utf8}
 use Rattle.std.specs.Str.Lossy.{utf8_valid_len}
 use Rattle.ag_grammar.specs.grammars.Accepted.{IsAccepted}
 use Rattle.ag_grammar.specs.grammars.AttributeGrammar.{Grammar}
-use Rattle.ag_grammar.specs.grammars.Tree.{most_token_bytes}
+use Rattle.ag_grammar.specs.grammars.Tree.{max_token_bytes}
 use Rattle.ag_grammar.proofs.grammars.Members.{each_none, each_more}
-use Rattle.ag_tokens.specs.Left.{StartsPlain, unspaced}
+use Rattle.ag_tokens.specs.Left.{StartsPlain, without_spaces}
 use Rattle.ag_tokens.specs.Tokens.{is_separator, width}
-use Rattle.ag_tokens.proofs.Lexed.{width-append, width-chars, plain_behind}
-use Rattle.ag_scan.specs.Cutting.{word_from, Front, CutsToken}
+use Rattle.ag_tokens.proofs.Lexed.{width-append, width-chars, plain_after}
+use Rattle.ag_scan.specs.Cutting.{word_from, LeadingWord, CutsToken}
 use Rattle.ag_scan.specs.Laws.{IsAnswer, AnAnswer}
-use Rattle.ag_scan.specs.Tokens.{Token, most_sentence_bytes, AreTokens, ended, separator, word, AreShort, Reaches, IsReadable}
+use Rattle.ag_scan.specs.Tokens.{Token, max_sentence_bytes, AreTokens, ended, separator, word, AreShort, Reaches, IsReadable}
 use Rattle.ag_scan.specs.Words.{Vocabulary, vocabulary_of, IsClean}
 use Rattle.ag_scan.specs.declared.fault.ScanFault.{ScanFault}
 use Rattle.ag_scan.specs.declared.fault.ScanFault.TheVariants as fault
@@ -26,9 +26,9 @@ use Rattle.ag_scan.proofs.OneToken.{IsWordIn, one_word, token_plain, no_spaces}
 -- ---- the tokens of a text up to the first fault
 
 -- the first word, if its text is not too long for a token
-abbrev short_of : Option Front → Option Front
+abbrev short_of : Option LeadingWord → Option LeadingWord
 short_of None = None
-short_of (Some f) = cond (nat_lt most_token_bytes (length f.lex)) None (Some f)
+short_of (Some f) = cond (nat_lt max_token_bytes (length f.lex)) None (Some f)
 
 -- The tokens read from an offset on, the offset where they end, and the characters after them.
 record Taken : Type 0 where
@@ -36,20 +36,20 @@ record Taken : Type 0 where
   pub end : ℕ
   pub rest : List ℕ
 
-abbrev behind_one : Token → Taken → Taken
-behind_one t taken = record { tokens = t ∷ taken.tokens; end = taken.end; rest = taken.rest }
+abbrev after_one : Token → Taken → Taken
+after_one t taken = record { tokens = t ∷ taken.tokens; end = taken.end; rest = taken.rest }
 
 -- the token at the beginning of the characters, at an offset, and the tokens read after it
 abbrev taken_at : (ℕ → List ℕ → Taken) → Vocabulary → ℕ → List ℕ → Taken
 taken_at more v at cs = elim (short_of (word_from v cs)) [
   | None ↦ record { tokens = []; end = at; rest = cs }
-  | Some f ↦ behind_one (record { kind = f.kind; lex = f.lex; at = at }) (more (at + (width cs - width f.rest)) f.rest)
+  | Some f ↦ after_one (record { kind = f.kind; lex = f.lex; at = at }) (more (at + (width cs - width f.rest)) f.rest)
 ]
 
 -- the first n tokens from an offset on, or fewer if no more can be read
 abbrev taken_from : Vocabulary → ℕ → ℕ → List ℕ → Taken
 taken_from v zero at cs = record { tokens = []; end = at; rest = cs }
-taken_from v (suc n) at cs = taken_at (taken_from v n) v (at + prefix_len is_separator cs) (unspaced cs)
+taken_from v (suc n) at cs = taken_at (taken_from v n) v (at + prefix_len is_separator cs) (without_spaces cs)
 
 -- No more tokens can be read at the beginning of these characters, which is not a separator.
 record IsEnd (v : Vocabulary) (cs : List ℕ) : Type 0 where
@@ -63,24 +63,24 @@ record AreTaken (v : Vocabulary) (at : ℕ) (cs : List ℕ) (t : Taken) : Type 0
   pub short : AreShort t.tokens
   pub ends : IsEnd v t.rest
 
-short_told : (o : Option Front) (f : Front) → short_of o ≡ Some f → (o ≡ Some f) × (length f.lex ≤ most_token_bytes)
-short_told o f e = (grind (arith, nat_tests), grind (arith, nat_tests))
+short_exact : (o : Option LeadingWord) (f : LeadingWord) → short_of o ≡ Some f → (o ≡ Some f) × (length f.lex ≤ max_token_bytes)
+short_exact o f e = (grind (arith, nat_tests), grind (arith, nat_tests))
 
 are_taken : (v : Vocabulary) → IsClean v → (n at : ℕ) (cs : List ℕ) → length cs < n → AreTaken v at cs (taken_from v n at cs)
 are_taken v clean zero at cs less = absurd (omega arith)
-are_taken v clean (suc n) at cs less = go (short_of (word_from v (unspaced cs))) refl (are_taken v clean n)
+are_taken v clean (suc n) at cs less = go (short_of (word_from v (without_spaces cs))) refl (are_taken v clean n)
   where
-    go : (o : Option Front) → short_of (word_from v (unspaced cs)) ≡ o → ((at : ℕ) (cs : List ℕ) → length cs < n → AreTaken v at cs (taken_from v n at cs)) → AreTaken v at cs (taken_from v (suc n) at cs)
-    go None e more = rw (taken_at, e) (record { are = spaced v at cs _ _ _ (ended _ _); short = each_none _; ends = record { plain = plain_behind cs; none = e } })
+    go : (o : Option LeadingWord) → short_of (word_from v (without_spaces cs)) ≡ o → ((at : ℕ) (cs : List ℕ) → length cs < n → AreTaken v at cs (taken_from v n at cs)) → AreTaken v at cs (taken_from v (suc n) at cs)
+    go None e more = rw (taken_at, e) (record { are = spaced v at cs _ _ _ (ended _ _); short = each_none _; ends = record { plain = plain_after cs; none = e } })
     go (Some f) e more =
-        let (first, short) = short_told (word_from v (unspaced cs)) f e in
-        let cut : CutsToken v (unspaced cs) f = subst (IsWordIn v (unspaced cs)) first (word_is v (unspaced cs)) in
+        let (first, short) = short_exact (word_from v (without_spaces cs)) f e in
+        let cut : CutsToken v (without_spaces cs) f = subst (IsWordIn v (without_spaces cs)) first (word_is v (without_spaces cs)) in
         let some = word_some v f.kind cut.word f.lex clean.some cut.token.is in
         let here = at + prefix_len is_separator cs in
-        let next = more (here + (width (unspaced cs) - width f.rest)) f.rest (omega (arith, ap length cut.split, length-append cut.word f.rest, length-drop (prefix_len is_separator cs) cs)) in
-        rw (taken_at, e) (record { are = spaced v at cs _ _ _ (one_more v here (unspaced cs) f _ _ _ first next.are); short = each_more _ _ _ short next.short; ends = next.ends })
+        let next = more (here + (width (without_spaces cs) - width f.rest)) f.rest (omega (arith, ap length cut.split, length-append cut.word f.rest, length-drop (prefix_len is_separator cs) cs)) in
+        rw (taken_at, e) (record { are = spaced v at cs _ _ _ (one_more v here (without_spaces cs) f _ _ _ first next.are); short = each_more _ _ _ short next.short; ends = next.ends })
 
-cut_is : (v : Vocabulary) → IsClean v → (cs : List ℕ) (o : Option Front) → IsWordIn v cs o → word_from v cs ≡ o
+cut_is : (v : Vocabulary) → IsClean v → (cs : List ℕ) (o : Option LeadingWord) → IsWordIn v cs o → word_from v cs ≡ o
 cut_is v clean cs o is = one_word v clean cs (word_from v cs) o (word_is v cs) is
 
 -- characters that do not begin with a separator begin with the next token
@@ -99,18 +99,18 @@ taken_is v clean (suc n) (separator at c cs ts end rest h are) short ends less =
     let more : prefix_len is_separator (c ∷ cs) ≡ suc (prefix_len is_separator cs) = rw h (omega arith) in
     let there : at + prefix_len is_separator (c ∷ cs) ≡ (at + 1) + prefix_len is_separator cs = omega (arith, more) in
     (λ i. taken_at (taken_from v n) v (there i) (drop (more i) (c ∷ cs))) ∙ taken_is v clean (suc n) are short ends less
-taken_is v clean (suc n) (word at cs w behind lex t ts end rest split is are) short ends less =
-    let first : word_from v cs ≡ Some (record { kind = t; lex = lex; rest = behind }) = cut_is v clean cs (Some _) (record { word = w; split = split; token = is }) in
-    let brief : length lex ≤ most_token_bytes = short 0 _ refl in
-    let not_long : nat_lt most_token_bytes (length lex) ≡ false = grind (arith, nat_tests) in
-    let there : at + (width cs - width behind) ≡ at + width w = omega (arith, ap width split, width-append w behind) in
+taken_is v clean (suc n) (word at cs w following lex t ts end rest split is are) short ends less =
+    let first : word_from v cs ≡ Some (record { kind = t; lex = lex; rest = following }) = cut_is v clean cs (Some _) (record { word = w; split = split; token = is }) in
+    let brief : length lex ≤ max_token_bytes = short 0 _ refl in
+    let not_long : nat_lt max_token_bytes (length lex) ≡ false = grind (arith, nat_tests) in
+    let there : at + (width cs - width following) ≡ at + width w = omega (arith, ap width split, width-append w following) in
     let more = taken_is v clean n are (λ i u e. short (suc i) u e) ends (omega arith) in
-    at_once v n at cs (token_plain v clean cs t lex w behind split is) ∙ rw (taken_at, first, not_long, there) (ap (behind_one (record { kind = t; lex = lex; at = at })) more)
+    at_once v n at cs (token_plain v clean cs t lex w following split is) ∙ rw (taken_at, first, not_long, there) (ap (after_one (record { kind = t; lex = lex; at = at })) more)
 
 -- ---- the answer
 
 -- the answer if the tokens end before these characters, which begin with this word
-abbrev ended_by : List ℕ → Option Front → List Token → ℕ → Result (List Token) ScanFault
+abbrev ended_by : List ℕ → Option LeadingWord → List Token → ℕ → Result (List Token) ScanFault
 ended_by [] o ts at = Ok ts
 ended_by (c ∷ cs) None ts at = Err (fault.NoToken at)
 ended_by (c ∷ cs) (Some f) ts at = Err (fault.LongToken at)
@@ -121,12 +121,12 @@ answer_by v t = ended_by t.rest (word_from v t.rest) t.tokens t.end
 -- the answer to a sentence
 abbrev pub answer_to : Vocabulary → List ℕ → Result (List Token) ScanFault
 answer_to v s =
-    cond (nat_lt most_sentence_bytes (length s)) (Err fault.TooLong) (cond (is_utf8 s) (answer_by v (taken_from v (suc (length (chars s))) 0 (chars s))) (Err (fault.BadUtf8 (utf8_valid_len s))))
+    cond (nat_lt max_sentence_bytes (length s)) (Err fault.TooLong) (cond (is_utf8 s) (answer_by v (taken_from v (suc (length (chars s))) 0 (chars s))) (Err (fault.BadUtf8 (utf8_valid_len s))))
 
 answers : (v : Vocabulary) (s : List ℕ) → IsReadable s → (t : Taken) → AreTaken v 0 (chars s) t → IsAnswer v s (answer_by v t)
 answers v s readable t taken = go t.rest taken.are taken.ends (word_from v t.rest) (word_is v t.rest) refl
   where
-    go : (cs : List ℕ) → AreTokens v 0 (chars s) t.tokens t.end cs → IsEnd v cs → (o : Option Front) → IsWordIn v cs o → word_from v cs ≡ o → IsAnswer v s (ended_by cs o t.tokens t.end)
+    go : (cs : List ℕ) → AreTokens v 0 (chars s) t.tokens t.end cs → IsEnd v cs → (o : Option LeadingWord) → IsWordIn v cs o → word_from v cs ≡ o → IsAnswer v s (ended_by cs o t.tokens t.end)
     go [] are ends o is e =
         let end : t.end ≡ length s = omega (arith, as_wide are, width-chars s readable.utf8) in
         record { readable = readable; tokens = record { are = rw end at are; short = taken.short } }
@@ -134,18 +134,18 @@ answers v s readable t taken = go t.rest taken.are taken.ends (word_from v t.res
         (readable, record { before = t.tokens; first = c; rest = cs; reaches = record { are = are; short = taken.short }; no_separator = ends.plain; no_word = none })
     go (c ∷ cs) are ends (Some f) cut e =
         let none = ends.none in
-        let long : most_token_bytes < length f.lex = grind (arith, nat_tests) in
+        let long : max_token_bytes < length f.lex = grind (arith, nat_tests) in
         (readable, record { before = t.tokens; kind = f.kind; lex = f.lex; word = cut.word; rest = f.rest; reaches = record { are = rw cut.split at are; short = taken.short }; token = cut.token; long = long })
 
 -- the result of the function is an answer,
 answered : (v : Vocabulary) → IsClean v → (s : List ℕ) → IsAnswer v s (answer_to v s)
-answered v clean s = go (nat_lt most_sentence_bytes (length s)) (is_utf8 s) refl refl
+answered v clean s = go (nat_lt max_sentence_bytes (length s)) (is_utf8 s) refl refl
   where
-    go : (long utf8 : Bool) → nat_lt most_sentence_bytes (length s) ≡ long → is_utf8 s ≡ utf8 → IsAnswer v s (answer_to v s)
+    go : (long utf8 : Bool) → nat_lt max_sentence_bytes (length s) ≡ long → is_utf8 s ≡ utf8 → IsAnswer v s (answer_to v s)
     go true utf8 e f = rw e (grind (arith, nat_tests))
-    go false false e f = let short : length s ≤ most_sentence_bytes = grind (arith, nat_tests) in rw (e, f) (short, λ is. (let utf8 = is_utf8-from_IsUtf8 s is in cc), refl)
+    go false false e f = let short : length s ≤ max_sentence_bytes = grind (arith, nat_tests) in rw (e, f) (short, λ is. (let utf8 = is_utf8-from_IsUtf8 s is in cc), refl)
     go false true e f =
-        let short : length s ≤ most_sentence_bytes = grind (arith, nat_tests) in
+        let short : length s ≤ max_sentence_bytes = grind (arith, nat_tests) in
         rw (e, f) (answers v s (record { short = short; utf8 = IsUtf8-from_is_utf8 s f }) _ (are_taken v clean (suc (length (chars s))) 0 (chars s) (omega arith)))
 
 pub accepted_clean : (g : Grammar) → IsAccepted g → IsClean (vocabulary_of g)
@@ -160,14 +160,14 @@ module _ (v : Vocabulary) (clean : IsClean v) (s : List ℕ) where
   reached : {ts : List Token} {end : ℕ} {rest : List ℕ} → IsReadable s → Reaches v (chars s) ts end rest → IsEnd v rest → answer_to v s ≡ ended_by rest (word_from v rest) ts end
   reached readable reaches ends =
       let short = readable.short in
-      let not_far : nat_lt most_sentence_bytes (length s) ≡ false = grind (arith, nat_tests) in
+      let not_far : nat_lt max_sentence_bytes (length s) ≡ false = grind (arith, nat_tests) in
       let few = fewer clean.some reaches.are in
       rw (not_far, is_utf8-from_IsUtf8 s readable.utf8) (ap (answer_by v) (taken_is v clean (suc (length (chars s))) reaches.are reaches.short ends (omega arith)))
 
   no_word_left : word_from v [] ≡ None
   no_word_left = cut_is v clean [] None (λ w more split is. (let some = word_some v is.0 w is.1 clean.some is.2 in omega (arith, ap length split, length-append w more)))
 
-  long_left : (cs : List ℕ) (f : Front) (ts : List Token) (at : ℕ) → CutsToken v cs f → ended_by cs (Some f) ts at ≡ Err (fault.LongToken at)
+  long_left : (cs : List ℕ) (f : LeadingWord) (ts : List Token) (at : ℕ) → CutsToken v cs f → ended_by cs (Some f) ts at ≡ Err (fault.LongToken at)
   long_left [] f ts at cut = let some = word_some v f.kind cut.word f.lex clean.some cut.token.is in absurd (omega (arith, ap length cut.split, length-append cut.word f.rest))
   long_left (c ∷ cs) f ts at cut = refl
 
@@ -175,19 +175,19 @@ module _ (v : Vocabulary) (clean : IsClean v) (s : List ℕ) where
   pub is_answer : (q : Result (List Token) ScanFault) → IsAnswer v s q → answer_to v s ≡ q
   is_answer (Ok ts) is = reached is.readable is.tokens (record { plain = tt; none = rw no_word_left refl })
   is_answer (Err fault.NoMemory) is = absurd is
-  is_answer (Err fault.TooLong) is = let far : nat_lt most_sentence_bytes (length s) ≡ true = grind (arith, nat_tests) in rw far refl
+  is_answer (Err fault.TooLong) is = let far : nat_lt max_sentence_bytes (length s) ≡ true = grind (arith, nat_tests) in rw far refl
   is_answer (Err (fault.BadUtf8 at)) (short, refused, there) =
-      let not_far : nat_lt most_sentence_bytes (length s) ≡ false = grind (arith, nat_tests) in
+      let not_far : nat_lt max_sentence_bytes (length s) ≡ false = grind (arith, nat_tests) in
       let no_text : is_utf8 s ≡ false = let is = IsUtf8-from_is_utf8 s in grind (arith, refused, is) in
       rw (not_far, no_text, there) refl
   is_answer (Err (fault.NoToken at)) (readable, none) =
       let no_word : word_from v (none.first ∷ none.rest) ≡ None = cut_is v clean (none.first ∷ none.rest) None none.no_word in
       reached readable none.reaches (record { plain = none.no_separator; none = rw no_word refl }) ∙ rw no_word refl
   is_answer (Err (fault.LongToken at)) (readable, long) =
-      let f : Front = record { kind = long.kind; lex = long.lex; rest = long.rest } in
+      let f : LeadingWord = record { kind = long.kind; lex = long.lex; rest = long.rest } in
       let cut : CutsToken v (long.word ++ long.rest) f = record { word = long.word; split = refl; token = long.token } in
       let first = cut_is v clean (long.word ++ long.rest) (Some f) cut in
       let far = long.long in
-      let is_long : nat_lt most_token_bytes (length long.lex) ≡ true = grind (arith, nat_tests) in
+      let is_long : nat_lt max_token_bytes (length long.lex) ≡ true = grind (arith, nat_tests) in
       let plain = token_plain v clean _ long.kind long.lex long.word long.rest refl long.token in
       reached readable long.reaches (record { plain = plain; none = rw (first, is_long) refl }) ∙ rw first (long_left (long.word ++ long.rest) f long.before at cut)

@@ -8,12 +8,12 @@ use Rattle.std.specs.Cmp.Lexicographic.{pointwise, told_text}
 use Rattle.std.specs.List.{prefix_len}
 use Rattle.ag_grammar.specs.Lists.{Has}
 use Rattle.ag_grammar.specs.declared.grammar.Terminal.TheVariants.{Literal}
-use Rattle.ag_tokens.specs.Left.{unspaced}
+use Rattle.ag_tokens.specs.Left.{without_spaces}
 use Rattle.ag_tokens.specs.Tokens.{is_separator, width}
 use Rattle.ag_tokens.proofs.Lexed.{width-append, width-chars, separator_width}
-use Rattle.ag_scan.specs.Cutting.{Front, CutsLiteral, CutsToken, number_from, literal_or, literal_within, word_from, tokens_from, tokens_in}
-use Rattle.ag_scan.specs.Handed.{HasTokens}
-use Rattle.ag_scan.specs.Tokens.{most_sentence_bytes, Token, AreTokens, ended, separator, word, AreTokensOf, FitAll}
+use Rattle.ag_scan.specs.Cutting.{LeadingWord, CutsLiteral, CutsToken, number_from, literal_or, literal_within, word_from, tokens_from, tokens_in}
+use Rattle.ag_scan.specs.Supplied.{HasTokens}
+use Rattle.ag_scan.specs.Tokens.{max_sentence_bytes, Token, AreTokens, ended, separator, word, AreTokensOf, FitAll}
 use Rattle.ag_scan.specs.Words.{Vocabulary, HasNoEmpty, IsClean, IsLiteral, IsLongest}
 use Rattle.ag_scan.proofs.words.Choosing.{IsLiteralIn, chosen}
 use Rattle.ag_scan.proofs.Listing.{word_some, length_width, Scanned, ends}
@@ -41,8 +41,8 @@ numbered n (y ∷ ys) x = go (pointwise nat_eq y x) (told_text y x (pointwise na
 abbrev NoneFrom : List (List ℕ) → List ℕ → ℕ → Type 0
 NoneFrom literals cs n = (w more : List ℕ) → cs ≡ w ++ more → n ≤ length w → IsLiteral literals w → ⊥
 
-front_of_length : (cs w more : List ℕ) → cs ≡ w ++ more → take (length w) cs ≡ w
-front_of_length cs w more split = ap (take (length w)) split ∙ take-append_seam w more
+prefix_of_length : (cs w more : List ℕ) → cs ≡ w ++ more → take (length w) cs ≡ w
+prefix_of_length cs w more split = ap (take (length w)) split ∙ take-append_seam w more
 
 module _ (literals : List (List ℕ)) (cs : List ℕ) where
   found : (n l : ℕ) → n ≤ length cs → NoneFrom literals cs (n + 1) → slice_get literals l ≡ Some (encode_utf8_all (take n cs)) → CutsLiteral literals cs (record { kind = Literal l; lex = encode_utf8_all (take n cs); rest = drop n cs })
@@ -58,9 +58,9 @@ module _ (literals : List (List ℕ)) (cs : List ℕ) where
   none_from : (n : ℕ) → (Has literals (encode_utf8_all (take n cs)) → ⊥) → NoneFrom literals cs (n + 1) → NoneFrom literals cs n
   none_from n not none w more same le is = split n (length w)
       (λ far. none w more same (omega arith) is)
-      (λ least. (let whole : length w ≡ n = omega arith in not (rw (← front_of_length cs w more same, whole) at is)))
+      (λ least. (let whole : length w ≡ n = omega arith in not (rw (← prefix_of_length cs w more same, whole) at is)))
 
-  or_else : (n : ℕ) → n ≤ length cs → NoneFrom literals cs (n + 1) → (other : Option Front) → ((Has literals (encode_utf8_all (take n cs)) → ⊥) → IsLiteralIn literals cs other) → IsLiteralIn literals cs (literal_or literals cs n other)
+  or_else : (n : ℕ) → n ≤ length cs → NoneFrom literals cs (n + 1) → (other : Option LeadingWord) → ((Has literals (encode_utf8_all (take n cs)) → ⊥) → IsLiteralIn literals cs other) → IsLiteralIn literals cs (literal_or literals cs n other)
   or_else n within none other more = go (number_from 0 literals (encode_utf8_all (take n cs))) (numbered 0 literals (encode_utf8_all (take n cs)))
     where
       go : (o : Option ℕ) → MatchOption o (Has literals (encode_utf8_all (take n cs)) → ⊥) (λ l. (i : ℕ) × (l ≡ 0 + i) × (slice_get literals i ≡ Some (encode_utf8_all (take n cs))))
@@ -78,7 +78,7 @@ word_is v cs = chosen v cs _ _ (literal_is v.literals cs (length cs) (omega arit
 -- ---- the tokens of a text
 
 -- the token read at the beginning, and the tokens after it
-pub one_more : (v : Vocabulary) (at : ℕ) (cs : List ℕ) (f : Front) (ts : List Token) (end : ℕ) (rest : List ℕ) → word_from v cs ≡ Some f → AreTokens v (at + (width cs - width f.rest)) f.rest ts end rest
+pub one_more : (v : Vocabulary) (at : ℕ) (cs : List ℕ) (f : LeadingWord) (ts : List Token) (end : ℕ) (rest : List ℕ) → word_from v cs ≡ Some f → AreTokens v (at + (width cs - width f.rest)) f.rest ts end rest
     → AreTokens v at cs (record { kind = f.kind; lex = f.lex; at = at } ∷ ts) end rest
 one_more v at cs f ts end rest e are =
     let cut : CutsToken v cs f = subst (IsWordIn v cs) e (word_is v cs) in
@@ -98,7 +98,7 @@ as_wide (separator at c cs ts end rest h are) = let one = separator_width c h in
 as_wide (word at whole w cs lex t ts end rest split is are) = let more = as_wide are in omega (arith, ap width split, width-append w cs)
 
 -- The tokens up to the end of a text begin with the word at its beginning, after the leading separators.
-abbrev pub BeginWith : Vocabulary → ℕ → List ℕ → List Token → ℕ → Option Front → Type 0
+abbrev pub BeginWith : Vocabulary → ℕ → List ℕ → List Token → ℕ → Option LeadingWord → Type 0
 BeginWith v at cs ts end None = ts ≡ []
 BeginWith v at cs ts end (Some f) =
     (more : List Token) × (ts ≡ record { kind = f.kind; lex = f.lex; at = at + prefix_len is_separator cs } ∷ more) × (width f.rest ≤ width cs) × AreTokens v (at + (width cs - width f.rest)) f.rest more end []
@@ -107,41 +107,41 @@ module _ (v : Vocabulary) (clean : IsClean v) where
   separators : (c : ℕ) (cs : List ℕ) → is_separator c ≡ true → prefix_len is_separator (c ∷ cs) ≡ suc (prefix_len is_separator cs)
   separators c cs h = rw h (omega arith)
 
-  pub begin_with : {at : ℕ} {cs : List ℕ} {ts : List Token} {end : ℕ} {rest : List ℕ} → AreTokens v at cs ts end rest → rest ≡ [] → (o : Option Front) → IsWordIn v (unspaced cs) o → BeginWith v at cs ts end o
+  pub begin_with : {at : ℕ} {cs : List ℕ} {ts : List Token} {end : ℕ} {rest : List ℕ} → AreTokens v at cs ts end rest → rest ≡ [] → (o : Option LeadingWord) → IsWordIn v (without_spaces cs) o → BeginWith v at cs ts end o
   begin_with (ended at cs) e None is = refl
   begin_with (ended at cs) e (Some f) is =
       let some = word_some v f.kind is.word f.lex clean.some is.token.is in
-      let none : unspaced cs ≡ [] = ap unspaced e in
+      let none : without_spaces cs ≡ [] = ap without_spaces e in
       absurd (omega (arith, ap length (sym none ∙ is.split), length-append is.word f.rest))
   begin_with (separator at c cs ts end rest h are) e o is = go o (begin_with are e o (subst (λ xs. IsWordIn v xs o) same is))
     where
-      same : unspaced (c ∷ cs) ≡ unspaced cs
+      same : without_spaces (c ∷ cs) ≡ without_spaces cs
       same = ap (λ n. drop n (c ∷ cs)) (separators c cs h)
 
-      go : (o : Option Front) → BeginWith v (at + 1) cs ts end o → BeginWith v at (c ∷ cs) ts end o
+      go : (o : Option LeadingWord) → BeginWith v (at + 1) cs ts end o → BeginWith v at (c ∷ cs) ts end o
       go None none = none
-      go (Some f) (more, first, narrow, behind) =
+      go (Some f) (more, first, narrow, following) =
           let one = separator_width c h in
           let n : (at + 1) + prefix_len is_separator cs ≡ at + prefix_len is_separator (c ∷ cs) = omega (arith, separators c cs h) in
           let m : (at + 1) + (width cs - width f.rest) ≡ at + (width (c ∷ cs) - width f.rest) = omega arith in
-          (more, first ∙ ap (λ k. record { kind = f.kind; lex = f.lex; at = k } ∷ more) n, omega arith, subst (λ k. AreTokens v k f.rest more end []) m behind)
-  begin_with (word at cs w behind lex t ts end rest split token are) e o is =
-      let none = no_spaces cs (token_plain v clean cs t lex w behind split token) in
-      let first : o ≡ Some (record { kind = t; lex = lex; rest = behind }) = one_word v clean cs _ _ (rw none at is) (record { word = w; split = split; token = token }) in
-      let wide : width cs ≡ width w + width behind = ap width split ∙ width-append w behind in
-      let there : at + (width cs - width behind) ≡ at + width w = omega arith in
+          (more, first ∙ ap (λ k. record { kind = f.kind; lex = f.lex; at = k } ∷ more) n, omega arith, subst (λ k. AreTokens v k f.rest more end []) m following)
+  begin_with (word at cs w following lex t ts end rest split token are) e o is =
+      let none = no_spaces cs (token_plain v clean cs t lex w following split token) in
+      let first : o ≡ Some (record { kind = t; lex = lex; rest = following }) = one_word v clean cs _ _ (rw none at is) (record { word = w; split = split; token = token }) in
+      let wide : width cs ≡ width w + width following = ap width split ∙ width-append w following in
+      let there : at + (width cs - width following) ≡ at + width w = omega arith in
       rw (first, none, there, ← e) (ts, ap (λ n. record { kind = t; lex = lex; at = n } ∷ ts) (omega arith), omega arith, are)
 
   agrees : (n at : ℕ) (cs : List ℕ) (ts : List Token) (end : ℕ) → AreTokens v at cs ts end [] → length ts ≤ n → tokens_from v n at cs ≡ ts
   agrees zero at cs [] end are few = refl
   agrees zero at cs (t ∷ ts) end are few = absurd (omega arith)
-  agrees (suc n) at cs ts end are few = go (word_from v (unspaced cs)) (begin_with are refl (word_from v (unspaced cs)) (word_is v (unspaced cs))) (agrees n)
+  agrees (suc n) at cs ts end are few = go (word_from v (without_spaces cs)) (begin_with are refl (word_from v (without_spaces cs)) (word_is v (without_spaces cs))) (agrees n)
     where
-      go : (o : Option Front) → BeginWith v at cs ts end o → ((at : ℕ) (cs : List ℕ) (ts : List Token) (end : ℕ) → AreTokens v at cs ts end [] → length ts ≤ n → tokens_from v n at cs ≡ ts)
+      go : (o : Option LeadingWord) → BeginWith v at cs ts end o → ((at : ℕ) (cs : List ℕ) (ts : List Token) (end : ℕ) → AreTokens v at cs ts end [] → length ts ≤ n → tokens_from v n at cs ≡ ts)
           → elim o [ Some f ↦ record { kind = f.kind; lex = f.lex; at = at + prefix_len is_separator cs } ∷ tokens_from v n (at + (width cs - width f.rest)) f.rest | None ↦ [] ] ≡ ts
       go None none recur = sym none
-      go (Some f) (more, first, narrow, behind) recur =
-          ap (λ us. record { kind = f.kind; lex = f.lex; at = at + prefix_len is_separator cs } ∷ us) (recur (at + (width cs - width f.rest)) f.rest more end behind (omega (arith, ap length first))) ∙ sym first
+      go (Some f) (more, first, narrow, following) recur =
+          ap (λ us. record { kind = f.kind; lex = f.lex; at = at + prefix_len is_separator cs } ∷ us) (recur (at + (width cs - width f.rest)) f.rest more end following (omega (arith, ap length first))) ∙ sym first
 
   -- a text has at most as many tokens as bytes
   few : (text : List ℕ) (ts : List Token) → AreTokensOf v text ts → length ts ≤ length text
@@ -152,7 +152,7 @@ module _ (v : Vocabulary) (clean : IsClean v) where
   are_cut text ts is = agrees (length text) 0 (chars text) ts (length text) is.tokens.are (few text ts is)
 
 -- if a text has been scanned to its end, its tokens are those that the function returns
-pub all_cut : (v : Vocabulary) → IsClean v → (text rest : List ℕ) → IsUtf8 text → length text ≤ most_sentence_bytes → Scanned v text rest → true ≡ (length rest == 0) → AreTokensOf v text (tokens_in v text) × FitAll v (tokens_in v text)
+pub all_cut : (v : Vocabulary) → IsClean v → (text rest : List ℕ) → IsUtf8 text → length text ≤ max_sentence_bytes → Scanned v text rest → true ≡ (length rest == 0) → AreTokensOf v text (tokens_in v text) × FitAll v (tokens_in v text)
 all_cut v clean text rest utf8 short scanned test =
     let none : length rest ≡ 0 = grind (arith, nat_tests) in
     let (ts, are, fit) = ends v text rest utf8 short scanned none in

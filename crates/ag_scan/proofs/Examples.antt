@@ -4,7 +4,7 @@ use Rattle.std.proofs.lemmas.Str.{encode_ascii}
 use Rattle.std.specs.Str.{chars}
 use Rattle.unicode_ident.proofs.IdentLemmas.{is_xid_start-ascii, is_xid_continue-ascii}
 use Rattle.ag_grammar.specs.declared.grammar.Terminal.TheVariants.{Literal, Class}
-use Rattle.ag_grammar.specs.grammars.Tree.{most_token_bytes}
+use Rattle.ag_grammar.specs.grammars.Tree.{max_token_bytes}
 use Rattle.ag_grammar.proofs.grammars.Members.{both, only}
 use Rattle.ag_scan.specs.Cutting.{word_from, class_from}
 use Rattle.ag_scan.specs.Tokens.{Token, AreTokens, ended, separator}
@@ -46,7 +46,7 @@ longest_wins = record {
   readable = record { short = omega arith; utf8 = iffy_text };
   tokens = record {
     are = subst (λ cs. AreTokens iffy 0 cs (name ∷ literal ∷ []) 7 []) (sym iffy_characters) are_iffy;
-    short = both (λ t. length t.lex ≤ most_token_bytes) name literal (omega arith) (omega arith);
+    short = both (λ t. length t.lex ≤ max_token_bytes) name literal (omega arith) (omega arith);
   };
 }
 
@@ -70,7 +70,7 @@ unused_is_none = record {
   rest = [];
   reaches = record {
     are = one_more ones 0 (codes "12") _ [] 1 (codes "2") one (ended 1 (codes "2"));
-    short = only (λ t. length t.lex ≤ most_token_bytes) (record { kind = Literal 0; lex = codes "1"; at = 0 }) (omega arith);
+    short = only (λ t. length t.lex ≤ max_token_bytes) (record { kind = Literal 0; lex = codes "1"; at = 0 }) (omega arith);
   };
   no_separator = refl;
   no_word = rw none at (word_is ones (codes "2"));

@@ -14,11 +14,11 @@ rest_none (y ∷ ys) zero e = absurd (cc)
 rest_none (y ∷ ys) (suc i) e = rest_none ys i e
 
 -- the rest after one more member, and its index is in range
-pub behind : {A : Type 0} (xs : List A) (i : ℕ) (x : A) (rest : List A) → drop i xs ≡ x ∷ rest → (drop (i + 1) xs ≡ rest) × (i + 1 ≤ length xs)
-behind {A} [] i x rest e = let none = drop-nil {A = A} i in absurd (cc)
-behind (y ∷ ys) zero x rest e = (cc, omega arith)
-behind {A} (y ∷ ys) (suc i) x rest e =
-    let h = behind ys i x rest e in
+pub following : {A : Type 0} (xs : List A) (i : ℕ) (x : A) (rest : List A) → drop i xs ≡ x ∷ rest → (drop (i + 1) xs ≡ rest) × (i + 1 ≤ length xs)
+following {A} [] i x rest e = let none = drop-nil {A = A} i in absurd (cc)
+following (y ∷ ys) zero x rest e = (cc, omega arith)
+following {A} (y ∷ ys) (suc i) x rest e =
+    let h = following ys i x rest e in
     let a : drop (suc i + 1) (y ∷ ys) ≡ drop (i + 1) ys = ap (λ j. drop j (y ∷ ys)) (add-one (suc i)) ∙ sym (ap (λ j. drop j ys) (add-one i)) in
     (a ∙ h.0, omega (arith, h.1))
 

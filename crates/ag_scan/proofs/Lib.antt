@@ -1,7 +1,7 @@
 pub mod Answered
 pub mod Cut
 pub mod Examples
-pub mod Handing
+pub mod Supplying
 pub mod Lefts
 pub mod Listing
 pub mod OneAnswer

@@ -10,7 +10,7 @@ use Rattle.std.specs.List.{prefix_len}
 use Rattle.ag_tokens.specs.Left.{StartsPlain}
 use Rattle.ag_tokens.specs.Tokens.{is_separator}
 use Rattle.ag_tokens.proofs.TokenLaws.{no_start}
-use Rattle.ag_scan.specs.Cutting.{Front, CutsToken}
+use Rattle.ag_scan.specs.Cutting.{LeadingWord, CutsToken}
 use Rattle.ag_scan.specs.Words.{Vocabulary, IsClean, IsWordOfClass, IsWord, IsAnyWord, BeginsNone, LiteralWins, IsToken}
 use Rattle.ag_scan.proofs.words.ClassWords.{one_class}
 use Rattle.ag_scan.proofs.Listing.{word_some}
@@ -26,17 +26,17 @@ class_plain (suc zero) c cs lex is = grind (arith, nat_tests)
 class_plain (suc (suc zero)) c cs lex (body, split, all, text) = let same : c ≡ 34 = cc in rw same refl
 class_plain (suc (suc (suc k))) c cs lex is = absurd is
 
-plain_front : (v : Vocabulary) → IsClean v → (t : Terminal) (c : ℕ) (cs lex : List ℕ) → IsWord v t (c ∷ cs) lex → is_separator c ≡ true → ⊥
-plain_front v clean (Literal l) c cs lex is h =
+plain_prefix : (v : Vocabulary) → IsClean v → (t : Terminal) (c : ℕ) (cs lex : List ℕ) → IsWord v t (c ∷ cs) lex → is_separator c ≡ true → ⊥
+plain_prefix v clean (Literal l) c cs lex is h =
     let small : c < 128 = grind (arith, nat_tests) in
     let first : slice_get (encode_utf8_all (c ∷ cs)) 0 ≡ Some c = rw (encode_ascii c small) refl in
     clean.plain l (encode_utf8_all (c ∷ cs)) is.0 0 c first (separator_is c h)
-plain_front v clean (Class k) c cs lex is h = let plain = class_plain k c cs lex is.1 in cc
+plain_prefix v clean (Class k) c cs lex is h = let plain = class_plain k c cs lex is.1 in cc
 
 -- no token begins with a separator
 pub no_word_there : (v : Vocabulary) → IsClean v → (c : ℕ) (cs : List ℕ) → is_separator c ≡ true → (t : Terminal) (lex w rest : List ℕ) → c ∷ cs ≡ w ++ rest → IsToken v t lex w rest → ⊥
 no_word_there v clean c cs h t lex [] rest split is = let some = word_some v t [] lex clean.some is.is in omega arith
-no_word_there v clean c cs h t lex (d ∷ w) rest split is = let same : d ≡ c = cc in plain_front v clean t d w lex is.is (rw same h)
+no_word_there v clean c cs h t lex (d ∷ w) rest split is = let same : d ≡ c = cc in plain_prefix v clean t d w lex is.is (rw same h)
 
 -- characters that begin with a token do not begin with a separator
 pub token_plain : (v : Vocabulary) → IsClean v → (cs : List ℕ) (t : Terminal) (lex w rest : List ℕ) → cs ≡ w ++ rest → IsToken v t lex w rest → StartsPlain cs
@@ -61,10 +61,10 @@ one_kind v clean (Class c) (Literal m) cs lex lex' a wins b wins' = absurd (wins
 one_kind v clean (Class c) (Class d) cs lex lex' a wins b wins' = one_class v.classes cs lex lex' c d a.0 b.0 a.1 b.1
 
 -- the word that was read is the token at the beginning; if it is `None`, no word begins there
-abbrev pub IsWordIn : Vocabulary → List ℕ → Option Front → Type 0
+abbrev pub IsWordIn : Vocabulary → List ℕ → Option LeadingWord → Type 0
 IsWordIn v cs o = MatchOption o (BeginsNone (IsAnyWord v) cs) (λ f. CutsToken v cs f)
 
-pub one_word : (v : Vocabulary) → IsClean v → (cs : List ℕ) (o p : Option Front) → IsWordIn v cs o → IsWordIn v cs p → o ≡ p
+pub one_word : (v : Vocabulary) → IsClean v → (cs : List ℕ) (o p : Option LeadingWord) → IsWordIn v cs o → IsWordIn v cs p → o ≡ p
 one_word v clean cs None None none none' = refl
 one_word v clean cs None (Some g) none b = absurd (none b.word g.rest b.split (g.kind, g.lex, b.token.is))
 one_word v clean cs (Some f) None a none = absurd (none a.word f.rest a.split (f.kind, f.lex, a.token.is))

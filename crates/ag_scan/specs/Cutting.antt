@@ -7,55 +7,55 @@ use Rattle.std.specs.List.{prefix_len, list_any}
 use Rattle.unicode_ident.specs.Ident.{is_xid_continue}
 use Rattle.ag_grammar.specs.declared.grammar.Terminal.{Terminal}
 use Rattle.ag_grammar.specs.declared.grammar.Terminal.TheVariants.{Literal, Class}
-use Rattle.ag_tokens.specs.Left.{unspaced}
+use Rattle.ag_tokens.specs.Left.{without_spaces}
 use Rattle.ag_tokens.specs.Tokens.{is_quotable, is_separator, starts_name, width}
-use Rattle.ag_scan.specs.declared.front.Front as lent
+use Rattle.ag_scan.specs.declared.prefix.LeadingWord as lent
 use Rattle.ag_scan.specs.Tokens.{Token}
 use Rattle.ag_scan.specs.Words.{Vocabulary, IsLiteral, IsLongest, IsToken}
 
 -- A word that was read: its terminal, its text, and the characters after it.
-pub record Front : Type 0 where
+pub record LeadingWord : Type 0 where
   pub kind : Terminal
   pub lex : List ℕ
   pub rest : List ℕ
 
 -- the longest prefix whose characters pass the test, and the characters after it
-abbrev pub front_in : (ℕ → Bool) → List ℕ → List ℕ
-front_in p cs = take (prefix_len p cs) cs
+abbrev pub prefix_in : (ℕ → Bool) → List ℕ → List ℕ
+prefix_in p cs = take (prefix_len p cs) cs
 
 abbrev pub back_of : (ℕ → Bool) → List ℕ → List ℕ
 back_of p cs = drop (prefix_len p cs) cs
 
 -- the word of a class that is the longest prefix of characters that pass the test
-abbrev pub span_from : (ℕ → Bool) → ℕ → List ℕ → Front
-span_from p class cs = record { kind = Class class; lex = encode_utf8_all (front_in p cs); rest = back_of p cs }
+abbrev pub span_from : (ℕ → Bool) → ℕ → List ℕ → LeadingWord
+span_from p class cs = record { kind = Class class; lex = encode_utf8_all (prefix_in p cs); rest = back_of p cs }
 
 -- the TEXT with the text `body`, if a quote follows it
-abbrev pub closed : List ℕ → List ℕ → Option Front
-closed body [] = None
-closed body (c ∷ cs) = cond (c == 34) (Some (record { kind = Class 2; lex = body; rest = cs })) None
+abbrev pub close_quote : List ℕ → List ℕ → Option LeadingWord
+close_quote body [] = None
+close_quote body (c ∷ cs) = cond (c == 34) (Some (record { kind = Class 2; lex = body; rest = cs })) None
 
 -- the TEXT whose opening quote has been read
-abbrev pub text_from : List ℕ → Option Front
-text_from cs = closed (encode_utf8_all (front_in is_quotable cs)) (back_of is_quotable cs)
+abbrev pub text_from : List ℕ → Option LeadingWord
+text_from cs = close_quote (encode_utf8_all (prefix_in is_quotable cs)) (back_of is_quotable cs)
 
 -- whether a class is one of those in use
 abbrev pub uses : List ℕ → ℕ → Bool
 uses classes k = list_any (λ d. d == k) classes
 
 -- the word of a class in use at the beginning of the characters
-unfoldable pub class_from : List ℕ → List ℕ → Option Front
+unfoldable pub class_from : List ℕ → List ℕ → Option LeadingWord
 class_from classes [] = None
 class_from classes (c ∷ cs) =
     cond (starts_name c) (cond (uses classes 0) (Some (span_from is_xid_continue 0 (c ∷ cs))) None)
     (cond (is_ascii_digit c) (cond (uses classes 1) (Some (span_from is_ascii_digit 1 (c ∷ cs))) None) (cond (c == 34) (cond (uses classes 2) (text_from cs) None) None))
 
 -- the specification word of a word of the code
-abbrev pub front_of : lent.Front → Front
+abbrev pub front_of : lent.LeadingWord → LeadingWord
 front_of f = record { kind = f.kind; lex = f.lex.now; rest = chars f.rest.now }
 
 -- The word is the longest literal at the beginning of the characters.
-pub record CutsLiteral (literals : List (List ℕ)) (cs : List ℕ) (f : Front) : Type 0 where
+pub record CutsLiteral (literals : List (List ℕ)) (cs : List ℕ) (f : LeadingWord) : Type 0 where
   pub number : ℕ
   pub word : List ℕ
   pub kind : f.kind ≡ Literal number
@@ -65,7 +65,7 @@ pub record CutsLiteral (literals : List (List ℕ)) (cs : List ℕ) (f : Front) 
   pub longest : IsLongest (IsLiteral literals) word f.rest
 
 -- The word is the token at the beginning of the characters.
-pub record CutsToken (v : Vocabulary) (cs : List ℕ) (f : Front) : Type 0 where
+pub record CutsToken (v : Vocabulary) (cs : List ℕ) (f : LeadingWord) : Type 0 where
   pub word : List ℕ
   pub split : cs ≡ word ++ f.rest
   pub token : IsToken v f.kind f.lex word f.rest
@@ -76,30 +76,30 @@ number_from n [] text = None
 number_from n (x ∷ xs) text = cond (pointwise nat_eq x text) (Some n) (number_from (n + 1) xs text)
 
 -- the literal that consists of the first n characters, or else `other`
-abbrev pub literal_or : List (List ℕ) → List ℕ → ℕ → Option Front → Option Front
+abbrev pub literal_or : List (List ℕ) → List ℕ → ℕ → Option LeadingWord → Option LeadingWord
 literal_or literals cs n other =
     elim (number_from 0 literals (encode_utf8_all (take n cs))) [ Some l ↦ Some (record { kind = Literal l; lex = encode_utf8_all (take n cs); rest = drop n cs }) | None ↦ other ]
 
 -- the longest literal at the beginning of the characters that has at most n of them
-abbrev pub literal_within : List (List ℕ) → List ℕ → ℕ → Option Front
+abbrev pub literal_within : List (List ℕ) → List ℕ → ℕ → Option LeadingWord
 literal_within literals cs zero = literal_or literals cs zero None
 literal_within literals cs (suc n) = literal_or literals cs (suc n) (literal_within literals cs n)
 
 -- the longer of two words; the literal if they have the same length
-abbrev pub longer_of : Option Front → Option Front → Option Front
+abbrev pub longer_of : Option LeadingWord → Option LeadingWord → Option LeadingWord
 longer_of None class = class
 longer_of (Some f) None = Some f
 longer_of (Some f) (Some g) = cond (nat_lt (width g.rest) (width f.rest)) (Some g) (Some f)
 
 -- the longest word at the beginning of the characters
-abbrev pub word_from : Vocabulary → List ℕ → Option Front
+abbrev pub word_from : Vocabulary → List ℕ → Option LeadingWord
 word_from v cs = longer_of (literal_within v.literals cs (length cs)) (class_from v.classes cs)
 
 -- the first n tokens from the offset `at` on, or fewer at the end
 abbrev pub tokens_from : Vocabulary → ℕ → ℕ → List ℕ → List Token
 tokens_from v zero at cs = []
 tokens_from v (suc n) at cs =
-    elim (word_from v (unspaced cs)) [ Some f ↦ record { kind = f.kind; lex = f.lex; at = at + prefix_len is_separator cs } ∷ tokens_from v n (at + (width cs - width f.rest)) f.rest | None ↦ [] ]
+    elim (word_from v (without_spaces cs)) [ Some f ↦ record { kind = f.kind; lex = f.lex; at = at + prefix_len is_separator cs } ∷ tokens_from v n (at + (width cs - width f.rest)) f.rest | None ↦ [] ]
 
 -- the tokens of a text
 abbrev pub tokens_in : Vocabulary → List ℕ → List Token

@@ -1,5 +1,5 @@
 pub mod Cutting
-pub mod Handed
+pub mod Supplied
 pub mod Laws
 pub mod Printed
 pub mod Table

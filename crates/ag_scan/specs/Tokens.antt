@@ -5,8 +5,8 @@ use Rattle.std.specs.Str.Lossy.{utf8_valid_len}
 use Rattle.ag_grammar.specs.Lists.{Each, Has}
 use Rattle.ag_grammar.specs.declared.grammar.Terminal.{Terminal}
 use Rattle.ag_grammar.specs.declared.grammar.Terminal.TheVariants.{Literal, Class}
-use Rattle.ag_grammar.specs.grammars.Accepted.{most_text_bytes}
-use Rattle.ag_grammar.specs.grammars.Tree.{most_token_bytes, IsTokenText}
+use Rattle.ag_grammar.specs.grammars.Accepted.{max_text_bytes}
+use Rattle.ag_grammar.specs.grammars.Tree.{max_token_bytes, IsTokenText}
 use Rattle.ag_tokens.specs.Tokens.{is_separator, width}
 use Rattle.ag_scan.specs.Words.{Vocabulary, IsAnyWord, BeginsNone, IsToken}
 use Rattle.ag_scan.specs.declared.fault.ScanFault.{ScanFault}
@@ -19,8 +19,8 @@ pub record Token : Type 0 where
   pub at : ℕ
 
 -- the maximum length of a sentence, in bytes: the same as that of the text of a grammar
-abbrev pub most_sentence_bytes : ℕ
-most_sentence_bytes = most_text_bytes
+abbrev pub max_sentence_bytes : ℕ
+max_sentence_bytes = max_text_bytes
 
 -- From the byte offset `at` up to the offset `end`, the characters are separators and the tokens `ts`, each
 -- at its offset; `rest` are the characters after them.
@@ -32,7 +32,7 @@ pub data AreTokens (v : Vocabulary) : ℕ → List ℕ → List Token → ℕ �
 
 -- the text of each token has at most 65,535 bytes
 abbrev pub AreShort : List Token → Type 0
-AreShort ts = Each (λ t. length t.lex ≤ most_token_bytes) ts
+AreShort ts = Each (λ t. length t.lex ≤ max_token_bytes) ts
 
 -- The tokens `ts`, each with a text of at most 65,535 bytes, and separators extend from the beginning of the
 -- characters `cs` up to the offset `at`, where `rest` begins.
@@ -59,11 +59,11 @@ pub record LongTokenAt (v : Vocabulary) (cs : List ℕ) (at : ℕ) : Type 0 wher
   pub rest : List ℕ
   pub reaches : Reaches v cs before at (word ++ rest)
   pub token : IsToken v kind lex word rest
-  pub long : most_token_bytes < length lex
+  pub long : max_token_bytes < length lex
 
 -- The bytes are UTF-8, and at most as many as a sentence may have.
 pub record IsReadable (sentence : List ℕ) : Type 0 where
-  pub short : length sentence ≤ most_sentence_bytes
+  pub short : length sentence ≤ max_sentence_bytes
   pub utf8 : IsUtf8 sentence
 
 -- The tokens of the sentence are ts.
@@ -75,8 +75,8 @@ pub record AreTokensOf (v : Vocabulary) (sentence : List ℕ) (ts : List Token) 
 -- the first invalid byte; else, from left to right, no word begins at the offset `at`, or the token there is
 -- too long. `NoMemory` states nothing about the sentence.
 abbrev pub IsRefused : Vocabulary → List ℕ → ScanFault → Type 0
-IsRefused v sentence fault.TooLong = most_sentence_bytes < length sentence
-IsRefused v sentence (fault.BadUtf8 at) = (length sentence ≤ most_sentence_bytes) × (IsUtf8 sentence → ⊥) × (at ≡ utf8_valid_len sentence)
+IsRefused v sentence fault.TooLong = max_sentence_bytes < length sentence
+IsRefused v sentence (fault.BadUtf8 at) = (length sentence ≤ max_sentence_bytes) × (IsUtf8 sentence → ⊥) × (at ≡ utf8_valid_len sentence)
 IsRefused v sentence (fault.NoToken at) = IsReadable sentence × NoTokenAt v (chars sentence) at
 IsRefused v sentence (fault.LongToken at) = IsReadable sentence × LongTokenAt v (chars sentence) at
 IsRefused v sentence fault.NoMemory = Unit {0}
@@ -97,7 +97,7 @@ pub record TakesToken (v : Vocabulary) (cs : List ℕ) (at : ℕ) (t : Token) (r
   pub split : cs ≡ word ++ rest
   pub token : IsToken v t.kind t.lex word rest
   pub offset : t.at ≡ at
-  pub short : length t.lex ≤ most_token_bytes
+  pub short : length t.lex ≤ max_token_bytes
   pub fits : IsTokenOf v t.kind t.lex
 
 -- The characters begin with a token whose text is too long.
@@ -108,7 +108,7 @@ pub record HasLongToken (v : Vocabulary) (cs : List ℕ) : Type 0 where
   pub rest : List ℕ
   pub split : cs ≡ word ++ rest
   pub token : IsToken v kind lex word rest
-  pub long : most_token_bytes < length lex
+  pub long : max_token_bytes < length lex
 
 -- the reason why no token can be read at the beginning of the characters, which is at the offset `at`
 abbrev pub IsStopped : Vocabulary → List ℕ → ℕ → ScanFault → Type 0

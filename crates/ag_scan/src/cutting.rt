@@ -4,20 +4,20 @@ ghost use Rattle.std.specs.Prelude.{◌≡◌, ◌++◌, nat_lt, chars, encode_u
 ghost use Rattle.std.specs.Prelude.{option_map, IfOk, IfErr, MatchOption};
 ghost use Rattle.ag_tokens.specs.Tokens.{width};
 ghost use Rattle.ag_scan.specs.Cutting.{front_of, longer_of, CutsLiteral, CutsToken};
-ghost use Rattle.ag_scan.specs.Table.{IsFront};
+ghost use Rattle.ag_scan.specs.Table.{IsPrefix};
 ghost use Rattle.ag_scan.specs.Tokens.{IsStopped, TakesToken, Token};
 ghost use Rattle.ag_scan.specs.Words.{BeginsNone, IsAnyWord, IsLiteral, over};
 
 use crate::fault::ScanFault;
-use crate::front::{Front, class_in_front};
 use crate::literals::Literals;
+use crate::prefix::{LeadingWord, leading_class};
 use ag_grammar::Terminal;
-use ag_grammar::limits::MOST_TOKEN_BYTES;
+use ag_grammar::limits::MAX_TOKEN_BYTES;
 
 /// Splits a text after the word with which it begins; returns the word and the rest.
 #[inline(always)]
 fn split_word<'t>(text: &'t str, word: &str) -> (&'t str, &'t str)
-    requires { IsFront word.now text.now }
+    requires { IsPrefix word.now text.now }
     ensures word { chars result.0.now ≡ chars word.now }
     ensures text { result.0.now ≡ word.now }
     ensures split { chars text.now ≡ chars word.now ++ chars result.1.now }
@@ -28,7 +28,7 @@ fn split_word<'t>(text: &'t str, word: &str) -> (&'t str, &'t str)
 
 /// Returns the longest literal at the beginning of a text, or `None`.
 #[inline(always)]
-fn literal_in_front<'t>(literals: &Literals<'_>, text: &'t str) -> Option<Front<'t>>
+fn leading_literal<'t>(literals: &Literals<'_>, text: &'t str) -> Option<LeadingWord<'t>>
     ensures { MatchOption (option_map (λ f. front_of f) result)
         (BeginsNone (IsLiteral literals.now) (chars text.now))
         (λ f. CutsLiteral literals.now (chars text.now) f) }
@@ -37,7 +37,7 @@ fn literal_in_front<'t>(literals: &Literals<'_>, text: &'t str) -> Option<Front<
         return None;
     };
     let (lex, rest) = split_word(text, word.text);
-    Some(Front {
+    Some(LeadingWord {
         kind: Terminal::Literal(word.number),
         lex,
         rest,
@@ -55,7 +55,10 @@ fn is_shorter(text: &str, other: &str) -> bool
 /// Returns the longer of a literal and a word of a class, both at the beginning of the same text;
 /// the literal if they have the same length.
 #[inline(always)]
-fn longer_of<'t>(literal: Option<Front<'t>>, class: Option<Front<'t>>) -> Option<Front<'t>>
+fn longer_of<'t>(
+    literal: Option<LeadingWord<'t>>,
+    class: Option<LeadingWord<'t>>,
+) -> Option<LeadingWord<'t>>
     ensures { option_map (λ f. front_of f) result ≡ longer_of
         (option_map (λ f. front_of f) literal.entry) (option_map (λ f. front_of f) class.entry) }
 {
@@ -71,24 +74,24 @@ fn longer_of<'t>(literal: Option<Front<'t>>, class: Option<Front<'t>>) -> Option
 /// Returns the longest word at the beginning of a text, or `None`; a literal wins a tie. Does not
 /// allocate.
 #[inline(always)]
-pub fn word_in_front<'t>(
+pub fn leading_word<'t>(
     literals: &Literals<'_>,
     classes: &[u16],
     text: &'t str,
-) -> Option<Front<'t>>
+) -> Option<LeadingWord<'t>>
     ensures { MatchOption result
         (BeginsNone (IsAnyWord (over literals.now classes.now)) (chars text.now))
         (λ f. CutsToken (over literals.now classes.now) (chars text.now) (front_of f)) }
 {
-    let literal = literal_in_front(literals, text);
-    longer_of(literal, class_in_front(classes, text))
+    let literal = leading_literal(literals, text);
+    longer_of(literal, leading_class(classes, text))
 }
 
 /// Returns the text after its first token; `at` is the offset of the text in the sentence. Fails
 /// with S2 at `at` if no word begins there, and with S3 at `at` if the text of the token has more
 /// than 65,535 bytes.
 #[inline(always)]
-pub fn behind_token<'t>(
+pub fn after_token<'t>(
     literals: &Literals<'_>,
     classes: &[u16],
     text: &'t str,
@@ -99,11 +102,11 @@ pub fn behind_token<'t>(
     ensures stopped { IfErr result (λ e.
         IsStopped (over literals.now classes.now) (chars text.now) at e) }
 {
-    let Some(front) = word_in_front(literals, classes, text) else {
+    let Some(prefix) = leading_word(literals, classes, text) else {
         return Err(ScanFault::NoToken(at));
     };
-    let Front { lex, rest, .. } = front;
-    if lex.len() > MOST_TOKEN_BYTES {
+    let LeadingWord { lex, rest, .. } = prefix;
+    if lex.len() > MAX_TOKEN_BYTES {
         return Err(ScanFault::LongToken(at));
     }
     // this call shows the prover that the text is UTF-8

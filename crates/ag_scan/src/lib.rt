@@ -5,9 +5,9 @@
 mod cutting;
 mod display;
 mod fault;
-mod front;
 pub mod laws;
 mod literals;
+mod prefix;
 mod sentence;
 mod starts;
 mod token;

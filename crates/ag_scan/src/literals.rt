@@ -3,13 +3,13 @@
 
 ghost use Rattle.std.specs.Prelude.{◌≡◌, ◌≤◌, length, slice_get, Some, IfNone, IfOk, IfSome};
 ghost use Rattle.std.specs.Prelude.{MatchBool, MatchOption};
-ghost use Rattle.ag_grammar.specs.grammars.Accepted.{most_literals};
-ghost use Rattle.ag_scan.specs.Table.{AreLinked, AreLiterals, AreOrdered, AreTold, AreUpTo};
-ghost use Rattle.ag_scan.specs.Table.{GivesLast, HasNoFront, IsFront, IsLongestFront, IsTable};
-ghost use Rattle.ag_scan.specs.Table.{NoFront, behind_last};
+ghost use Rattle.ag_grammar.specs.grammars.Accepted.{max_literals};
+ghost use Rattle.ag_scan.specs.Table.{AreLinked, AreLiterals, AreOrdered, AreCovered, AreUpTo};
+ghost use Rattle.ag_scan.specs.Table.{GivesLast, HasNoPrefix, IsPrefix, IsLongestFront, IsTable};
+ghost use Rattle.ag_scan.specs.Table.{NoPrefix, after_last};
 ghost use Rattle.ag_scan.specs.Words.{HasNoEmpty};
 
-use crate::starts::{Start, first_byte, starts_of};
+use crate::starts::{StartingWords, first_byte, starts_of};
 use ag_value::{NoMemory, Text};
 use std::alloc::Global;
 use std::marker::Model;
@@ -29,25 +29,25 @@ pub struct Literals<'g> {
     texts: &'g [Text],
     words: Vec<Word<'g>>,
     shorter: Vec<Option<u16>>,
-    starts: Vec<Start>,
+    starts: Vec<StartingWords>,
 }
 
 impl<'g> Model for Literals<'g> {
     ghost use Rattle.std.specs.Prelude.{List, ℕ, length};
-    ghost use Rattle.ag_scan.specs.Table.{AreTold, IsTable};
+    ghost use Rattle.ag_scan.specs.Table.{AreCovered, IsTable};
 
     ghost Value = { List (List ℕ) };
 
     ghost view = { λ l. l.texts.now };
 
     ghost invariant = { λ l. IsTable l.texts.now l.words.items l.shorter.items
-        × AreTold l.words.items l.starts.items (length l.words.items) };
+        × AreCovered l.words.items l.starts.items (length l.words.items) };
 }
 
 /// Returns whether the text begins with the word.
 #[inline(always)]
 fn begins_with(text: &str, word: &str) -> bool
-    ensures { MatchBool result (IsFront word.now text.now) (IsFront word.now text.now → ⊥) }
+    ensures { MatchBool result (IsPrefix word.now text.now) (IsPrefix word.now text.now → ⊥) }
 {
     // most words have one byte, which is compared without a call
     if word.len() == 1 && !text.is_empty() {
@@ -62,14 +62,14 @@ fn count_up_to(words: &[Word<'_>], text: &str) -> usize
     requires { AreOrdered words.now }
     ensures within { result ≤ length words.now }
     ensures up_to { AreUpTo words.now result text.now }
-    ensures others { NoFront words.now result (length words.now) text.now }
+    ensures others { NoPrefix words.now result (length words.now) text.now }
 {
     words.partition_point(|word| word.text <= text)
 }
 
 /// Returns the number of words up to the one with this index; 0 for `None`.
-fn behind(last: Option<u16>) -> usize
-    ensures { result ≡ behind_last last }
+fn following(last: Option<u16>) -> usize
+    ensures { result ≡ after_last last }
 {
     match last {
         Some(k) => k as usize + 1,
@@ -79,8 +79,8 @@ fn behind(last: Option<u16>) -> usize
 
 /// Returns the index of the last of the first `bound` words that is a prefix of the text, or
 /// `None`.
-fn last_front(words: &[Word<'_>], shorter: &[Option<u16>], bound: usize, text: &str) -> Option<u16>
-    requires many { bound ≤ most_literals }
+fn last_prefix(words: &[Word<'_>], shorter: &[Option<u16>], bound: usize, text: &str) -> Option<u16>
+    requires many { bound ≤ max_literals }
     requires words { bound ≤ length words.now }
     requires links { bound ≤ length shorter.now }
     requires ordered { AreOrdered words.now }
@@ -94,14 +94,14 @@ fn last_front(words: &[Word<'_>], shorter: &[Option<u16>], bound: usize, text: &
         if begins_with(text, words[last].text) {
             return Some(last as u16);
         }
-        limit = behind(shorter[last]);
+        limit = following(shorter[last]);
     }
     None
 }
 
 /// Returns the literals with their numbers. Fails with `NoMemory` if the list cannot be allocated.
 fn numbered<'g>(alloc: Global, literals: &'g [Text]) -> Result<Vec<Word<'g>>, NoMemory>
-    requires { length literals.now ≤ most_literals }
+    requires { length literals.now ≤ max_literals }
     ensures literals { IfOk result (λ ws. AreLiterals literals.now ws.items) }
     ensures many { IfOk result (λ ws. length ws.items ≡ length literals.now) }
 {
@@ -118,7 +118,7 @@ fn numbered<'g>(alloc: Global, literals: &'g [Text]) -> Result<Vec<Word<'g>>, No
 /// Returns the literals sorted by their texts. Fails with `NoMemory` if the list cannot be
 /// allocated.
 fn ordered<'g>(alloc: Global, literals: &'g [Text]) -> Result<Vec<Word<'g>>, NoMemory>
-    requires { length literals.now ≤ most_literals }
+    requires { length literals.now ≤ max_literals }
     ensures literals { IfOk result (λ ws. AreLiterals literals.now ws.items) }
     ensures many { IfOk result (λ ws. length ws.items ≡ length literals.now) }
     ensures ordered { IfOk result (λ ws. AreOrdered ws.items) }
@@ -131,14 +131,14 @@ fn ordered<'g>(alloc: Global, literals: &'g [Text]) -> Result<Vec<Word<'g>>, NoM
 /// Returns for each word the index of the last word before it that is a prefix of it: for `+`,
 /// `++`, `-` these are none, 0 and none. Fails with `NoMemory` if the list cannot be allocated.
 fn linked(alloc: Global, words: &[Word<'_>]) -> Result<Vec<Option<u16>>, NoMemory>
-    requires many { length words.now ≤ most_literals }
+    requires many { length words.now ≤ max_literals }
     requires ordered { AreOrdered words.now }
     ensures many { IfOk result (λ s. length s.items ≡ length words.now) }
     ensures linked { IfOk result (λ s. AreLinked words.now s.items) }
 {
     let mut shorter: Vec<Option<u16>> = Vec::new(alloc);
     for index in 0..words.len() {
-        let link = last_front(words, shorter.as_slice(), index, words[index].text);
+        let link = last_prefix(words, shorter.as_slice(), index, words[index].text);
         shorter.push(link)?;
     }
     Ok(shorter)
@@ -152,21 +152,21 @@ fn longest_of<'w, 'g>(
     text: &str,
 ) -> Option<&'w Word<'g>>
     requires { IsTable texts.now words.now shorter.now }
-    ensures { MatchOption result (HasNoFront texts.now text.now)
+    ensures { MatchOption result (HasNoPrefix texts.now text.now)
         (λ w. IsLongestFront texts.now text.now w.now) }
 {
     let bound = count_up_to(words, text);
-    let index = last_front(words, shorter, bound, text)?;
+    let index = last_prefix(words, shorter, bound, text)?;
     Some(&words[index as usize])
 }
 
 /// Returns the word with this index, if it is a prefix of the text.
 #[inline(always)]
-fn front_at<'w, 'g>(words: &'w [Word<'g>], index: u16, text: &str) -> Option<&'w Word<'g>>
+fn prefix_at<'w, 'g>(words: &'w [Word<'g>], index: u16, text: &str) -> Option<&'w Word<'g>>
     ensures there { IfSome result (λ w. slice_get words.now index ≡ Some w.now) }
-    ensures front { IfSome result (λ w. IsFront w.now.text.now text.now) }
+    ensures prefix { IfSome result (λ w. IsPrefix w.now.text.now text.now) }
     ensures none { IfNone result ((w : Word) → slice_get words.now index ≡ Some w
-        → IsFront w.text.now text.now → ⊥) }
+        → IsPrefix w.text.now text.now → ⊥) }
 {
     match words.get(index as usize) {
         Some(word) if begins_with(text, word.text) => Some(word),
@@ -181,12 +181,12 @@ fn longest_by_start<'w, 'g>(
     texts: &[Text],
     words: &'w [Word<'g>],
     shorter: &[Option<u16>],
-    starts: &[Start],
+    starts: &[StartingWords],
     text: &str,
 ) -> Option<&'w Word<'g>>
     requires table { IsTable texts.now words.now shorter.now }
-    requires starts { AreTold words.now starts.now (length words.now) }
-    ensures { MatchOption result (HasNoFront texts.now text.now)
+    requires starts { AreCovered words.now starts.now (length words.now) }
+    ensures { MatchOption result (HasNoPrefix texts.now text.now)
         (λ w. IsLongestFront texts.now text.now w.now) }
 {
     if text.is_empty() {
@@ -194,9 +194,9 @@ fn longest_by_start<'w, 'g>(
     }
     let start = starts[first_byte(text) as usize];
     match start {
-        Start::Nothing => None,
-        Start::Sole(index) => front_at(words, index, text),
-        Start::Several => longest_of(texts, words, shorter, text),
+        StartingWords::Nothing => None,
+        StartingWords::Sole(index) => prefix_at(words, index, text),
+        StartingWords::Several => longest_of(texts, words, shorter, text),
     }
 }
 
@@ -204,7 +204,7 @@ impl<'g> Literals<'g> {
     /// Makes the table of a grammar's literals. Fails with `NoMemory` if memory runs out: allocates
     /// for each literal, and 256 entries for the first bytes.
     pub fn new(alloc: Global, texts: &'g [Text]) -> Result<Literals<'g>, NoMemory>
-        requires many { length texts.now ≤ most_literals }
+        requires many { length texts.now ≤ max_literals }
         requires words { HasNoEmpty texts.now }
         ensures { IfOk result (λ l. l ≡ texts.now) }
     {
@@ -222,7 +222,7 @@ impl<'g> Literals<'g> {
     /// Returns the longest literal that is a prefix of the text, or `None`. Does not allocate.
     #[inline(always)]
     pub fn longest(&self, text: &str) -> Option<&Word<'g>>
-        ensures { MatchOption result (HasNoFront self.now text.now)
+        ensures { MatchOption result (HasNoPrefix self.now text.now)
             (λ w. IsLongestFront self.now text.now w.now) }
     {
         longest_by_start(

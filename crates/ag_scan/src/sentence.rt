@@ -1,18 +1,18 @@
 //! Sentences that are known to have tokens.
 
 ghost use Rattle.std.specs.Prelude.{◌≡◌, ◌≤◌, length, IfErr, IfOk, OnOk};
-ghost use Rattle.ag_grammar.specs.grammars.Accepted.{most_literals};
+ghost use Rattle.ag_grammar.specs.grammars.Accepted.{max_literals};
 ghost use Rattle.ag_scan.specs.Cutting.{tokens_in};
-ghost use Rattle.ag_scan.specs.Handed.{handed};
-ghost use Rattle.ag_scan.specs.Tokens.{AreTokensOf, FitAll, IsRefused, most_sentence_bytes};
+ghost use Rattle.ag_scan.specs.Supplied.{supplied};
+ghost use Rattle.ag_scan.specs.Tokens.{AreTokensOf, FitAll, IsRefused, max_sentence_bytes};
 ghost use Rattle.ag_scan.specs.Words.{IsClean, over, vocabulary_of};
 
-use crate::cutting::behind_token;
+use crate::cutting::after_token;
 use crate::fault::ScanFault;
 use crate::literals::Literals;
 use crate::tokens::Tokens;
 use ag_grammar::Grammar;
-use ag_grammar::limits::MOST_TEXT_BYTES;
+use ag_grammar::limits::MAX_TEXT_BYTES;
 use ag_tokens::skip_separators;
 use ag_value::Text;
 use std::alloc::Global;
@@ -30,7 +30,7 @@ pub struct Sentence<'s> {
 
 impl<'s> Model for Sentence<'s> {
     ghost use Rattle.std.specs.Prelude.{List};
-    ghost use Rattle.ag_scan.specs.Handed.{HasTokens};
+    ghost use Rattle.ag_scan.specs.Supplied.{HasTokens};
     ghost use Rattle.ag_scan.specs.Cutting.{tokens_in};
     ghost use Rattle.ag_scan.specs.Tokens.{Token};
     ghost use Rattle.ag_scan.specs.Words.{over};
@@ -46,7 +46,7 @@ impl<'s> Model for Sentence<'s> {
 /// first offset where it does not.
 #[inline(never)]
 fn cut(literals: &Literals<'_>, classes: &[u16], text: &str) -> Result<(), ScanFault>
-    requires short { length text.now ≤ most_sentence_bytes }
+    requires short { length text.now ≤ max_sentence_bytes }
     requires clean { IsClean (over literals.now classes.now) }
     ensures tokens { OnOk result (AreTokensOf (over literals.now classes.now) text.now
         (tokens_in (over literals.now classes.now) text.now)) }
@@ -57,11 +57,11 @@ fn cut(literals: &Literals<'_>, classes: &[u16], text: &str) -> Result<(), ScanF
     let mut rest = skip_separators(text);
     while !rest.is_empty() {
         let at = text.len() - rest.len();
-        let behind = match behind_token(literals, classes, rest, at) {
-            Ok(behind) => behind,
+        let following = match after_token(literals, classes, rest, at) {
+            Ok(following) => following,
             Err(fault) => return Err(fault),
         };
-        rest = skip_separators(behind);
+        rest = skip_separators(following);
     }
     Ok(())
 }
@@ -73,7 +73,7 @@ fn scan_over<'s>(
     classes: &'s [u16],
     sentence: &'s [u8],
 ) -> Result<Sentence<'s>, ScanFault>
-    requires many { length literals.now ≤ most_literals }
+    requires many { length literals.now ≤ max_literals }
     requires clean { IsClean (over literals.now classes.now) }
     ensures tokens { IfOk result (λ ts.
         AreTokensOf (over literals.now classes.now) sentence.now ts) }
@@ -81,7 +81,7 @@ fn scan_over<'s>(
     ensures refused { IfErr result (λ e.
         IsRefused (over literals.now classes.now) sentence.now e) }
 {
-    if sentence.len() > MOST_TEXT_BYTES {
+    if sentence.len() > MAX_TEXT_BYTES {
         return Err(ScanFault::TooLong);
     }
     let text = match str::from_utf8(sentence) {
@@ -129,7 +129,7 @@ impl<'s> Sentence<'s> {
 
     /// Returns a reader of the tokens, positioned at the first one. Does not allocate.
     pub fn tokens(&self) -> Tokens<'_>
-        ensures { result ≡ handed self.now 0 }
+        ensures { result ≡ supplied self.now 0 }
     {
         Tokens::new(&self.literals, self.classes, self.text)
     }

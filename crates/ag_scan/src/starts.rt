@@ -2,8 +2,8 @@
 
 ghost use Rattle.std.specs.Prelude.{◌≡◌, ◌≤◌, ◌∷◌, List, ℕ, length, IfOk};
 ghost use Rattle.ag_grammar.specs.Lists.{Each};
-ghost use Rattle.ag_grammar.specs.grammars.Accepted.{most_literals};
-ghost use Rattle.ag_scan.specs.Table.{AreTold, with_one};
+ghost use Rattle.ag_grammar.specs.grammars.Accepted.{max_literals};
+ghost use Rattle.ag_scan.specs.Table.{AreCovered, with_one};
 
 use crate::literals::Word;
 use ag_value::NoMemory;
@@ -11,7 +11,7 @@ use std::alloc::Global;
 
 /// The words that begin with a byte.
 #[derive(Clone, Copy, Debug, PartialEq, Eq)]
-pub enum Start {
+pub enum StartingWords {
     /// None.
     Nothing,
     /// Only the one with this index.
@@ -21,12 +21,12 @@ pub enum Start {
 }
 
 /// Returns the entry of a byte after one more word, with this index, that begins with it.
-fn with_one(start: Start, index: u16) -> Start
+fn with_one(start: StartingWords, index: u16) -> StartingWords
     ensures { result ≡ with_one start index }
 {
     match start {
-        Start::Nothing => Start::Sole(index),
-        _ => Start::Several,
+        StartingWords::Nothing => StartingWords::Sole(index),
+        _ => StartingWords::Several,
     }
 }
 
@@ -41,12 +41,12 @@ pub fn first_byte(text: &str) -> u8
 
 /// Returns a table of the words that begin with each byte. Fails with `NoMemory` if its 256 entries
 /// cannot be allocated.
-pub fn starts_of(alloc: Global, words: &[Word<'_>]) -> Result<Vec<Start>, NoMemory>
-    requires many { length words.now ≤ most_literals }
+pub fn starts_of(alloc: Global, words: &[Word<'_>]) -> Result<Vec<StartingWords>, NoMemory>
+    requires many { length words.now ≤ max_literals }
     requires texts { Each (λ w. 1 ≤ length w.text.now) words.now }
-    ensures { IfOk result (λ s. AreTold words.now s.items (length words.now)) }
+    ensures { IfOk result (λ s. AreCovered words.now s.items (length words.now)) }
 {
-    let mut starts = vec![in alloc; Start::Nothing; 256]?;
+    let mut starts = vec![in alloc; StartingWords::Nothing; 256]?;
     for index in 0..words.len() {
         let first = first_byte(words[index].text) as usize;
         let start = starts[first];

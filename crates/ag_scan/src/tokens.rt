@@ -2,12 +2,12 @@
 
 ghost use Rattle.std.specs.Prelude.{◌≡◌, ◌+◌, ◌<◌, ◌≤◌, None, length, option_map, slice_get};
 ghost use Rattle.ag_scan.specs.Cutting.{front_of, tokens_in};
-ghost use Rattle.ag_scan.specs.Handed.{HasTokens, IsLookedAt, handed, offset_at, token_of};
+ghost use Rattle.ag_scan.specs.Supplied.{HasTokens, IsLookedAt, supplied, offset_at, token_of};
 ghost use Rattle.ag_scan.specs.Words.{over};
 
-use crate::cutting::word_in_front;
-use crate::front::Front;
+use crate::cutting::leading_word;
 use crate::literals::Literals;
+use crate::prefix::LeadingWord;
 use crate::token::Token;
 use ag_tokens::skip_separators;
 use std::marker::Model;
@@ -20,7 +20,7 @@ pub struct Tokens<'t> {
     classes: &'t [u16],
     text: &'t str,
     taken: usize,
-    front: Option<Front<'t>>,
+    prefix: Option<LeadingWord<'t>>,
     /// The offset of the next token, or, at the end, of the last one, in bytes from the beginning
     /// of the sentence.
     at: u32,
@@ -29,15 +29,15 @@ pub struct Tokens<'t> {
 impl<'t> Model for Tokens<'t> {
     ghost use Rattle.std.specs.Prelude.{option_map};
     ghost use Rattle.ag_scan.specs.Cutting.{front_of, tokens_in};
-    ghost use Rattle.ag_scan.specs.Handed.{Handed, IsAt, handed};
+    ghost use Rattle.ag_scan.specs.Supplied.{Supplied, IsAt, supplied};
     ghost use Rattle.ag_scan.specs.Words.{over};
 
-    ghost Value = { Handed };
+    ghost Value = { Supplied };
 
-    ghost view = { λ t. handed (tokens_in (over t.literals.now t.classes.now) t.text.now) t.taken };
+    ghost view = { λ t. supplied (tokens_in (over t.literals.now t.classes.now) t.text.now) t.taken };
 
     ghost invariant = { λ t. IsAt (over t.literals.now t.classes.now) t.text.now t.taken
-        (option_map (λ f. front_of f) t.front) t.at };
+        (option_map (λ f. front_of f) t.prefix) t.at };
 }
 
 /// Returns the first word of a suffix of `text`, after its leading separators, and the offset of
@@ -47,18 +47,18 @@ fn look<'t>(
     literals: &Literals<'_>,
     classes: &[u16],
     text: &str,
-    behind: &'t str,
+    following: &'t str,
     before: u32,
-) -> (Option<Front<'t>>, u32)
+) -> (Option<LeadingWord<'t>>, u32)
     requires has { HasTokens (over literals.now classes.now) text.now }
-    requires within { length behind.now ≤ length text.now }
-    ensures front { IsLookedAt (over literals.now classes.now) text.now behind.now
+    requires within { length following.now ≤ length text.now }
+    ensures prefix { IsLookedAt (over literals.now classes.now) text.now following.now
         (option_map (λ f. front_of f) result.0) result.1 }
     ensures end { result.0 ≡ None → result.1 ≡ before }
 {
-    let left = skip_separators(behind);
-    match word_in_front(literals, classes, left) {
-        Some(front) => (Some(front), (text.len() - left.len()) as u32),
+    let left = skip_separators(following);
+    match leading_word(literals, classes, left) {
+        Some(prefix) => (Some(prefix), (text.len() - left.len()) as u32),
         None => (None, before),
     }
 }
@@ -67,15 +67,15 @@ impl<'t> Tokens<'t> {
     /// Returns a reader at the first token of a text that has tokens.
     pub(crate) fn new(literals: &'t Literals<'t>, classes: &'t [u16], text: &'t str) -> Tokens<'t>
         requires { HasTokens (over literals.now classes.now) text.now }
-        ensures { result ≡ handed (tokens_in (over literals.now classes.now) text.now) 0 }
+        ensures { result ≡ supplied (tokens_in (over literals.now classes.now) text.now) 0 }
     {
-        let (front, at) = look(literals, classes, text, text, 0);
+        let (prefix, at) = look(literals, classes, text, text, 0);
         Tokens {
             literals,
             classes,
             text,
             taken: 0,
-            front,
+            prefix,
             at,
         }
     }
@@ -85,11 +85,11 @@ impl<'t> Tokens<'t> {
     pub fn ahead(&self) -> Option<Token<'t>>
         ensures { option_map (λ t. token_of t) result ≡ slice_get self.now.list self.now.taken }
     {
-        match self.front {
-            Some(front) => Some(Token {
-                kind: front.kind,
+        match self.prefix {
+            Some(prefix) => Some(Token {
+                kind: prefix.kind,
                 at: self.at,
-                lex: front.lex,
+                lex: prefix.lex,
             }),
             None => None,
         }
@@ -114,13 +114,13 @@ impl<'t> Tokens<'t> {
     #[inline(always)]
     pub fn advance(&mut self)
         requires { self.old.taken < length self.old.list }
-        ensures { self.new ≡ handed self.old.list (self.old.taken + 1) }
+        ensures { self.new ≡ supplied self.old.list (self.old.taken + 1) }
     {
-        if let Some(front) = self.front {
+        if let Some(prefix) = self.prefix {
             // this call shows the prover that the text is UTF-8
-            let _utf8 = front.rest.as_bytes();
-            let (front, at) = look(self.literals, self.classes, self.text, front.rest, self.at);
-            self.front = front;
+            let _utf8 = prefix.rest.as_bytes();
+            let (prefix, at) = look(self.literals, self.classes, self.text, prefix.rest, self.at);
+            self.prefix = prefix;
             self.at = at;
             self.taken += 1;
         }

@@ -2,7 +2,7 @@
 use Rattle.std.proofs.Common.{◌≡◌, ℕ, true, false, if◌then◌else◌, List, [], ◌∷◌, ◌++◌, map, Ok, Err, ◌⊎◌, inl, inr, chars, refl, ap, sym, ◌∙◌, subst, append_assoc, append-nil, arith}
 use Rattle.ag_tokens.specs.Ending.{Ending}
 use Rattle.ag_tokens.specs.Ending as ending
-use Rattle.ag_tokens.specs.Placed.{Placed, Input}
+use Rattle.ag_tokens.specs.PlacedToken.{PlacedToken, Input}
 use Rattle.ag_tokens.specs.Parsing as reading
 use Rattle.ag_tokens.specs.Parsing.{is_end, offset}
 use Rattle.ag_tokens.proofs.Lexes.{one_input}
@@ -17,7 +17,7 @@ use Rattle.ag_expr.proofs.reading.Exact.{before, opened, answered}
 use Rattle.ag_expr.proofs.reading.Steady.{Deep, Refused, Stuck, first, first_of}
 use Rattle.ag_text.proofs.Manner.{itself, manner}
 
-end_left : (e : Ending) (ps : List Placed) → is_end e ps ≡ true → ps ≡ []
+end_left : (e : Ending) (ps : List PlacedToken) → is_end e ps ≡ true → ps ≡ []
 end_left e ps h = grind arith
 
 -- a grammar that is parsed to the end
@@ -33,7 +33,7 @@ whole_of i j raw h =
     let closed : reading.and_then {A = Unit {0}} (if is_end one.0.1.ending one.0.1.left then Ok (tt {0}, one.0.1) else Err (WrongAt (offset one.0.1))) (λ u. reading.pure one.0.0) ≡ Ok (raw, j) = one.2 in
     record { read = grind arith; ends = grind arith }
 
-pub sound : (at : ℕ) (ps : List Placed) (j : Input) (raw : RawGrammar) → grammar_of (record { left = ps; ending = ending.EndsAt at }) ≡ Ok (raw, j) → IsGrammar ps raw
+pub sound : (at : ℕ) (ps : List PlacedToken) (j : Input) (raw : RawGrammar) → grammar_of (record { left = ps; ending = ending.EndsAt at }) ≡ Ok (raw, j) → IsGrammar ps raw
 sound at ps j raw h =
     let i : Input = record { left = ps; ending = ending.EndsAt at } in
     let whole = whole_of i j raw h in
@@ -42,10 +42,10 @@ sound at ps j raw h =
     let all : ps ≡ map (λ p. p) found.0 = ap (λ (k : Input). k.left) found.1 ∙ ap (λ qs. found.0 ++ qs) last ∙ append-nil found.0 ∙ sym (itself found.0) in
     subst (λ qs. IsGrammar qs raw) (sym all) found.2
 
-read_whole : (e : Ending) (ps : List Placed) (raw : RawGrammar) → IsGrammar ps raw → grammar_from (record { left = ps; ending = e }) ≡ Ok (raw, record { left = []; ending = e })
+read_whole : (e : Ending) (ps : List PlacedToken) (raw : RawGrammar) → IsGrammar ps raw → grammar_from (record { left = ps; ending = e }) ≡ Ok (raw, record { left = []; ending = e })
 read_whole e ps raw is = ap (λ qs. grammar_from (record { left = qs; ending = e })) (sym (append-nil ps)) ∙ grammar_exact.complete ps (record { left = []; ending = e }) raw (subst (λ qs. IsGrammar qs raw) (sym (itself ps)) is) refl
 
-pub complete : (at : ℕ) (ps : List Placed) (raw : RawGrammar) → IsGrammar ps raw → grammar_of (record { left = ps; ending = ending.EndsAt at }) ≡ Ok (raw, record { left = []; ending = ending.EndsAt at })
+pub complete : (at : ℕ) (ps : List PlacedToken) (raw : RawGrammar) → IsGrammar ps raw → grammar_of (record { left = ps; ending = ending.EndsAt at }) ≡ Ok (raw, record { left = []; ending = ending.EndsAt at })
 unfolding grammar_of
 complete at ps raw is = rw (read_whole (ending.EndsAt at) ps raw is) refl
 
@@ -62,16 +62,16 @@ one_grammar text left right is also =
 
 -- ---- the first wrong token
 
-module _ (us : List Placed) where
+module _ (us : List PlacedToken) where
   -- if the parser succeeds, the tokens are not any other grammar
-  settled : (e : Ending) (rest : List Placed) (raw : RawGrammar) → IsGrammar (us ++ rest) raw → grammar_from (before us (record { left = rest; ending = e })) ≡ Ok (raw, record { left = []; ending = e })
+  settled : (e : Ending) (rest : List PlacedToken) (raw : RawGrammar) → IsGrammar (us ++ rest) raw → grammar_from (before us (record { left = rest; ending = e })) ≡ Ok (raw, record { left = []; ending = e })
   settled e rest raw is = read_whole e (us ++ rest) raw is
 
-  none_goes_on : (e : Ending) (ps : List Placed) → ((k : Input) → first k ≡ first (record { left = ps; ending = e }) → (raw : RawGrammar) → grammar_from (before us k) ≡ Ok (raw, record { left = []; ending = k.ending }) → ⊥) → NoneGoesOn us e ps
+  none_goes_on : (e : Ending) (ps : List PlacedToken) → ((k : Input) → first k ≡ first (record { left = ps; ending = e }) → (raw : RawGrammar) → grammar_from (before us k) ≡ Ok (raw, record { left = []; ending = k.ending }) → ⊥) → NoneGoesOn us e ps
   none_goes_on e [] refutes = λ at ends raw is. refutes (record { left = []; ending = e }) refl raw (settled e [] raw (rw append-nil is))
   none_goes_on e (p ∷ ps) refutes = λ (more, raw, is). refutes (record { left = p ∷ more; ending = e }) refl raw (settled e (p ∷ more) raw (subst (λ qs. IsGrammar qs raw) (append_assoc us (p ∷ []) more) is))
 
-nothing : (qs : List Placed) (p : Placed) (ps : List Placed) → first_of qs ≡ first_of (p ∷ ps) → qs ≡ [] → ⊥
+nothing : (qs : List PlacedToken) (p : PlacedToken) (ps : List PlacedToken) → first_of qs ≡ first_of (p ∷ ps) → qs ≡ [] → ⊥
 nothing qs p ps h e = let bad : ⊥ = grind arith in bad
 
 refused : (i : Input) (at : ℕ) → Refused manner IsGrammar grammar_from grammar_from i (WrongAt at) → IsFirstWrong i at
@@ -90,7 +90,7 @@ refused i at x = go x.how
           cut = ap (λ (k : Input). k.left) x.cut;
           start = (x.rest, x.a, subst (λ qs. IsGrammar (qs ++ x.rest) x.a) (itself x.us) x.begins);
           says = rw ends there;
-          none = none_goes_on x.us i.ending x.j.left (λ k same raw read. let clash = sym (stuck k same) ∙ read in cc);
+          none = none_goes_on x.us i.ending x.j.left (λ k same raw read. let contradiction = sym (stuck k same) ∙ read in cc);
         }
 
 -- a whole grammar, followed by more tokens
@@ -107,7 +107,7 @@ followed i j raw read open_end =
       none = go x.0 j.left j.ending ends open_end (λ k h. (x.3 k h).0);
     }
   where
-    go : (us ps : List Placed) (e : Ending) → i.ending ≡ e → is_end e ps ≡ false → ((k : Input) → first k ≡ first (record { left = ps; ending = e }) → grammar_from (before us k) ≡ Ok (raw, k)) → NoneGoesOn us i.ending ps
+    go : (us ps : List PlacedToken) (e : Ending) → i.ending ≡ e → is_end e ps ≡ false → ((k : Input) → first k ≡ first (record { left = ps; ending = e }) → grammar_from (before us k) ≡ Ok (raw, k)) → NoneGoesOn us i.ending ps
     go us [] e same open_end again = λ at is raw all. let bad : is_end (ending.EndsAt at) [] ≡ false = subst (λ y. is_end y [] ≡ false) (sym same ∙ is) open_end in let never : ⊥ = cc in never
     go us (p ∷ ps) e same open_end again = none_goes_on us i.ending (p ∷ ps) (λ k first_same other read. nothing k.left p ps first_same (ap (λ (l : Input). l.left) (answered raw other k _ (sym (again k first_same) ∙ read)).1))
 

@@ -6,7 +6,7 @@ use Rattle.unicode_ident.proofs.IdentLemmas.{is_xid_start-ascii, is_xid_continue
 use Rattle.ag_tokens.specs.declared.token.Punctuation.TheVariants as punctuation
 use Rattle.ag_tokens.specs.Ending as ending
 use Rattle.ag_tokens.specs.Lexing.{token_from}
-use Rattle.ag_tokens.specs.Placed.{Placed, Input}
+use Rattle.ag_tokens.specs.PlacedToken.{PlacedToken, Input}
 use Rattle.ag_expr.specs.language.Reading.{expr_of, expr_in, whole_from, ranked_from, chain_from, atom_from}
 use Rattle.ag_tokens.specs.Parsing.{many_from}
 use Rattle.ag_tokens.specs.Tokens.{Lexes}
@@ -51,7 +51,7 @@ start_alone_is_read = record {
 }
 
 -- the tokens without the name
-abbrev bare_tokens : List Placed
+abbrev bare_tokens : List PlacedToken
 bare_tokens = name_at 0 (codes "start") ∷ mark_at 6 punctuation.Semicolon ∷ []
 
 bare_is_cut : cut_at 7 (codes "start ;") ≡ record { left = bare_tokens; ending = ending.EndsAt 7 }

@@ -6,9 +6,9 @@ use Rattle.ag_tokens.specs.contracts.token.Punctuation.{the_type}
 use Rattle.ag_grammar.specs.declared.syntax.occurrence.Occ.{Occ}
 use Rattle.ag_tokens.specs.declared.token.Punctuation.{Punctuation}
 use Rattle.ag_tokens.specs.declared.token.Punctuation.TheVariants as punctuation
-use Rattle.ag_tokens.specs.Placed.{Placed}
-use Rattle.ag_tokens.specs.Token.{Token}
-use Rattle.ag_tokens.specs.Token as token
+use Rattle.ag_tokens.specs.PlacedToken.{PlacedToken}
+use Rattle.ag_tokens.specs.GrammarToken.{GrammarToken}
+use Rattle.ag_tokens.specs.GrammarToken as token
 use Rattle.ag_grammar.specs.declared.raw.Named.{Named}
 use Rattle.ag_grammar.specs.declared.raw.RawGrammar.{RawGrammar}
 use Rattle.ag_grammar.specs.declared.raw.RawItem.{RawItem}
@@ -29,32 +29,32 @@ use Rattle.ag_text.proofs.Manner.{Exact, Starts, Steady, manner, token_exact, to
 held : {A : Type 0} (b : Bool) (x a : A) → some_where b x ≡ Some a → b ≡ true
 held b x a h = grind arith
 
-abbrev is_comma : Token → Bool
+abbrev is_comma : GrammarToken → Bool
 is_comma = is_mark punctuation.Comma
 
-abbrev is_open : Token → Bool
+abbrev is_open : GrammarToken → Bool
 is_open = is_mark punctuation.OpenTable
 
-abbrev is_close : Token → Bool
+abbrev is_close : GrammarToken → Bool
 is_close = is_mark punctuation.CloseTable
 
-abbrev is_semi : Token → Bool
+abbrev is_semi : GrammarToken → Bool
 is_semi = is_mark punctuation.Semicolon
 
 -- a name that is not reserved
-abbrev is_plain : Token → Bool
+abbrev is_plain : GrammarToken → Bool
 is_plain (token.Name name) = not (is_reserved name)
 is_plain _ = false
 
-plain : (at : ℕ) (t : Token) (a : Named) → name_in at t ≡ Some a → is_plain t ≡ true
+plain : (at : ℕ) (t : GrammarToken) (a : Named) → name_in at t ≡ Some a → is_plain t ≡ true
 plain at t a h = grind arith
 
 -- an item is not a `{`
-item_goes_on : (at : ℕ) (t : Token) (a : RawItem) → item_in at t ≡ Some a → is_other_than punctuation.OpenTable t ≡ true
+item_goes_on : (at : ℕ) (t : GrammarToken) (a : RawItem) → item_in at t ≡ Some a → is_other_than punctuation.OpenTable t ≡ true
 item_goes_on at t a h = grind arith
 
 -- a target is not a `}`
-target_goes_on : (at : ℕ) (t : Token) (a : Occ) → target_in at t ≡ Some a → is_other_than punctuation.CloseTable t ≡ true
+target_goes_on : (at : ℕ) (t : GrammarToken) (a : Occ) → target_in at t ≡ Some a → is_other_than punctuation.CloseTable t ≡ true
 target_goes_on at t a h = grind arith
 
 -- a name equals at most one of two different names
@@ -69,19 +69,19 @@ plain_apart : Apart is_plain (λ t. is_word (codes "symbol") t || nowhere t)
 plain_apart t h = grind (arith, not_symbol)
 
 -- the tokens that continue the names of a section
-abbrev names_go_on : Token → Bool
+abbrev names_go_on : GrammarToken → Bool
 names_go_on t = is_comma t || nowhere t
 
-abbrev section_goes_on : List ℕ → Token → Bool
+abbrev section_goes_on : List ℕ → GrammarToken → Bool
 section_goes_on w t = is_word w t || names_go_on t
 
 -- the tokens after the first section
-abbrev behind_syn : Token → Bool
-behind_syn t = is_word (codes "inh") t || is_semi t
+abbrev after_syn : GrammarToken → Bool
+after_syn t = is_word (codes "inh") t || is_semi t
 
-behind_syn_apart : Apart behind_syn (section_goes_on (codes "syn"))
-behind_syn_apart (token.Name name) h = let other = one_word (codes "inh") (codes "syn") name refl in grind (arith, other)
-behind_syn_apart t h = grind arith
+after_syn_apart : Apart after_syn (section_goes_on (codes "syn"))
+after_syn_apart (token.Name name) h = let other = one_word (codes "inh") (codes "syn") name refl in grind (arith, other)
+after_syn_apart t h = grind arith
 
 semi_apart : Apart is_semi (section_goes_on (codes "inh"))
 semi_apart t h = grind arith
@@ -123,7 +123,7 @@ symbol_exact =
     start_then (attributes_exact (codes "syn")) (λ syn.
     start_then (attributes_exact (codes "inh")) (λ inh. ends_exact (λ u. record { name = name; syn = syn; inh = inh }) (token_exact (mark_in punctuation.Semicolon)))
     (λ inh. then_starts (mark_starts punctuation.Semicolon)) semi_apart)
-    (λ syn. maybe_starts [] (section_starts (codes "inh")) (λ inh. then_starts (mark_starts punctuation.Semicolon))) behind_syn_apart))
+    (λ syn. maybe_starts [] (section_starts (codes "inh")) (λ inh. then_starts (mark_starts punctuation.Semicolon))) after_syn_apart))
 
 rule_exact : Exact nowhere IsRule rule_from
 unfolding rule_from
@@ -149,10 +149,10 @@ production_exact =
     (λ items. then_starts (mark_starts punctuation.OpenTable)) (mark_ends punctuation.OpenTable)))
 
 -- any token continues the productions
-abbrev any_goes_on : Token → Bool
+abbrev any_goes_on : GrammarToken → Bool
 any_goes_on t = is_any t || nowhere t
 
-nothing_goes_on : (test : Token → Bool) (ps : List Placed) → first_is any_goes_on ps ≡ false → first_is test ps ≡ false
+nothing_goes_on : (test : GrammarToken → Bool) (ps : List PlacedToken) → first_is any_goes_on ps ≡ false → first_is test ps ≡ false
 nothing_goes_on test ps h = grind arith
 
 productions_start : Starts is_plain IsProduction
@@ -166,10 +166,10 @@ unfolding grammar_from IsGrammar
 grammar_exact =
     any_then (token_exact (word_in (codes "start"))) (λ u. any_then (token_exact name_in) (λ start. any_then (token_exact (mark_in punctuation.Semicolon)) (λ u.
     then_exact (many_exact symbol_exact (then_starts (word_starts (codes "symbol"))) (λ t h. refl)) (λ symbols.
-    ends_exact (λ productions. record { start = start; symbols = symbols; productions = productions }) (many_exact production_exact any_starts (λ t h. refl))) (behind start))))
+    ends_exact (λ productions. record { start = start; symbols = symbols; productions = productions }) (many_exact production_exact any_starts (λ t h. refl))) (following start))))
   where
-    behind : (start : Named) (symbols : List RawSymbol) → Before manner any_goes_on (λ t. is_word (codes "symbol") t || nowhere t) (spelling.◌>>=◌ (Many IsProduction) (λ productions. gives {A = RawGrammar} (record { start = start; symbols = symbols; productions = productions })))
-    behind start symbols vs rest b (us, ws, xs, e, are, (no_more, same)) h =
+    following : (start : Named) (symbols : List RawSymbol) → Before manner any_goes_on (λ t. is_word (codes "symbol") t || nowhere t) (spelling.◌>>=◌ (Many IsProduction) (λ productions. gives {A = RawGrammar} (record { start = start; symbols = symbols; productions = productions })))
+    following start symbols vs rest b (us, ws, xs, e, are, (no_more, same)) h =
         let all : map (λ p. p) vs ≡ us = e ∙ ap (λ ys. us ++ ys) no_more ∙ append-nil us in
         many_leads {m = manner} is_plain (λ t. is_word (codes "symbol") t || nowhere t) IsProduction productions_start plain_apart vs xs (subst (λ ps. Many IsProduction ps xs) (sym all) are) rest (nothing_goes_on _ rest h)
 

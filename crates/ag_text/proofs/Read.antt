@@ -7,13 +7,13 @@ use Rattle.std.specs.Str.Lossy.{utf8_valid_len}
 use Rattle.ag_expr.specs.declared.fault.ExprFault.TheVariants as expr
 use Rattle.ag_tokens.specs.Ending.{Ending, offset_of}
 use Rattle.ag_tokens.specs.Ending as ending
-use Rattle.ag_tokens.specs.Placed.{Placed, Input}
+use Rattle.ag_tokens.specs.PlacedToken.{PlacedToken, Input}
 use Rattle.ag_tokens.specs.Parsing.{is_end}
 use Rattle.ag_tokens.specs.Tokens.{Lexes, width}
 use Rattle.ag_tokens.proofs.Lexed.{width-chars}
 use Rattle.ag_tokens.proofs.Lexes.{ends_wide, one_input, same_input}
 use Rattle.ag_text.specs.Answers.{fault_of, answer_of, read_text, line_of, IsRead, IsReadText, IsFirstOf, IsRefused}
-use Rattle.ag_grammar.specs.grammars.Accepted.{most_text_bytes}
+use Rattle.ag_grammar.specs.grammars.Accepted.{max_text_bytes}
 use Rattle.ag_text.specs.Grammar.{ReadsAsGrammar, ReadsAsNone}
 use Rattle.ag_text.specs.Offsets.{IsFirstWrong}
 use Rattle.ag_text.specs.Reading.{Outcome, grammar_of}
@@ -34,7 +34,7 @@ read_err text j s f is lexes read i one memory =
     ap (λ l. answer_of text (grammar_of l)) (same_input 0 (chars text) i j one lexes) ∙ ap (answer_of text) (read other) ∙ ap Err (sym is)
 
 -- tokens that do not end the text are not parsed to its end
-no_end : (e : Ending) (ps : List Placed) (raw : RawGrammar) (j : Input) → ((qs : List Placed) → is_end e qs ≡ false) → grammar_of (record { left = ps; ending = e }) ≡ Ok (raw, j) → ⊥
+no_end : (e : Ending) (ps : List PlacedToken) (raw : RawGrammar) (j : Input) → ((qs : List PlacedToken) → is_end e qs ≡ false) → grammar_of (record { left = ps; ending = e }) ≡ Ok (raw, j) → ⊥
 no_end e ps raw j never read =
     let i : Input = record { left = ps; ending = e } in
     let whole = whole_of i j raw read in
@@ -46,10 +46,10 @@ no_end e ps raw j never read =
 
 -- ---- for a whole text
 
-pub is_read : (text : List ℕ) → IsUtf8 text → length text ≤ most_text_bytes → (r : Result RawGrammar TextFault) → IsReadText text r → IsRead text r
+pub is_read : (text : List ℕ) → IsUtf8 text → length text ≤ max_text_bytes → (r : Result RawGrammar TextFault) → IsReadText text r → IsRead text r
 is_read text utf8 short r is i lexes memory = let valid = is_utf8-from_IsUtf8 text utf8 in let read = is i lexes memory in grind (arith, nat_tests)
 
-reads_at : (text : List ℕ) → IsUtf8 text → length text ≤ most_text_bytes → (e : Ending) (ps : List Placed) (raw : RawGrammar) (j : Input) → Lexes 0 (chars text) (record { left = ps; ending = e }) → grammar_of (record { left = ps; ending = e }) ≡ Ok (raw, j) → ReadsAsGrammar text raw
+reads_at : (text : List ℕ) → IsUtf8 text → length text ≤ max_text_bytes → (e : Ending) (ps : List PlacedToken) (raw : RawGrammar) (j : Input) → Lexes 0 (chars text) (record { left = ps; ending = e }) → grammar_of (record { left = ps; ending = e }) ≡ Ok (raw, j) → ReadsAsGrammar text raw
 reads_at text utf8 short (ending.EndsAt n) ps raw j lexes read =
     let wide : n ≡ length text = omega (arith, ends_wide lexes.before, ap width lexes.stops, width-chars text utf8) in
     record { short = short; utf8 = utf8; placed = ps; lexes = subst (λ m. Lexes 0 (chars text) (record { left = ps; ending = ending.EndsAt m })) wide lexes; spells = sound n ps j raw read }
@@ -64,7 +64,7 @@ reads_of text (Err f) is = tt
 reads_of text (Ok raw) is =
     let input = one_input (chars text) in
     let all = is input.0 input.1 (λ e. cc) in
-    let short : length text ≤ most_text_bytes = grind (arith, nat_tests) in
+    let short : length text ≤ max_text_bytes = grind (arith, nat_tests) in
     let valid : is_utf8 text ≡ true = grind arith in
     let read = answered_raw text (grammar_of input.0) raw (grind arith) in
     reads_at text (IsUtf8-from_is_utf8 text valid) short input.0.ending input.0.left raw read.0 input.1 read.1
@@ -98,8 +98,8 @@ pub is_text : (text part : List ℕ) → part ≡ text → (r : Result RawGramma
 is_text text part same r is = subst (λ t. IsReadText t r) same is
 
 -- a text that is not UTF-8
-pub bad_utf8 : (text : List ℕ) (at : ℕ) → (IsUtf8 text → ⊥) → at ≡ utf8_valid_len text → length text ≤ most_text_bytes → IsRead text (Err (fault.BadUtf8 at))
-bad_utf8 text at bad there short i lexes memory = let none : is_utf8 text ≡ false = none (is_utf8 text) refl in let inside : nat_lt most_text_bytes (length text) ≡ false = grind (arith, nat_tests) in rw (inside, none) (ap (λ n. Err (fault.BadUtf8 n)) (sym there))
+pub bad_utf8 : (text : List ℕ) (at : ℕ) → (IsUtf8 text → ⊥) → at ≡ utf8_valid_len text → length text ≤ max_text_bytes → IsRead text (Err (fault.BadUtf8 at))
+bad_utf8 text at bad there short i lexes memory = let none : is_utf8 text ≡ false = none (is_utf8 text) refl in let inside : nat_lt max_text_bytes (length text) ≡ false = grind (arith, nat_tests) in rw (inside, none) (ap (λ n. Err (fault.BadUtf8 n)) (sym there))
   where
     none : (b : Bool) → is_utf8 text ≡ b → b ≡ false
     none false e = refl

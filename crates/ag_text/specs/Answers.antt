@@ -5,14 +5,14 @@ use Rattle.std.specs.Str.{is_utf8}
 use Rattle.std.specs.Str.Lossy.{utf8_valid_len}
 use Rattle.ag_expr.specs.declared.fault.ExprFault.{ExprFault}
 use Rattle.ag_expr.specs.declared.fault.ExprFault.TheVariants as expr
-use Rattle.ag_tokens.specs.Placed.{Input}
+use Rattle.ag_tokens.specs.PlacedToken.{Input}
 use Rattle.ag_tokens.specs.Tokens.{Lexes}
 use Rattle.ag_text.specs.declared.fault.TextFault.{TextFault}
 use Rattle.ag_text.specs.declared.fault.TextFault.TheVariants as fault
 use Rattle.ag_grammar.specs.declared.raw.RawGrammar.{RawGrammar}
 use Rattle.ag_text.specs.declared.stop.Stop.{Stop}
 use Rattle.ag_text.specs.declared.stop.Stop.TheVariants as stop
-use Rattle.ag_grammar.specs.grammars.Accepted.{most_text_bytes}
+use Rattle.ag_grammar.specs.grammars.Accepted.{max_text_bytes}
 use Rattle.ag_text.specs.Grammar.{ReadsAsNone}
 use Rattle.ag_text.specs.Offsets.{IsFirstWrong}
 use Rattle.ag_text.specs.Reading.{Outcome, grammar_of}
@@ -40,7 +40,7 @@ answer_of text (Err s) = Err (fault_of text s)
 
 -- the result of parsing a text with these tokens: too long, else not UTF-8, else the result for its tokens
 abbrev pub read_text : List ℕ → Input → Result RawGrammar TextFault
-read_text text i = cond (nat_lt most_text_bytes (length text)) (Err fault.TooLong) (cond (is_utf8 text) (answer_of text (grammar_of i)) (Err (fault.BadUtf8 (utf8_valid_len text))))
+read_text text i = cond (nat_lt max_text_bytes (length text)) (Err fault.TooLong) (cond (is_utf8 text) (answer_of text (grammar_of i)) (Err (fault.BadUtf8 (utf8_valid_len text))))
 
 -- The answer is the result of parsing the text, or memory ran out.
 abbrev pub IsRead : List ℕ → Result RawGrammar TextFault → Type 0

@@ -1,7 +1,7 @@
 -- Statements of the laws of the grammar language.
 use Rattle.std.specs.Prelude.{◌≡◌, ◌↔◌, List, [], ℕ, Ok, Err}
 use Rattle.ag_tokens.specs.Ending as ending
-use Rattle.ag_tokens.specs.Placed.{Placed, Input}
+use Rattle.ag_tokens.specs.PlacedToken.{PlacedToken, Input}
 use Rattle.ag_grammar.specs.declared.raw.RawGrammar.{RawGrammar}
 use Rattle.ag_text.specs.Grammar.{ReadsAsGrammar}
 use Rattle.ag_text.specs.Offsets.{IsFirstWrong}
@@ -12,7 +12,7 @@ use Rattle.ag_text.specs.Syntax.{IsGrammar}
 -- The parser returns a grammar for tokens, read to their end, if and only if the syntax relates the tokens to
 -- the grammar.
 abbrev pub ReadingAgrees : Type 0
-ReadingAgrees = (at : ℕ) (placed : List Placed) (raw : RawGrammar)
+ReadingAgrees = (at : ℕ) (placed : List PlacedToken) (raw : RawGrammar)
     → (grammar_of (record { left = placed; ending = ending.EndsAt at }) ≡ Ok (raw, record { left = []; ending = ending.EndsAt at })) ↔ IsGrammar placed raw
 
 -- Outside of expressions, the parser rejects tokens that are not a grammar at the first token that cannot be

@@ -2,25 +2,25 @@
 use Rattle.std.specs.Prelude.{◌≡◌, ℕ, List, [], ◌∷◌, ◌++◌}
 use Rattle.ag_tokens.specs.Ending.{Ending}
 use Rattle.ag_tokens.specs.Ending as ending
-use Rattle.ag_tokens.specs.Placed.{Placed, Input}
+use Rattle.ag_tokens.specs.PlacedToken.{PlacedToken, Input}
 use Rattle.ag_grammar.specs.declared.raw.RawGrammar.{RawGrammar}
 use Rattle.ag_tokens.specs.Parsing.{front_offset}
 use Rattle.ag_text.specs.Syntax.{IsGrammar}
 
 -- the tokens are a prefix of the text of a grammar
-abbrev pub Begins : List Placed → Type 0
-Begins ps = (more : List Placed) × (raw : RawGrammar) × IsGrammar (ps ++ more) raw
+abbrev pub Begins : List PlacedToken → Type 0
+Begins ps = (more : List PlacedToken) × (raw : RawGrammar) × IsGrammar (ps ++ more) raw
 
 -- no grammar continues with the next token, at any offset, or ends with the text if that ends here
-abbrev pub NoneGoesOn : List Placed → Ending → List Placed → Type 0
+abbrev pub NoneGoesOn : List PlacedToken → Ending → List PlacedToken → Type 0
 NoneGoesOn ps e [] = (at : ℕ) → e ≡ ending.EndsAt at → (raw : RawGrammar) → IsGrammar ps raw → ⊥
 NoneGoesOn ps e (p ∷ rest) = Begins (ps ++ p ∷ []) → ⊥
 
 -- The offset is that of the first token of `rest`: the tokens before it are a prefix of the text of a
 -- grammar, and no grammar continues with this token.
 pub record IsFirstWrong (i : Input) (at : ℕ) : Type 0 where
-  pub before : List Placed
-  pub rest : List Placed
+  pub before : List PlacedToken
+  pub rest : List PlacedToken
   pub cut : i.left ≡ before ++ rest
   pub start : Begins before
   pub says : at ≡ front_offset i.ending rest

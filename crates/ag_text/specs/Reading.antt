@@ -6,11 +6,11 @@ use Rattle.ag_grammar.specs.declared.syntax.node.Node.{Node}
 use Rattle.ag_grammar.specs.declared.syntax.occurrence.Occ.{Occ}
 use Rattle.ag_tokens.specs.declared.token.Punctuation.{Punctuation}
 use Rattle.ag_tokens.specs.declared.token.Punctuation.TheVariants as punctuation
-use Rattle.ag_tokens.specs.Placed.{Input}
+use Rattle.ag_tokens.specs.PlacedToken.{Input}
 use Rattle.ag_tokens.specs.Parsing as parsing
 use Rattle.ag_tokens.specs.Parsing.{◌>>=◌, ◌>>◌, pure, choose, further_from, end_from, offset}
-use Rattle.ag_expr.specs.language.Until.{Ended, behind_semicolon, read_until_from}
-use Rattle.ag_tokens.specs.Token.{Token}
+use Rattle.ag_expr.specs.language.Until.{Ended, after_semicolon, read_until_from}
+use Rattle.ag_tokens.specs.GrammarToken.{GrammarToken}
 use Rattle.ag_grammar.specs.declared.raw.Named.{Named}
 use Rattle.ag_grammar.specs.declared.raw.RawGrammar.{RawGrammar}
 use Rattle.ag_grammar.specs.declared.raw.RawItem.{RawItem}
@@ -33,18 +33,18 @@ Parser = parsing.Parser Stop
 abbrev pub wrong : Input → Stop
 wrong i = WrongAt (offset i)
 
-abbrev pub one_from : {A : Type 0} → (ℕ → Token → Option A) → Parser A
+abbrev pub one_from : {A : Type 0} → (ℕ → GrammarToken → Option A) → Parser A
 one_from = parsing.one_from wrong
 
 -- as many parts as there are
-abbrev pub many : {A : Type 0} → (Token → Bool) → Parser A → List A → Parser (List A)
+abbrev pub many : {A : Type 0} → (GrammarToken → Bool) → Parser A → List A → Parser (List A)
 many = further_from false
 
 -- ---- the expression of a rule
 
 -- the result for an expression up to its `;`; the remaining input begins after the `;`
 abbrev pub ended : Input → Result Ended ExprFault → Outcome (Node × List Occ)
-ended i (Ok x) = Ok (x.0, record i { left = behind_semicolon i.left })
+ended i (Ok x) = Ok (x.0, record i { left = after_semicolon i.left })
 ended i (Err f) = Err (InExpr f)
 
 unfoldable pub ended_expr_from : Parser (Node × List Occ)
@@ -95,10 +95,10 @@ rule_from = do
   expr ← ended_expr_from
   pure (record { target = target; expr = expr })
 
-abbrev pub is_other_than : Punctuation → Token → Bool
+abbrev pub is_other_than : Punctuation → GrammarToken → Bool
 is_other_than m t = not (is_mark m t)
 
-abbrev pub is_any : Token → Bool
+abbrev pub is_any : GrammarToken → Bool
 is_any t = true
 
 abbrev pub items_from : Parser (List RawItem)

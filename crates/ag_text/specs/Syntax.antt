@@ -5,8 +5,8 @@ use Rattle.ag_grammar.specs.declared.syntax.occurrence.Occ.{Occ}
 use Rattle.ag_tokens.specs.declared.token.Punctuation.{Punctuation}
 use Rattle.ag_tokens.specs.declared.token.Punctuation.TheVariants as punctuation
 use Rattle.ag_expr.specs.language.Expression.{max_levels}
-use Rattle.ag_expr.specs.language.Occurrences.{all_occurrences, different}
-use Rattle.ag_tokens.specs.Placed.{Placed, tokens}
+use Rattle.ag_expr.specs.language.Occurrences.{all_occurrences, distinct_occurrences}
+use Rattle.ag_tokens.specs.PlacedToken.{PlacedToken, tokens}
 use Rattle.ag_expr.specs.language.Syntax.{IsExpr}
 use Rattle.ag_expr.specs.language.Until.{first_semicolon}
 use Rattle.ag_grammar.specs.declared.raw.Named.{Named}
@@ -14,45 +14,45 @@ use Rattle.ag_grammar.specs.declared.raw.RawGrammar.{RawGrammar}
 use Rattle.ag_grammar.specs.declared.raw.RawProduction.{RawProduction}
 use Rattle.ag_grammar.specs.declared.raw.RawRule.{RawRule}
 use Rattle.ag_grammar.specs.declared.raw.RawSymbol.{RawSymbol}
-use Rattle.ag_tokens.specs.Token.{Token}
+use Rattle.ag_tokens.specs.GrammarToken.{GrammarToken}
 use Rattle.ag_tokens.specs.Words as words
 use Rattle.ag_tokens.specs.Words.{◌>>=◌, ◌>>◌, gives, ◌or◌, Many, further}
 use Rattle.ag_text.specs.Words.{mark_in, word_in, name_in, item_in, target_in}
 
 -- one token with its meaning at its offset
-abbrev pub one : {A : Type 0} → (ℕ → Token → Option A) → List Placed → A → Type 0
+abbrev pub one : {A : Type 0} → (ℕ → GrammarToken → Option A) → List PlacedToken → A → Type 0
 one sign = words.one (λ p. sign p.at p.token)
 
-abbrev pub mark : Punctuation → List Placed → Unit {0} → Type 0
+abbrev pub mark : Punctuation → List PlacedToken → Unit {0} → Type 0
 mark m = one (mark_in m)
 
-abbrev pub word : List ℕ → List Placed → Unit {0} → Type 0
+abbrev pub word : List ℕ → List PlacedToken → Unit {0} → Type 0
 word w = one (word_in w)
 
 -- `, name`
-abbrev pub IsFurther : List Placed → Named → Type 0
+abbrev pub IsFurther : List PlacedToken → Named → Type 0
 IsFurther = do
   mark punctuation.Comma
   one name_in
 
 -- `name { "," name }`
-abbrev pub IsNames : List Placed → List Named → Type 0
+abbrev pub IsNames : List PlacedToken → List Named → Type 0
 IsNames = do
   first ← one name_in
   further false (first ∷ []) IsFurther
 
 -- the names after `syn` or `inh`
-abbrev pub IsSection : List ℕ → List Placed → List Named → Type 0
+abbrev pub IsSection : List ℕ → List PlacedToken → List Named → Type 0
 IsSection w = do
   word w
   IsNames
 
 -- or none
-abbrev pub IsAttributes : List ℕ → List Placed → List Named → Type 0
+abbrev pub IsAttributes : List ℕ → List PlacedToken → List Named → Type 0
 IsAttributes w = IsSection w or gives []
 
 -- `"symbol" name [ "syn" names ] [ "inh" names ] ";"`
-abbrev pub IsSymbol : List Placed → RawSymbol → Type 0
+abbrev pub IsSymbol : List PlacedToken → RawSymbol → Type 0
 IsSymbol = do
   word (codes "symbol")
   name ← one name_in
@@ -63,20 +63,20 @@ IsSymbol = do
 
 -- The tokens are an expression, with its tree and the distinct occurrences among these tokens. They contain
 -- no `;`.
-pub record IsOwnExpr (ps : List Placed) (expr : Node × List Occ) : Type 0 where
+pub record IsOwnExpr (ps : List PlacedToken) (expr : Node × List Occ) : Type 0 where
   pub free : first_semicolon ps ≡ None
-  pub listed : expr.1 ≡ different (all_occurrences ps)
+  pub listed : expr.1 ≡ distinct_occurrences (all_occurrences ps)
   pub spells : IsExpr expr.1 max_levels (tokens ps) expr.0
 
 -- `expr ";"`
-abbrev pub IsEndedExpr : List Placed → Node × List Occ → Type 0
+abbrev pub IsEndedExpr : List PlacedToken → Node × List Occ → Type 0
 IsEndedExpr = do
   expr ← IsOwnExpr
   mark punctuation.Semicolon
   gives expr
 
 -- `occurrence "=" expr ";"`
-abbrev pub IsRule : List Placed → RawRule → Type 0
+abbrev pub IsRule : List PlacedToken → RawRule → Type 0
 IsRule = do
   target ← one target_in
   mark punctuation.Equal
@@ -84,7 +84,7 @@ IsRule = do
   gives (record { target = target; expr = expr })
 
 -- `name "=" { item } "{" { rule } "}"`
-abbrev pub IsProduction : List Placed → RawProduction → Type 0
+abbrev pub IsProduction : List PlacedToken → RawProduction → Type 0
 IsProduction = do
   left ← one name_in
   mark punctuation.Equal
@@ -95,7 +95,7 @@ IsProduction = do
   gives (record { left = left; items = items; rules = rules })
 
 -- `"start" name ";" { symbol } { production }`
-unfoldable pub IsGrammar : List Placed → RawGrammar → Type 0
+unfoldable pub IsGrammar : List PlacedToken → RawGrammar → Type 0
 IsGrammar = do
   word (codes "start")
   start ← one name_in

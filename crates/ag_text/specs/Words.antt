@@ -4,8 +4,8 @@ use Rattle.std.specs.List.{list_any}
 use Rattle.ag_tokens.specs.declared.token.Punctuation.{Punctuation}
 use Rattle.ag_grammar.specs.declared.syntax.occurrence.Occ.{Occ}
 use Rattle.ag_tokens.specs.Parsing.{is_sign}
-use Rattle.ag_tokens.specs.Token.{Token, mark, word}
-use Rattle.ag_tokens.specs.Token as token
+use Rattle.ag_tokens.specs.GrammarToken.{GrammarToken, mark, word}
+use Rattle.ag_tokens.specs.GrammarToken as token
 use Rattle.ag_tokens.specs.Tokens.{is_separator}
 use Rattle.ag_grammar.specs.declared.raw.Named.{Named}
 use Rattle.ag_grammar.specs.grammars.Accepted.{name_class, number_class, text_class}
@@ -23,23 +23,23 @@ abbrev pub some_where : {A : Type 0} → Bool → A → Option A
 some_where b a = if b then Some a else None
 
 -- whether the token is this punctuation, or this reserved name
-abbrev pub is_mark : Punctuation → Token → Bool
+abbrev pub is_mark : Punctuation → GrammarToken → Bool
 is_mark m = is_sign (mark m)
 
-abbrev pub is_word : List ℕ → Token → Bool
+abbrev pub is_word : List ℕ → GrammarToken → Bool
 is_word w = is_sign (word w)
 
-abbrev pub mark_in : Punctuation → ℕ → Token → Option (Unit {0})
+abbrev pub mark_in : Punctuation → ℕ → GrammarToken → Option (Unit {0})
 mark_in m at t = some_where (is_mark m t) tt
 
-abbrev pub word_in : List ℕ → ℕ → Token → Option (Unit {0})
+abbrev pub word_in : List ℕ → ℕ → GrammarToken → Option (Unit {0})
 word_in w at t = some_where (is_word w t) tt
 
 -- a name that is not reserved, with its offset
 abbrev pub named : ℕ → List ℕ → Option Named
 named at name = some_where (not (is_reserved name)) (record { name = name; at = at })
 
-abbrev pub name_in : ℕ → Token → Option Named
+abbrev pub name_in : ℕ → GrammarToken → Option Named
 name_in at (token.Name name) = named at name
 name_in at _ = None
 
@@ -60,12 +60,12 @@ class_or_name None (Some name) = Some (item.Name name)
 class_or_name None None = None
 
 -- an item of a right side: a class, a name or a literal
-abbrev pub item_in : ℕ → Token → Option RawItem
+abbrev pub item_in : ℕ → GrammarToken → Option RawItem
 item_in at (token.Name name) = class_or_name (class_of name) (named at name)
 item_in at (token.Text bytes) = literal_of bytes
 item_in at _ = None
 
 -- the target of a rule
-abbrev pub target_in : ℕ → Token → Option Occ
+abbrev pub target_in : ℕ → GrammarToken → Option Occ
 target_in at (token.Occurrence place attr) = Some (record { place = place; attr = attr; at = at })
 target_in at _ = None

@@ -4,31 +4,31 @@ use Rattle.ag_value.specs.declared.value.Value.TheVariants as value
 use Rattle.ag_grammar.specs.declared.syntax.node.Node.TheVariants as node
 use Rattle.ag_tokens.specs.declared.token.Punctuation.{Punctuation}
 use Rattle.ag_tokens.specs.declared.token.Punctuation.TheVariants as punctuation
-use Rattle.ag_tokens.specs.Placed.{Placed}
-use Rattle.ag_tokens.specs.Token as token
+use Rattle.ag_tokens.specs.PlacedToken.{PlacedToken}
+use Rattle.ag_tokens.specs.GrammarToken as token
 use Rattle.ag_grammar.specs.declared.raw.Named.{Named}
 use Rattle.ag_grammar.specs.declared.raw.RawGrammar.{RawGrammar}
 use Rattle.ag_grammar.specs.declared.raw.RawItem.TheVariants as item
 use Rattle.ag_grammar.specs.declared.raw.RawRule.{RawRule}
 
-abbrev pub name_at : ℕ → List ℕ → Placed
+abbrev pub name_at : ℕ → List ℕ → PlacedToken
 name_at at name = record { at = at; token = token.Name name }
 
-abbrev pub mark_at : ℕ → Punctuation → Placed
+abbrev pub mark_at : ℕ → Punctuation → PlacedToken
 mark_at at mark = record { at = at; token = token.Punctuation mark }
 
 abbrev pub named : ℕ → List ℕ → Named
 named at name = record { name = name; at = at }
 
 -- the tokens of `start S;`
-abbrev pub start_tokens : List Placed
+abbrev pub start_tokens : List PlacedToken
 start_tokens = name_at 0 (codes "start") ∷ name_at 6 (codes "S") ∷ mark_at 7 punctuation.Semicolon ∷ []
 
 abbrev pub start_alone : RawGrammar
 start_alone = record { start = named 6 (codes "S"); symbols = []; productions = [] }
 
 -- the tokens of `start S; symbol S syn out; S = "x" S NAME { $0.out = 7; }`
-abbrev pub constant_tokens : List Placed
+abbrev pub constant_tokens : List PlacedToken
 constant_tokens =
     name_at 0 (codes "start") ∷ name_at 6 (codes "S") ∷ mark_at 7 punctuation.Semicolon ∷
     name_at 9 (codes "symbol") ∷ name_at 16 (codes "S") ∷ name_at 18 (codes "syn") ∷ name_at 22 (codes "out") ∷ mark_at 25 punctuation.Semicolon ∷

@@ -4,7 +4,7 @@
 use crate::fault::TextFault;
 use crate::grammar::read_grammar;
 use ag_expr::ExprFault;
-use ag_tokens::{Cursor, Punctuation, Token};
+use ag_tokens::{Cursor, GrammarToken, Punctuation};
 use ag_value::NoMemory;
 use std::alloc::Global;
 
@@ -18,7 +18,7 @@ pub enum Expected {
     /// A rule, which begins with its target.
     Rule,
     /// This part of an expression. Never `End`: an expression ends with the sign `;`.
-    Part(ag_expr::Expected),
+    Part(ag_expr::ExpectedPart),
     /// This punctuation or reserved name.
     Sign(&'static str),
     /// The end of the text.
@@ -51,16 +51,16 @@ fn expected_outside(alloc: Global, text: &str, at: usize) -> Result<Vec<Expected
 
 /// Collects in `found` what could follow `before`, which ends outside of expressions.
 fn gather_outside(alloc: Global, before: &str, found: &mut Vec<Expected>) -> Result<(), NoMemory> {
-    if can_stand(alloc, before, "\"a\"")? {
+    if can_follow(alloc, before, "\"a\"")? {
         found.push(Expected::Item)?;
-    } else if can_stand(alloc, before, "_")? {
+    } else if can_follow(alloc, before, "_")? {
         found.push(Expected::Name)?;
     }
-    if can_stand(alloc, before, "$0._")? {
+    if can_follow(alloc, before, "$0._")? {
         found.push(Expected::Rule)?;
     }
     for sign in SIGNS {
-        if can_stand(alloc, before, sign)? {
+        if can_follow(alloc, before, sign)? {
             found.push(Expected::Sign(sign))?;
         }
     }
@@ -73,14 +73,14 @@ fn gather_outside(alloc: Global, before: &str, found: &mut Vec<Expected>) -> Res
 /// Returns what could be at a byte offset inside an expression.
 fn expected_inside(alloc: Global, text: &str, at: usize) -> Result<Vec<Expected>, NoMemory> {
     let mut found = Vec::new(alloc);
-    let from = expression_front(text, at);
+    let from = expression_prefix(text, at);
     let Some(expression) = text.get(from..) else {
         return Ok(found);
     };
     let parts = ag_expr::expected_at(alloc, expression, at.saturating_sub(from))?;
     for part in &parts {
         match part {
-            ag_expr::Expected::End => found.push(Expected::Sign(";"))?,
+            ag_expr::ExpectedPart::End => found.push(Expected::Sign(";"))?,
             other => found.push(Expected::Part(*other))?,
         }
     }
@@ -89,10 +89,10 @@ fn expected_inside(alloc: Global, text: &str, at: usize) -> Result<Vec<Expected>
 
 /// Returns the byte offset at which the expression around the offset `at` begins: after the last
 /// `=` before `at` that follows an occurrence. Inside an expression no `=` follows an occurrence.
-fn expression_front(text: &str, at: usize) -> usize {
+fn expression_prefix(text: &str, at: usize) -> usize {
     let mut cursor = Cursor::new(text);
-    let mut front = 0usize;
-    let mut behind_occurrence = false;
+    let mut prefix = 0usize;
+    let mut after_occurrence = false;
     for _ in 0..text.len() {
         if cursor.offset() >= at {
             break;
@@ -101,17 +101,17 @@ fn expression_front(text: &str, at: usize) -> usize {
             break;
         };
         cursor.bump();
-        if behind_occurrence && token == Token::Punctuation(Punctuation::Equal) {
-            front = cursor.offset();
+        if after_occurrence && token == GrammarToken::Punctuation(Punctuation::Equal) {
+            prefix = cursor.offset();
         }
-        behind_occurrence = matches!(token, Token::Occurrence(..));
+        after_occurrence = matches!(token, GrammarToken::Occurrence(..));
     }
-    front
+    prefix
 }
 
 /// Returns whether `token` could follow `before`: whether the parser does not reject the token
 /// itself.
-fn can_stand(alloc: Global, before: &str, token: &str) -> Result<bool, NoMemory> {
+fn can_follow(alloc: Global, before: &str, token: &str) -> Result<bool, NoMemory> {
     let tried = format!(in alloc; "{before} {token}")?;
     match refused_at(alloc, tried.as_str())? {
         Some(at) => Ok(at > before.len().saturating_add(1)),

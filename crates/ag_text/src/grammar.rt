@@ -12,7 +12,7 @@ use crate::parser::whole_grammar;
 use crate::stop::Stop;
 use ag_expr::ExprFault;
 use ag_grammar::RawGrammar;
-use ag_grammar::limits::MOST_TEXT_BYTES;
+use ag_grammar::limits::MAX_TEXT_BYTES;
 use ag_tokens::Cursor;
 use std::alloc::Global;
 
@@ -41,7 +41,7 @@ fn line_of(text: &str, at: usize) -> usize
 }
 
 /// Returns the fault of a text for a fault of its tokens.
-fn told(text: &str, stop: Stop) -> TextFault
+fn fault_of_stop(text: &str, stop: Stop) -> TextFault
     ensures { result ≡ answers.fault_of text.now stop }
 {
     match stop {
@@ -59,7 +59,7 @@ fn read_characters(alloc: Global, text: &str) -> Result<RawGrammar, TextFault>
     let mut cursor = Cursor::new(text);
     match whole_grammar(alloc, &mut cursor) {
         Ok(grammar) => Ok(grammar),
-        Err(stop) => Err(told(text, stop)),
+        Err(stop) => Err(fault_of_stop(text, stop)),
     }
 }
 
@@ -76,7 +76,7 @@ pub fn read_grammar(alloc: Global, text: &[u8]) -> Result<RawGrammar, TextFault>
     ensures refuses { IfErr result (λ e. IsRefused text.now e) }
     ensures never { IfErr result (λ e. e ≢ fault.Expr expr_fault.NoMemory) }
 {
-    if text.len() > MOST_TEXT_BYTES {
+    if text.len() > MAX_TEXT_BYTES {
         return Err(TextFault::TooLong);
     }
     match str::from_utf8(text) {

@@ -17,7 +17,7 @@ pub fn reading_agrees_with_the_syntax()
 /// States that, outside of expressions, the parser fails at the first token that cannot be
 /// accepted.
 #[tactic(auto, using(crate::proofs::Agree::refuses_at_the_first))]
-pub fn the_first_wrong_token_is_told()
+pub fn the_first_wrong_token_is_reported()
     ensures { RefusesAtTheFirst }
 {}
 

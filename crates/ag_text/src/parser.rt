@@ -58,16 +58,16 @@ fn attributes(alloc: Global, cursor: &mut Cursor<'_>, word: &str) -> Result<Item
 /// A part of a grammar's text that may be repeated any number of times.
 trait Repeated: Sized {
     ghost use Rattle.ag_text.specs.Reading.{Parser};
-    ghost use Rattle.ag_tokens.specs.Token.{Token};
+    ghost use Rattle.ag_tokens.specs.GrammarToken.{GrammarToken};
 
     /// The tokens that begin another part.
-    ghost begins: { Token → Bool };
+    ghost begins: { GrammarToken → Bool };
 
     /// The plain parser of one part.
     ghost part: { Parser Self };
 
     /// Returns whether the next token begins another part.
-    fn stands(cursor: &Cursor<'_>) -> bool
+    fn occurs(cursor: &Cursor<'_>) -> bool
         ensures { result ≡ sees begins cursor.now };
 
     /// Parses one part.
@@ -83,7 +83,7 @@ fn parts<P: Repeated + Drop>(alloc: Global, cursor: &mut Cursor<'_>) -> Result<I
     ensures { Reads (reading.many P.begins P.part []) cursor.old result cursor.new }
 {
     let mut parts = Vec::new(alloc);
-    while P::stands(cursor) {
+    while P::occurs(cursor) {
         let part = P::pass(alloc, cursor)?;
         parts.push(part)?;
     }
@@ -96,7 +96,7 @@ impl Repeated for RawSymbol {
 
     ghost part = { reading.symbol_from };
 
-    fn stands(cursor: &Cursor<'_>) -> bool {
+    fn occurs(cursor: &Cursor<'_>) -> bool {
         sees_word(cursor, "symbol")
     }
 
@@ -117,7 +117,7 @@ impl Repeated for RawItem {
 
     ghost part = { reading.one_from words.item_in };
 
-    fn stands(cursor: &Cursor<'_>) -> bool {
+    fn occurs(cursor: &Cursor<'_>) -> bool {
         sees_other(cursor, Punctuation::OpenTable)
     }
 
@@ -132,7 +132,7 @@ impl Repeated for RawRule {
 
     ghost part = { reading.rule_from };
 
-    fn stands(cursor: &Cursor<'_>) -> bool {
+    fn occurs(cursor: &Cursor<'_>) -> bool {
         sees_other(cursor, Punctuation::CloseTable)
     }
 
@@ -151,7 +151,7 @@ impl Repeated for RawProduction {
 
     ghost part = { reading.production_from };
 
-    fn stands(cursor: &Cursor<'_>) -> bool {
+    fn occurs(cursor: &Cursor<'_>) -> bool {
         sees_any(cursor)
     }
 

@@ -4,7 +4,7 @@ ghost use Rattle.std.specs.List.{list_any};
 ghost use Rattle.std.specs.Prelude.{◌≡◌, IfOk, chars};
 ghost use Rattle.ag_tokens.specs.Lexing.{token_of, unescaped as unescaped_bytes};
 ghost use Rattle.ag_tokens.specs.Parsing.{offset, sees};
-ghost use Rattle.ag_tokens.specs.Token as token;
+ghost use Rattle.ag_tokens.specs.GrammarToken as token;
 ghost use Rattle.ag_tokens.specs.Tokens.{is_separator};
 ghost use Rattle.ag_text.specs.Passing.{Reads};
 ghost use Rattle.ag_text.specs.Reading as reading;
@@ -14,7 +14,7 @@ ghost use Rattle.ag_text.specs.declared.stop.Stop.TheVariants as stop;
 use crate::stop::Stop;
 use ag_grammar::limits::{NAME, NUMBER, TEXT};
 use ag_grammar::{Named, Occ, RawItem};
-use ag_tokens::{Cursor, Punctuation, Token, is_mark, is_word, unescaped};
+use ag_tokens::{Cursor, GrammarToken, Punctuation, is_mark, is_word, unescaped};
 use ag_value::{NoMemory, Text};
 use std::alloc::Global;
 
@@ -113,7 +113,7 @@ pub fn name(alloc: Global, cursor: &mut Cursor<'_>) -> Result<Named, Stop>
     ensures { Reads (reading.one_from words.name_in) cursor.old result cursor.new }
 {
     match cursor.peek() {
-        Some(Token::Name(name)) if !is_reserved(name) => {
+        Some(GrammarToken::Name(name)) if !is_reserved(name) => {
             let at = cursor.offset();
             let name = copied(alloc, name)?;
             cursor.bump();
@@ -185,12 +185,12 @@ fn named_item(alloc: Global, name: &str, at: usize) -> Result<Option<RawItem>, N
 }
 
 /// Returns the item of a right side for a token, or `None` if the token cannot be one.
-fn item_of(alloc: Global, token: Token<'_>, at: usize) -> Result<Option<RawItem>, NoMemory>
+fn item_of(alloc: Global, token: GrammarToken<'_>, at: usize) -> Result<Option<RawItem>, NoMemory>
     ensures { IfOk result (λ found. found ≡ words.item_in at (token_of token.entry)) }
 {
     match token {
-        Token::Name(name) => named_item(alloc, name, at),
-        Token::Text(body) => literal(alloc, body),
+        GrammarToken::Name(name) => named_item(alloc, name, at),
+        GrammarToken::Text(body) => literal(alloc, body),
         _ => Ok(None),
     }
 }
@@ -215,7 +215,7 @@ pub fn target(alloc: Global, cursor: &mut Cursor<'_>) -> Result<Occ, Stop>
     ensures { Reads (reading.one_from words.target_in) cursor.old result cursor.new }
 {
     match cursor.peek() {
-        Some(Token::Occurrence(place, attr)) => {
+        Some(GrammarToken::Occurrence(place, attr)) => {
             let at = cursor.offset();
             let attr = copied(alloc, attr)?;
             cursor.bump();

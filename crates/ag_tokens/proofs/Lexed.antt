@@ -5,8 +5,8 @@ use Rattle.std.proofs.lemmas.Bool.Decides.{nat_tests}
 use Rattle.std.specs.Char.{len_utf8}
 use Rattle.std.specs.List.{prefix_len}
 use Rattle.std.proofs.lemmas.Str.{length-encode, encodes-chars}
-use Rattle.ag_tokens.specs.Placed.{Placed}
-use Rattle.ag_tokens.specs.Token.{Token}
+use Rattle.ag_tokens.specs.PlacedToken.{PlacedToken}
+use Rattle.ag_tokens.specs.GrammarToken.{GrammarToken}
 use Rattle.ag_tokens.specs.Tokens.{is_separator, width, AreTokens, separator, word}
 use Rattle.ag_tokens.specs.Left.{StartsPlain}
 use Rattle.ag_tokens.specs.Lexing.{token_from}
@@ -14,7 +14,7 @@ use Rattle.ag_tokens.proofs.Fronts.{drop_more}
 use Rattle.ag_tokens.proofs.TokenLaws.{token_sound, cut_longest, word_some}
 
 -- The characters after a token that was read are fewer, and do not take more bytes.
-pub record IsBehind (cs rest : List ℕ) : Type 0 where
+pub record IsAfter (cs rest : List ℕ) : Type 0 where
   pub shorter : length rest < length cs
   pub narrower : width rest ≤ width cs
 
@@ -22,7 +22,7 @@ pub width-append : (xs ys : List ℕ) → width (xs ++ ys) ≡ width xs + width 
 width-append [] ys = omega arith
 width-append (x ∷ xs) ys = let more = width-append xs ys in omega arith
 
-pub is_behind : (cs : List ℕ) (t : Token) (rest : List ℕ) → token_from cs ≡ Some (t, rest) → IsBehind cs rest
+pub is_behind : (cs : List ℕ) (t : GrammarToken) (rest : List ℕ) → token_from cs ≡ Some (t, rest) → IsAfter cs rest
 is_behind cs t rest e =
     let cut = token_sound cs t rest e in
     let some = word_some cut.word t cut.token in
@@ -36,7 +36,7 @@ spaces [] = refl
 spaces (c ∷ cs) = let more = spaces cs in grind (arith, separator_width, drop_more)
 
 -- tokens after separators
-pub spaced : (at : ℕ) (cs : List ℕ) (ps : List Placed) (end : ℕ) (rest : List ℕ) → AreTokens (at + prefix_len is_separator cs) (drop (prefix_len is_separator cs) cs) ps end rest → AreTokens at cs ps end rest
+pub spaced : (at : ℕ) (cs : List ℕ) (ps : List PlacedToken) (end : ℕ) (rest : List ℕ) → AreTokens (at + prefix_len is_separator cs) (drop (prefix_len is_separator cs) cs) ps end rest → AreTokens at cs ps end rest
 spaced at [] ps end rest are = subst (λ n. AreTokens n [] ps end rest) (omega arith) are
 spaced at (c ∷ cs) ps end rest are = go (is_separator c) refl (spaced (at + 1) cs ps end rest)
   where
@@ -44,17 +44,17 @@ spaced at (c ∷ cs) ps end rest are = go (is_separator c) refl (spaced (at + 1)
     go false h more = let k : at + 0 ≡ at = omega arith in rw (h, k) at are
     go true h more = let k : at + (1 + prefix_len is_separator cs) ≡ (at + 1) + prefix_len is_separator cs = omega arith in separator at c cs ps end rest h (more (rw (h, k, drop_more) at are))
 
-pub plain_behind : (cs : List ℕ) → StartsPlain (drop (prefix_len is_separator cs) cs)
-plain_behind [] = tt
-plain_behind (c ∷ cs) = let more = plain_behind cs in grind (arith, drop_more)
+pub plain_after : (cs : List ℕ) → StartsPlain (drop (prefix_len is_separator cs) cs)
+plain_after [] = tt
+plain_after (c ∷ cs) = let more = plain_after cs in grind (arith, drop_more)
 
 -- a token that the lexer reads, and the tokens after it
-pub one_more : (at : ℕ) (cs : List ℕ) (t : Token) (behind : List ℕ) (ps : List Placed) (end : ℕ) (rest : List ℕ) → token_from cs ≡ Some (t, behind) → AreTokens (at + (width cs - width behind)) behind ps end rest
+pub one_more : (at : ℕ) (cs : List ℕ) (t : GrammarToken) (following : List ℕ) (ps : List PlacedToken) (end : ℕ) (rest : List ℕ) → token_from cs ≡ Some (t, following) → AreTokens (at + (width cs - width following)) following ps end rest
     → AreTokens at cs (record { at = at; token = t } ∷ ps) end rest
-one_more at cs t behind ps end rest e more =
-    let cut = token_sound cs t behind e in
-    let wide : at + (width cs - width behind) ≡ at + width cut.word = omega (arith, ap width cut.split, width-append cut.word behind) in
-    word at cs cut.word behind t ps end rest cut.split cut.token (cut_longest cs t behind cut.word e cut.split) (subst (λ n. AreTokens n behind ps end rest) wide more)
+one_more at cs t following ps end rest e more =
+    let cut = token_sound cs t following e in
+    let wide : at + (width cs - width following) ≡ at + width cut.word = omega (arith, ap width cut.split, width-append cut.word following) in
+    word at cs cut.word following t ps end rest cut.split cut.token (cut_longest cs t following cut.word e cut.split) (subst (λ n. AreTokens n following ps end rest) wide more)
 
 pub width-encoded : (cs : List ℕ) → width cs ≡ length (encode_utf8_all cs)
 width-encoded [] = refl

@@ -8,11 +8,11 @@ use Rattle.std.proofs.lemmas.Bool.Decides.{nat_tests}
 use Rattle.std.proofs.lemmas.Str.{encode_ascii}
 use Rattle.std.proofs.lemmas.Str.Parse.{IsNumeralModel, numerals_by_value, parse_digits, parse_signed_digits}
 use mir.Syntax.{w64}
-use Rattle.ag_tokens.specs.Token as token
+use Rattle.ag_tokens.specs.GrammarToken as token
 use Rattle.ag_tokens.specs.Tokens.{IsDigits}
 use Rattle.ag_tokens.specs.declared.lexer.Class.TheVariants as class
-use Rattle.ag_tokens.specs.Lexing.{front_in, back_of, digits_from, number_from, occurrence_from, plain_from, text_from, token_from, where_some}
-use Rattle.ag_tokens.proofs.Fronts.{front_passes, take_more, drop_more}
+use Rattle.ag_tokens.specs.Lexing.{prefix_in, back_of, digits_from, number_from, occurrence_from, plain_from, text_from, token_from, where_some}
+use Rattle.ag_tokens.proofs.Fronts.{prefix_passes, take_more, drop_more}
 
 own : IsNumeralModel (λ ds. list_all is_ascii_digit ds ≡ true) (digits_value 10)
 own = numerals_by_value _ (search rules)
@@ -34,9 +34,9 @@ front_empty : (p : ℕ → Bool) (cs : List ℕ) → length (take (prefix_len p 
 front_empty p [] none = refl
 front_empty p (c ∷ cs) none = grind (arith, take_more)
 
-module _ (cs word : List ℕ) (is : word ≡ encode_utf8_all (front_in class.Digit cs)) where
-  word_is : word ≡ front_in class.Digit cs
-  word_is = is ∙ digits_encoded (front_in class.Digit cs) (front_passes is_ascii_digit cs)
+module _ (cs word : List ℕ) (is : word ≡ encode_utf8_all (prefix_in class.Digit cs)) where
+  word_is : word ≡ prefix_in class.Digit cs
+  word_is = is ∙ digits_encoded (prefix_in class.Digit cs) (prefix_passes is_ascii_digit cs)
 
   pub no_digits_cut : (length word == 0) ≡ true → digits_from cs ≡ None
   no_digits_cut empty = let same = word_is in let none = front_empty is_ascii_digit cs in grind (arith, nat_tests)
@@ -45,14 +45,14 @@ module _ (cs word : List ℕ) (is : word ≡ encode_utf8_all (front_in class.Dig
   digits_cut some back same = let is = word_is in grind (arith, nat_tests)
 
   pub digits_are : (length word == 0) ≡ false → IsDigits word
-  digits_are some = let same = word_is in let all = front_passes is_ascii_digit cs in grind (arith, nat_tests)
+  digits_are some = let same = word_is in let all = prefix_passes is_ascii_digit cs in grind (arith, nat_tests)
 
 -- ---- a number computed digit by digit
 
 digit_is : (c : ℕ) → is_ascii_digit c ≡ true → digit_value c ≡ c - 48
 digit_is c is = grind (arith, nat_tests)
 
-front_more : (c : ℕ) (cs : List ℕ) → is_ascii_digit c ≡ true → front_in class.Digit (c ∷ cs) ≡ c ∷ front_in class.Digit cs
+front_more : (c : ℕ) (cs : List ℕ) → is_ascii_digit c ≡ true → prefix_in class.Digit (c ∷ cs) ≡ c ∷ prefix_in class.Digit cs
 front_more c cs is = grind (arith, take_more)
 
 back_more : (c : ℕ) (cs : List ℕ) → is_ascii_digit c ≡ true → back_of class.Digit (c ∷ cs) ≡ back_of class.Digit cs
@@ -64,28 +64,28 @@ value_more n c ds is = ap (λ d. digits_value_after 10 (n * 10 + d) ds) (digit_i
 -- The digits of `cs` up to the beginning of `rest` have been read, and their value is `number`.
 pub record WorkedOut (cs : List ℕ) (number : ℕ) (rest : List ℕ) : Type 0 where
   pub small : number < 1000000000000000000
-  pub value : digits_value_after 10 number (front_in class.Digit (chars rest)) ≡ digits_value 10 (front_in class.Digit cs)
+  pub value : digits_value_after 10 number (prefix_in class.Digit (chars rest)) ≡ digits_value 10 (prefix_in class.Digit cs)
   pub back : back_of class.Digit (chars rest) ≡ back_of class.Digit cs
 
 pub begins : (c : ℕ) (text : List ℕ) → is_ascii_digit c ≡ true → WorkedOut (c ∷ chars text) (c - 48) text
 begins c text is = record {
   small = grind (arith, nat_tests);
   value = let none : 0 * 10 + (c - 48) ≡ c - 48 = omega arith in
-      sym (ap (digits_value 10) (front_more c (chars text) is) ∙ value_more 0 c (front_in class.Digit (chars text)) is ∙ ap (λ n. digits_value_after 10 n (front_in class.Digit (chars text))) none);
+      sym (ap (digits_value 10) (front_more c (chars text) is) ∙ value_more 0 c (prefix_in class.Digit (chars text)) is ∙ ap (λ n. digits_value_after 10 n (prefix_in class.Digit (chars text))) none);
   back = sym (back_more c (chars text) is);
 }
 
-pub goes_on : (cs : List ℕ) (number : ℕ) (rest : List ℕ) (c : ℕ) (behind : List ℕ) → is_ascii_digit c ≡ true → chars rest ≡ c ∷ chars behind → number ≤ 99999999999999999 → WorkedOut cs number rest → WorkedOut cs (number * 10 + (c - 48)) behind
-goes_on cs number rest c behind is split small so_far =
-    let front : front_in class.Digit (chars rest) ≡ c ∷ front_in class.Digit (chars behind) = rw split (front_more c (chars behind) is) in
-    let back : back_of class.Digit (chars rest) ≡ back_of class.Digit (chars behind) = rw split (back_more c (chars behind) is) in
+pub goes_on : (cs : List ℕ) (number : ℕ) (rest : List ℕ) (c : ℕ) (following : List ℕ) → is_ascii_digit c ≡ true → chars rest ≡ c ∷ chars following → number ≤ 99999999999999999 → WorkedOut cs number rest → WorkedOut cs (number * 10 + (c - 48)) following
+goes_on cs number rest c following is split small so_far =
+    let prefix : prefix_in class.Digit (chars rest) ≡ c ∷ prefix_in class.Digit (chars following) = rw split (front_more c (chars following) is) in
+    let back : back_of class.Digit (chars rest) ≡ back_of class.Digit (chars following) = rw split (back_more c (chars following) is) in
     record {
       small = grind (arith, nat_tests);
-      value = sym (ap (digits_value_after 10 number) front ∙ value_more number c (front_in class.Digit (chars behind)) is) ∙ so_far.value;
+      value = sym (ap (digits_value_after 10 number) prefix ∙ value_more number c (prefix_in class.Digit (chars following)) is) ∙ so_far.value;
       back = sym back ∙ so_far.back;
     }
 
-pub value_of : (cs : List ℕ) (number : ℕ) (rest : List ℕ) → prefix_len is_ascii_digit (chars rest) ≡ 0 → WorkedOut cs number rest → number ≡ digits_value 10 (front_in class.Digit cs)
+pub value_of : (cs : List ℕ) (number : ℕ) (rest : List ℕ) → prefix_len is_ascii_digit (chars rest) ≡ 0 → WorkedOut cs number rest → number ≡ digits_value 10 (prefix_in class.Digit cs)
 value_of cs number rest none so_far = sym (rw none refl) ∙ so_far.value
 
 pub rest_of : (cs : List ℕ) (number : ℕ) (rest : List ℕ) → prefix_len is_ascii_digit (chars rest) ≡ 0 → WorkedOut cs number rest → chars rest ≡ back_of class.Digit cs
@@ -93,7 +93,7 @@ rest_of cs number rest none so_far = sym (rw none refl) ∙ so_far.back
 
 -- ---- by the first character
 
-pub number_is : (c : ℕ) (cs : List ℕ) → is_ascii_digit c ≡ true → number_from (c ∷ cs) ≡ Some (token.Number (pos (digits_value 10 (front_in class.Digit (c ∷ cs)))), back_of class.Digit (c ∷ cs))
+pub number_is : (c : ℕ) (cs : List ℕ) → is_ascii_digit c ≡ true → number_from (c ∷ cs) ≡ Some (token.Number (pos (digits_value 10 (prefix_in class.Digit (c ∷ cs)))), back_of class.Digit (c ∷ cs))
 number_is c cs is = grind arith
 
 pub no_digit : (c : ℕ) (cs : List ℕ) → is_ascii_digit c ≡ false → digits_from (c ∷ cs) ≡ None
@@ -104,10 +104,10 @@ chosen o b f x is = rw is refl
 
 pub some_digit : (c : ℕ) (cs : List ℕ) → is_ascii_digit c ≡ true → plain_from (c ∷ cs) ≡ number_from (c ∷ cs)
 some_digit c cs is =
-    let some : digits_from (c ∷ cs) ≡ Some (front_in class.Digit (c ∷ cs), back_of class.Digit (c ∷ cs)) = grind arith in
+    let some : digits_from (c ∷ cs) ≡ Some (prefix_in class.Digit (c ∷ cs), back_of class.Digit (c ∷ cs)) = grind arith in
     chosen (digits_from (c ∷ cs)) _ _ _ some ∙ sym (number_is c cs is)
 
-pub numbered_token : (c : ℕ) (cs : List ℕ) → is_ascii_digit c ≡ true → token_from (c ∷ cs) ≡ Some (token.Number (pos (digits_value 10 (front_in class.Digit (c ∷ cs)))), back_of class.Digit (c ∷ cs))
+pub numbered_token : (c : ℕ) (cs : List ℕ) → is_ascii_digit c ≡ true → token_from (c ∷ cs) ≡ Some (token.Number (pos (digits_value 10 (prefix_in class.Digit (c ∷ cs)))), back_of class.Digit (c ∷ cs))
 unfolding token_from
 numbered_token c cs is =
     let plain : cond (c == 34) (text_from (length cs) [] cs) (cond (c == 36) (occurrence_from cs) (plain_from (c ∷ cs))) ≡ plain_from (c ∷ cs) = grind (arith, nat_tests) in

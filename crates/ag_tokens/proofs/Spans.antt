@@ -8,71 +8,71 @@ use Rattle.std.proofs.lemmas.List.Folds.{list_all-append}
 use Rattle.std.proofs.lemmas.Str.{encodes-append, length-encode, len_utf8_bounds, chars-nil, IsCharBoundary-at_seam}
 use Rattle.ag_tokens.specs.declared.lexer.Class.{Class}
 use Rattle.ag_tokens.specs.declared.lexer.Class.TheVariants as class
-use Rattle.ag_tokens.specs.Lexing.{is_in, front_in, back_of, PassesOne}
-use Rattle.ag_tokens.specs.Left.{unspaced}
+use Rattle.ag_tokens.specs.Lexing.{is_in, prefix_in, back_of, PassesOne}
+use Rattle.ag_tokens.specs.Left.{without_spaces}
 use Rattle.ag_tokens.specs.Tokens.{width}
 use Rattle.ag_tokens.proofs.Lexed.{spaces, width-chars}
 
--- The characters of `front` pass, and `rest` is the text after them.
+-- The characters of `prefix` pass, and `rest` is the text after them.
 pub record Passed (p : ℕ → Bool) (text rest : List ℕ) : Type 0 where
-  pub front : List ℕ
-  pub all : list_all p front ≡ true
-  pub split : text ≡ encode_utf8_all front ++ rest
-  pub characters : chars text ≡ front ++ chars rest
+  pub prefix : List ℕ
+  pub all : list_all p prefix ≡ true
+  pub split : text ≡ encode_utf8_all prefix ++ rest
+  pub characters : chars text ≡ prefix ++ chars rest
 
 pub goes_on : (class : Class) (text rest : List ℕ) (after : Bor (List ℕ)) → PassesOne class rest (Some after) → Passed (is_in class) text rest → Passed (is_in class) text after.now
 goes_on class text rest after (c, passes, characters, split) so_far = record {
-  front = so_far.front ++ c ∷ [];
-  all = list_all-append (is_in class) so_far.front (c ∷ []) ∙ rw (so_far.all, passes) refl;
-  split = so_far.split ∙ ap (λ x. encode_utf8_all so_far.front ++ x) split ∙ sym (append_assoc (encode_utf8_all so_far.front) (encode_utf8 c) after.now)
-      ∙ ap (λ x. (encode_utf8_all so_far.front ++ x) ++ after.now) (sym (append-nil (encode_utf8 c))) ∙ ap (λ x. x ++ after.now) (sym (encodes-append so_far.front (c ∷ [])));
-  characters = so_far.characters ∙ ap (λ x. so_far.front ++ x) characters ∙ sym (append_assoc so_far.front (c ∷ []) (chars after.now));
+  prefix = so_far.prefix ++ c ∷ [];
+  all = list_all-append (is_in class) so_far.prefix (c ∷ []) ∙ rw (so_far.all, passes) refl;
+  split = so_far.split ∙ ap (λ x. encode_utf8_all so_far.prefix ++ x) split ∙ sym (append_assoc (encode_utf8_all so_far.prefix) (encode_utf8 c) after.now)
+      ∙ ap (λ x. (encode_utf8_all so_far.prefix ++ x) ++ after.now) (sym (append-nil (encode_utf8 c))) ∙ ap (λ x. x ++ after.now) (sym (encodes-append so_far.prefix (c ∷ [])));
+  characters = so_far.characters ∙ ap (λ x. so_far.prefix ++ x) characters ∙ sym (append_assoc so_far.prefix (c ∷ []) (chars after.now));
 }
 
 pub nearer : (class : Class) (rest : List ℕ) (after : Bor (List ℕ)) → PassesOne class rest (Some after) → length after.now < length rest
 nearer class rest after (c, passes, characters, split) = let some = (len_utf8_bounds c).0 in omega (arith, ap length split, length-append (encode_utf8 c) after.now, length-encode c)
 
--- a text is split after the characters of `front`
-module _ (text rest front : List ℕ) (split : text ≡ encode_utf8_all front ++ rest) where
-  cut_at : length text - length rest ≡ length (encode_utf8_all front)
-  cut_at = omega (arith, ap length split, length-append (encode_utf8_all front) rest)
+-- a text is split after the characters of `prefix`
+module _ (text rest prefix : List ℕ) (split : text ≡ encode_utf8_all prefix ++ rest) where
+  cut_at : length text - length rest ≡ length (encode_utf8_all prefix)
+  cut_at = omega (arith, ap length split, length-append (encode_utf8_all prefix) rest)
 
   pub seam : IsUtf8 rest → IsCharBoundary text (length text - length rest)
-  seam utf8 = rw cut_at (IsCharBoundary-at_seam text (encode_utf8_all front) rest split utf8)
+  seam utf8 = rw cut_at (IsCharBoundary-at_seam text (encode_utf8_all prefix) rest split utf8)
 
-  pub front_bytes : take (length text - length rest) text ≡ encode_utf8_all front
-  front_bytes = rw cut_at (ap (take (length (encode_utf8_all front))) split ∙ take-append_seam (encode_utf8_all front) rest)
+  pub front_bytes : take (length text - length rest) text ≡ encode_utf8_all prefix
+  front_bytes = rw cut_at (ap (take (length (encode_utf8_all prefix))) split ∙ take-append_seam (encode_utf8_all prefix) rest)
 
   back_bytes : drop (length text - length rest) text ≡ rest
-  back_bytes = rw cut_at (ap (drop (length (encode_utf8_all front))) split ∙ drop-append_seam (encode_utf8_all front) rest)
+  back_bytes = rw cut_at (ap (drop (length (encode_utf8_all prefix))) split ∙ drop-append_seam (encode_utf8_all prefix) rest)
 
 module _ (class : Class) (text rest : List ℕ) (so_far : Passed (is_in class) text rest) where
   pub boundary : IsUtf8 rest → IsCharBoundary text (length text - length rest)
-  boundary = seam text rest so_far.front so_far.split
+  boundary = seam text rest so_far.prefix so_far.split
 
   module _ (none : prefix_len (is_in class) (chars rest) ≡ 0) where
-    length_is : prefix_len (is_in class) (chars text) ≡ length so_far.front
-    length_is = ap (prefix_len (is_in class)) so_far.characters ∙ front_is (is_in class) so_far.front (chars rest) so_far.all none
+    length_is : prefix_len (is_in class) (chars text) ≡ length so_far.prefix
+    length_is = ap (prefix_len (is_in class)) so_far.characters ∙ front_is (is_in class) so_far.prefix (chars rest) so_far.all none
 
-    pub front_cut : take (length text - length rest) text ≡ encode_utf8_all (front_in class (chars text))
-    front_cut = front_bytes text rest so_far.front so_far.split ∙ ap encode_utf8_all (sym (rw length_is (ap (take (length so_far.front)) so_far.characters ∙ take-append_seam so_far.front (chars rest))))
+    pub front_cut : take (length text - length rest) text ≡ encode_utf8_all (prefix_in class (chars text))
+    front_cut = front_bytes text rest so_far.prefix so_far.split ∙ ap encode_utf8_all (sym (rw length_is (ap (take (length so_far.prefix)) so_far.characters ∙ take-append_seam so_far.prefix (chars rest))))
 
     pub back_cut : chars (drop (length text - length rest) text) ≡ back_of class (chars text)
-    back_cut = ap chars (back_bytes text rest so_far.front so_far.split) ∙ sym (rw length_is (ap (drop (length so_far.front)) so_far.characters ∙ drop-append_seam so_far.front (chars rest)))
+    back_cut = ap chars (back_bytes text rest so_far.prefix so_far.split) ∙ sym (rw length_is (ap (drop (length so_far.prefix)) so_far.characters ∙ drop-append_seam so_far.prefix (chars rest)))
 
 pub empty_text : (text : List ℕ) → length text ≡ 0 → chars text ≡ []
 empty_text [] e = chars-nil
 empty_text (b ∷ text) e = let bad : ⊥ = omega arith in absurd bad
 
 -- the text after separators has as many bytes as its characters take, and at most as many as the whole text
-pub left_within : (text rest : List ℕ) → IsUtf8 text → IsUtf8 rest → chars rest ≡ unspaced (chars text) → length rest ≤ length text
+pub left_within : (text rest : List ℕ) → IsUtf8 text → IsUtf8 rest → chars rest ≡ without_spaces (chars text) → length rest ≤ length text
 left_within text rest utf8 utf8' is =
     let space = spaces (chars text) in
     omega (arith, width-chars text utf8, width-chars rest utf8', ap width is)
 
 -- separators that are skipped one at a time
-pub skipped : (rest : List ℕ) (after : Bor (List ℕ)) → PassesOne class.Separator rest (Some after) → unspaced (chars after.now) ≡ unspaced (chars rest)
+pub skipped : (rest : List ℕ) (after : Bor (List ℕ)) → PassesOne class.Separator rest (Some after) → without_spaces (chars after.now) ≡ without_spaces (chars rest)
 skipped rest after (c, passes, characters, split) = rw characters (grind (arith, drop_more))
 
-pub unskipped : (rest : List ℕ) → prefix_len (is_in class.Separator) (chars rest) ≡ 0 → chars rest ≡ unspaced (chars rest)
+pub unskipped : (rest : List ℕ) → prefix_len (is_in class.Separator) (chars rest) ≡ 0 → chars rest ≡ without_spaces (chars rest)
 unskipped rest none = rw none refl

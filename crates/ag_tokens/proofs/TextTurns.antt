@@ -6,24 +6,24 @@ use Rattle.std.proofs.lemmas.Str.{encode_ascii, encodes-append, chars_from_encod
 use Rattle.std.proofs.lemmas.Bool.{ne_eqb}
 use Rattle.std.proofs.lemmas.Bool.Decides.{nat_tests}
 use Rattle.ag_tokens.proofs.Spans.{seam, front_bytes}
-use Rattle.ag_tokens.specs.Token.{Token}
-use Rattle.ag_tokens.specs.Token as token
+use Rattle.ag_tokens.specs.GrammarToken.{GrammarToken}
+use Rattle.ag_tokens.specs.GrammarToken as token
 use Rattle.ag_tokens.specs.Tokens.{IsBody, empty, plain, escape, escaped}
-use Rattle.ag_tokens.specs.Lexing.{piece_from, character_from, escape_from, text_from, unquoted, unescaped, IsPast, PassesEscape}
+use Rattle.ag_tokens.specs.Lexing.{piece_from, character_from, escape_from, text_from, without_quotes, unescaped, IsPast, PassesEscape}
 
--- The characters in `taken` have been read and denote the bytes in `front`; `rest` is left, and reading it to
+-- The characters in `taken` have been read and denote the bytes in `prefix`; `rest` is left, and reading it to
 -- its end gives `total`.
-pub record Within (text rest : List ℕ) (total : Option (Token × List ℕ)) : Type 0 where
+pub record Within (text rest : List ℕ) (total : Option (GrammarToken × List ℕ)) : Type 0 where
   pub taken : List ℕ
-  pub front : List ℕ
-  pub is : IsBody taken front
+  pub prefix : List ℕ
+  pub is : IsBody taken prefix
   pub split : text ≡ encode_utf8_all taken ++ rest
   pub turns : ℕ
   pub enough : length (chars rest) ≤ turns
-  pub same : text_from turns front (chars rest) ≡ total
+  pub same : text_from turns prefix (chars rest) ≡ total
 
 pub starts : (text : List ℕ) → Within text text (text_from (length (chars text)) [] (chars text))
-starts text = record { taken = []; front = []; is = empty; split = refl; turns = length (chars text); enough = omega arith; same = refl }
+starts text = record { taken = []; prefix = []; is = empty; split = refl; turns = length (chars text); enough = omega arith; same = refl }
 
 joined : {xs bytes : List ℕ} → IsBody xs bytes → (ys more : List ℕ) → IsBody ys more → IsBody (xs ++ ys) (bytes ++ more)
 joined empty ys more is = is
@@ -39,7 +39,7 @@ shorter_escape cs rest c e = grind arith
 shorter : (cs rest : List ℕ) (c : ℕ) → character_from cs ≡ Some (c, rest) → length rest < length cs
 shorter cs rest c e = grind (arith, shorter_escape)
 
-pub goes_on : (text rest after : List ℕ) (total : Option (Token × List ℕ)) → IsPast rest after → Within text rest total → Within text after total
+pub goes_on : (text rest after : List ℕ) (total : Option (GrammarToken × List ℕ)) → IsPast rest after → Within text rest total → Within text after total
 unfolding text_from
 goes_on text rest after total past so_far = go so_far.turns so_far.enough so_far.same
   where
@@ -47,29 +47,29 @@ goes_on text rest after total past so_far = go so_far.turns so_far.enough so_far
     whole = so_far.split ∙ ap (λ x. encode_utf8_all so_far.taken ++ x) past.split ∙ sym (append_assoc (encode_utf8_all so_far.taken) (encode_utf8_all past.piece) after)
         ∙ ap (λ x. x ++ after) (sym (encodes-append so_far.taken past.piece))
 
-    go : (n : ℕ) → length (chars rest) ≤ n → text_from n so_far.front (chars rest) ≡ total → Within text after total
+    go : (n : ℕ) → length (chars rest) ≤ n → text_from n so_far.prefix (chars rest) ≡ total → Within text after total
     go zero enough same = let less = shorter (chars rest) (chars after) past.character past.cut in let bad : ⊥ = omega arith in absurd bad
     go (suc n) enough same =
         let less = shorter (chars rest) (chars after) past.character past.cut in
         record {
           taken = so_far.taken ++ past.piece;
-          front = so_far.front ++ encode_utf8 past.character;
-          is = subst (λ x. IsBody (so_far.taken ++ past.piece) (so_far.front ++ x)) (append-nil (encode_utf8 past.character)) (joined so_far.is past.piece (encode_utf8 past.character ++ []) past.is);
+          prefix = so_far.prefix ++ encode_utf8 past.character;
+          is = subst (λ x. IsBody (so_far.taken ++ past.piece) (so_far.prefix ++ x)) (append-nil (encode_utf8 past.character)) (joined so_far.is past.piece (encode_utf8 past.character ++ []) past.is);
           split = whole;
           turns = n;
           enough = omega arith;
           same = sym (rw past.cut refl) ∙ same;
         }
 
-none_unquoted : (cs : List ℕ) → length cs ≤ 0 → unquoted cs ≡ None
+none_unquoted : (cs : List ℕ) → length cs ≤ 0 → without_quotes cs ≡ None
 none_unquoted cs h = grind arith
 
-pub stopped : (text rest : List ℕ) (total : Option (Token × List ℕ)) → character_from (chars rest) ≡ None → (so_far : Within text rest total)
-    → total ≡ option_and_then (λ behind. Some (token.Text so_far.front, behind)) (unquoted (chars rest))
+pub stopped : (text rest : List ℕ) (total : Option (GrammarToken × List ℕ)) → character_from (chars rest) ≡ None → (so_far : Within text rest total)
+    → total ≡ option_and_then (λ following. Some (token.Text so_far.prefix, following)) (without_quotes (chars rest))
 unfolding text_from
 stopped text rest total is so_far = go so_far.turns so_far.enough so_far.same
   where
-    go : (n : ℕ) → length (chars rest) ≤ n → text_from n so_far.front (chars rest) ≡ total → total ≡ option_and_then (λ behind. Some (token.Text so_far.front, behind)) (unquoted (chars rest))
+    go : (n : ℕ) → length (chars rest) ≤ n → text_from n so_far.prefix (chars rest) ≡ total → total ≡ option_and_then (λ following. Some (token.Text so_far.prefix, following)) (without_quotes (chars rest))
     go zero enough same = rw (none_unquoted (chars rest) enough) (sym same)
     go (suc n) enough same = sym same ∙ rw is refl
 
@@ -79,11 +79,11 @@ unescapes (plain c body bytes quote slash is) = rw (ne_eqb c 92 slash) (ap (λ x
 unescapes (escape c d body bytes same is) = rw same (ap (λ x. encode_utf8 d ++ x) (unescapes is))
 
 -- the body that has been read is the text before the rest
-module _ (text rest : List ℕ) (total : Option (Token × List ℕ)) (so_far : Within text rest total) where
+module _ (text rest : List ℕ) (total : Option (GrammarToken × List ℕ)) (so_far : Within text rest total) where
   pub boundary : IsUtf8 rest → IsCharBoundary text (length text - length rest)
   boundary = seam text rest so_far.taken so_far.split
 
-  pub body_is : IsUtf8 text → IsUtf8 rest → unescaped (chars (take (length text - length rest) text)) ≡ so_far.front
+  pub body_is : IsUtf8 text → IsUtf8 rest → unescaped (chars (take (length text - length rest) text)) ≡ so_far.prefix
   body_is utf8 utf8' =
       let bytes = front_bytes text rest so_far.taken so_far.split in
       let characters : chars (encode_utf8_all so_far.taken) ≡ so_far.taken = sym (chars_from_encodes so_far.taken (encode_utf8_all so_far.taken) (subst IsUtf8 bytes (IsUtf8-take text (length text - length rest) utf8 (boundary utf8'))) refl) in
@@ -96,10 +96,10 @@ encoded_escape : (c : ℕ) (rest : List ℕ) → 92 ∷ (encode_utf8 c ++ rest) 
 encoded_escape c rest = rw (encode_ascii 92 (lit< tt), append-nil (encode_utf8 c)) refl
 
 -- an escape
-pub past_escape : (text behind : List ℕ) (passed : Option (Bor (List ℕ))) → chars text ≡ 92 ∷ chars behind → text ≡ encode_utf8 92 ++ behind → PassesEscape behind passed
+pub past_escape : (text following : List ℕ) (passed : Option (Bor (List ℕ))) → chars text ≡ 92 ∷ chars following → text ≡ encode_utf8 92 ++ following → PassesEscape following passed
     → MatchOption passed (character_from (chars text) ≡ None) (λ rest. IsPast text rest.now)
-past_escape text behind None characters split is = rw (characters, is) refl
-past_escape text behind (Some rest) characters split (c, h, more, after) =
+past_escape text following None characters split is = rw (characters, is) refl
+past_escape text following (Some rest) characters split (c, h, more, after) =
     let one = some_escape c h in
     record {
       character = one.0;

@@ -16,13 +16,13 @@ use Rattle.unicode_ident.specs.Ident.{is_xid_continue}
 use Rattle.unicode_ident.proofs.IdentLemmas.{is_xid_start-ascii, is_xid_continue-ascii, is_xid_start-is_xid_continue}
 use Rattle.ag_tokens.specs.declared.token.Punctuation.{Punctuation}
 use Rattle.ag_tokens.specs.declared.token.Punctuation.TheVariants as punctuation
-use Rattle.ag_tokens.specs.Token.{Token}
-use Rattle.ag_tokens.specs.Token as token
+use Rattle.ag_tokens.specs.GrammarToken.{GrammarToken}
+use Rattle.ag_tokens.specs.GrammarToken as token
 use Rattle.ag_tokens.specs.Laws.{LongestIsCut, NothingIsCut}
 use Rattle.ag_tokens.specs.Lexing.{where_some}
 use Rattle.ag_tokens.specs.Tokens.{starts_name, is_separator, escaped, IsDigits, IsName, IsBody, empty, plain, escape, punctuation_text, IsToken, IsLongest, BeginsNoToken}
-use Rattle.ag_tokens.specs.Lexing.{digits_from, name_from, single_punctuation, doubled, punctuation_from, escape_from, character_from, unquoted, undotted, text_from, occurrence_from, plain_from, token_from}
-use Rattle.ag_tokens.proofs.Fronts.{front_passes, front_reaches, front_ends}
+use Rattle.ag_tokens.specs.Lexing.{digits_from, name_from, single_punctuation, double_mark, punctuation_from, escape_from, character_from, without_quotes, without_dots, text_from, occurrence_from, plain_from, token_from}
+use Rattle.ag_tokens.proofs.Fronts.{prefix_passes, prefix_reaches, front_ends}
 
 same_number : (a b : ℕ) → (a == b) ≡ true → a ≡ b
 same_number a b e = eqb-true a b e
@@ -47,7 +47,7 @@ goes_on c starts = let line : is_xid_continue 95 ≡ true = is_xid_continue-asci
 -- ---- what the lexer reads is a token
 
 digits_sound : (cs d rest : List ℕ) → digits_from cs ≡ Some (d, rest) → (cs ≡ d ++ rest) × IsDigits d
-digits_sound cs d rest e = grind (arith, nat_tests, take-append-drop, front_passes, prefix_len-le-length, length-take-le)
+digits_sound cs d rest e = grind (arith, nat_tests, take-append-drop, prefix_passes, prefix_len-le-length, length-take-le)
 
 name_sound : (cs n rest : List ℕ) → name_from cs ≡ Some (n, rest) → (cs ≡ n ++ rest) × IsName n
 name_sound [] n rest e = absurd (none-some _ e)
@@ -55,46 +55,46 @@ name_sound (c ∷ cs) n rest e =
     let starts : starts_name c ≡ true = grind arith in
     let n_is : (n ≡ take (prefix_len is_xid_continue (c ∷ cs)) (c ∷ cs)) × (rest ≡ drop (prefix_len is_xid_continue (c ∷ cs)) (c ∷ cs)) = grind arith in
     let k : prefix_len is_xid_continue (c ∷ cs) ≡ suc (prefix_len is_xid_continue cs) = rw (goes_on c starts) (omega arith) in
-    rw (n_is.0, n_is.1, k) (ap (λ x. c ∷ x) (sym (take-append-drop (prefix_len is_xid_continue cs) cs)), (starts, front_passes is_xid_continue cs))
+    rw (n_is.0, n_is.1, k) (ap (λ x. c ∷ x) (sym (take-append-drop (prefix_len is_xid_continue cs) cs)), (starts, prefix_passes is_xid_continue cs))
 
 -- the part of a text literal that is left to read
-abbrev IsTextOf : List ℕ → List ℕ → Token → List ℕ → Type 0
-IsTextOf front cs t rest = (body : List ℕ) × (bytes : List ℕ) × (cs ≡ body ++ 34 ∷ rest) × IsBody body bytes × (t ≡ token.Text (front ++ bytes))
+abbrev IsTextOf : List ℕ → List ℕ → GrammarToken → List ℕ → Type 0
+IsTextOf prefix cs t rest = (body : List ℕ) × (bytes : List ℕ) × (cs ≡ body ++ 34 ∷ rest) × IsBody body bytes × (t ≡ token.Text (prefix ++ bytes))
 
-text_ends : (front cs : List ℕ) (t : Token) (rest : List ℕ) → option_and_then {U = Token × List ℕ} (λ us. Some (token.Text front, us)) (unquoted cs) ≡ Some (t, rest) → IsTextOf front cs t rest
-text_ends front [] t rest e = absurd (none-some _ e)
-text_ends front (c ∷ cs) t rest e = let same : (c ≡ 34) × (cs ≡ rest) × (t ≡ token.Text front) = grind (arith, nat_tests) in rw same.0 ([], [], ap (λ x. 34 ∷ x) same.1, empty, same.2 ∙ ap token.Text (sym (append-nil front)))
+text_ends : (prefix cs : List ℕ) (t : GrammarToken) (rest : List ℕ) → option_and_then {U = GrammarToken × List ℕ} (λ us. Some (token.Text prefix, us)) (without_quotes cs) ≡ Some (t, rest) → IsTextOf prefix cs t rest
+text_ends prefix [] t rest e = absurd (none-some _ e)
+text_ends prefix (c ∷ cs) t rest e = let same : (c ≡ 34) × (cs ≡ rest) × (t ≡ token.Text prefix) = grind (arith, nat_tests) in rw same.0 ([], [], ap (λ x. 34 ∷ x) same.1, empty, same.2 ∙ ap token.Text (sym (append-nil prefix)))
 
-text_escape : (front cs : List ℕ) (d : ℕ) (us : List ℕ) (t : Token) (rest : List ℕ) → escape_from cs ≡ Some (d, us) → IsTextOf (front ++ encode_utf8 d) us t rest → IsTextOf front (92 ∷ cs) t rest
-text_escape front [] d us t rest e more = absurd (none-some _ e)
-text_escape front (c ∷ cs) d us t rest e (body, bytes, split, is, same) =
+text_escape : (prefix cs : List ℕ) (d : ℕ) (us : List ℕ) (t : GrammarToken) (rest : List ℕ) → escape_from cs ≡ Some (d, us) → IsTextOf (prefix ++ encode_utf8 d) us t rest → IsTextOf prefix (92 ∷ cs) t rest
+text_escape prefix [] d us t rest e more = absurd (none-some _ e)
+text_escape prefix (c ∷ cs) d us t rest e (body, bytes, split, is, same) =
     let of : (escaped c ≡ Some d) × (cs ≡ us) = grind arith in
-    (92 ∷ c ∷ body, encode_utf8 d ++ bytes, ap (λ x. 92 ∷ c ∷ x) (of.1 ∙ split), escape c d body bytes of.0 is, same ∙ ap token.Text (append_assoc front (encode_utf8 d) bytes))
+    (92 ∷ c ∷ body, encode_utf8 d ++ bytes, ap (λ x. 92 ∷ c ∷ x) (of.1 ∙ split), escape c d body bytes of.0 is, same ∙ ap token.Text (append_assoc prefix (encode_utf8 d) bytes))
 
-text_step : (front cs : List ℕ) (d : ℕ) (us : List ℕ) (t : Token) (rest : List ℕ) → character_from cs ≡ Some (d, us) → IsTextOf (front ++ encode_utf8 d) us t rest → IsTextOf front cs t rest
-text_step front [] d us t rest e more = absurd (none-some _ e)
-text_step front (c ∷ cs) d us t rest e more = go (c == 92) refl
+text_step : (prefix cs : List ℕ) (d : ℕ) (us : List ℕ) (t : GrammarToken) (rest : List ℕ) → character_from cs ≡ Some (d, us) → IsTextOf (prefix ++ encode_utf8 d) us t rest → IsTextOf prefix cs t rest
+text_step prefix [] d us t rest e more = absurd (none-some _ e)
+text_step prefix (c ∷ cs) d us t rest e more = go (c == 92) refl
   where
-    go : (b : Bool) → (c == 92) ≡ b → IsTextOf front (c ∷ cs) t rest
-    go true q = let at : (c ≡ 92) × (escape_from cs ≡ Some (d, us)) = grind (arith, nat_tests) in rw at.0 (text_escape front cs d us t rest at.1 more)
+    go : (b : Bool) → (c == 92) ≡ b → IsTextOf prefix (c ∷ cs) t rest
+    go true q = let at : (c ≡ 92) × (escape_from cs ≡ Some (d, us)) = grind (arith, nat_tests) in rw at.0 (text_escape prefix cs d us t rest at.1 more)
     go false q =
         let same : (c ≡ d) × (cs ≡ us) × (c ≢ 34) × (c ≢ 92) = grind (arith, nat_tests) in
-        (c ∷ more.0, encode_utf8 c ++ more.1, ap (λ x. c ∷ x) (same.1 ∙ more.2), plain c more.0 more.1 same.2 same.3 more.3, rw same.0 (more.4 ∙ ap token.Text (append_assoc front (encode_utf8 d) more.1)))
+        (c ∷ more.0, encode_utf8 c ++ more.1, ap (λ x. c ∷ x) (same.1 ∙ more.2), plain c more.0 more.1 same.2 same.3 more.3, rw same.0 (more.4 ∙ ap token.Text (append_assoc prefix (encode_utf8 d) more.1)))
 
-text_sound : (n : ℕ) (front cs : List ℕ) (t : Token) (rest : List ℕ) → text_from n front cs ≡ Some (t, rest) → IsTextOf front cs t rest
+text_sound : (n : ℕ) (prefix cs : List ℕ) (t : GrammarToken) (rest : List ℕ) → text_from n prefix cs ≡ Some (t, rest) → IsTextOf prefix cs t rest
 unfolding text_from
-text_sound zero front cs t rest e = absurd (none-some _ e)
-text_sound (suc n) front cs t rest e = go (character_from cs) refl (text_sound n) e
+text_sound zero prefix cs t rest e = absurd (none-some _ e)
+text_sound (suc n) prefix cs t rest e = go (character_from cs) refl (text_sound n) e
   where
-    go : (o : Option (ℕ × List ℕ)) → character_from cs ≡ o → ((front cs : List ℕ) (t : Token) (rest : List ℕ) → text_from n front cs ≡ Some (t, rest) → IsTextOf front cs t rest)
-        → where_some o (option_and_then (λ us. Some (token.Text front, us)) (unquoted cs)) (λ p. text_from n (front ++ encode_utf8 p.0) p.1) ≡ Some (t, rest) → IsTextOf front cs t rest
-    go None p more h = text_ends front cs t rest h
-    go (Some x) p more h = text_step front cs x.0 x.1 t rest p (more (front ++ encode_utf8 x.0) x.1 t rest h)
+    go : (o : Option (ℕ × List ℕ)) → character_from cs ≡ o → ((prefix cs : List ℕ) (t : GrammarToken) (rest : List ℕ) → text_from n prefix cs ≡ Some (t, rest) → IsTextOf prefix cs t rest)
+        → where_some o (option_and_then (λ us. Some (token.Text prefix, us)) (without_quotes cs)) (λ p. text_from n (prefix ++ encode_utf8 p.0) p.1) ≡ Some (t, rest) → IsTextOf prefix cs t rest
+    go None p more h = text_ends prefix cs t rest h
+    go (Some x) p more h = text_step prefix cs x.0 x.1 t rest p (more (prefix ++ encode_utf8 x.0) x.1 t rest h)
 
 single_sound : (c : ℕ) (s : Punctuation) → single_punctuation c ≡ Some s → c ∷ [] ≡ punctuation_text s
 single_sound c s e = grind (arith, nat_tests)
 
-doubled_sound : (k : ℕ) (two one : Punctuation) → punctuation_text two ≡ k ∷ k ∷ [] → punctuation_text one ≡ k ∷ [] → (cs : List ℕ) → k ∷ cs ≡ punctuation_text (doubled k two one cs).0 ++ (doubled k two one cs).1
+doubled_sound : (k : ℕ) (two one : Punctuation) → punctuation_text two ≡ k ∷ k ∷ [] → punctuation_text one ≡ k ∷ [] → (cs : List ℕ) → k ∷ cs ≡ punctuation_text (double_mark k two one cs).0 ++ (double_mark k two one cs).1
 doubled_sound k two one p q [] = rw q refl
 doubled_sound k two one p q (c ∷ cs) = grind (arith, nat_tests)
 
@@ -103,27 +103,27 @@ punctuation_sound [] s rest e = absurd (none-some _ e)
 punctuation_sound (c ∷ cs) s rest e = grind (arith, nat_tests, single_sound, doubled_sound)
 
 -- a token was read from the beginning of the characters
-pub record IsCut (cs : List ℕ) (t : Token) (rest : List ℕ) : Type 0 where
+pub record IsCut (cs : List ℕ) (t : GrammarToken) (rest : List ℕ) : Type 0 where
   pub word : List ℕ
   pub split : cs ≡ word ++ rest
   pub token : IsToken word t
 
-undotted_sound : (cs rest : List ℕ) → undotted cs ≡ Some rest → cs ≡ 46 ∷ rest
+undotted_sound : (cs rest : List ℕ) → without_dots cs ≡ Some rest → cs ≡ 46 ∷ rest
 undotted_sound cs rest e = grind (arith, nat_tests)
 
-occurrence_sound : (cs : List ℕ) (t : Token) (rest : List ℕ) → occurrence_from cs ≡ Some (t, rest) → IsCut (36 ∷ cs) t rest
+occurrence_sound : (cs : List ℕ) (t : GrammarToken) (rest : List ℕ) → occurrence_from cs ≡ Some (t, rest) → IsCut (36 ∷ cs) t rest
 occurrence_sound cs t rest e =
     let one = opened (digits_from cs) _ (t, rest) e in
-    let two = opened (undotted one.0.1) _ (t, rest) one.2 in
+    let two = opened (without_dots one.0.1) _ (t, rest) one.2 in
     let three = opened (name_from two.0) _ (t, rest) two.2 in
     let digits = digits_sound cs one.0.0 one.0.1 one.1 in
     let dot = undotted_sound one.0.1 two.0 two.1 in
     let name = name_sound two.0 three.0.0 three.0.1 three.1 in
     let same : (token.Occurrence (digits_value 10 one.0.0) (encode_utf8_all three.0.0), three.0.1) ≡ (t, rest) = same_Some _ _ three.2 in
     let split : cs ≡ (one.0.0 ++ 46 ∷ three.0.0) ++ three.0.1 = digits.0 ∙ ap (λ x. one.0.0 ++ x) (dot ∙ ap (λ x. 46 ∷ x) name.0) ∙ sym (append_assoc one.0.0 (46 ∷ three.0.0) three.0.1) in
-    subst (λ (x : Token × List ℕ). IsCut (36 ∷ cs) x.0 x.1) same (record { word = 36 ∷ (one.0.0 ++ 46 ∷ three.0.0); split = ap (λ x. 36 ∷ x) split; token = (one.0.0, three.0.0, refl, digits.1, name.1, refl, refl) })
+    subst (λ (x : GrammarToken × List ℕ). IsCut (36 ∷ cs) x.0 x.1) same (record { word = 36 ∷ (one.0.0 ++ 46 ∷ three.0.0); split = ap (λ x. 36 ∷ x) split; token = (one.0.0, three.0.0, refl, digits.1, name.1, refl, refl) })
 
-plain_sound : (cs : List ℕ) (t : Token) (rest : List ℕ) → plain_from cs ≡ Some (t, rest) → IsCut cs t rest
+plain_sound : (cs : List ℕ) (t : GrammarToken) (rest : List ℕ) → plain_from cs ≡ Some (t, rest) → IsCut cs t rest
 plain_sound cs t rest e = by (digits_from cs) (name_from cs) (punctuation_from cs) refl refl refl
   where
     by : (d n : Option (List ℕ × List ℕ)) (s : Option (Punctuation × List ℕ)) → digits_from cs ≡ d → name_from cs ≡ n → punctuation_from cs ≡ s → IsCut cs t rest
@@ -140,12 +140,12 @@ plain_sound cs t rest e = by (digits_from cs) (name_from cs) (punctuation_from c
         rw (same.0, same.1) (record { word = punctuation_text s.0; split = punctuation_sound cs s.0 s.1 is_s; token = refl })
     by None None None is_d is_n is_s = let bad : ⊥ = grind arith in absurd bad
 
-text_literal_sound : (cs : List ℕ) (t : Token) (rest : List ℕ) → text_from (length cs) [] cs ≡ Some (t, rest) → IsCut (34 ∷ cs) t rest
+text_literal_sound : (cs : List ℕ) (t : GrammarToken) (rest : List ℕ) → text_from (length cs) [] cs ≡ Some (t, rest) → IsCut (34 ∷ cs) t rest
 text_literal_sound cs t rest e =
     let found = text_sound (length cs) [] cs t rest e in
     rw found.4 (record { word = 34 ∷ (found.0 ++ 34 ∷ []); split = ap (λ x. 34 ∷ x) (found.2 ∙ sym (append_assoc found.0 (34 ∷ []) rest)); token = (found.0, refl, found.3) })
 
-pub token_sound : (cs : List ℕ) (t : Token) (rest : List ℕ) → token_from cs ≡ Some (t, rest) → IsCut cs t rest
+pub token_sound : (cs : List ℕ) (t : GrammarToken) (rest : List ℕ) → token_from cs ≡ Some (t, rest) → IsCut cs t rest
 unfolding token_from
 token_sound [] t rest e = absurd (none-some _ e)
 token_sound (c ∷ cs) t rest e = go (c == 34) (c == 36) refl refl e
@@ -165,9 +165,9 @@ record Reaches {A : Type 0} (a : A) (more : List ℕ) (found : Option (A × List
   pub far : length cut.1 ≤ length more
   pub same : length cut.1 ≡ length more → cut.0 ≡ a
 
-front_reach : (p : ℕ → Bool) (word more : List ℕ) → length word ≤ prefix_len p (word ++ more)
+prefix_reach : (p : ℕ → Bool) (word more : List ℕ) → length word ≤ prefix_len p (word ++ more)
     → Reaches word more (Some (take (prefix_len p (word ++ more)) (word ++ more), drop (prefix_len p (word ++ more)) (word ++ more)))
-front_reach p word more far = record {
+prefix_reach p word more far = record {
   cut = _;
   is = refl;
   far = omega (arith, length-drop {A = ℕ}, length-append word more);
@@ -179,28 +179,28 @@ front_reach p word more far = record {
 
 digits_reach : (word more : List ℕ) → IsDigits word → Reaches word more (digits_from (word ++ more))
 digits_reach word more (some, all) =
-    let far = front_reaches is_ascii_digit word more all in
+    let far = prefix_reaches is_ascii_digit word more all in
     let some' : (prefix_len is_ascii_digit (word ++ more) == 0) ≡ false = grind (arith, nat_tests) in
-    rw some' (front_reach is_ascii_digit word more far)
+    rw some' (prefix_reach is_ascii_digit word more far)
 
 name_reach : (word more : List ℕ) → IsName word → Reaches word more (name_from (word ++ more))
 name_reach [] more is = absurd is
 name_reach (c ∷ word) more (starts, all) =
     let here = goes_on c starts in
-    let behind = front_reaches is_xid_continue word more all in
+    let following = prefix_reaches is_xid_continue word more all in
     let far : length (c ∷ word) ≤ prefix_len is_xid_continue (c ∷ (word ++ more)) = rw here (omega arith) in
-    rw starts (front_reach is_xid_continue (c ∷ word) more far)
+    rw starts (prefix_reach is_xid_continue (c ∷ word) more far)
 
-text_reach : (body bytes : List ℕ) → IsBody body bytes → (n : ℕ) (front more : List ℕ) → length body < n → text_from n front (body ++ 34 ∷ more) ≡ Some (token.Text (front ++ bytes), more)
+text_reach : (body bytes : List ℕ) → IsBody body bytes → (n : ℕ) (prefix more : List ℕ) → length body < n → text_from n prefix (body ++ 34 ∷ more) ≡ Some (token.Text (prefix ++ bytes), more)
 unfolding text_from
-text_reach body bytes is zero front more lt = let bad : ⊥ = omega arith in absurd bad
-text_reach _ _ empty (suc n) front more lt = ap (λ y. Some (token.Text y, more)) (sym (append-nil front))
-text_reach _ _ (plain c body bytes a b is) (suc n) front more lt =
-    let rest = text_reach body bytes is n (front ++ encode_utf8 c) more (omega arith) in
-    rw (other_number c 34 a, other_number c 92 b) (rest ∙ ap (λ y. Some (token.Text y, more)) (append_assoc front (encode_utf8 c) bytes))
-text_reach _ _ (escape c d body bytes a is) (suc n) front more lt =
-    let rest = text_reach body bytes is n (front ++ encode_utf8 d) more (omega arith) in
-    rw a (rest ∙ ap (λ y. Some (token.Text y, more)) (append_assoc front (encode_utf8 d) bytes))
+text_reach body bytes is zero prefix more lt = let bad : ⊥ = omega arith in absurd bad
+text_reach _ _ empty (suc n) prefix more lt = ap (λ y. Some (token.Text y, more)) (sym (append-nil prefix))
+text_reach _ _ (plain c body bytes a b is) (suc n) prefix more lt =
+    let rest = text_reach body bytes is n (prefix ++ encode_utf8 c) more (omega arith) in
+    rw (other_number c 34 a, other_number c 92 b) (rest ∙ ap (λ y. Some (token.Text y, more)) (append_assoc prefix (encode_utf8 c) bytes))
+text_reach _ _ (escape c d body bytes a is) (suc n) prefix more lt =
+    let rest = text_reach body bytes is n (prefix ++ encode_utf8 d) more (omega arith) in
+    rw a (rest ∙ ap (λ y. Some (token.Text y, more)) (append_assoc prefix (encode_utf8 d) bytes))
 
 -- the same for a result that is made from another
 reach_as : {A B : Type 0} (f : A → B) (a : A) (more : List ℕ) (found : Option (A × List ℕ)) (made : Option (B × List ℕ)) (x : Reaches a more found) → made ≡ Some (f x.cut.0, x.cut.1) → Reaches (f a) more made
@@ -241,15 +241,15 @@ occurrence_reached digits name more is called =
 
 -- the punctuation that the lexer reads at a mark before `more`: the mark, or its doubled form
 abbrev mark_cut : Punctuation → List ℕ → Punctuation × List ℕ
-mark_cut punctuation.Plus more = doubled 43 punctuation.Join punctuation.Plus more
-mark_cut punctuation.Equal more = doubled 61 punctuation.EqualEqual punctuation.Equal more
+mark_cut punctuation.Plus more = double_mark 43 punctuation.Join punctuation.Plus more
+mark_cut punctuation.Equal more = double_mark 61 punctuation.EqualEqual punctuation.Equal more
 mark_cut s more = (s, more)
 
 pub mark_is : (s : Punctuation) (more : List ℕ) → token_from (punctuation_text s ++ more) ≡ Some (token.Punctuation (mark_cut s more).0, (mark_cut s more).1)
 unfolding token_from
 mark_is s more = grind (arith, nat_tests, no_start)
 
-doubled_short : (k : ℕ) (two one : Punctuation) (cs : List ℕ) → (length (doubled k two one cs).1 ≤ length cs) × (length (doubled k two one cs).1 ≡ length cs → (doubled k two one cs).0 ≡ one)
+doubled_short : (k : ℕ) (two one : Punctuation) (cs : List ℕ) → (length (double_mark k two one cs).1 ≤ length cs) × (length (double_mark k two one cs).1 ≡ length cs → (double_mark k two one cs).0 ≡ one)
 doubled_short k two one cs = (grind arith, grind arith)
 
 mark_far : (s : Punctuation) (more : List ℕ) → (length (mark_cut s more).1 ≤ length more) × (length (mark_cut s more).1 ≡ length more → (mark_cut s more).0 ≡ s)
@@ -260,7 +260,7 @@ mark_far s more = (grind arith, grind arith)
 punctuation_reached : (s : Punctuation) (more : List ℕ) → Reaches (token.Punctuation s) more (token_from (punctuation_text s ++ more))
 punctuation_reached s more = record { cut = (token.Punctuation (mark_cut s more).0, (mark_cut s more).1); is = mark_is s more; far = (mark_far s more).0; same = λ ends. ap token.Punctuation ((mark_far s more).1 ends) }
 
-token_reached : (word more : List ℕ) (t : Token) → IsToken word t → Reaches t more (token_from (word ++ more))
+token_reached : (word more : List ℕ) (t : GrammarToken) → IsToken word t → Reaches t more (token_from (word ++ more))
 token_reached word more (token.Number n) is = rw is.1 (number_reached word more is.0)
 token_reached word more (token.Text bytes) is = rw is.1 (text_reached is.0 bytes more is.2)
 token_reached word more (token.Name bytes) is = rw is.1 (name_reached word more is.0)
@@ -269,11 +269,11 @@ token_reached word more (token.Punctuation s) is = rw is (punctuation_reached s 
 
 -- ---- the lexer reads the longest token, and if it reads none, no token begins there
 
-pub cut_longest : (cs : List ℕ) (t : Token) (rest word : List ℕ) → token_from cs ≡ Some (t, rest) → cs ≡ word ++ rest → IsLongest word rest
+pub cut_longest : (cs : List ℕ) (t : GrammarToken) (rest word : List ℕ) → token_from cs ≡ Some (t, rest) → cs ≡ word ++ rest → IsLongest word rest
 cut_longest cs t rest word e split longer more u same is =
     let found = token_reached longer more u is in
     let two : Some (t, rest) ≡ Some found.cut = sym e ∙ ap token_from (split ∙ same) ∙ found.is in
-    let equal : length rest ≡ length found.cut.1 = ap (λ (x : Token × List ℕ). length x.1) (same_Some _ _ two) in
+    let equal : length rest ≡ length found.cut.1 = ap (λ (x : GrammarToken × List ℕ). length x.1) (same_Some _ _ two) in
     omega (arith, found.far, ap length same, length-append word rest, length-append longer more)
 
 pub cut_none : (cs : List ℕ) → token_from cs ≡ None → BeginsNoToken cs
@@ -290,12 +290,12 @@ nothing_is_cut = cut_none
 
 -- ---- a word spells at most one token, and no token begins with a separator
 
-pub one_token : (word : List ℕ) (t u : Token) → IsToken word t → IsToken word u → t ≡ u
+pub one_token : (word : List ℕ) (t u : GrammarToken) → IsToken word t → IsToken word u → t ≡ u
 one_token word t u is also =
     let a = token_reached word [] t is in
     let b = token_reached word [] u also in
     let both : a.cut ≡ b.cut = same_Some _ _ (sym a.is ∙ b.is) in
-    sym (a.same (omega (arith, a.far))) ∙ ap (λ (x : Token × List ℕ). x.0) both ∙ b.same (omega (arith, b.far))
+    sym (a.same (omega (arith, a.far))) ∙ ap (λ (x : GrammarToken × List ℕ). x.0) both ∙ b.same (omega (arith, b.far))
 
 -- the word begins with a character that is not a separator
 abbrev pub IsPlainWord : List ℕ → Type 0
@@ -311,14 +311,14 @@ name_plain word is = grind (arith, nat_tests, no_start)
 punctuation_plain : (s : Punctuation) → IsPlainWord (punctuation_text s)
 punctuation_plain s = grind arith
 
-pub begins_plain : (word : List ℕ) (t : Token) → IsToken word t → IsPlainWord word
+pub begins_plain : (word : List ℕ) (t : GrammarToken) → IsToken word t → IsPlainWord word
 begins_plain word (token.Number n) is = digits_plain word is.0
 begins_plain word (token.Text bytes) is = rw is.1 refl
 begins_plain word (token.Name bytes) is = name_plain word is.0
 begins_plain word (token.Occurrence place attr) is = rw is.2 refl
 begins_plain word (token.Punctuation s) is = rw is (punctuation_plain s)
 
-pub word_some : (word : List ℕ) (t : Token) → IsToken word t → 0 < length word
+pub word_some : (word : List ℕ) (t : GrammarToken) → IsToken word t → 0 < length word
 word_some word t is = let plain = begins_plain word t is in grind arith
 
 -- ---- by the first character

@@ -1,8 +1,8 @@
 -- Statements of the laws of tokens.
 use Rattle.std.specs.Prelude.{◌≡◌, ◌++◌, List, ℕ, Some, None}
 use Rattle.ag_tokens.specs.Lexing.{token_from}
-use Rattle.ag_tokens.specs.Placed.{Input}
-use Rattle.ag_tokens.specs.Token.{Token}
+use Rattle.ag_tokens.specs.PlacedToken.{Input}
+use Rattle.ag_tokens.specs.GrammarToken.{GrammarToken}
 use Rattle.ag_tokens.specs.Tokens.{BeginsNoToken, IsLongest, IsToken, Lexes}
 
 -- A text has exactly one list of tokens with offsets, and one ending.
@@ -11,7 +11,7 @@ OneInput = (cs : List ℕ) → (i : Input) × Lexes 0 cs i × ((j : Input) → L
 
 -- `token_from` returns the longest token at the beginning of characters,
 abbrev pub LongestIsCut : Type 0
-LongestIsCut = (characters rest : List ℕ) (t : Token) → token_from characters ≡ Some (t, rest) → (word : List ℕ) × (characters ≡ word ++ rest) × IsToken word t × IsLongest word rest
+LongestIsCut = (characters rest : List ℕ) (t : GrammarToken) → token_from characters ≡ Some (t, rest) → (word : List ℕ) × (characters ≡ word ++ rest) × IsToken word t × IsLongest word rest
 
 -- and no token begins there if it returns `None`.
 abbrev pub NothingIsCut : Type 0

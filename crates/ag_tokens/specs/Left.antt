@@ -3,11 +3,11 @@
 use Rattle.std.specs.Prelude.{◌≡◌, ℕ, zero, suc, ◌-◌, ◌≤◌, false, cond, List, [], ◌∷◌, drop, length, Option, Some, None, Result, chars}
 use Rattle.std.specs.Borrow.{Bor}
 use Rattle.std.specs.List.{prefix_len}
-use Rattle.ag_tokens.specs.Token.{Token}
+use Rattle.ag_tokens.specs.GrammarToken.{GrammarToken}
 use Rattle.ag_tokens.specs.Ending.{Ending}
 use Rattle.ag_tokens.specs.Ending as ending
-use Rattle.ag_tokens.specs.Placed.{Input}
-use Rattle.ag_tokens.specs.declared.token.Token as lent
+use Rattle.ag_tokens.specs.PlacedToken.{Input}
+use Rattle.ag_tokens.specs.declared.token.GrammarToken as lent
 use Rattle.ag_tokens.specs.declared.fault.TokenFault.{TokenFault}
 use Rattle.ag_tokens.specs.declared.fault.TokenFault.TheVariants as token_fault
 use Rattle.ag_tokens.specs.Lexing.{token_from, GivesToken}
@@ -19,15 +19,15 @@ StartsPlain [] = Unit {0}
 StartsPlain (c ∷ cs) = is_separator c ≡ false
 
 -- the characters after the leading separators
-abbrev pub unspaced : List ℕ → List ℕ
-unspaced cs = drop (prefix_len is_separator cs) cs
+abbrev pub without_spaces : List ℕ → List ℕ
+without_spaces cs = drop (prefix_len is_separator cs) cs
 
 -- the input with no token and this ending
 abbrev pub none_left : Ending → Input
 none_left e = record { left = []; ending = e }
 
 -- the input with one more token at its head
-abbrev pub one_before : ℕ → Token → Input → Input
+abbrev pub one_before : ℕ → GrammarToken → Input → Input
 one_before at t i = record i { left = record { at = at; token = t } ∷ i.left }
 
 -- the ending at the offset `at` if the characters `cs` from there on do not begin with a token
@@ -42,9 +42,9 @@ ending_by token_fault.TooLarge at cs = ending.TooLargeAt at
 
 -- the input from the offset `at` on, given the token that the lexer reads at the beginning of `cs` and the
 -- input after it
-abbrev pub left_by : (List ℕ → Input) → ℕ → List ℕ → Option (Token × List ℕ) → Input
+abbrev pub left_by : (List ℕ → Input) → ℕ → List ℕ → Option (GrammarToken × List ℕ) → Input
 left_by more at cs None = none_left (ending_at at cs)
-left_by more at cs (Some p) = cond (is_within p.0) (one_before at p.0 (more (unspaced p.1))) (none_left (ending.TooLargeAt at))
+left_by more at cs (Some p) = cond (is_within p.0) (one_before at p.0 (more (without_spaces p.1))) (none_left (ending.TooLargeAt at))
 
 -- The tokens of the last characters `cs` of a text of `len` bytes, at most `turns` of them; `cs` does not
 -- begin with a separator.
@@ -56,9 +56,9 @@ cut (suc turns) len cs = left_by (cut turns len) (len - width cs) cs (token_from
 unfoldable pub input : ℕ → List ℕ → Input
 input len cs = cut (suc (length cs)) len cs
 
--- The state of a cursor is consistent: `front` is the lexer's result for `rest`, and `rest` has at most as
+-- The state of a cursor is consistent: `prefix` is the lexer's result for `rest`, and `rest` has at most as
 -- many bytes as the text, and as many as its characters take.
-pub record IsReady (text rest : List ℕ) (front : Result (lent.Token × Bor (List ℕ)) TokenFault) : Type 0 where
-  pub cut_front : GivesToken front (token_from (chars rest))
+pub record IsReady (text rest : List ℕ) (prefix : Result (lent.GrammarToken × Bor (List ℕ)) TokenFault) : Type 0 where
+  pub cut_front : GivesToken prefix (token_from (chars rest))
   pub fewer : length rest ≤ length text
   pub rest_wide : width (chars rest) ≡ length rest

@@ -10,12 +10,12 @@ use Rattle.ag_tokens.specs.declared.fault.TokenFault.{TokenFault}
 use Rattle.ag_tokens.specs.declared.fault.TokenFault.TheVariants as fault
 use Rattle.ag_tokens.specs.declared.token.Punctuation.{Punctuation}
 use Rattle.ag_tokens.specs.declared.token.Punctuation.TheVariants as punctuation
-use Rattle.ag_tokens.specs.Token.{Token}
-use Rattle.ag_tokens.specs.Token as token
+use Rattle.ag_tokens.specs.GrammarToken.{GrammarToken}
+use Rattle.ag_tokens.specs.GrammarToken as token
 use Rattle.ag_tokens.specs.declared.lexer.Class.{Class}
 use Rattle.ag_tokens.specs.declared.lexer.Class.TheVariants as class
-use Rattle.ag_tokens.specs.declared.token.Token as lent
-use Rattle.ag_tokens.specs.declared.token.Token.TheVariants as lent_token
+use Rattle.ag_tokens.specs.declared.token.GrammarToken as lent
+use Rattle.ag_tokens.specs.declared.token.GrammarToken.TheVariants as lent_token
 use Rattle.ag_tokens.specs.Tokens.{escaped, is_quotable, starts_name, is_separator, is_within, IsBody}
 
 -- b for `None`, and f x for `Some x`
@@ -31,8 +31,8 @@ is_in class.NamePart = is_xid_continue
 is_in class.Quotable = is_quotable
 
 -- the longest prefix of characters of a class, and the characters after it
-abbrev pub front_in : Class → List ℕ → List ℕ
-front_in c cs = take (prefix_len (is_in c) cs) cs
+abbrev pub prefix_in : Class → List ℕ → List ℕ
+prefix_in c cs = take (prefix_len (is_in c) cs) cs
 
 abbrev pub back_of : Class → List ℕ → List ℕ
 back_of c cs = drop (prefix_len (is_in c) cs) cs
@@ -59,7 +59,7 @@ abbrev mutual
   after_backslash (c ∷ cs) = where_some (escaped c) [] (λ d. encode_utf8 d ++ unescaped cs)
 
 -- the specification token of a token of the code
-abbrev pub token_of : lent.Token → Token
+abbrev pub token_of : lent.GrammarToken → GrammarToken
 token_of (lent_token.Number n) = token.Number n
 token_of (lent_token.Text body) = token.Text (unescaped (chars body.now))
 token_of (lent_token.Name name) = token.Name name.now
@@ -83,14 +83,14 @@ single_punctuation c =
     (cond (c == 44) (Some punctuation.Comma) (cond (c == 59) (Some punctuation.Semicolon) None))))))))))
 
 -- `two` if the character `twice` follows, else `one`
-abbrev pub doubled : ℕ → Punctuation → Punctuation → List ℕ → Punctuation × List ℕ
-doubled twice two one [] = (one, [])
-doubled twice two one (c ∷ cs) = cond (c == twice) (two, cs) (one, c ∷ cs)
+abbrev pub double_mark : ℕ → Punctuation → Punctuation → List ℕ → Punctuation × List ℕ
+double_mark twice two one [] = (one, [])
+double_mark twice two one (c ∷ cs) = cond (c == twice) (two, cs) (one, c ∷ cs)
 
 abbrev pub punctuation_from : List ℕ → Option (Punctuation × List ℕ)
 punctuation_from [] = None
 punctuation_from (c ∷ cs) =
-    cond (c == 43) (Some (doubled 43 punctuation.Join punctuation.Plus cs)) (cond (c == 61) (Some (doubled 61 punctuation.EqualEqual punctuation.Equal cs)) (option_and_then (λ s. Some (s, cs)) (single_punctuation c)))
+    cond (c == 43) (Some (double_mark 43 punctuation.Join punctuation.Plus cs)) (cond (c == 61) (Some (double_mark 61 punctuation.EqualEqual punctuation.Equal cs)) (option_and_then (λ s. Some (s, cs)) (single_punctuation c)))
 
 -- the character that the first characters of a body denote, and the characters after it; none at a quote
 abbrev pub character_from : List ℕ → Option (ℕ × List ℕ)
@@ -98,55 +98,55 @@ character_from [] = None
 character_from (c ∷ cs) = cond (c == 34) None (cond (c == 92) (escape_from cs) (Some (c, cs)))
 
 -- the characters after a closing quote
-abbrev pub unquoted : List ℕ → Option (List ℕ)
-unquoted [] = None
-unquoted (c ∷ cs) = cond (c == 34) (Some cs) None
+abbrev pub without_quotes : List ℕ → Option (List ℕ)
+without_quotes [] = None
+without_quotes (c ∷ cs) = cond (c == 34) (Some cs) None
 
--- the text literal whose bytes so far are `front`, with at most `turns` steps for the rest of it
-unfoldable pub text_from : ℕ → List ℕ → List ℕ → Option (Token × List ℕ)
-text_from zero front cs = None
-text_from (suc turns) front cs =
-    where_some (character_from cs) (option_and_then (λ rest. Some (token.Text front, rest)) (unquoted cs)) (λ p. text_from turns (front ++ encode_utf8 p.0) p.1)
+-- the text literal whose bytes so far are `prefix`, with at most `turns` steps for the rest of it
+unfoldable pub text_from : ℕ → List ℕ → List ℕ → Option (GrammarToken × List ℕ)
+text_from zero prefix cs = None
+text_from (suc turns) prefix cs =
+    where_some (character_from cs) (option_and_then (λ rest. Some (token.Text prefix, rest)) (without_quotes cs)) (λ p. text_from turns (prefix ++ encode_utf8 p.0) p.1)
 
 -- the characters after a dot
-abbrev pub undotted : List ℕ → Option (List ℕ)
-undotted [] = None
-undotted (c ∷ cs) = cond (c == 46) (Some cs) None
+abbrev pub without_dots : List ℕ → Option (List ℕ)
+without_dots [] = None
+without_dots (c ∷ cs) = cond (c == 46) (Some cs) None
 
 -- the occurrence whose `$` has been read
-abbrev pub occurrence_from : List ℕ → Option (Token × List ℕ)
+abbrev pub occurrence_from : List ℕ → Option (GrammarToken × List ℕ)
 occurrence_from cs =
-    option_and_then (λ d. option_and_then (λ rest. option_and_then (λ n. Some (token.Occurrence (digits_value 10 d.0) (encode_utf8_all n.0), n.1)) (name_from rest)) (undotted d.1)) (digits_from cs)
+    option_and_then (λ d. option_and_then (λ rest. option_and_then (λ n. Some (token.Occurrence (digits_value 10 d.0) (encode_utf8_all n.0), n.1)) (name_from rest)) (without_dots d.1)) (digits_from cs)
 
 -- a number literal of any size
-abbrev pub number_from : List ℕ → Option (Token × List ℕ)
+abbrev pub number_from : List ℕ → Option (GrammarToken × List ℕ)
 number_from cs = option_and_then (λ d. Some (token.Number (pos (digits_value 10 d.0)), d.1)) (digits_from cs)
 
 -- a number, a name or punctuation
-abbrev pub plain_from : List ℕ → Option (Token × List ℕ)
+abbrev pub plain_from : List ℕ → Option (GrammarToken × List ℕ)
 plain_from cs =
     where_some (digits_from cs)
     (where_some (name_from cs) (option_and_then (λ s. Some (token.Punctuation s.0, s.1)) (punctuation_from cs)) (λ n. Some (token.Name (encode_utf8_all n.0), n.1)))
     (λ d. Some (token.Number (pos (digits_value 10 d.0)), d.1))
 
 -- the first token, and the characters after it
-unfoldable pub token_from : List ℕ → Option (Token × List ℕ)
+unfoldable pub token_from : List ℕ → Option (GrammarToken × List ℕ)
 token_from [] = None
 token_from (c ∷ cs) = cond (c == 34) (text_from (length cs) [] cs) (cond (c == 36) (occurrence_from cs) (plain_from (c ∷ cs)))
 
 -- a token was read whose number is above its limit
-abbrev pub IsTooLarge : Option (Token × List ℕ) → Type 0
+abbrev pub IsTooLarge : Option (GrammarToken × List ℕ) → Type 0
 IsTooLarge None = ⊥
 IsTooLarge (Some x) = is_within x.0 ≡ false
 
 -- A token of the code, with the text after it, is the token that the specification reads, with the characters
 -- after it, and its number is within the limit.
-abbrev pub IsCutSo : lent.Token × Bor (List ℕ) → Option (Token × List ℕ) → Type 0
+abbrev pub IsCutSo : lent.GrammarToken × Bor (List ℕ) → Option (GrammarToken × List ℕ) → Type 0
 IsCutSo x read = (read ≡ Some (token_of x.0, chars x.1.now)) × (is_within (token_of x.0) ≡ true)
 
 -- The same for a result: `Nothing` means that no token is read, `TooLarge` that its number is above its
 -- limit.
-abbrev pub GivesToken : Result (lent.Token × Bor (List ℕ)) TokenFault → Option (Token × List ℕ) → Type 0
+abbrev pub GivesToken : Result (lent.GrammarToken × Bor (List ℕ)) TokenFault → Option (GrammarToken × List ℕ) → Type 0
 GivesToken (Ok x) read = IsCutSo x read
 GivesToken (Err fault.Nothing) read = read ≡ None
 GivesToken (Err fault.TooLarge) read = IsTooLarge read

@@ -3,7 +3,7 @@ pub mod Laws
 pub mod Left
 pub mod Lexing
 pub mod Parsing
-pub mod Placed
-pub mod Token
+pub mod PlacedToken
+pub mod GrammarToken
 pub mod Tokens
 pub mod Words

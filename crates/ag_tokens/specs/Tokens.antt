@@ -7,12 +7,12 @@ use Rattle.std.specs.Str.Parse.{digits_value}
 use Rattle.unicode_ident.specs.Ident.{is_xid_start, is_xid_continue}
 use Rattle.ag_tokens.specs.declared.token.Punctuation.{Punctuation}
 use Rattle.ag_tokens.specs.declared.token.Punctuation.TheVariants as punctuation
-use Rattle.ag_tokens.specs.Token.{Token}
-use Rattle.ag_tokens.specs.Token as token
+use Rattle.ag_tokens.specs.GrammarToken.{GrammarToken}
+use Rattle.ag_tokens.specs.GrammarToken as token
 use Rattle.ag_tokens.specs.Ending.{Ending, offset_of}
 use Rattle.ag_tokens.specs.Ending as ending
-use Rattle.ag_tokens.specs.Placed.{Placed, Input}
-use Rattle.ag_grammar.specs.declared.limits.TheConstants.{MOST_PLACE}
+use Rattle.ag_tokens.specs.PlacedToken.{PlacedToken, Input}
+use Rattle.ag_grammar.specs.declared.limits.TheConstants.{MAX_PLACE}
 
 -- space, tab, CR and LF separate tokens
 abbrev pub is_separator : ℕ → Bool
@@ -66,7 +66,7 @@ punctuation_text punctuation.Comma = 44 ∷ []
 punctuation_text punctuation.Semicolon = 59 ∷ []
 
 -- The word is a spelling of this token. Numbers and places may have any size here.
-abbrev pub IsToken : List ℕ → Token → Type 0
+abbrev pub IsToken : List ℕ → GrammarToken → Type 0
 IsToken word (token.Number n) = IsDigits word × (n ≡ pos (digits_value 10 word))
 IsToken word (token.Text bytes) = (body : List ℕ) × (word ≡ 34 ∷ (body ++ 34 ∷ [])) × IsBody body bytes
 IsToken word (token.Name bytes) = IsName word × (bytes ≡ encode_utf8_all word)
@@ -76,11 +76,11 @@ IsToken word (token.Punctuation s) = word ≡ punctuation_text s
 
 -- No longer prefix of the characters `word ++ rest` is a token.
 abbrev pub IsLongest : List ℕ → List ℕ → Type 0
-IsLongest word rest = (longer more : List ℕ) (t : Token) → word ++ rest ≡ longer ++ more → IsToken longer t → length longer ≤ length word
+IsLongest word rest = (longer more : List ℕ) (t : GrammarToken) → word ++ rest ≡ longer ++ more → IsToken longer t → length longer ≤ length word
 
 -- no prefix of the characters is a token
 abbrev pub BeginsNoToken : List ℕ → Type 0
-BeginsNoToken cs = (word more : List ℕ) (t : Token) → cs ≡ word ++ more → IsToken word t → ⊥
+BeginsNoToken cs = (word more : List ℕ) (t : GrammarToken) → cs ≡ word ++ more → IsToken word t → ⊥
 
 -- the number of bytes of characters in UTF-8
 abbrev pub width : List ℕ → ℕ
@@ -89,22 +89,22 @@ width (c ∷ cs) = len_utf8 c + width cs
 
 -- From the byte offset `at` up to the offset `end`, the characters are separators and the longest tokens
 -- `placed`, each at its offset; `rest` are the characters after them.
-pub data AreTokens : ℕ → List ℕ → List Placed → ℕ → List ℕ → Type 0 where
+pub data AreTokens : ℕ → List ℕ → List PlacedToken → ℕ → List ℕ → Type 0 where
   ended : (at : ℕ) (cs : List ℕ) → AreTokens at cs [] at cs
-  separator : (at c : ℕ) (cs : List ℕ) (placed : List Placed) (end : ℕ) (rest : List ℕ) → is_separator c ≡ true → AreTokens (at + 1) cs placed end rest → AreTokens at (c ∷ cs) placed end rest
-  word : (at : ℕ) (all word cs : List ℕ) (t : Token) (placed : List Placed) (end : ℕ) (rest : List ℕ) → all ≡ word ++ cs → IsToken word t → IsLongest word cs → AreTokens (at + width word) cs placed end rest
+  separator : (at c : ℕ) (cs : List ℕ) (placed : List PlacedToken) (end : ℕ) (rest : List ℕ) → is_separator c ≡ true → AreTokens (at + 1) cs placed end rest → AreTokens at (c ∷ cs) placed end rest
+  word : (at : ℕ) (all word cs : List ℕ) (t : GrammarToken) (placed : List PlacedToken) (end : ℕ) (rest : List ℕ) → all ≡ word ++ cs → IsToken word t → IsLongest word cs → AreTokens (at + width word) cs placed end rest
       → AreTokens at all (record { at = at; token = t } ∷ placed) end rest
 
 -- The number of a token is within its limit: a number literal in the range of i64, a place at most 65,535.
-abbrev pub is_within : Token → Bool
+abbrev pub is_within : GrammarToken → Bool
 is_within (token.Number n) = int_le n (pos 9223372036854775807)
-is_within (token.Occurrence place attr) = nat_le place MOST_PLACE
+is_within (token.Occurrence place attr) = nat_le place MAX_PLACE
 is_within _ = true
 
 -- From the byte offset `from`, where the characters `cs` begin, whole tokens and separators extend up to the
 -- offset `at`, where `rest` begins.
 pub record Reaches (from : ℕ) (cs : List ℕ) (at : ℕ) (rest : List ℕ) : Type 0 where
-  pub placed : List Placed
+  pub placed : List PlacedToken
   pub before : AreTokens from cs placed at rest
 
 -- At the offset `at`, which whole tokens and separators reach, there is a character that is not a separator
@@ -120,7 +120,7 @@ pub record NoTokenAt (from : ℕ) (cs : List ℕ) (at : ℕ) : Type 0 where
 -- number may have any size.
 pub record AnyTokenAt (from : ℕ) (cs : List ℕ) (at : ℕ) : Type 0 where
   pub word : List ℕ
-  pub token : Token
+  pub token : GrammarToken
   pub rest : List ℕ
   pub reaches : Reaches from cs at (word ++ rest)
   pub is : IsToken word token
@@ -139,7 +139,7 @@ abbrev pub EndsAt : ℕ → List ℕ → ℕ → Type 0
 EndsAt from cs at = Reaches from cs at []
 
 -- The number of each token is within its limit.
-abbrev pub all_within : List Placed → Bool
+abbrev pub all_within : List PlacedToken → Bool
 all_within [] = true
 all_within (p ∷ ps) = is_within p.token && all_within ps
 
@@ -151,11 +151,11 @@ HasNoToken (c ∷ cs) = (is_separator c ≡ false) × BeginsNoToken (c ∷ cs)
 -- the characters begin with a token, the longest there, whose number is above its limit
 pub record HasTooLarge (cs : List ℕ) : Type 0 where
   pub word : List ℕ
-  pub token : Token
-  pub behind : List ℕ
-  pub split : cs ≡ word ++ behind
+  pub token : GrammarToken
+  pub following : List ℕ
+  pub split : cs ≡ word ++ following
   pub is : IsToken word token
-  pub longest : IsLongest word behind
+  pub longest : IsLongest word following
   pub large : is_within token ≡ false
 
 -- the characters after the tokens of a text agree with the ending

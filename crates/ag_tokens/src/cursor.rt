@@ -5,12 +5,12 @@ ghost use Rattle.std.specs.Str.{IsCharBoundary};
 ghost use Rattle.ag_tokens.specs.Lexing.{token_of};
 ghost use Rattle.ag_tokens.specs.Parsing as parsing;
 ghost use Rattle.ag_tokens.specs.Left.{ending_by};
-ghost use Rattle.ag_tokens.specs.Parsing.{ending_fault, fault_of, front, is_end, next, offset};
+ghost use Rattle.ag_tokens.specs.Parsing.{ending_fault, fault_of, prefix, is_end, next, offset};
 ghost use Rattle.ag_tokens.specs.Tokens.{Lexes};
 
 use crate::fault::TokenFault;
-use crate::lexer::{quick_token, skip_separators, token_in_front};
-use crate::token::Token;
+use crate::lexer::{leading_token, quick_token, skip_separators};
+use crate::token::GrammarToken;
 use std::marker::Model;
 
 /// A cursor over the tokens of a text. It is positioned before a token, or where the tokens end,
@@ -22,19 +22,19 @@ pub struct Cursor<'t> {
     /// The rest of the text, from the next token on.
     rest: &'t str,
     /// The next token and the text after it, or the reason why there is none.
-    front: Result<(Token<'t>, &'t str), TokenFault>,
+    prefix: Result<(GrammarToken<'t>, &'t str), TokenFault>,
 }
 
 impl<'t> Model for Cursor<'t> {
     ghost use Rattle.std.specs.Prelude.{length, chars};
     ghost use Rattle.ag_tokens.specs.Left.{IsReady, input};
-    ghost use Rattle.ag_tokens.specs.Placed.{Input};
+    ghost use Rattle.ag_tokens.specs.PlacedToken.{Input};
 
     ghost Value = { Input };
 
     ghost view = { λ c. input (length c.text.now) (chars c.rest.now) };
 
-    ghost invariant = { λ c. IsReady c.text.now c.rest.now c.front };
+    ghost invariant = { λ c. IsReady c.text.now c.rest.now c.prefix };
 }
 
 /// Returns why no token can be read at the beginning of `rest`, or `None` if `rest` is empty.
@@ -59,7 +59,7 @@ impl<'t> Cursor<'t> {
         Cursor {
             text,
             rest,
-            front: token_in_front(rest),
+            prefix: leading_token(rest),
         }
     }
 
@@ -70,21 +70,21 @@ impl<'t> Cursor<'t> {
         requires { IsCharBoundary text.now from }
         ensures { Lexes from (chars (drop from text.now)) result }
     {
-        let (_, behind) = text.split_at(from);
-        let rest = skip_separators(behind);
+        let (_, following) = text.split_at(from);
+        let rest = skip_separators(following);
         Cursor {
             text,
             rest,
-            front: token_in_front(rest),
+            prefix: leading_token(rest),
         }
     }
 
     /// Returns the next token, or `None` if the text ends here, or if no token begins here, or if
     /// its number is above its limit. Does not allocate.
-    pub fn peek(&self) -> Option<Token<'t>>
-        ensures { option_map token_of result ≡ front self.now }
+    pub fn peek(&self) -> Option<GrammarToken<'t>>
+        ensures { option_map token_of result ≡ prefix self.now }
     {
-        match self.front {
+        match self.prefix {
             Ok((token, _)) => Some(token),
             Err(_) => None,
         }
@@ -111,7 +111,7 @@ impl<'t> Cursor<'t> {
     pub fn fault(&self) -> Option<TokenFault>
         ensures { result ≡ fault_of self.now.ending self.now.left }
     {
-        match self.front {
+        match self.prefix {
             Ok(_) => None,
             Err(fault) => fault_before(fault, self.rest),
         }
@@ -121,11 +121,11 @@ impl<'t> Cursor<'t> {
     pub fn bump(&mut self)
         ensures { self.new ≡ next self.old }
     {
-        if let Ok((_, behind)) = self.front {
-            self.rest = skip_separators(behind);
+        if let Ok((_, following)) = self.prefix {
+            self.rest = skip_separators(following);
             match quick_token(self.rest) {
-                Some(cut) => self.front = Ok(cut),
-                None => self.front = token_in_front(self.rest),
+                Some(cut) => self.prefix = Ok(cut),
+                None => self.prefix = leading_token(self.rest),
             }
         }
     }

@@ -5,16 +5,16 @@ ghost use Rattle.std.specs.Prelude.{option_map};
 ghost use Rattle.std.specs.Prelude.{IfOk, IfSome, MatchOption, encode_utf8, encode_utf8_all};
 ghost use Rattle.std.specs.Char.{is_ascii_digit};
 ghost use Rattle.std.specs.Str.Parse.{digits_value};
-ghost use Rattle.ag_tokens.specs.Left.{unspaced};
+ghost use Rattle.ag_tokens.specs.Left.{without_spaces};
 ghost use Rattle.ag_tokens.specs.Lexing as lexing;
-ghost use Rattle.ag_tokens.specs.Lexing.{GivesToken, IsPast, back_of, front_in};
+ghost use Rattle.ag_tokens.specs.Lexing.{GivesToken, IsPast, back_of, prefix_in};
 ghost use Rattle.ag_tokens.specs.declared.lexer.Class.TheVariants as class;
-ghost use Rattle.ag_tokens.specs.Token as token;
+ghost use Rattle.ag_tokens.specs.GrammarToken as token;
 ghost use Rattle.ag_tokens.specs.Tokens as tokens_spec;
 ghost use Rattle.ag_tokens.specs.Tokens.{IsDigits};
 
 use crate::fault::TokenFault;
-use crate::token::{Punctuation, Token};
+use crate::token::{GrammarToken, Punctuation};
 use ag_value::{NoMemory, Text};
 use std::alloc::Global;
 
@@ -64,7 +64,7 @@ pub fn first(text: &str) -> Option<(char, &str)>
 }
 
 /// Returns the text after the first character if that belongs to the class, else `None`.
-fn behind_one(class: Class, text: &str) -> Option<&str>
+fn after_one(class: Class, text: &str) -> Option<&str>
     ensures { lexing.PassesOne class text.now result }
 {
     match first(text) {
@@ -75,12 +75,12 @@ fn behind_one(class: Class, text: &str) -> Option<&str>
 
 /// Splits a text after its longest prefix of characters of the class; returns the prefix and the
 /// rest. Does not allocate.
-pub fn split_behind(class: Class, text: &str) -> (&str, &str)
-    ensures front { result.0.now ≡ encode_utf8_all (front_in class (chars text.now)) }
+pub fn split_after(class: Class, text: &str) -> (&str, &str)
+    ensures prefix { result.0.now ≡ encode_utf8_all (prefix_in class (chars text.now)) }
     ensures back { chars result.1.now ≡ back_of class (chars text.now) }
 {
     let mut rest = text;
-    while let Some(after) = behind_one(class, rest) {
+    while let Some(after) = after_one(class, rest) {
         rest = after;
     }
     text.split_at(text.len() - rest.len())
@@ -88,11 +88,11 @@ pub fn split_behind(class: Class, text: &str) -> (&str, &str)
 
 /// Returns the text after its leading separators. Does not allocate.
 pub fn skip_separators(text: &str) -> &str
-    ensures { chars result.now ≡ unspaced (chars text.now) }
+    ensures { chars result.now ≡ without_spaces (chars text.now) }
 {
     let mut rest = text;
-    while let Some(behind) = behind_one(Class::Separator, rest) {
-        rest = behind;
+    while let Some(following) = after_one(Class::Separator, rest) {
+        rest = following;
     }
     rest
 }
@@ -100,11 +100,11 @@ pub fn skip_separators(text: &str) -> &str
 /// Returns the leading digits and the text after them, or `None` if the text does not begin with a
 /// digit.
 #[tactic(auto, using(crate::proofs::Numerals::no_digits_cut, crate::proofs::Numerals::digits_cut, crate::proofs::Numerals::digits_are))]
-fn digits_in_front(text: &str) -> Option<(&str, &str)>
+fn leading_digits(text: &str) -> Option<(&str, &str)>
     ensures value { lexing.GivesDigits result (lexing.digits_from (chars text.now)) }
     ensures digits { IfSome result (λ x. IsDigits x.0.now) }
 {
-    let (digits, rest) = split_behind(Class::Digit, text);
+    let (digits, rest) = split_after(Class::Digit, text);
     if digits.is_empty() {
         return None;
     }
@@ -114,11 +114,11 @@ fn digits_in_front(text: &str) -> Option<(&str, &str)>
 /// Returns the name at the beginning of the text and the text after it, or `None` if no name begins
 /// there.
 #[inline(never)]
-fn name_in_front(text: &str) -> Option<(&str, &str)>
+fn leading_name(text: &str) -> Option<(&str, &str)>
     ensures { lexing.GivesName result (lexing.name_from (chars text.now)) }
 {
     match first(text) {
-        Some((c, _)) if starts_name(c) => Some(split_behind(Class::NamePart, text)),
+        Some((c, _)) if starts_name(c) => Some(split_after(Class::NamePart, text)),
         _ => None,
     }
 }
@@ -150,8 +150,8 @@ fn single_punctuation(c: char) -> Option<Punctuation>
 /// Returns `two` if the text begins with the character `twice`, else `one`, with the text after it.
 /// The caller has already read this character once.
 #[inline(always)]
-fn doubled(twice: char, two: Punctuation, one: Punctuation, text: &str) -> (Punctuation, &str)
-    ensures { (result.0, chars result.1.now) ≡ lexing.doubled twice two one (chars text.now) }
+fn double_mark(twice: char, two: Punctuation, one: Punctuation, text: &str) -> (Punctuation, &str)
+    ensures { (result.0, chars result.1.now) ≡ lexing.double_mark twice two one (chars text.now) }
 {
     match first(text) {
         Some((c, rest)) if c == twice => (two, rest),
@@ -169,8 +169,8 @@ fn punctuation_of(c: char, rest: &str) -> Option<(Punctuation, &str)>
     ensures unnamed { IfSome result (λ _. tokens_spec.starts_name c ≡ false) }
 {
     match c {
-        '+' => Some(doubled('+', Punctuation::Join, Punctuation::Plus, rest)),
-        '=' => Some(doubled('=', Punctuation::EqualEqual, Punctuation::Equal, rest)),
+        '+' => Some(double_mark('+', Punctuation::Join, Punctuation::Plus, rest)),
+        '=' => Some(double_mark('=', Punctuation::EqualEqual, Punctuation::Equal, rest)),
         _ => Some((single_punctuation(c)?, rest)),
     }
 }
@@ -223,8 +223,8 @@ fn past_character(text: &str) -> Option<&str>
 }
 
 /// Returns the text after a closing quote, or `None` if the text does not begin with one.
-fn unquoted(text: &str) -> Option<&str>
-    ensures { option_map (λ x. chars x.now) result ≡ lexing.unquoted (chars text.now) }
+fn without_quotes(text: &str) -> Option<&str>
+    ensures { option_map (λ x. chars x.now) result ≡ lexing.without_quotes (chars text.now) }
 {
     match first(text) {
         Some(('"', rest)) => Some(rest),
@@ -233,8 +233,8 @@ fn unquoted(text: &str) -> Option<&str>
 }
 
 /// Returns the text after a dot, or `None` if the text does not begin with one.
-fn undotted(text: &str) -> Option<&str>
-    ensures { option_map (λ x. chars x.now) result ≡ lexing.undotted (chars text.now) }
+fn without_dots(text: &str) -> Option<&str>
+    ensures { option_map (λ x. chars x.now) result ≡ lexing.without_dots (chars text.now) }
 {
     match first(text) {
         Some(('.', rest)) => Some(rest),
@@ -266,9 +266,9 @@ pub fn unescaped(alloc: Global, body: &str) -> Result<Text, NoMemory>
 {
     let mut text = String::new(alloc);
     let mut rest = body;
-    while let Some((c, behind)) = character(rest) {
+    while let Some((c, following)) = character(rest) {
         text.push(c)?;
-        rest = behind;
+        rest = following;
     }
     Ok(Text::from_string(text))
 }
@@ -276,7 +276,7 @@ pub fn unescaped(alloc: Global, body: &str) -> Result<Text, NoMemory>
 /// Returns the body of the text literal whose opening quote has been read, and the text after its
 /// closing quote, or `None` if it has a wrong escape or no closing quote.
 #[inline(never)]
-fn quoted_in_front(text: &str) -> Option<(&str, &str)>
+fn leading_quoted(text: &str) -> Option<(&str, &str)>
     ensures { option_map (λ x. (token.Text (lexing.unescaped (chars x.0.now)), chars x.1.now)) result
         ≡ lexing.text_from (length (chars text.now)) [] (chars text.now) }
 {
@@ -284,10 +284,10 @@ fn quoted_in_front(text: &str) -> Option<(&str, &str)>
     while let Some(after) = past_character(rest) {
         rest = after;
     }
-    match unquoted(rest) {
-        Some(behind) => {
+    match without_quotes(rest) {
+        Some(following) => {
             let (body, _) = text.split_at(text.len() - rest.len());
-            Some((body, behind))
+            Some((body, following))
         }
         None => None,
     }
@@ -296,11 +296,11 @@ fn quoted_in_front(text: &str) -> Option<(&str, &str)>
 /// Reads the text literal whose opening quote has been read. Fails with `Nothing` if that has a
 /// wrong escape or no closing quote.
 #[inline(always)]
-fn text_literal(text: &str) -> Result<(Token<'_>, &str), TokenFault>
+fn text_literal(text: &str) -> Result<(GrammarToken<'_>, &str), TokenFault>
     ensures { GivesToken result (lexing.text_from (length (chars text.now)) [] (chars text.now)) }
 {
-    match quoted_in_front(text) {
-        Some((body, rest)) => Ok((Token::Text(body), rest)),
+    match leading_quoted(text) {
+        Some((body, rest)) => Ok((GrammarToken::Text(body), rest)),
         None => Err(TokenFault::Nothing),
     }
 }
@@ -308,13 +308,16 @@ fn text_literal(text: &str) -> Result<(Token<'_>, &str), TokenFault>
 /// Makes the number literal of these digits; `rest` is the text after them. Fails with `TooLarge`
 /// if the number does not fit in an `i64`.
 #[inline(always)]
-fn number_literal<'t>(digits: &str, rest: &'t str) -> Result<(Token<'t>, &'t str), TokenFault>
+fn number_literal<'t>(
+    digits: &str,
+    rest: &'t str,
+) -> Result<(GrammarToken<'t>, &'t str), TokenFault>
     requires { IsDigits digits.now }
     ensures { GivesToken result
         (Some (token.Number (pos (digits_value 10 digits.now)), chars rest.now)) }
 {
     match digits.parse::<i64>() {
-        Ok(number) => Ok((Token::Number(number), rest)),
+        Ok(number) => Ok((GrammarToken::Number(number), rest)),
         Err(_) => Err(TokenFault::TooLarge),
     }
 }
@@ -323,17 +326,17 @@ fn number_literal<'t>(digits: &str, rest: &'t str) -> Result<(Token<'t>, &'t str
 /// `TooLarge` if the number does not fit in an `i64`, and with `Nothing` if the text does not begin
 /// with a digit.
 #[inline(always)]
-fn long_number(text: &str) -> Result<(Token<'_>, &str), TokenFault>
+fn long_number(text: &str) -> Result<(GrammarToken<'_>, &str), TokenFault>
     ensures { GivesToken result (lexing.number_from (chars text.now)) }
 {
-    match digits_in_front(text) {
+    match leading_digits(text) {
         Some((digits, rest)) => number_literal(digits, rest),
         None => Err(TokenFault::Nothing),
     }
 }
 
 /// Returns the digit at the beginning of the text and the text after it, or `None`.
-fn digit_in_front(text: &str) -> Option<(char, &str)>
+fn leading_digit(text: &str) -> Option<(char, &str)>
     ensures { lexing.PassesDigit text.now result }
 {
     match first(text) {
@@ -347,18 +350,18 @@ fn digit_in_front(text: &str) -> Option<(char, &str)>
 fn short_number(digit: char, text: &str) -> Option<(i64, &str)>
     requires { is_ascii_digit digit ≡ true }
     ensures value { IfSome result (λ x. x.0
-        ≡ pos (digits_value 10 (front_in class.Digit (digit ∷ chars text.now)))) }
+        ≡ pos (digits_value 10 (prefix_in class.Digit (digit ∷ chars text.now)))) }
     ensures back { IfSome result (λ x. chars x.1.now
         ≡ back_of class.Digit (digit ∷ chars text.now)) }
 {
     let mut number = digit as u64 - 48;
     let mut rest = text;
-    while let Some((c, behind)) = digit_in_front(rest) {
+    while let Some((c, following)) = leading_digit(rest) {
         if number > 99_999_999_999_999_999 {
             return None;
         }
         number = number * 10 + (c as u64 - 48);
-        rest = behind;
+        rest = following;
     }
     Some((number as i64, rest))
 }
@@ -366,13 +369,17 @@ fn short_number(digit: char, text: &str) -> Option<(i64, &str)>
 /// Reads the number literal at the beginning of `text`, whose first character is `digit`, with
 /// `rest` after it. Fails with `TooLarge` if the number does not fit in an `i64`.
 #[inline(always)]
-fn number<'t>(digit: char, rest: &'t str, text: &'t str) -> Result<(Token<'t>, &'t str), TokenFault>
+fn number<'t>(
+    digit: char,
+    rest: &'t str,
+    text: &'t str,
+) -> Result<(GrammarToken<'t>, &'t str), TokenFault>
     requires digit { is_ascii_digit digit ≡ true }
     requires split { lexing.IsSplit text.now digit rest.now }
     ensures { GivesToken result (lexing.number_from (chars text.now)) }
 {
     match short_number(digit, rest) {
-        Some((number, behind)) => Ok((Token::Number(number), behind)),
+        Some((number, following)) => Ok((GrammarToken::Number(number), following)),
         None => long_number(text),
     }
 }
@@ -380,13 +387,13 @@ fn number<'t>(digit: char, rest: &'t str, text: &'t str) -> Result<(Token<'t>, &
 /// Returns the digits and the name of the occurrence whose `$` has been read, and the text after
 /// it, or `None` if this is not an occurrence.
 #[inline(never)]
-fn occurrence_in_front(text: &str) -> Option<(&str, &str, &str)>
+fn leading_occurrence(text: &str) -> Option<(&str, &str, &str)>
     ensures value { option_map (λ x. (token.Occurrence (digits_value 10 x.0.now) x.1.now, chars x.2.now)) result
         ≡ lexing.occurrence_from (chars text.now) }
     ensures digits { IfSome result (λ x. IsDigits x.0.now) }
 {
-    let (digits, rest) = digits_in_front(text)?;
-    let (attr, rest) = name_in_front(undotted(rest)?)?;
+    let (digits, rest) = leading_digits(text)?;
+    let (attr, rest) = leading_name(without_dots(rest)?)?;
     Some((digits, attr, rest))
 }
 
@@ -397,13 +404,13 @@ fn occurrence_of<'t>(
     digits: &str,
     attr: &'t str,
     rest: &'t str,
-) -> Result<(Token<'t>, &'t str), TokenFault>
+) -> Result<(GrammarToken<'t>, &'t str), TokenFault>
     requires { IsDigits digits.now }
     ensures { GivesToken result
         (Some (token.Occurrence (digits_value 10 digits.now) attr.now, chars rest.now)) }
 {
     match digits.parse::<u16>() {
-        Ok(place) => Ok((Token::Occurrence(place, attr), rest)),
+        Ok(place) => Ok((GrammarToken::Occurrence(place, attr), rest)),
         Err(_) => Err(TokenFault::TooLarge),
     }
 }
@@ -411,10 +418,10 @@ fn occurrence_of<'t>(
 /// Reads the occurrence whose `$` has been read. Fails with `Nothing` if this is not an occurrence,
 /// and with `TooLarge` if its place is above 65,535.
 #[inline(always)]
-fn occurrence(text: &str) -> Result<(Token<'_>, &str), TokenFault>
+fn occurrence(text: &str) -> Result<(GrammarToken<'_>, &str), TokenFault>
     ensures { GivesToken result (lexing.occurrence_from (chars text.now)) }
 {
-    match occurrence_in_front(text) {
+    match leading_occurrence(text) {
         Some((digits, attr, rest)) => occurrence_of(digits, attr, rest),
         None => Err(TokenFault::Nothing),
     }
@@ -428,16 +435,16 @@ fn plain_token<'t>(
     c: char,
     rest: &'t str,
     text: &'t str,
-) -> Result<(Token<'t>, &'t str), TokenFault>
+) -> Result<(GrammarToken<'t>, &'t str), TokenFault>
     requires digit { is_ascii_digit c ≡ false }
     requires split { lexing.IsSplit text.now c rest.now }
     ensures { GivesToken result (lexing.plain_from (chars text.now)) }
 {
-    if let Some((mark, behind)) = punctuation_of(c, rest) {
-        return Ok((Token::Punctuation(mark), behind));
+    if let Some((mark, following)) = punctuation_of(c, rest) {
+        return Ok((GrammarToken::Punctuation(mark), following));
     }
-    match name_in_front(text) {
-        Some((name, behind)) => Ok((Token::Name(name), behind)),
+    match leading_name(text) {
+        Some((name, following)) => Ok((GrammarToken::Name(name), following)),
         None => Err(TokenFault::Nothing),
     }
 }
@@ -450,7 +457,7 @@ fn plain_token<'t>(
 /// function assembles the token in registers.
 #[inline(never)]
 #[tactic(auto, using(crate::proofs::Numerals::some_digit), unfolding(crate::specs::Lexing::token_from))]
-pub fn token_in_front(text: &str) -> Result<(Token<'_>, &str), TokenFault>
+pub fn leading_token(text: &str) -> Result<(GrammarToken<'_>, &str), TokenFault>
     ensures { GivesToken result (lexing.token_from (chars text.now)) }
 {
     match first(text) {
@@ -466,17 +473,17 @@ pub fn token_in_front(text: &str) -> Result<(Token<'_>, &str), TokenFault>
 /// further call; else returns `None`. Does not allocate.
 #[inline(always)]
 #[tactic(auto, using(crate::proofs::TokenLaws::marked_token, crate::proofs::Numerals::numbered_token))]
-pub fn quick_token(text: &str) -> Option<(Token<'_>, &str)>
+pub fn quick_token(text: &str) -> Option<(GrammarToken<'_>, &str)>
     ensures { IfSome result (λ x. lexing.IsCutSo x (lexing.token_from (chars text.now))) }
 {
     match first(text)? {
         (c, rest) if c.is_ascii_digit() => {
-            let (number, behind) = short_number(c, rest)?;
-            Some((Token::Number(number), behind))
+            let (number, following) = short_number(c, rest)?;
+            Some((GrammarToken::Number(number), following))
         }
         (c, rest) => {
-            let (mark, behind) = punctuation_of(c, rest)?;
-            Some((Token::Punctuation(mark), behind))
+            let (mark, following) = punctuation_of(c, rest)?;
+            Some((GrammarToken::Punctuation(mark), following))
         }
     }
 }

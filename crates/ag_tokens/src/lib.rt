@@ -10,6 +10,6 @@ mod token;
 
 pub use cursor::Cursor;
 pub use fault::TokenFault;
-pub use lexer::{Class, first, skip_separators, split_behind, starts_name, unescaped};
+pub use lexer::{Class, first, skip_separators, split_after, starts_name, unescaped};
 pub use signs::{is_mark, is_word};
-pub use token::{Punctuation, Token};
+pub use token::{GrammarToken, Punctuation};

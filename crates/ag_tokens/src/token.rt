@@ -37,7 +37,7 @@ pub enum Punctuation {
 
 /// A token of the language, borrowed from the text.
 #[derive(Clone, Copy, Debug, PartialEq, Eq)]
-pub enum Token<'t> {
+pub enum GrammarToken<'t> {
     /// A number literal.
     Number(i64),
     /// A text literal, as written between its quotes.

@@ -59,20 +59,20 @@ both_true : (a b : Bool) → a ≡ true → b ≡ true → (a && b) ≡ true
 both_true true b p q = q
 both_true false b p q = p
 
-all_take : {A : Type 0} (spell : A → List ℕ) (test : A → Bool) (depth : A → ℕ) (levels : ℕ) (item : List ℕ → Read A) → Says spell test depth levels item → (n : ℕ) (front : List A) (bytes : List ℕ) (x : List A × List ℕ) → IsBytes bytes
-    → all_at item n front bytes ≡ Some x → (xs : List A) × (x.0 ≡ front ++ xs) × TakesAll spell test depth levels n bytes xs x.1
+all_take : {A : Type 0} (spell : A → List ℕ) (test : A → Bool) (depth : A → ℕ) (levels : ℕ) (item : List ℕ → Read A) → Says spell test depth levels item → (n : ℕ) (prefix : List A) (bytes : List ℕ) (x : List A × List ℕ) → IsBytes bytes
+    → all_at item n prefix bytes ≡ Some x → (xs : List A) × (x.0 ≡ prefix ++ xs) × TakesAll spell test depth levels n bytes xs x.1
 unfolding all_at
-all_take {A} spell test depth levels item says zero front bytes x is e =
-    let same : (front, bytes) ≡ x = same_Some (front, bytes) x e in
-    ([], sym (append-nil front ∙ ap (λ (y : List A × List ℕ). y.0) same), subst (λ (y : List A × List ℕ). TakesAll spell test depth levels 0 bytes [] y.1) same (record { takes = record { parts = refl; are_bytes = is }; count = refl; hold = refl; shallow = omega arith }))
-all_take {A} spell test depth levels item says (suc n) front bytes x is e =
-    option_and_then_some (λ first. all_at item n (front ++ first.0 ∷ []) first.1) (item bytes) x e (λ first read others.
+all_take {A} spell test depth levels item says zero prefix bytes x is e =
+    let same : (prefix, bytes) ≡ x = same_Some (prefix, bytes) x e in
+    ([], sym (append-nil prefix ∙ ap (λ (y : List A × List ℕ). y.0) same), subst (λ (y : List A × List ℕ). TakesAll spell test depth levels 0 bytes [] y.1) same (record { takes = record { parts = refl; are_bytes = is }; count = refl; hold = refl; shallow = omega arith }))
+all_take {A} spell test depth levels item says (suc n) prefix bytes x is e =
+    option_and_then_some (λ first. all_at item n (prefix ++ first.0 ∷ []) first.1) (item bytes) x e (λ first read others.
     let one = says bytes first is read in
-    let more = all_take spell test depth levels item says n (front ++ first.0 ∷ []) first.1 x one.takes.are_bytes others in
+    let more = all_take spell test depth levels item says n (prefix ++ first.0 ∷ []) first.1 x one.takes.are_bytes others in
     let low = one.shallow in
     let lower = more.2.shallow in (
       first.0 ∷ more.0,
-      more.1 ∙ append_assoc front (first.0 ∷ []) more.0,
+      more.1 ∙ append_assoc prefix (first.0 ∷ []) more.0,
       record {
         takes = Takes-then bytes (spell first.0) first.1 (joined (map spell more.0)) x.1 one.takes more.2.takes;
         count = ap suc more.2.count;
@@ -217,14 +217,14 @@ abbrev pub AllAgain : {A : Type 0} → (A → List ℕ) → (List ℕ → Read A
 AllAgain spell item [] = Unit {0}
 AllAgain spell item (x ∷ xs) = Again spell item x × AllAgain spell item xs
 
-all_again : {A : Type 0} (spell : A → List ℕ) (item : List ℕ → Read A) (xs front : List A) (rest : List ℕ) → AllAgain spell item xs → all_at item (length xs) front (joined (map spell xs) ++ rest) ≡ Some (front ++ xs, rest)
+all_again : {A : Type 0} (spell : A → List ℕ) (item : List ℕ → Read A) (xs prefix : List A) (rest : List ℕ) → AllAgain spell item xs → all_at item (length xs) prefix (joined (map spell xs) ++ rest) ≡ Some (prefix ++ xs, rest)
 unfolding all_at
-all_again {A} spell item [] front rest all = ap (λ (ys : List A). Some (ys, rest)) (sym (append-nil front))
-all_again {A} spell item (x ∷ xs) front rest all =
+all_again {A} spell item [] prefix rest all = ap (λ (ys : List A). Some (ys, rest)) (sym (append-nil prefix))
+all_again {A} spell item (x ∷ xs) prefix rest all =
     let regrouped = append_assoc (spell x) (joined (map spell xs)) rest in
     let one = all.0 (joined (map spell xs) ++ rest) in
-    let more = all_again spell item xs (front ++ x ∷ []) rest all.1 in
-    ap (all_at item (suc (length xs)) front) regrouped ∙ rw one (more ∙ ap (λ (ys : List A). Some (ys, rest)) (append_assoc front (x ∷ []) xs))
+    let more = all_again spell item xs (prefix ++ x ∷ []) rest all.1 in
+    ap (all_at item (suc (length xs)) prefix) regrouped ∙ rw one (more ∙ ap (λ (ys : List A). Some (ys, rest)) (append_assoc prefix (x ∷ []) xs))
 
 pair_again : (item : List ℕ → Read Value) (p : List ℕ × Value) → is_utf8 p.0 ≡ true → length p.0 < 2 ^ 32 → Again spelling_of item p.1 → Again spelling_of_pair (pair_at item) p
 unfolding pair_at

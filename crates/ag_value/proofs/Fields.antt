@@ -74,8 +74,8 @@ number_takes w limit wide bytes n rest is e =
     let long : byte_len w ≤ length bytes = ltb-false _ _ g.0 in
     let n-is = same.0 in
     let rest-is = same.1 in
-    let front : to_be_bytes w n ≡ take (byte_len w) bytes = rw (← n-is) (wide.back (take (byte_len w) bytes) (omega (arith, length-take (byte_len w) bytes)) (IsBytes-take (byte_len w) bytes is)) in
-    (record { parts = rw (front, ← rest-is) (sym (take-append-drop (byte_len w) bytes)); are_bytes = rw (← rest-is) (IsBytes-drop (byte_len w) bytes is) }, rw (← n-is) (wide.below (take (byte_len w) bytes) (IsBytes-take (byte_len w) bytes is)))
+    let prefix : to_be_bytes w n ≡ take (byte_len w) bytes = rw (← n-is) (wide.back (take (byte_len w) bytes) (omega (arith, length-take (byte_len w) bytes)) (IsBytes-take (byte_len w) bytes is)) in
+    (record { parts = rw (prefix, ← rest-is) (sym (take-append-drop (byte_len w) bytes)); are_bytes = rw (← rest-is) (IsBytes-drop (byte_len w) bytes is) }, rw (← n-is) (wide.below (take (byte_len w) bytes) (IsBytes-take (byte_len w) bytes is)))
 
 pub number_again : (w : Width) (limit : ℕ) (wide : IsWide w limit) (n : ℕ) (rest : List ℕ) → n < limit → number_at w (to_be_bytes w n ++ rest) ≡ Some (n, rest)
 number_again w limit wide n rest lt =
@@ -102,5 +102,5 @@ pub text_again : (text rest : List ℕ) → length text < 2 ^ 32 → is_utf8 tex
 unfolding text_at
 text_again text rest lt utf8 =
     let long : ltb (length (text ++ rest)) (length text) ≡ false = le-ltb _ _ (omega (arith, length-append text rest)) in
-    let front = take_at text rest (length text) refl in
-    rw (number_again w32 (2 ^ 32) wide32 (length text) (text ++ rest) lt, long, front, drop_at text rest (length text) refl, utf8) refl
+    let prefix = take_at text rest (length text) refl in
+    rw (number_again w32 (2 ^ 32) wide32 (length text) (text ++ rest) lt, long, prefix, drop_at text rest (length text) refl, utf8) refl

@@ -1,6 +1,6 @@
 -- The weight and the depth of a value, and their limits. All of this is this project's.
 use Rattle.std.specs.Prelude.{ℕ, ◌+◌, max, List, [], ◌∷◌, length, sum, map}
-use Rattle.ag_value.specs.declared.limits.TheConstants.{MAX_DEPTH, MAX_WEIGHT}
+use Rattle.ag_value.specs.declared.limits.TheConstants.{MAX_VALUE_DEPTH, MAX_WEIGHT}
 use Rattle.ag_value.specs.declared.value.Value.{Value, fold-Value}
 use Rattle.ag_value.specs.declared.value.Value.TheOpen.{Value-F}
 
@@ -46,4 +46,4 @@ max_weight = MAX_WEIGHT
 
 -- the greatest depth of a well value
 abbrev pub max_depth : ℕ
-max_depth = MAX_DEPTH
+max_depth = MAX_VALUE_DEPTH

@@ -59,8 +59,8 @@ fault_at (b ∷ rest) = code_at b >>= λ c. Some (v.Fault c, rest)
 
 -- n values read by `item`, after those before them
 unfoldable pub all_at : {A : Type 0} → (List ℕ → Read A) → ℕ → List A → List ℕ → Read (List A)
-all_at item zero front bytes = Some (front, bytes)
-all_at item (suc n) front bytes = item bytes >>= λ first. all_at item n (front ++ first.0 ∷ []) first.1
+all_at item zero prefix bytes = Some (prefix, bytes)
+all_at item (suc n) prefix bytes = item bytes >>= λ first. all_at item n (prefix ++ first.0 ∷ []) first.1
 
 -- a key, and a value read by `item`
 unfoldable pub pair_at : (List ℕ → Read Value) → List ℕ → Read (List ℕ × Value)

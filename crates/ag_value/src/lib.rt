@@ -14,7 +14,7 @@ mod walks;
 pub use boxed::Boxed;
 pub use fault::{NoMemory, OutOfMemory, ValueFault};
 pub use items::Items;
-pub use limits::{MAX_DEPTH, MAX_WEIGHT};
+pub use limits::{MAX_VALUE_DEPTH, MAX_WEIGHT};
 pub use spelling::decoding::decode;
 pub use spelling::encoding::encode;
 pub use spelling::showing::show;

@@ -21,11 +21,11 @@ use Rattle.ag_fault.specs.declared.fault.Fault.{Fault}
 use Rattle.ag_fault.specs.declared.fault.Fault.TheVariants as fault
 
 -- a conflict of the grammar of a text is one of the text
-pub conflict_told : (t : List ℕ) (g : Grammar) → IsGrammarOf t g → (f : TableFault)
+pub conflict_exact : (t : List ℕ) (g : Grammar) → IsGrammarOf t g → (f : TableFault)
     → ((symbol first second : ℕ) (x : Ahead) → f ≡ table.Conflict symbol first second x → IsLeastConflict g symbol first second x)
     → IsBuildFault t (build_fault_of_table f)
-conflict_told t g is (table.Conflict symbol first second ahead) least = (g, is, least symbol first second ahead refl)
-conflict_told t g is table.NoMemory least = tt
+conflict_exact t g is (table.Conflict symbol first second ahead) least = (g, is, least symbol first second ahead refl)
+conflict_exact t g is table.NoMemory least = tt
 
 pub least_plan : (g : Grammar) (rows : List (List ℕ)) (code : Lists) (p : List (List ℕ) × Lists) → p ≡ (rows, code) → IsPlan g rows code → IsLeast g (passes_of rows) → AreLists g (passes_of rows) code → IsLeastPlan g p.0 p.1
 least_plan g rows code p is plan least lists = subst (λ (x : List (List ℕ) × Lists). IsLeastPlan g x.0 x.1) (sym is) (record { plan = plan; least = least; lists = lists })
@@ -34,6 +34,6 @@ pub of_plan : (P : Grammar → List (List ℕ) → Lists → Type 0) (text : Lis
 of_plan P text g rows code is plan holds = record { grammar = g; rows = rows; code = code; is = is; plan = plan; holds = holds }
 
 -- O2 of the program is that of a listing
-pub write_told : {A : Type 0} (e : ListingFault) (told : Fault) (r : Result A Fault) → r ≡ Err told → told ≡ listing_fault_of e → IsErrOf r fault.Write → e ≡ listing.Write
-write_told listing.Write told r p q is = refl
-write_told {A} listing.NoMemory told r p q is = let bad : fault.NoMemory ≡ told = sym q in let both : Err told ≡ (let w : Result A Fault = Err fault.Write in w) = sym p ∙ is in absurd cc
+pub write_exact : {A : Type 0} (e : ListingFault) (exact : Fault) (r : Result A Fault) → r ≡ Err exact → exact ≡ listing_fault_of e → IsErrOf r fault.Write → e ≡ listing.Write
+write_exact listing.Write exact r p q is = refl
+write_exact {A} listing.NoMemory exact r p q is = let bad : fault.NoMemory ≡ exact = sym q in let both : Err exact ≡ (let w : Result A Fault = Err fault.Write in w) = sym p ∙ is in absurd cc

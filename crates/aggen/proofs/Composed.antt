@@ -8,7 +8,7 @@ use Rattle.ag_grammar.specs.grammars.Accepted.{IsAccepted, out_name}
 use Rattle.ag_grammar.specs.grammars.AttributeGrammar.{Grammar, Inherited, Kind, Synthesized, symbol_kinds}
 use Rattle.ag_grammar.specs.grammars.Passes.{IsLegal, Passes}
 use Rattle.ag_grammar.specs.grammars.Solution.{IsTranslation}
-use Rattle.ag_grammar.specs.grammars.Tree.{IsWithinLimits, Tree, IsTreeOf, most_depth, most_nodes, node_count}
+use Rattle.ag_grammar.specs.grammars.Tree.{IsWithinLimits, Tree, IsTreeOf, max_depth, max_nodes, node_count}
 use Rattle.passassign.specs.Rows.{IsGreatest, passes_of}
 use Rattle.passcode.specs.Rows.{Lists}
 use Rattle.planchecker.specs.Plans.{IsPlan}
@@ -28,7 +28,7 @@ use Rattle.roottext.specs.declared.fault.OutFault.TheVariants as out
 use Rattle.ag_fault.specs.Faults.{out_fault_of, run_fault_of}
 use Rattle.aggen.specs.Translation.{BeginsTranslation, IsOneTree}
 use Rattle.passrun.specs.Rounds.{last_content}
-use Rattle.roottext.specs.Roots.{IsRootText, TellsRoot}
+use Rattle.roottext.specs.Roots.{IsRootText, MatchesRoot}
 use Rattle.passrun.specs.Rounds.{HasCounted, HasRunAll}
 use Rattle.ag_grammar.specs.grammars.Running.{IsLastPass}
 use Rattle.passrun.specs.passing.Ahead.{IsRunFault}
@@ -83,30 +83,30 @@ module _ (g : Grammar) (sentence : List ℕ) (rows : List (List ℕ)) (code : Li
       }
 
   -- no pass refuses a file of the tree of a sentence
-  pub never_refused : (t : Tree) (start : List ℕ) (f : RunFault) (ha hb : Bool) → IsTreeOf g t → IsWithinLimits most_depth most_nodes t → WhenHonest ha (IsFirstFile version_two g t start) → WhenHonest ha (WhenHonest hb (IsRunFault (setting_of g (rows, code) 1) start f)) → IsFilesFault g sentence ha hb (run_fault_of f)
-  never_refused t start (run.Damaged at) ha hb tree within file told = λ a b. let texts = texts_are_given g t in (told a b).none t texts.0 tree (file a (passes_of rows) texts.0 plan.legal.positive texts.1)
-  never_refused t start run.TooDeep ha hb tree within file told = λ a b. let texts = texts_are_given g t in (told a b).none most_nodes t texts.0 tree within (file a (passes_of rows) texts.0 plan.legal.positive texts.1)
-  never_refused t start run.TooManyNodes ha hb tree within file told = λ a b. let texts = texts_are_given g t in (told a b).none most_depth t texts.0 tree within (file a (passes_of rows) texts.0 plan.legal.positive texts.1)
-  never_refused t start run.Device ha hb tree within file told = tt
-  never_refused t start run.NoMemory ha hb tree within file told = tt
+  pub never_refused : (t : Tree) (start : List ℕ) (f : RunFault) (ha hb : Bool) → IsTreeOf g t → IsWithinLimits max_depth max_nodes t → WhenHonest ha (IsFirstFile version_two g t start) → WhenHonest ha (WhenHonest hb (IsRunFault (setting_of g (rows, code) 1) start f)) → IsFilesFault g sentence ha hb (run_fault_of f)
+  never_refused t start (run.Damaged at) ha hb tree within file exact = λ a b. let texts = texts_are_given g t in (exact a b).none t texts.0 tree (file a (passes_of rows) texts.0 plan.legal.positive texts.1)
+  never_refused t start run.TooDeep ha hb tree within file exact = λ a b. let texts = texts_are_given g t in (exact a b).none max_nodes t texts.0 tree within (file a (passes_of rows) texts.0 plan.legal.positive texts.1)
+  never_refused t start run.TooManyNodes ha hb tree within file exact = λ a b. let texts = texts_are_given g t in (exact a b).none max_depth t texts.0 tree within (file a (passes_of rows) texts.0 plan.legal.positive texts.1)
+  never_refused t start run.Device ha hb tree within file exact = tt
+  never_refused t start run.NoMemory ha hb tree within file exact = tt
 
 -- the files are also left under a weaker hypothesis about the devices
 pub files_supposed : (g : Grammar) (sentence : List ℕ) (rows : List (List ℕ)) (ha hb ha' hb' : Bool) (a b : List ℕ) (report : Report) → (ha' ≡ true → ha ≡ true) → (hb' ≡ true → hb ≡ true) → LeavesFiles g sentence rows ha hb a b report → LeavesFiles g sentence rows ha' hb' a b report
 files_supposed g sentence rows ha hb ha' hb' a b report first second files = record { tree = files.tree; one = files.one; greatest = files.greatest; left = λ x y. files.left (first x) (second y) }
 
 -- the one tree of a sentence, from the contract of parsing
-pub one_tree : (g : Grammar) (sentence : List ℕ) (t : Tree) → IsTreeOfSentence g sentence t → ((t u : Tree) → IsTreeOfSentence g sentence t → IsTreeOfSentence g sentence u → t ≡ u) → IsWithinLimits most_depth most_nodes t → IsOneTree (IsTreeOfSentence g sentence) t
+pub one_tree : (g : Grammar) (sentence : List ℕ) (t : Tree) → IsTreeOfSentence g sentence t → ((t u : Tree) → IsTreeOfSentence g sentence t → IsTreeOfSentence g sentence u → t ≡ u) → IsWithinLimits max_depth max_nodes t → IsOneTree (IsTreeOfSentence g sentence) t
 one_tree g sentence t is one within = record { is_tree = is; only = λ s other. one s t other is; within = within }
 
 module _ (g : Grammar) (sentence : List ℕ) (rows : List (List ℕ)) (code : Lists) (least : IsLeastPlan g rows code) (ha hb : Bool) (a b : List ℕ) (report : Report) (files : LeavesFiles g sentence rows ha hb a b report) where
-  module _ (r : Result (List ℕ) OutFault) (told : WhenHonest ha (WhenHonest hb (TellsRoot g rows (last_content report.last a b) r))) where
+  module _ (r : Result (List ℕ) OutFault) (exact : WhenHonest ha (WhenHonest hb (MatchesRoot g rows (last_content report.last a b) r))) where
     -- the result for the last file holds of the values left
     root_of : (x : ha ≡ true) (y : hb ≡ true) → IsRootText g (files.left x y).values r
-    root_of x y = told x y report.passes files.greatest files.tree (files.left x y).values files.one.is_tree.tree.tree (files.left x y).leaves.file
+    root_of x y = exact x y report.passes files.greatest files.tree (files.left x y).values files.one.is_tree.tree.tree (files.left x y).leaves.file
 
   -- the text of the root was written: the sentence is translated
-  pub translates : (a_new b_new : List ℕ) (old new : Option (List ℕ)) (text : List ℕ) → WhenHonest ha (a_new ≡ a) → WhenHonest hb (b_new ≡ b) → WhenHonest ha (WhenHonest hb (TellsRoot g rows (last_content report.last a b) (Ok text))) → Appends old new text → TranslatesSentence g sentence ha hb a_new b_new old new report
-  translates a_new b_new old new text same_a same_b told put = record {
+  pub translates : (a_new b_new : List ℕ) (old new : Option (List ℕ)) (text : List ℕ) → WhenHonest ha (a_new ≡ a) → WhenHonest hb (b_new ≡ b) → WhenHonest ha (WhenHonest hb (MatchesRoot g rows (last_content report.last a b) (Ok text))) → Appends old new text → TranslatesSentence g sentence ha hb a_new b_new old new report
+  translates a_new b_new old new text same_a same_b exact put = record {
     tree = files.tree;
     one = files.one;
     assignment = passes_of rows;
@@ -116,28 +116,28 @@ module _ (g : Grammar) (sentence : List ℕ) (rows : List (List ℕ)) (code : Li
       values = left.values;
       leaves = left.leaves;
       text = text;
-      root = root_of (Ok text) told x y;
+      root = root_of (Ok text) exact x y;
       written = put;
       report_is = left.report_is;
     });
   }
 
   -- a prefix of it was written
-  pub begins : (old new : Option (List ℕ)) (text : List ℕ) → WhenHonest ha (WhenHonest hb (TellsRoot g rows (last_content report.last a b) (Ok text))) → AppendsBeginning old new text → WhenHonest ha (WhenHonest hb (BeginsTranslation (IsTreeOfSentence g sentence) g old new))
-  begins old new text told front x y = let left = files.left x y in record {
+  pub begins : (old new : Option (List ℕ)) (text : List ℕ) → WhenHonest ha (WhenHonest hb (MatchesRoot g rows (last_content report.last a b) (Ok text))) → AppendsBeginning old new text → WhenHonest ha (WhenHonest hb (BeginsTranslation (IsTreeOfSentence g sentence) g old new))
+  begins old new text exact prefix x y = let left = files.left x y in record {
     tree = files.tree;
     one = files.one;
     values = left.values;
     solves = left.leaves.solution.solves;
-    front = front.front;
-    rest = front.rest;
-    root = subst (λ (bytes : List ℕ). IsTranslation g left.values (Text bytes)) front.cut (root_of (Ok text) told x y);
-    written = front.put;
+    prefix = prefix.prefix;
+    rest = prefix.rest;
+    root = subst (λ (bytes : List ℕ). IsTranslation g left.values (Text bytes)) prefix.cut (root_of (Ok text) exact x y);
+    written = prefix.put;
   }
 
   -- the meaning of a fault of the text
-  pub root_refused : (old new : Option (List ℕ)) (f : OutFault) → WhenHonest ha (WhenHonest hb (TellsRoot g rows (last_content report.last a b) (Err f))) → IsTranslationFault g sentence ha hb old new (out_fault_of f)
-  root_refused old new (out.NoText x) told = λ h k. let left = files.left h k in let root = root_of (Err (out.NoText x)) told h k in record {
+  pub root_refused : (old new : Option (List ℕ)) (f : OutFault) → WhenHonest ha (WhenHonest hb (MatchesRoot g rows (last_content report.last a b) (Err f))) → IsTranslationFault g sentence ha hb old new (out_fault_of f)
+  root_refused old new (out.NoText x) exact = λ h k. let left = files.left h k in let root = root_of (Err (out.NoText x)) exact h k in record {
     tree = files.tree;
     one = files.one;
     values = left.values;
@@ -145,7 +145,7 @@ module _ (g : Grammar) (sentence : List ℕ) (rows : List (List ℕ)) (code : Li
     root = root.0;
     no_text = root.1;
   }
-  root_refused old new out.NotATreeFile told = λ h k. root_of (Err out.NotATreeFile) told h k
-  root_refused old new (out.Damaged at) told = λ h k. root_of (Err (out.Damaged at)) told h k
-  root_refused old new out.Device told = tt
-  root_refused old new out.NoMemory told = tt
+  root_refused old new out.NotATreeFile exact = λ h k. root_of (Err out.NotATreeFile) exact h k
+  root_refused old new (out.Damaged at) exact = λ h k. root_of (Err (out.Damaged at)) exact h k
+  root_refused old new out.Device exact = tt
+  root_refused old new out.NoMemory exact = tt

@@ -9,11 +9,11 @@ use Rattle.ag_grammar.specs.grammars.Counts.{rules_of_pass, sum_of_passes}
 use Rattle.ag_grammar.specs.grammars.Passes.{Passes}
 use Rattle.ag_grammar.specs.grammars.Running.{IsLastPass}
 use Rattle.ag_grammar.specs.grammars.Solution.{IsTranslation, Valuation}
-use Rattle.ag_grammar.specs.grammars.Tree.{Tree, IsTreeOf, depth_of, most_depth, most_nodes, node_count}
+use Rattle.ag_grammar.specs.grammars.Tree.{Tree, IsTreeOf, depth_of, max_depth, max_nodes, node_count}
 use Rattle.ag_grammar.proofs.grammars.Counting.{passes_have_all_rules}
 use Rattle.ag_grammar.proofs.grammars.Running.{run_is_the_solution}
 use Rattle.treefile.specs.devices.Device.{WhenHonest}
-use Rattle.treefile.specs.ways.Ending.{version_two_usable}
+use Rattle.treefile.specs.framing.Ending.{version_two_usable}
 use Rattle.treefile.specs.records.Records.{IsFileOfTree}
 use Rattle.treefile.specs.Runs.{HasRun}
 use Rattle.treefile.specs.records.TreeFile.{header, version_two}
@@ -36,7 +36,7 @@ use Rattle.passrun.specs.Passed.{IsPassed}
 use Rattle.passrun.specs.Rounds.{HasRunAll, last_content, other_content, other_last}
 use Rattle.passrun.proofs.Totals.{greatest_is_last}
 use Rattle.agoutput.specs.Writing.{AppendsBeginning}
-use Rattle.roottext.specs.Roots.{IsRootText, TellsRoot}
+use Rattle.roottext.specs.Roots.{IsRootText, MatchesRoot}
 use Rattle.roottext.specs.declared.fault.OutFault.{OutFault}
 use Rattle.roottext.specs.declared.fault.OutFault.TheVariants as out
 use Rattle.aggen.specs.Building.{IsLeastPlan}
@@ -63,19 +63,19 @@ module _ (g : Grammar) (rows : List (List ℕ)) (code : Lists) (accepted : IsAcc
 
   -- the meaning of a fault of pass 1 for the content
   pub first_refused : (content : List ℕ) (f : RunFault) (ht ha hb : Bool) → WhenHonest ht (IsRunFault (setting_of g (rows, code) 1) content f) → IsPassesFault g ht ha hb content (run_fault_of f)
-  first_refused content (run.Damaged at) ht ha hb told = λ x y z. ((λ t is. (told x).none t (texts_are_given g t).0 is.tree (file_in content t is)), ((rows, code), plan.legal.positive, (told x).shown))
-  first_refused content run.TooDeep ht ha hb told = λ x y z. ((λ t is deep. (told x).none (node_count t) t (texts_are_given g t).0 is.tree (record { deep = deep; large = omega arith }) (file_in content t is)), ((rows, code), plan.legal.positive, (told x).shown))
-  first_refused content run.TooManyNodes ht ha hb told = λ x y z. ((λ t is large. (told x).none (depth_of t) t (texts_are_given g t).0 is.tree (record { deep = omega arith; large = large }) (file_in content t is)), ((rows, code), plan.legal.positive, (told x).shown))
-  first_refused content run.Device ht ha hb told = tt
-  first_refused content run.NoMemory ht ha hb told = tt
+  first_refused content (run.Damaged at) ht ha hb exact = λ x y z. ((λ t is. (exact x).none t (texts_are_given g t).0 is.tree (file_in content t is)), ((rows, code), plan.legal.positive, (exact x).shown))
+  first_refused content run.TooDeep ht ha hb exact = λ x y z. ((λ t is deep. (exact x).none (node_count t) t (texts_are_given g t).0 is.tree (record { deep = deep; large = omega arith }) (file_in content t is)), ((rows, code), plan.legal.positive, (exact x).shown))
+  first_refused content run.TooManyNodes ht ha hb exact = λ x y z. ((λ t is large. (exact x).none (depth_of t) t (texts_are_given g t).0 is.tree (record { deep = omega arith; large = large }) (file_in content t is)), ((rows, code), plan.legal.positive, (exact x).shown))
+  first_refused content run.Device ht ha hb exact = tt
+  first_refused content run.NoMemory ht ha hb exact = tt
 
   -- honest devices return a file that no later pass rejects
   pub never_later : (content first : List ℕ) (count evals : ℕ) (f : RunFault) (ht ha hb : Bool) → WhenHonest ht (WhenHonest hb (IsPassed (setting_of g (rows, code) 1) content first count evals)) → WhenHonest hb (WhenHonest ha (IsRunFault (setting_of g (rows, code) 2) first f)) → IsPassesFault g ht ha hb content (run_fault_of f)
-  never_later content first count evals (run.Damaged at) ht ha hb passed told = λ x y z. let is = passed x z in absurd ((told z y).none is.tree is.values is.fits is.written)
-  never_later content first count evals run.TooDeep ht ha hb passed told = λ x y z. let is = passed x z in absurd ((told z y).none most_nodes is.tree is.values is.fits is.limits is.written)
-  never_later content first count evals run.TooManyNodes ht ha hb passed told = λ x y z. let is = passed x z in absurd ((told z y).none most_depth is.tree is.values is.fits is.limits is.written)
-  never_later content first count evals run.Device ht ha hb passed told = tt
-  never_later content first count evals run.NoMemory ht ha hb passed told = tt
+  never_later content first count evals (run.Damaged at) ht ha hb passed exact = λ x y z. let is = passed x z in absurd ((exact z y).none is.tree is.values is.fits is.written)
+  never_later content first count evals run.TooDeep ht ha hb passed exact = λ x y z. let is = passed x z in absurd ((exact z y).none max_nodes is.tree is.values is.fits is.limits is.written)
+  never_later content first count evals run.TooManyNodes ht ha hb passed exact = λ x y z. let is = passed x z in absurd ((exact z y).none max_depth is.tree is.values is.fits is.limits is.written)
+  never_later content first count evals run.Device ht ha hb passed exact = tt
+  never_later content first count evals run.NoMemory ht ha hb passed exact = tt
 
   module _ (content first a b : List ℕ) (evals more : ℕ) (one others : Passed) (which : Last) (report : Report) (greatest : IsGreatest report.passes rows) (passed : IsPassed (setting_of g (rows, code) 1) content first one.nodes evals) (counts : (one.read ≡ one.nodes) × (one.written ≡ one.nodes)) (all : HasRunAll g (passes_of rows) 1 report.passes first which b a more others) (last : report.last ≡ other_last which) (nodes : report.nodes ≡ one.nodes) (evals_are : report.evals ≡ evals + more) (read : report.read ≡ one.read + others.read) (written : report.written ≡ one.written + others.written) where
     end : IsLastPass report.passes (passes_of rows)
@@ -115,14 +115,14 @@ module _ (g : Grammar) (rows : List (List ℕ)) (code : Lists) (accepted : IsAcc
         }
 
 module _ (g : Grammar) (rows : List (List ℕ)) (code : Lists) (least : IsLeastPlan g rows code) (ht ha hb : Bool) (content a b : List ℕ) (report : Report) (files : LeavesFilesOfTree g rows ht ha hb content a b report) where
-  module _ (r : Result (List ℕ) OutFault) (told : WhenHonest ha (WhenHonest hb (TellsRoot g rows (last_content report.last a b) r))) where
+  module _ (r : Result (List ℕ) OutFault) (exact : WhenHonest ha (WhenHonest hb (MatchesRoot g rows (last_content report.last a b) r))) where
     -- the result for the last file holds of the values left
     root_of : (h : ht ≡ true) (x : ha ≡ true) (y : hb ≡ true) → IsRootText g (files.left h x y).values r
-    root_of h x y = let left = files.left h x y in told x y report.passes files.greatest left.tree left.values left.one.is_tree.tree left.leaves.file
+    root_of h x y = let left = files.left h x y in exact x y report.passes files.greatest left.tree left.values left.one.is_tree.tree left.leaves.file
 
   -- the text of the root was written: the tree is evaluated
-  pub evaluates : (a_new b_new : List ℕ) (old new : Option (List ℕ)) (text : List ℕ) → WhenHonest ha (a_new ≡ a) → WhenHonest hb (b_new ≡ b) → WhenHonest ha (WhenHonest hb (TellsRoot g rows (last_content report.last a b) (Ok text))) → Appends old new text → EvaluatesTree g ht ha hb content a_new b_new old new report
-  evaluates a_new b_new old new text same_a same_b told put = record {
+  pub evaluates : (a_new b_new : List ℕ) (old new : Option (List ℕ)) (text : List ℕ) → WhenHonest ha (a_new ≡ a) → WhenHonest hb (b_new ≡ b) → WhenHonest ha (WhenHonest hb (MatchesRoot g rows (last_content report.last a b) (Ok text))) → Appends old new text → EvaluatesTree g ht ha hb content a_new b_new old new report
+  evaluates a_new b_new old new text same_a same_b exact put = record {
     assignment = passes_of rows;
     passes = report.passes;
     plan = record { rows = rows; code = code; least = least; same = refl; greatest = files.greatest };
@@ -133,7 +133,7 @@ module _ (g : Grammar) (rows : List (List ℕ)) (code : Lists) (least : IsLeastP
         values = left.values;
         leaves = left.leaves;
         text = text;
-        root = root_of (Ok text) told h x y;
+        root = root_of (Ok text) exact h x y;
         written = put;
         report_is = left.report_is;
       };
@@ -141,21 +141,21 @@ module _ (g : Grammar) (rows : List (List ℕ)) (code : Lists) (least : IsLeastP
   }
 
   -- a prefix of it was written
-  pub begins : (old new : Option (List ℕ)) (text : List ℕ) → WhenHonest ha (WhenHonest hb (TellsRoot g rows (last_content report.last a b) (Ok text))) → AppendsBeginning old new text → WhenHonest ht (WhenHonest ha (WhenHonest hb (BeginsTranslation (IsTreeInFile g content) g old new)))
-  begins old new text told front h x y = let left = files.left h x y in record {
+  pub begins : (old new : Option (List ℕ)) (text : List ℕ) → WhenHonest ha (WhenHonest hb (MatchesRoot g rows (last_content report.last a b) (Ok text))) → AppendsBeginning old new text → WhenHonest ht (WhenHonest ha (WhenHonest hb (BeginsTranslation (IsTreeInFile g content) g old new)))
+  begins old new text exact prefix h x y = let left = files.left h x y in record {
     tree = left.tree;
     one = left.one;
     values = left.values;
     solves = left.leaves.solution.solves;
-    front = front.front;
-    rest = front.rest;
-    root = subst (λ (bytes : List ℕ). IsTranslation g left.values (Text bytes)) front.cut (root_of (Ok text) told h x y);
-    written = front.put;
+    prefix = prefix.prefix;
+    rest = prefix.rest;
+    root = subst (λ (bytes : List ℕ). IsTranslation g left.values (Text bytes)) prefix.cut (root_of (Ok text) exact h x y);
+    written = prefix.put;
   }
 
   -- the meaning of a fault of the text
-  pub root_refused : (old new : Option (List ℕ)) (f : OutFault) → WhenHonest ha (WhenHonest hb (TellsRoot g rows (last_content report.last a b) (Err f))) → IsEvaluationFault g ht ha hb content old new (out_fault_of f)
-  root_refused old new (out.NoText x) told = λ h i k. let left = files.left h i k in let root = root_of (Err (out.NoText x)) told h i k in record {
+  pub root_refused : (old new : Option (List ℕ)) (f : OutFault) → WhenHonest ha (WhenHonest hb (MatchesRoot g rows (last_content report.last a b) (Err f))) → IsEvaluationFault g ht ha hb content old new (out_fault_of f)
+  root_refused old new (out.NoText x) exact = λ h i k. let left = files.left h i k in let root = root_of (Err (out.NoText x)) exact h i k in record {
     tree = left.tree;
     one = left.one;
     values = left.values;
@@ -163,10 +163,10 @@ module _ (g : Grammar) (rows : List (List ℕ)) (code : Lists) (least : IsLeastP
     root = root.0;
     no_text = root.1;
   }
-  root_refused old new out.NotATreeFile told = λ h i k. root_of (Err out.NotATreeFile) told h i k
-  root_refused old new (out.Damaged at) told = λ h i k. root_of (Err (out.Damaged at)) told h i k
-  root_refused old new out.Device told = tt
-  root_refused old new out.NoMemory told = tt
+  root_refused old new out.NotATreeFile exact = λ h i k. root_of (Err out.NotATreeFile) exact h i k
+  root_refused old new (out.Damaged at) exact = λ h i k. root_of (Err (out.Damaged at)) exact h i k
+  root_refused old new out.Device exact = tt
+  root_refused old new out.NoMemory exact = tt
 
 -- the files are also left under a weaker hypothesis about the devices
 pub files_of_tree_supposed : (g : Grammar) (rows : List (List ℕ)) (ht ha hb ht' ha' hb' : Bool) (content a b : List ℕ) (report : Report) → (ht' ≡ true → ht ≡ true) → (ha' ≡ true → ha ≡ true) → (hb' ≡ true → hb ≡ true) → LeavesFilesOfTree g rows ht ha hb content a b report → LeavesFilesOfTree g rows ht' ha' hb' content a b report

@@ -4,9 +4,9 @@ use Rattle.std.proofs.lemmas.Bool.{and_parts}
 use Rattle.std.specs.List.{list_any}
 use Rattle.ag_grammar.specs.Lists.{Each}
 use Rattle.ag_grammar.specs.grammars.Accepted.{IsSeparator, class_count}
-use Rattle.ag_tokens.specs.Placed.{Placed}
-use Rattle.ag_tokens.specs.Token.{Token}
-use Rattle.ag_tokens.specs.Token as token
+use Rattle.ag_tokens.specs.PlacedToken.{PlacedToken}
+use Rattle.ag_tokens.specs.GrammarToken.{GrammarToken}
+use Rattle.ag_tokens.specs.GrammarToken as token
 use Rattle.ag_tokens.specs.Tokens.{is_separator}
 use Rattle.ag_grammar.specs.declared.raw.Named.{Named}
 use Rattle.ag_grammar.specs.declared.raw.RawGrammar.{RawGrammar}
@@ -61,27 +61,27 @@ of_name None None x known e = absurd (cc)
 
 -- ---- items, productions, grammars
 
-readable_sign : (at : ℕ) (t : Token) (x : RawItem) → item_in at t ≡ Some x → IsReadableItem x
+readable_sign : (at : ℕ) (t : GrammarToken) (x : RawItem) → item_in at t ≡ Some x → IsReadableItem x
 readable_sign at (token.Name name) x e = of_name (class_of name) (named at name) x (λ class is. small _ _ _ class is) e
 readable_sign at (token.Text bytes) x e = of_literal bytes (is_literal bytes) x refl e
 readable_sign at (token.Number n) x e = absurd (cc)
 readable_sign at (token.Occurrence place attr) x e = absurd (cc)
 readable_sign at (token.Punctuation m) x e = absurd (cc)
 
-readable_one : (ps : List Placed) (x : RawItem) → one item_in ps x → IsReadableItem x
+readable_one : (ps : List PlacedToken) (x : RawItem) → one item_in ps x → IsReadableItem x
 readable_one ps x (p, alone, is) = readable_sign p.at p.token x is
 
 -- a property of each part holds of all
-all_of_many : {A : Type 0} {item : List Placed → A → Type 0} (P : A → Type 0) → ((ps : List Placed) (x : A) → item ps x → P x) → {ps : List Placed} {xs : List A} → Many item ps xs → (i : ℕ) (x : A) → slice_get xs i ≡ Some x → P x
+all_of_many : {A : Type 0} {item : List PlacedToken → A → Type 0} (P : A → Type 0) → ((ps : List PlacedToken) (x : A) → item ps x → P x) → {ps : List PlacedToken} {xs : List A} → Many item ps xs → (i : ℕ) (x : A) → slice_get xs i ≡ Some x → P x
 all_of_many P each none i x e = absurd (cc)
 all_of_many P each (more us vs y ys first rest) zero x e = let same : y ≡ x = cc in subst P same (each us y first)
 all_of_many P each (more us vs y ys first rest) (suc i) x e = all_of_many P each rest i x e
 
-readable_production : (ps : List Placed) (q : RawProduction) → IsProduction ps q → Each IsReadableItem q.items
+readable_production : (ps : List PlacedToken) (q : RawProduction) → IsProduction ps q → Each IsReadableItem q.items
 readable_production ps q (us, vs, left, e, is_left, (us', vs', u, e', is_equal, (us'', vs'', items, e'', are, (us3, vs3, v, e3, is_open, (us4, vs4, rules, e4, rules_are, (us5, vs5, w, e5, is_close, (end, same))))))) =
     subst (λ (q : RawProduction). Each IsReadableItem q.items) (sym same) (all_of_many IsReadableItem readable_one are)
 
-readable_grammar : (ps : List Placed) (raw : RawGrammar) → IsGrammar ps raw → IsReadable raw
+readable_grammar : (ps : List PlacedToken) (raw : RawGrammar) → IsGrammar ps raw → IsReadable raw
 unfolding IsGrammar
 readable_grammar ps raw (us, vs, u, e, is_word, (us', vs', start, e', is_start, (us'', vs'', v, e'', is_mark, (us3, vs3, symbols, e3, symbols_are, (us4, vs4, productions, e4, are, (end, same)))))) =
     subst IsReadable (sym same) (all_of_many (λ (q : RawProduction). Each IsReadableItem q.items) readable_production are)

@@ -15,11 +15,11 @@ use Rattle.passrun.specs.declared.run_fault.RunFault.TheVariants as run
 use Rattle.roottext.specs.declared.fault.OutFault.{OutFault}
 use Rattle.roottext.specs.declared.fault.OutFault.TheVariants as out
 use Rattle.treefile.specs.devices.Device.{WhenHonest}
-use Rattle.treefile.specs.records.FirstFile.{IsFirstFile, unassigned}
+use Rattle.treefile.specs.records.FirstFile.{IsFirstFile, no_passes}
 use Rattle.treefile.specs.records.Orders.{postfix}
 use Rattle.treefile.specs.records.Records.{IsFileOfTree, bodies_of}
 use Rattle.treefile.specs.records.TreeFile.{file, version_two}
-use Rattle.treefile.specs.ways.Beginning.{BeginsFile}
+use Rattle.treefile.specs.framing.Beginning.{BeginsFile}
 use Rattle.treefile.specs.declared.device.DeviceFault.{DeviceFault}
 use Rattle.treefile.specs.declared.device.DeviceFault.TheVariants as device
 use Rattle.treefile.proofs.records.FirstFile.{unassigned_from_one}
@@ -42,12 +42,12 @@ use Rattle.aggen.specs.declared.translations.report.Report.{Report}
 pub first_begins : (g : Grammar) (t : Tree) (content : List ℕ) → IsAccepted g → IsTreeOf g t → IsFirstFile version_two g t content → BeginsFile 0 content
 first_begins g t content accepted tree is =
     let texts = texts_are_given g t in
-    let first : IsFileOfTree version_two g unassigned 0 t texts.0 content = is unassigned texts.0 unassigned_from_one texts.1 in
-    let bodies = postfix (direction_of 0) (bodies_of version_two g unassigned 0 t texts.0) in
+    let first : IsFileOfTree version_two g no_passes 0 t texts.0 content = is no_passes texts.0 unassigned_from_one texts.1 in
+    let bodies = postfix (direction_of 0) (bodies_of version_two g no_passes 0 t texts.0) in
     record {
       bodies = bodies;
-      sound = file_fits version_two g unassigned 0 t texts.0 content (room g accepted) tree first;
-      front = (length (file version_two 0 bodies), first.stands ∙ sym (take-length (file version_two 0 bodies)));
+      sound = file_fits version_two g no_passes 0 t texts.0 content (room g accepted) tree first;
+      prefix = (length (file version_two 0 bodies), first.occurs ∙ sym (take-length (file version_two 0 bodies)));
     }
 
 -- these faults are not P
@@ -84,14 +84,14 @@ no_parse_of_build build.NoMemory is = is
 
 -- faults before all passes ran
 pub none_after_files : (g : Grammar) (sentence : List ℕ) (ha hb : Bool) (f : Fault) → IsFilesFault g sentence ha hb f → IsAfterPasses f → ⊥
-none_after_files g sentence ha hb (fault.NoText x) told is = told
-none_after_files g sentence ha hb fault.Write told is = told
-none_after_files g sentence ha hb f told is = is
+none_after_files g sentence ha hb (fault.NoText x) exact is = exact
+none_after_files g sentence ha hb fault.Write exact is = exact
+none_after_files g sentence ha hb f exact is = is
 
 pub none_after_passes : (g : Grammar) (ht ha hb : Bool) (content : List ℕ) (f : Fault) → IsPassesFault g ht ha hb content f → IsAfterPasses f → ⊥
-none_after_passes g ht ha hb content (fault.NoText x) told is = told
-none_after_passes g ht ha hb content fault.Write told is = told
-none_after_passes g ht ha hb content f told is = is
+none_after_passes g ht ha hb content (fault.NoText x) exact is = exact
+none_after_passes g ht ha hb content fault.Write exact is = exact
+none_after_passes g ht ha hb content f exact is = is
 
 pub none_after_job : (f : JobFault) → IsAfterPasses (job_fault_of f) → ⊥
 none_after_job job.NoMemory is = is

@@ -9,8 +9,8 @@ use Rattle.ag_fault.specs.Faults.{run_fault_of}
 use Rattle.aggen.specs.Upgrading.{IsOldFileFault}
 
 pub old_fault : (g : Grammar) (ho hm : Bool) (content : List ℕ) (f : RunFault) → WhenHonest ho (WhenHonest hm (IsUpgradeFault g content f)) → IsOldFileFault g ho hm content (run_fault_of f)
-old_fault g ho hm content (run.Damaged at) told = told
-old_fault g ho hm content run.TooDeep told = told
-old_fault g ho hm content run.TooManyNodes told = told
-old_fault g ho hm content run.Device told = tt
-old_fault g ho hm content run.NoMemory told = tt
+old_fault g ho hm content (run.Damaged at) exact = exact
+old_fault g ho hm content run.TooDeep exact = exact
+old_fault g ho hm content run.TooManyNodes exact = exact
+old_fault g ho hm content run.Device exact = tt
+old_fault g ho hm content run.NoMemory exact = tt

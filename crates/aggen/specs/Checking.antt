@@ -53,7 +53,7 @@ IsCheckFault text fault.NoMemory = Unit {0}
 IsCheckFault text _ = ⊥
 
 -- the line of the text's grammar was written
-pub record TellsCounts (text : List ℕ) (old new : Option (List ℕ)) : Type 0 where
+pub record PrintsCounts (text : List ℕ) (old new : Option (List ℕ)) : Type 0 where
   pub grammar : Grammar
   pub is : IsGrammarOf text grammar
   pub line : Appends old new (counts_line grammar)

@@ -4,7 +4,7 @@ use Rattle.std.specs.Prelude.{ℕ, ◌≤◌, List, Bool, Option}
 use Rattle.ag_grammar.specs.grammars.AttributeGrammar.{Grammar}
 use Rattle.ag_grammar.specs.grammars.Passes.{Passes}
 use Rattle.ag_grammar.specs.grammars.Solution.{Valuation}
-use Rattle.ag_grammar.specs.grammars.Tree.{Tree, depth_of, most_depth, most_nodes, node_count}
+use Rattle.ag_grammar.specs.grammars.Tree.{Tree, depth_of, max_depth, max_nodes, node_count}
 use Rattle.treefile.specs.records.FirstFile.{AreFromOne}
 use Rattle.passassign.specs.Rows.{IsGreatest, passes_of}
 use Rattle.passcode.specs.Rows.{Lists}
@@ -59,8 +59,8 @@ ShowsInFile g content f = (plan : List (List ℕ) × Lists) × AreFromOne (passe
 -- stored nodes. The other faults have no meaning for it.
 abbrev pub IsFileFault : Grammar → List ℕ → RunFault → Type 0
 IsFileFault g content (run.Damaged at) = ((t : Tree) → IsTreeInFile g content t → ⊥) × ShowsInFile g content (run.Damaged at)
-IsFileFault g content run.TooDeep = ((t : Tree) → IsTreeInFile g content t → depth_of t ≤ most_depth → ⊥) × ShowsInFile g content run.TooDeep
-IsFileFault g content run.TooManyNodes = ((t : Tree) → IsTreeInFile g content t → node_count t ≤ most_nodes → ⊥) × ShowsInFile g content run.TooManyNodes
+IsFileFault g content run.TooDeep = ((t : Tree) → IsTreeInFile g content t → depth_of t ≤ max_depth → ⊥) × ShowsInFile g content run.TooDeep
+IsFileFault g content run.TooManyNodes = ((t : Tree) → IsTreeInFile g content t → node_count t ≤ max_nodes → ⊥) × ShowsInFile g content run.TooManyNodes
 IsFileFault g content run.Device = Unit {0}
 IsFileFault g content run.NoMemory = Unit {0}
 

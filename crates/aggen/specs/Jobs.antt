@@ -31,13 +31,13 @@ pub record TranslatesJob (known : Option (List ℕ)) (honest_a honest_b : Bool) 
 pub record IsNoJob (known : Option (List ℕ)) (e : Fault) : Type 0 where
   pub reason : JobFault
   pub named : e ≡ job_fault_of reason
-  pub told : IsJobFault known reason
+  pub exact : IsJobFault known reason
 
 -- G, N, L and A: the text of a job's grammar makes no translator
 pub record IsNoTranslator (text : List ℕ) (e : Fault) : Type 0 where
   pub reason : BuildFault
   pub named : e ≡ build_fault_of reason
-  pub told : IsBuildFault text reason
+  pub exact : IsBuildFault text reason
 
 -- A job is rejected: its grammar makes no translator, or the translation of its sentence by that grammar
 -- fails.
@@ -45,7 +45,7 @@ pub record IsRefusedJob (known : Option (List ℕ)) (honest_a honest_b : Bool) (
   pub text : List ℕ
   pub sentence : List ℕ
   pub job : HasJob known text sentence
-  pub told : IsNoTranslator text e ⊎ ((grammar : Grammar) × IsGrammarOf text grammar × IsTranslationFault grammar sentence honest_a honest_b old new e)
+  pub exact : IsNoTranslator text e ⊎ ((grammar : Grammar) × IsGrammarOf text grammar × IsTranslationFault grammar sentence honest_a honest_b old new e)
 
 -- All passes of a least plan ran over the one tree of a job's sentence by its grammar, and honest devices have its last two files.
 pub record LeavesLastFilesOfJob (known : Option (List ℕ)) (honest_a honest_b : Bool) (a b : List ℕ) : Type 0 where

@@ -20,15 +20,15 @@ pub record OfPlan (text : List ℕ) (P : Grammar → List (List ℕ) → Lists �
   pub holds : P grammar rows code
 
 -- the lines of its passes were written, or a prefix of them
-abbrev pub TellsPlan : List ℕ → Option (List ℕ) → Option (List ℕ) → Type 0
-TellsPlan text old new = OfPlan text (λ g rows code. AppendsPlan g rows old new)
+abbrev pub PrintsPlan : List ℕ → Option (List ℕ) → Option (List ℕ) → Type 0
+PrintsPlan text old new = OfPlan text (λ g rows code. AppendsPlan g rows old new)
 
 abbrev pub BeginsPlan : List ℕ → Option (List ℕ) → Option (List ℕ) → Type 0
 BeginsPlan text old new = OfPlan text (λ g rows code. AppendsPlanBeginning g rows old new)
 
 -- the lines of its code were written, or a prefix of them
-abbrev pub TellsCode : List ℕ → Option (List ℕ) → Option (List ℕ) → Type 0
-TellsCode text old new = OfPlan text (λ g rows code. Appends old new (code_text g code))
+abbrev pub PrintsCode : List ℕ → Option (List ℕ) → Option (List ℕ) → Type 0
+PrintsCode text old new = OfPlan text (λ g rows code. Appends old new (code_text g code))
 
 abbrev pub BeginsCode : List ℕ → Option (List ℕ) → Option (List ℕ) → Type 0
 BeginsCode text old new = OfPlan text (λ g rows code. AppendsBeginning old new (code_text g code))

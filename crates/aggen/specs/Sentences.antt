@@ -2,7 +2,7 @@
 -- project's.
 use Rattle.std.specs.Prelude.{◌≢◌, ℕ, List}
 use Rattle.ag_grammar.specs.grammars.AttributeGrammar.{Grammar}
-use Rattle.ag_grammar.specs.grammars.Tree.{Tree, most_depth, most_nodes}
+use Rattle.ag_grammar.specs.grammars.Tree.{Tree, max_depth, max_nodes}
 use Rattle.ag_grammar.specs.grammars.Yield.{Lexeme}
 use Rattle.ag_scan.specs.Tokens.{Token, AreTokensOf, IsRefused}
 use Rattle.ag_scan.specs.Words.{vocabulary_of}
@@ -45,8 +45,8 @@ pub record LeavesOnlyTrees (g : Grammar) (sentence : List ℕ) (Leaves : List Le
 -- P1 to P3: no tree, or each beyond a limit; a device failure and NoMemory are not P
 abbrev pub IsParseFaultOf : Grammar → List ℕ → ParseFault → Type 0
 IsParseFaultOf g sentence (parse.Unexpected at) = HasNoTreeFrom g sentence at
-IsParseFaultOf g sentence parse.TooDeep = LeavesOnlyTrees g sentence (LeavesOnlyDeeper most_depth g)
-IsParseFaultOf g sentence parse.TooManyNodes = LeavesOnlyTrees g sentence (LeavesOnlyLarger most_nodes g)
+IsParseFaultOf g sentence parse.TooDeep = LeavesOnlyTrees g sentence (LeavesOnlyDeeper max_depth g)
+IsParseFaultOf g sentence parse.TooManyNodes = LeavesOnlyTrees g sentence (LeavesOnlyLarger max_nodes g)
 IsParseFaultOf g sentence parse.Device = ⊥
 IsParseFaultOf g sentence parse.NoMemory = ⊥
 

@@ -96,10 +96,10 @@ IsExprFault (fault.Expr e) = Unit {0}
 IsExprFault _ = ⊥
 
 -- a call of the device failed, or memory was refused
-abbrev pub IsWant : Fault → Type 0
-IsWant fault.Device = Unit {0}
-IsWant fault.NoMemory = Unit {0}
-IsWant _ = ⊥
+abbrev pub IsResourceFault : Fault → Type 0
+IsResourceFault fault.Device = Unit {0}
+IsResourceFault fault.NoMemory = Unit {0}
+IsResourceFault _ = ⊥
 
 -- B1 and B2: the file on the device is not the expected one
 abbrev pub IsDamage : Fault → Type 0

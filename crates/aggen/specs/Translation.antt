@@ -8,7 +8,7 @@ use Rattle.ag_grammar.specs.grammars.AttributeGrammar.{Grammar}
 use Rattle.ag_grammar.specs.grammars.Counts.{rules_of}
 use Rattle.ag_grammar.specs.grammars.Passes.{Passes}
 use Rattle.ag_grammar.specs.grammars.Solution.{AnyRule, IsTranslation, Solves, Valuation}
-use Rattle.ag_grammar.specs.grammars.Tree.{Tree, IsTreeOf, IsWithinLimits, most_depth, most_nodes, node_count}
+use Rattle.ag_grammar.specs.grammars.Tree.{Tree, IsTreeOf, IsWithinLimits, max_depth, max_nodes, node_count}
 use Rattle.treefile.specs.records.FirstFile.{IsFirstFile}
 use Rattle.agoutput.specs.Writing.{AppendsBeginning}
 use Rattle.passrun.specs.declared.last.Last.{Last}
@@ -22,7 +22,7 @@ use Rattle.aggen.specs.declared.translations.report.Report.{Report}
 pub record IsOneTree (IsTree : Tree → Type 0) (t : Tree) : Type 0 where
   pub is_tree : IsTree t
   pub only : (s : Tree) → IsTree s → s ≡ t
-  pub within : IsWithinLimits most_depth most_nodes t
+  pub within : IsWithinLimits max_depth max_nodes t
 
 -- A report is true of a tree and a number of passes: it has the number of the tree's nodes, each of its rules
 -- was evaluated once, and each pass read and wrote one record for each node.
@@ -69,10 +69,10 @@ pub record BeginsTranslation (IsTree : Tree → Type 0) (g : Grammar) (old new :
   pub one : IsOneTree IsTree tree
   pub values : Valuation
   pub solves : Solves AnyRule g tree values
-  pub front : List ℕ
+  pub prefix : List ℕ
   pub rest : List ℕ
-  pub root : IsTranslation g values (Text (front ++ rest))
-  pub written : Appends old new front
+  pub root : IsTranslation g values (Text (prefix ++ rest))
+  pub written : Appends old new prefix
 
 -- Ok, whatever the devices returned: some text was written, which is UTF-8 and not too long for a value.
 pub record WritesText (old new : Option (List ℕ)) : Type 0 where

@@ -2,7 +2,7 @@
 
 ghost use Rattle.std.specs.Prelude.{◌≡◌, ◌≢◌, IfErr, IfOk, IsErrOf, OnOk};
 ghost use Rattle.aggen.specs.Building.{IsGrammarFault};
-ghost use Rattle.aggen.specs.Checking.{BeginsCounts, IsCheckFault, IsGrammarOf, TellsCounts};
+ghost use Rattle.aggen.specs.Checking.{BeginsCounts, IsCheckFault, IsGrammarOf, PrintsCounts};
 
 use ag_fault::{BuildFault, Fault};
 use ag_grammar::Grammar;
@@ -19,7 +19,7 @@ use std::io::Write;
 /// takes no byte. Nothing is written before the line is complete.
 pub fn print_counts<W: Write>(alloc: Global, text: &[u8], out: &mut W) -> Result<(), Fault>
     ensures tells { OnOk result
-        (TellsCounts text.now (W.contents out.old) (W.contents out.new)) }
+        (PrintsCounts text.now (W.contents out.old) (W.contents out.new)) }
     ensures refused { IfErr result (λ e. e ≢ Fault.Write → IsCheckFault text.now e) }
     ensures kept { IfErr result (λ e. e ≢ Fault.Write → out.new ≡ out.old) }
     ensures write { IsErrOf result Fault.Write →

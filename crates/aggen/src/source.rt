@@ -1,11 +1,11 @@
 //! Reading a file into memory.
 
 ghost use Rattle.std.specs.Prelude.{◌≡◌, ◌+◌, IfErr, IfOk, IfSome, take};
-ghost use Rattle.ag_grammar.specs.grammars.Accepted.{most_text_bytes};
+ghost use Rattle.ag_grammar.specs.grammars.Accepted.{max_text_bytes};
 ghost use Rattle.aggen.specs.Status.{IsSourceFault};
 
 use ag_fault::Fault;
-use ag_grammar::limits::MOST_TEXT_BYTES;
+use ag_grammar::limits::MAX_TEXT_BYTES;
 use ag_job::{ReadFault, read_front};
 use std::alloc::Global;
 use std::fs;
@@ -13,7 +13,7 @@ use std::io::{Error, ErrorKind, Read};
 use std::rt::Files;
 
 /// The greatest number of bytes that are read of a file: one more than a grammar's text may have.
-const MOST: u64 = MOST_TEXT_BYTES as u64 + 1;
+const MOST: u64 = MAX_TEXT_BYTES as u64 + 1;
 
 /// Returns the bytes of a file, at most the first 1,048,577. Fails with F1 File if it can't be
 /// opened or read.
@@ -30,7 +30,7 @@ pub fn source_of<R: Files>(rt: &R, alloc: Global, path: &str) -> Result<Vec<u8>,
 /// read.
 pub fn bytes_of<R: Read + Drop>(alloc: Global, reader: R) -> Result<Vec<u8>, Fault>
     ensures read { IfOk result (λ bytes. IfSome (R.remaining reader)
-        (λ left. bytes.items ≡ take (most_text_bytes + 1) left)) }
+        (λ left. bytes.items ≡ take (max_text_bytes + 1) left)) }
     ensures refused { IfErr result IsSourceFault }
 {
     match read_front(alloc, reader, MOST) {

@@ -5,13 +5,13 @@ ghost use Rattle.std.specs.Prelude.{◌≡◌, ◌≢◌, ◌≤◌, IfErr, IfOk
 ghost use Rattle.std.specs.Prelude.{OnErr, length};
 ghost use Rattle.ag_grammar.specs.grammars.Accepted.{IsAccepted as IsAcceptedGrammar};
 ghost use Rattle.ag_grammar.specs.grammars.Tree.{node_count, IsWithinLimits, Tree};
-ghost use Rattle.ag_grammar.specs.grammars.Tree.{most_depth, most_nodes};
+ghost use Rattle.ag_grammar.specs.grammars.Tree.{max_depth, max_nodes};
 ghost use Rattle.llparse.specs.Ahead.{HasNoConflict};
 ghost use Rattle.llparse.specs.table.Tables.{FitsGrammar};
-ghost use Rattle.treefile.specs.ways.Beginning.{BeginsFile, LeavesBeginning};
+ghost use Rattle.treefile.specs.framing.Beginning.{BeginsFile, LeavesBeginning};
 ghost use Rattle.treefile.specs.devices.Device.{LeavesContent, Persists, WhenHonest};
 ghost use Rattle.treefile.specs.records.FirstFile.{IsFirstFile};
-ghost use Rattle.treefile.specs.devices.Several.{BothLast, ThreeLast};
+ghost use Rattle.treefile.specs.devices.Several.{BothPersist, ThreePersist};
 ghost use Rattle.treefile.specs.records.TreeFile.{version_two};
 ghost use Rattle.passassign.specs.Least.{IsAlternating, IsLeast};
 ghost use Rattle.passassign.specs.Rows.{passes_of, AreFew};
@@ -139,7 +139,7 @@ impl Translator {
         ensures one { (t u : Tree) → IsTreeOfSentence self.now sentence.now t
             → IsTreeOfSentence self.now sentence.now u → t ≡ u }
         ensures limits { (t : Tree) → IsTreeOfSentence self.now sentence.now t
-            → OnOk result (IsWithinLimits most_depth most_nodes t) }
+            → OnOk result (IsWithinLimits max_depth max_nodes t) }
         ensures count { (t : Tree) → IsTreeOfSentence self.now sentence.now t
             → IfOk result (λ count. count ≡ node_count t) }
         ensures file { (t : Tree) → IsTreeOfSentence self.now sentence.now t
@@ -224,7 +224,7 @@ impl Translator {
             LeavesLastFiles self.now sentence.now (D.is_honest a.new) (D.is_honest b.new)
             (D.content a.new) (D.content b.new)) }
         // D1 only if the number of failures rose on one of the two
-        ensures devices { BothLast D.is_honest D.failures a.old a.new
+        ensures devices { BothPersist D.is_honest D.failures a.old a.new
             D.is_honest D.failures b.old b.new (IsErrOf result Fault.Device) }
     {
         let plan = self.plan();
@@ -241,8 +241,8 @@ impl Translator {
     /// written to `out` before the last pass has ended, and `tree` is only read.
     ///
     /// Fails with R1 if the content of `tree` is the file of pass 0 of no tree of the grammar; with
-    /// P2 if it is that of none of at most `MOST_DEPTH` levels, and with P3 if it is that of none
-    /// of at most `MOST_NODES` stored nodes. Fails with O1 NoText if the translation is not a
+    /// P2 if it is that of none of at most `MAX_DEPTH` levels, and with P3 if it is that of none
+    /// of at most `MAX_NODES` stored nodes. Fails with O1 NoText if the translation is not a
     /// text, with O2 Write if a write failed or took no byte, and with D1 Device if a call of a
     /// device failed. B1, B2, or R1, P2 or P3 of a later pass's file are possible only on a device
     /// that does not return the bytes that were written. After every fault except O2 the writer is
@@ -283,7 +283,7 @@ impl Translator {
             LeavesLastFilesOfTree self.now (T.is_honest tree.new) (D.is_honest a.new)
             (D.is_honest b.new) (T.content tree.old) (D.content a.new) (D.content b.new)) }
         // D1 only if the number of failures rose on one of the three
-        ensures devices { ThreeLast T.is_honest T.failures tree.old tree.new
+        ensures devices { ThreePersist T.is_honest T.failures tree.old tree.new
             D.is_honest D.failures a.old a.new D.is_honest D.failures b.old b.new
             (IsErrOf result Fault.Device) }
     {
@@ -300,8 +300,8 @@ impl Translator {
     /// right to left, and `old` is only read. Returns the number of stored nodes.
     ///
     /// Fails with R1 if the content of `old` is the file of version 1 and pass 0 of no tree of the
-    /// grammar; with P2 if it is that of no tree of at most `MOST_TURNED_DEPTH` levels (256), and
-    /// with P3 if it is that of none of at most `MOST_TURNED_NODES` stored nodes (65,536);
+    /// grammar; with P2 if it is that of no tree of at most `MAX_TURNED_DEPTH` levels (256), and
+    /// with P3 if it is that of none of at most `MAX_TURNED_NODES` stored nodes (65,536);
     /// and with D1 if a call of a device failed. R1 or P2 with an offset in `mid` are possible only
     /// if `mid` does not return the bytes that were written. After a fault `mid` and `to` have
     /// their old contents, or a prefix of a file.
@@ -328,7 +328,7 @@ impl Translator {
         ensures content { LeavesContent (D.is_honest old.new)
             (D.content old.old) (D.content old.new) }
         // D1 only if the number of failures rose on one of the three
-        ensures devices { ThreeLast D.is_honest D.failures old.old old.new
+        ensures devices { ThreePersist D.is_honest D.failures old.old old.new
             E.is_honest E.failures mid.old mid.new F.is_honest F.failures to.old to.new
             (IsErrOf result Fault.Device) }
     {

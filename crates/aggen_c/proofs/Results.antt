@@ -5,7 +5,7 @@ use Rattle.ag_grammar.specs.grammars.AttributeGrammar.{Grammar}
 use Rattle.ag_grammar.specs.grammars.Passes.{Passes}
 use Rattle.ag_grammar.specs.grammars.Solution.{IsTranslation}
 use Rattle.ag_grammar.specs.grammars.Tree.{Tree}
-use Rattle.ag_grammar.specs.grammars.Tree.{IsWithinLimits, most_depth, most_nodes}
+use Rattle.ag_grammar.specs.grammars.Tree.{IsWithinLimits, max_depth, max_nodes}
 use Rattle.agoutput.specs.Listings.{AppendsPlan, IsPlanListing}
 use Rattle.passcode.specs.Rows.{Lists}
 use Rattle.treefile.specs.devices.Device.{WhenHonest}
@@ -57,7 +57,7 @@ evaluated g file content a b start text report same empty was =
 pub has_tree_file : (g : Grammar) (sentence content lent copy : List ℕ)
     → (t : Tree) × IsTreeOfSentence g sentence t
     → ((t u : Tree) → IsTreeOfSentence g sentence t → IsTreeOfSentence g sentence u → t ≡ u)
-    → ((t : Tree) → IsTreeOfSentence g sentence t → IsWithinLimits most_depth most_nodes t)
+    → ((t : Tree) → IsTreeOfSentence g sentence t → IsWithinLimits max_depth max_nodes t)
     → ((t : Tree) → IsTreeOfSentence g sentence t → WhenHonest true (IsFirstFile version_two g t content))
     → lent ≡ content → copy ≡ lent → IsTreeFileOf g sentence copy
 has_tree_file g sentence content lent copy found one limits file same copied = record {
@@ -141,7 +141,7 @@ pub translation_refused : (g : Grammar) (sentence : List ℕ) (old new : Option 
     → IsTranslationRefusal g sentence r
 translation_refused g sentence old new e r is (inl same) device write =
     translation_true g sentence old new r device write (subst (IsTranslationFault g sentence true true old new) (sym same) is)
-translation_refused g sentence old new e r is (inr want) device write = subst (IsTranslationRefusal g sentence) (sym want) tt
+translation_refused g sentence old new e r is (inr resource) device write = subst (IsTranslationRefusal g sentence) (sym resource) tt
 
 pub evaluation_refused : (g : Grammar) (file content : List ℕ) (old new : Option (List ℕ)) (e r : Fault) → content ≡ file
     → IsEvaluationFault g true true true content old new e → (r ≡ e) ⊎ (r ≡ fault.NoMemory) → r ≢ fault.Device → r ≢ fault.Write
@@ -149,9 +149,9 @@ pub evaluation_refused : (g : Grammar) (file content : List ℕ) (old new : Opti
 evaluation_refused g file content old new e r from is (inl same) device write =
     evaluation_true g file old new r device write
     (subst (λ (w : List ℕ). IsEvaluationFault g true true true w old new r) from (subst (IsEvaluationFault g true true true content old new) (sym same) is))
-evaluation_refused g file content old new e r from is (inr want) device write = subst (IsEvaluationRefusal g file) (sym want) tt
+evaluation_refused g file content old new e r from is (inr resource) device write = subst (IsEvaluationRefusal g file) (sym resource) tt
 
 pub tree_refused : (g : Grammar) (sentence : List ℕ) (e r : Fault)
     → IsSentenceFault g sentence e → (r ≡ e) ⊎ (r ≡ fault.NoMemory) → r ≢ fault.Device → IsTreeRefusal g sentence r
 tree_refused g sentence e r is (inl same) device = tree_true g sentence r device (subst (IsSentenceFault g sentence) (sym same) is)
-tree_refused g sentence e r is (inr want) device = subst (IsTreeRefusal g sentence) (sym want) tt
+tree_refused g sentence e r is (inr resource) device = subst (IsTreeRefusal g sentence) (sym resource) tt

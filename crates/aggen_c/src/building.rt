@@ -9,7 +9,7 @@ use crate::handle::Handle;
 use crate::refusal::{Refusal, RefusalFields};
 use ag_fault::Fault;
 use aggen::Translator;
-use messages::{Report, Source};
+use messages::{FaultReport, Source};
 use std::alloc::Global;
 
 /// The name of a grammar in messages.
@@ -53,7 +53,7 @@ fn refusal_of(alloc: Global, fault: Fault, grammar: &[u8]) -> Refusal
     ensures { numbers result.status result.fields ≡ numbers_of fault }
 {
     let refusal = Refusal::of_fault(&fault);
-    let report = Report::of_grammar(alloc, fault, Source::new(GRAMMAR, grammar));
+    let report = FaultReport::of_grammar(alloc, fault, Source::new(GRAMMAR, grammar));
     refusal.with_report(alloc, &report)
 }
 

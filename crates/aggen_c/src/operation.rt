@@ -6,7 +6,7 @@ ghost use Rattle.aggen_c.specs.Operations.{IsRefusalOf, IsResultOf};
 use crate::memory::{device_of, evaluation, plan_text, translation, tree_file};
 use ag_fault::Fault;
 use aggen::Translator;
-use messages::{Report, Source};
+use messages::{FaultReport, Source};
 use std::alloc::Global;
 
 /// The name of a sentence in messages.
@@ -55,9 +55,9 @@ impl Operation {
         fault: Fault,
         translator: &Translator,
         input: &[u8],
-    ) -> Report {
+    ) -> FaultReport {
         match self {
-            Operation::Translate | Operation::Parse => Report::of_sentence(
+            Operation::Translate | Operation::Parse => FaultReport::of_sentence(
                 alloc,
                 fault,
                 translator.grammar(),
@@ -65,16 +65,27 @@ impl Operation {
                 Source::new(SENTENCE, input),
             ),
             Operation::Evaluate => report_of_tree(alloc, fault, translator, input),
-            Operation::Plan => Report::new(alloc, fault),
+            Operation::Plan => FaultReport::new(alloc, fault),
         }
     }
 }
 
 /// Returns the report of a fault of a tree file. Takes memory for a copy of the file; if that is refused,
 /// the report says the number and the file alone.
-fn report_of_tree(alloc: Global, fault: Fault, translator: &Translator, file: &[u8]) -> Report {
+fn report_of_tree(
+    alloc: Global,
+    fault: Fault,
+    translator: &Translator,
+    file: &[u8],
+) -> FaultReport {
     match device_of(alloc, file) {
-        Ok(mut tree) => Report::of_tree(alloc, fault, translator.grammar(), &mut tree, TREE_FILE),
-        Err(_) => Report::of_file(alloc, fault, TREE_FILE),
+        Ok(mut tree) => FaultReport::of_tree(
+            alloc,
+            fault,
+            translator.grammar(),
+            &mut tree,
+            TREE_FILE,
+        ),
+        Err(_) => FaultReport::of_file(alloc, fault, TREE_FILE),
     }
 }

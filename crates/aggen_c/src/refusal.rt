@@ -8,7 +8,7 @@ use crate::buffers::copy_prefix;
 use crate::number::{NO_OFFSET, number_of, offset_of};
 use ag_fault::{Fault, status};
 use message_texts::{Location, Position};
-use messages::Report;
+use messages::FaultReport;
 use std::alloc::Global;
 
 /// The status of a call on a handle without a translator.
@@ -91,7 +91,7 @@ impl Refusal {
 
     /// Returns the refusal with the place and the message of a report. Takes memory; if that is refused, the
     /// message is left out.
-    pub fn with_report(self, alloc: Global, report: &Report) -> Refusal
+    pub fn with_report(self, alloc: Global, report: &FaultReport) -> Refusal
         ensures { numbers result.status result.fields ≡ numbers self.status self.fields }
     {
         let message = report.to_string(alloc).ok();

@@ -20,13 +20,13 @@ module _ (g : Grammar) (sentence : List ℕ) (ha hb ha' hb' : Bool) (first : ha'
       → (ha' ≡ true → a' ≡ a) → (hb' ≡ true → b' ≡ b)
       → TranslatesSentence g sentence ha hb a b (Some []) (Some bytes) report
       → Appends old new bytes → TranslatesSentence g sentence ha' hb' a' b' old new report
-  translated a b a' b' bytes old new report same_a same_b told printed = record {
-    tree = told.tree;
-    one = told.one;
-    assignment = told.assignment;
-    passes = told.passes;
-    plan = told.plan;
-    translated = λ x y. let is = told.translated (first x) (second y) in rw (same_a x, same_b y) (record {
+  translated a b a' b' bytes old new report same_a same_b exact printed = record {
+    tree = exact.tree;
+    one = exact.one;
+    assignment = exact.assignment;
+    passes = exact.passes;
+    plan = exact.plan;
+    translated = λ x y. let is = exact.translated (first x) (second y) in rw (same_a x, same_b y) (record {
       values = is.values;
       leaves = is.leaves;
       text = is.text;
@@ -41,12 +41,12 @@ module _ (g : Grammar) (sentence : List ℕ) (ha hb ha' hb' : Bool) (first : ha'
       → TranslatesSentence g sentence ha hb a b (Some []) (Some bytes) report
       → AppendsBeginning old new bytes
       → WhenHonest ha' (WhenHonest hb' (BeginsTranslation (IsTreeOfSentence g sentence) g old new))
-  begun a b bytes old new report told printed x y = let is = told.translated (first x) (second y) in record {
-    tree = told.tree;
-    one = told.one;
+  begun a b bytes old new report exact printed x y = let is = exact.translated (first x) (second y) in record {
+    tree = exact.tree;
+    one = exact.one;
     values = is.values;
     solves = is.leaves.solution.solves;
-    front = printed.front;
+    prefix = printed.prefix;
     rest = printed.rest;
     root = subst (λ (w : List ℕ). IsTranslation g is.values (Text w)) (sym is.written ∙ printed.cut) is.root;
     written = printed.put;
@@ -57,16 +57,16 @@ module _ (g : Grammar) (sentence : List ℕ) (ha hb ha' hb' : Bool) (first : ha'
       → (ha' ≡ true → a' ≡ a) → (hb' ≡ true → b' ≡ b)
       → TranslatesSentence g sentence ha hb a b (Some []) (Some bytes) report
       → LeavesLastFiles g sentence ha' hb' a' b'
-  printed_files a b a' b' bytes report same_a same_b told = record {
-    rows = told.plan.rows;
-    code = told.plan.code;
-    least = told.plan.least;
-    report = record report { passes = told.passes };
+  printed_files a b a' b' bytes report same_a same_b exact = record {
+    rows = exact.plan.rows;
+    code = exact.plan.code;
+    least = exact.plan.least;
+    report = record report { passes = exact.passes };
     files = record {
-      tree = told.tree;
-      one = told.one;
-      greatest = told.plan.greatest;
-      left = λ x y. let is = told.translated (first x) (second y) in rw (same_a x, same_b y, sym told.plan.same) (record {
+      tree = exact.tree;
+      one = exact.one;
+      greatest = exact.plan.greatest;
+      left = λ x y. let is = exact.translated (first x) (second y) in rw (same_a x, same_b y, sym exact.plan.same) (record {
         values = is.values;
         leaves = is.leaves;
         report_is = record {
@@ -84,80 +84,80 @@ module _ (g : Grammar) (sentence : List ℕ) (ha hb ha' hb' : Bool) (first : ha'
   pub refused_files : (a b a' b' : List ℕ)
       → (ha' ≡ true → a' ≡ a) → (hb' ≡ true → b' ≡ b)
       → LeavesLastFiles g sentence ha hb a b → LeavesLastFiles g sentence ha' hb' a' b'
-  refused_files a b a' b' same_a same_b told = record {
-    rows = told.rows;
-    code = told.code;
-    least = told.least;
-    report = told.report;
+  refused_files a b a' b' same_a same_b exact = record {
+    rows = exact.rows;
+    code = exact.code;
+    least = exact.least;
+    report = exact.report;
     files = record {
-      tree = told.files.tree;
-      one = told.files.one;
-      greatest = told.files.greatest;
-      left = λ x y. rw (same_a x, same_b y) (told.files.left (first x) (second y));
+      tree = exact.files.tree;
+      one = exact.files.one;
+      greatest = exact.files.greatest;
+      left = λ x y. rw (same_a x, same_b y) (exact.files.left (first x) (second y));
     };
   }
 
   -- a refusal says as much where less is supposed of the files, and nothing but O2 speaks of the bytes printed
   pub refused : (old new old' new' : Option (List ℕ)) (e : Fault) → e ≢ fault.Write
       → IsTranslationFault g sentence ha hb old new e → IsTranslationFault g sentence ha' hb' old' new' e
-  refused old new old' new' (fault.Scan f) other told = told
-  refused old new old' new' (fault.Parse f) other told = told
-  refused old new old' new' (fault.Run f) other told = λ x y. told (first x) (second y)
-  refused old new old' new' (fault.NoText v) other told = λ x y. told (first x) (second y)
-  refused old new old' new' fault.NotATreeFile other told = λ x y. told (first x) (second y)
-  refused old new old' new' (fault.Damaged at) other told = λ x y. told (first x) (second y)
-  refused old new old' new' fault.Write other told = absurd (other refl)
-  refused old new old' new' fault.Device other told = tt
-  refused old new old' new' fault.NoMemory other told = tt
-  refused old new old' new' fault.Usage other told = told
-  refused old new old' new' fault.File other told = told
-  refused old new old' new' (fault.Expr f) other told = told
-  refused old new old' new' (fault.Text f) other told = told
-  refused old new old' new' (fault.Normal f) other told = told
-  refused old new old' new' (fault.Table f) other told = told
-  refused old new old' new' (fault.Assign s) other told = told
-  refused old new old' new' (fault.Job f) other told = told
+  refused old new old' new' (fault.Scan f) other exact = exact
+  refused old new old' new' (fault.Parse f) other exact = exact
+  refused old new old' new' (fault.Run f) other exact = λ x y. exact (first x) (second y)
+  refused old new old' new' (fault.NoText v) other exact = λ x y. exact (first x) (second y)
+  refused old new old' new' fault.NotATreeFile other exact = λ x y. exact (first x) (second y)
+  refused old new old' new' (fault.Damaged at) other exact = λ x y. exact (first x) (second y)
+  refused old new old' new' fault.Write other exact = absurd (other refl)
+  refused old new old' new' fault.Device other exact = tt
+  refused old new old' new' fault.NoMemory other exact = tt
+  refused old new old' new' fault.Usage other exact = exact
+  refused old new old' new' fault.File other exact = exact
+  refused old new old' new' (fault.Expr f) other exact = exact
+  refused old new old' new' (fault.Text f) other exact = exact
+  refused old new old' new' (fault.Normal f) other exact = exact
+  refused old new old' new' (fault.Table f) other exact = exact
+  refused old new old' new' (fault.Assign s) other exact = exact
+  refused old new old' new' (fault.Job f) other exact = exact
 
   -- the same of the results of calls: the buffer was empty, and its bytes are lent to be printed
-  told_of : (start : List ℕ) (a b bytes : List ℕ) (r : Result Report Fault) (report : Report) → start ≡ []
+  reported_of : (start : List ℕ) (a b bytes : List ℕ) (r : Result Report Fault) (report : Report) → start ≡ []
       → IfOk r (λ it. TranslatesSentence g sentence ha hb a b (Some start) (Some bytes) it) → r ≡ Ok report
       → TranslatesSentence g sentence ha hb a b (Some []) (Some bytes) report
-  told_of start a b bytes r report empty told is =
+  reported_of start a b bytes r report empty exact is =
       subst (λ (w : List ℕ). TranslatesSentence g sentence ha hb a b (Some w) (Some bytes) report) empty
-      (subst (λ (z : Result Report Fault). IfOk z (λ it. TranslatesSentence g sentence ha hb a b (Some start) (Some bytes) it)) is told)
+      (subst (λ (z : Result Report Fault). IfOk z (λ it. TranslatesSentence g sentence ha hb a b (Some start) (Some bytes) it)) is exact)
 
   pub translated_result : (start a b a' b' bytes lent : List ℕ) (old new : Option (List ℕ)) (r : Result Report Fault) (report : Report)
       → start ≡ [] → lent ≡ bytes → (ha' ≡ true → a' ≡ a) → (hb' ≡ true → b' ≡ b)
       → IfOk r (λ it. TranslatesSentence g sentence ha hb a b (Some start) (Some bytes) it) → r ≡ Ok report
       → Appends old new lent → TranslatesSentence g sentence ha' hb' a' b' old new report
-  translated_result start a b a' b' bytes lent old new r report empty same same_a same_b told is printed =
-      translated a b a' b' bytes old new report same_a same_b (told_of start a b bytes r report empty told is) (subst (Appends old new) same printed)
+  translated_result start a b a' b' bytes lent old new r report empty same same_a same_b exact is printed =
+      translated a b a' b' bytes old new report same_a same_b (reported_of start a b bytes r report empty exact is) (subst (Appends old new) same printed)
 
   pub begun_result : (start a b bytes lent : List ℕ) (old new : Option (List ℕ)) (r : Result Report Fault) (report : Report)
       → start ≡ [] → lent ≡ bytes
       → IfOk r (λ it. TranslatesSentence g sentence ha hb a b (Some start) (Some bytes) it) → r ≡ Ok report
       → AppendsBeginning old new lent → WhenHonest ha' (WhenHonest hb' (BeginsTranslation (IsTreeOfSentence g sentence) g old new))
-  begun_result start a b bytes lent old new r report empty same told is printed =
-      begun a b bytes old new report (told_of start a b bytes r report empty told is) (subst (AppendsBeginning old new) same printed)
+  begun_result start a b bytes lent old new r report empty same exact is printed =
+      begun a b bytes old new report (reported_of start a b bytes r report empty exact is) (subst (AppendsBeginning old new) same printed)
 
   pub files_result : (start a b a' b' bytes : List ℕ) (r : Result Report Fault) (report : Report)
       → start ≡ [] → (ha' ≡ true → a' ≡ a) → (hb' ≡ true → b' ≡ b)
       → IfOk r (λ it. TranslatesSentence g sentence ha hb a b (Some start) (Some bytes) it) → r ≡ Ok report
       → LeavesLastFiles g sentence ha' hb' a' b'
-  files_result start a b a' b' bytes r report empty same_a same_b told is =
-      printed_files a b a' b' bytes report same_a same_b (told_of start a b bytes r report empty told is)
+  files_result start a b a' b' bytes r report empty same_a same_b exact is =
+      printed_files a b a' b' bytes report same_a same_b (reported_of start a b bytes r report empty exact is)
 
   pub refused_result : (old new old' new' : Option (List ℕ)) (r : Result Report Fault) (e : Fault)
       → IfErr r (λ it. IsTranslationFault g sentence ha hb old new it) → (r ≡ Err e) ⊎ (e ≡ fault.NoMemory) → e ≢ fault.Write
       → IsTranslationFault g sentence ha' hb' old' new' e
-  refused_result old new old' new' r e told (inl same) other =
-      refused old new old' new' e other (subst (λ (z : Result Report Fault). IfErr z (λ it. IsTranslationFault g sentence ha hb old new it)) same told)
-  refused_result old new old' new' r e told (inr want) other = subst (λ (z : Fault). IsTranslationFault g sentence ha' hb' old' new' z) (sym want) tt
+  refused_result old new old' new' r e exact (inl same) other =
+      refused old new old' new' e other (subst (λ (z : Result Report Fault). IfErr z (λ it. IsTranslationFault g sentence ha hb old new it)) same exact)
+  refused_result old new old' new' r e exact (inr resource) other = subst (λ (z : Fault). IsTranslationFault g sentence ha' hb' old' new' z) (sym resource) tt
 
   pub refused_files_result : (a b a' b' : List ℕ) (r : Result Report Fault) (e : Fault)
       → (ha' ≡ true → a' ≡ a) → (hb' ≡ true → b' ≡ b)
       → IfErr r (λ it. IsAfterPasses it → LeavesLastFiles g sentence ha hb a b) → (r ≡ Err e) ⊎ (e ≡ fault.NoMemory)
       → IsAfterPasses e → LeavesLastFiles g sentence ha' hb' a' b'
-  refused_files_result a b a' b' r e same_a same_b told (inl same) after =
-      refused_files a b a' b' same_a same_b (subst (λ (z : Result Report Fault). IfErr z (λ it. IsAfterPasses it → LeavesLastFiles g sentence ha hb a b)) same told after)
-  refused_files_result a b a' b' r e same_a same_b told (inr want) after = absurd (subst (λ (z : Fault). IsAfterPasses z) want after)
+  refused_files_result a b a' b' r e same_a same_b exact (inl same) after =
+      refused_files a b a' b' same_a same_b (subst (λ (z : Result Report Fault). IfErr z (λ it. IsAfterPasses it → LeavesLastFiles g sentence ha hb a b)) same exact after)
+  refused_files_result a b a' b' r e same_a same_b exact (inr resource) after = absurd (subst (λ (z : Fault). IsAfterPasses z) resource after)

@@ -19,11 +19,11 @@ module _ (g : Grammar) (content : List ℕ) (ht ha hb ha' hb' : Bool) (first : h
       → (ha' ≡ true → a' ≡ a) → (hb' ≡ true → b' ≡ b)
       → EvaluatesTree g ht ha hb content a b (Some []) (Some bytes) report
       → Appends old new bytes → EvaluatesTree g ht ha' hb' content a' b' old new report
-  evaluated a b a' b' bytes old new report same_a same_b told printed = record {
-    assignment = told.assignment;
-    passes = told.passes;
-    plan = told.plan;
-    evaluated = λ t x y. let is = told.evaluated t (first x) (second y) in rw (same_a x, same_b y) (record {
+  evaluated a b a' b' bytes old new report same_a same_b exact printed = record {
+    assignment = exact.assignment;
+    passes = exact.passes;
+    plan = exact.plan;
+    evaluated = λ t x y. let is = exact.evaluated t (first x) (second y) in rw (same_a x, same_b y) (record {
       tree = is.tree;
       one = is.one;
       translated = record {
@@ -42,12 +42,12 @@ module _ (g : Grammar) (content : List ℕ) (ht ha hb ha' hb' : Bool) (first : h
       → EvaluatesTree g ht ha hb content a b (Some []) (Some bytes) report
       → AppendsBeginning old new bytes
       → WhenHonest ht (WhenHonest ha' (WhenHonest hb' (BeginsTranslation (IsTreeInFile g content) g old new)))
-  begun a b bytes old new report told printed t x y = let is = told.evaluated t (first x) (second y) in record {
+  begun a b bytes old new report exact printed t x y = let is = exact.evaluated t (first x) (second y) in record {
     tree = is.tree;
     one = is.one;
     values = is.translated.values;
     solves = is.translated.leaves.solution.solves;
-    front = printed.front;
+    prefix = printed.prefix;
     rest = printed.rest;
     root = subst (λ (w : List ℕ). IsTranslation g is.translated.values (Text w)) (sym is.translated.written ∙ printed.cut) is.translated.root;
     written = printed.put;
@@ -56,50 +56,50 @@ module _ (g : Grammar) (content : List ℕ) (ht ha hb ha' hb' : Bool) (first : h
   -- a refusal says as much where less is supposed of the files, and nothing but O2 speaks of the bytes printed
   pub refused : (old new old' new' : Option (List ℕ)) (e : Fault) → e ≢ fault.Write
       → IsEvaluationFault g ht ha hb content old new e → IsEvaluationFault g ht ha' hb' content old' new' e
-  refused old new old' new' (fault.Scan f) other told = told
-  refused old new old' new' (fault.Parse f) other told = told
-  refused old new old' new' (fault.Run f) other told = λ t x y. told t (first x) (second y)
-  refused old new old' new' (fault.NoText v) other told = λ t x y. told t (first x) (second y)
-  refused old new old' new' fault.NotATreeFile other told = λ t x y. told t (first x) (second y)
-  refused old new old' new' (fault.Damaged at) other told = λ t x y. told t (first x) (second y)
-  refused old new old' new' fault.Write other told = absurd (other refl)
-  refused old new old' new' fault.Device other told = tt
-  refused old new old' new' fault.NoMemory other told = tt
-  refused old new old' new' fault.Usage other told = told
-  refused old new old' new' fault.File other told = told
-  refused old new old' new' (fault.Expr f) other told = told
-  refused old new old' new' (fault.Text f) other told = told
-  refused old new old' new' (fault.Normal f) other told = told
-  refused old new old' new' (fault.Table f) other told = told
-  refused old new old' new' (fault.Assign s) other told = told
-  refused old new old' new' (fault.Job f) other told = told
+  refused old new old' new' (fault.Scan f) other exact = exact
+  refused old new old' new' (fault.Parse f) other exact = exact
+  refused old new old' new' (fault.Run f) other exact = λ t x y. exact t (first x) (second y)
+  refused old new old' new' (fault.NoText v) other exact = λ t x y. exact t (first x) (second y)
+  refused old new old' new' fault.NotATreeFile other exact = λ t x y. exact t (first x) (second y)
+  refused old new old' new' (fault.Damaged at) other exact = λ t x y. exact t (first x) (second y)
+  refused old new old' new' fault.Write other exact = absurd (other refl)
+  refused old new old' new' fault.Device other exact = tt
+  refused old new old' new' fault.NoMemory other exact = tt
+  refused old new old' new' fault.Usage other exact = exact
+  refused old new old' new' fault.File other exact = exact
+  refused old new old' new' (fault.Expr f) other exact = exact
+  refused old new old' new' (fault.Text f) other exact = exact
+  refused old new old' new' (fault.Normal f) other exact = exact
+  refused old new old' new' (fault.Table f) other exact = exact
+  refused old new old' new' (fault.Assign s) other exact = exact
+  refused old new old' new' (fault.Job f) other exact = exact
 
   -- the same of the results of calls: the buffer was empty, and its bytes are lent to be printed
-  told_of : (start : List ℕ) (a b bytes : List ℕ) (r : Result Report Fault) (report : Report) → start ≡ []
+  reported_of : (start : List ℕ) (a b bytes : List ℕ) (r : Result Report Fault) (report : Report) → start ≡ []
       → IfOk r (λ it. EvaluatesTree g ht ha hb content a b (Some start) (Some bytes) it) → r ≡ Ok report
       → EvaluatesTree g ht ha hb content a b (Some []) (Some bytes) report
-  told_of start a b bytes r report empty told is =
+  reported_of start a b bytes r report empty exact is =
       subst (λ (w : List ℕ). EvaluatesTree g ht ha hb content a b (Some w) (Some bytes) report) empty
-      (subst (λ (z : Result Report Fault). IfOk z (λ it. EvaluatesTree g ht ha hb content a b (Some start) (Some bytes) it)) is told)
+      (subst (λ (z : Result Report Fault). IfOk z (λ it. EvaluatesTree g ht ha hb content a b (Some start) (Some bytes) it)) is exact)
 
   pub evaluated_result : (start a b a' b' bytes lent : List ℕ) (old new : Option (List ℕ)) (r : Result Report Fault) (report : Report)
       → start ≡ [] → lent ≡ bytes → (ha' ≡ true → a' ≡ a) → (hb' ≡ true → b' ≡ b)
       → IfOk r (λ it. EvaluatesTree g ht ha hb content a b (Some start) (Some bytes) it) → r ≡ Ok report
       → Appends old new lent → EvaluatesTree g ht ha' hb' content a' b' old new report
-  evaluated_result start a b a' b' bytes lent old new r report empty same same_a same_b told is printed =
-      evaluated a b a' b' bytes old new report same_a same_b (told_of start a b bytes r report empty told is) (subst (Appends old new) same printed)
+  evaluated_result start a b a' b' bytes lent old new r report empty same same_a same_b exact is printed =
+      evaluated a b a' b' bytes old new report same_a same_b (reported_of start a b bytes r report empty exact is) (subst (Appends old new) same printed)
 
   pub begun_result : (start a b bytes lent : List ℕ) (old new : Option (List ℕ)) (r : Result Report Fault) (report : Report)
       → start ≡ [] → lent ≡ bytes
       → IfOk r (λ it. EvaluatesTree g ht ha hb content a b (Some start) (Some bytes) it) → r ≡ Ok report
       → AppendsBeginning old new lent
       → WhenHonest ht (WhenHonest ha' (WhenHonest hb' (BeginsTranslation (IsTreeInFile g content) g old new)))
-  begun_result start a b bytes lent old new r report empty same told is printed =
-      begun a b bytes old new report (told_of start a b bytes r report empty told is) (subst (AppendsBeginning old new) same printed)
+  begun_result start a b bytes lent old new r report empty same exact is printed =
+      begun a b bytes old new report (reported_of start a b bytes r report empty exact is) (subst (AppendsBeginning old new) same printed)
 
   pub refused_result : (old new old' new' : Option (List ℕ)) (r : Result Report Fault) (e : Fault)
       → IfErr r (λ it. IsEvaluationFault g ht ha hb content old new it) → (r ≡ Err e) ⊎ (e ≡ fault.NoMemory) → e ≢ fault.Write
       → IsEvaluationFault g ht ha' hb' content old' new' e
-  refused_result old new old' new' r e told (inl same) other =
-      refused old new old' new' e other (subst (λ (z : Result Report Fault). IfErr z (λ it. IsEvaluationFault g ht ha hb content old new it)) same told)
-  refused_result old new old' new' r e told (inr want) other = subst (λ (z : Fault). IsEvaluationFault g ht ha' hb' content old' new' z) (sym want) tt
+  refused_result old new old' new' r e exact (inl same) other =
+      refused old new old' new' e other (subst (λ (z : Result Report Fault). IfErr z (λ it. IsEvaluationFault g ht ha hb content old new it)) same exact)
+  refused_result old new old' new' r e exact (inr resource) other = subst (λ (z : Fault). IsEvaluationFault g ht ha' hb' content old' new' z) (sym resource) tt

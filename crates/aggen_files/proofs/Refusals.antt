@@ -4,7 +4,7 @@ use Rattle.std.specs.Result.{IfOk, OnErr}
 use Rattle.ag_grammar.specs.grammars.AttributeGrammar.{Grammar}
 use Rattle.passrun.specs.Upgrading.{IsUpgraded}
 use Rattle.treefile.specs.devices.Device.{LeavesContent, WhenHonest}
-use Rattle.treefile.specs.ways.Beginning.{LeavesBeginning}
+use Rattle.treefile.specs.framing.Beginning.{LeavesBeginning}
 use Rattle.ag_fault.specs.declared.fault.Fault.{Fault}
 use Rattle.aggen_files.specs.Trees.{LeavesConversion}
 

@@ -6,7 +6,7 @@ use Rattle.passrun.specs.Upgrading.{IsUpgraded}
 use Rattle.treefile.specs.devices.Device.{WhenHonest}
 use Rattle.treefile.specs.records.FirstFile.{IsFirstFile}
 use Rattle.treefile.specs.records.TreeFile.{version_two}
-use Rattle.treefile.specs.ways.Beginning.{LeavesBeginning}
+use Rattle.treefile.specs.framing.Beginning.{LeavesBeginning}
 use Rattle.aggen.specs.Evaluating.{EvaluatesTree, IsEvaluationFault}
 use Rattle.aggen.specs.Sentences.{IsSentenceFault, IsTreeOfSentence}
 use Rattle.aggen.specs.Upgrading.{IsOldFileFault}

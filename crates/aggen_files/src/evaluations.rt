@@ -4,7 +4,7 @@ ghost use Rattle.std.specs.Prelude.{◌≡◌, ◌≢◌, [], Err, IfErr, IfOk, 
 ghost use Rattle.passrun.specs.Rounds.{LeavesSomeFile};
 ghost use Rattle.treefile.specs.devices.Device.{LeavesContent, WhenHonest};
 ghost use Rattle.treefile.specs.devices.Files.{content_of, is_honest_of};
-ghost use Rattle.treefile.specs.devices.Several.{ThreeLast};
+ghost use Rattle.treefile.specs.devices.Several.{ThreePersist};
 ghost use Rattle.aggen.specs.Evaluating.{EvaluatesTree, IsEvaluationFault};
 ghost use Rattle.aggen_files.specs.Stored.{stored_of};
 
@@ -50,7 +50,7 @@ impl<F: Read + Write + Seek + OpenFile> WorkFiles<F> {
         ensures gathered { result ≢ Err Fault.Device →
             (self.new.a.gathered ≡ []) × (self.new.b.gathered ≡ []) }
         // D1 only if the number of failures rose on one of the three
-        ensures devices { ThreeLast T.is_honest T.failures tree.old tree.new
+        ensures devices { ThreePersist T.is_honest T.failures tree.old tree.new
             is_honest_of (λ d. d.failures) self.old.a self.new.a
             is_honest_of (λ d. d.failures) self.old.b self.new.b
             (IsErrOf result Fault.Device) }

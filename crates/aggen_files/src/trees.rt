@@ -4,12 +4,12 @@
 ghost use Rattle.std.specs.Prelude.{◌≡◌, ◌≢◌, [], true, Err, IfErr, IfOk, IsErrOf, OnErr, OnOk};
 ghost use Rattle.std.specs.Io.KnownBytes.{Appends};
 ghost use Rattle.ag_grammar.specs.grammars.Tree.{IsWithinLimits, Tree, node_count};
-ghost use Rattle.ag_grammar.specs.grammars.Tree.{most_depth, most_nodes};
+ghost use Rattle.ag_grammar.specs.grammars.Tree.{max_depth, max_nodes};
 ghost use Rattle.agoutput.specs.Lines.{nodes_line};
 ghost use Rattle.treefile.specs.devices.Device.{LeavesContent, WhenHonest};
 ghost use Rattle.treefile.specs.devices.Files.{FilePersists, content_of, is_honest_of};
-ghost use Rattle.treefile.specs.devices.Several.{BothLast};
-ghost use Rattle.treefile.specs.ways.Beginning.{BeginsFile, LeavesBeginning};
+ghost use Rattle.treefile.specs.devices.Several.{BothPersist};
+ghost use Rattle.treefile.specs.framing.Beginning.{BeginsFile, LeavesBeginning};
 ghost use Rattle.treefile.specs.records.FirstFile.{IsFirstFile};
 ghost use Rattle.treefile.specs.records.TreeFile.{version_two};
 ghost use Rattle.aggen.specs.Sentences.{IsParseFault, IsScanFault, IsTreeOfSentence};
@@ -45,7 +45,7 @@ pub fn parse_to_file<F: Read + Write + Seek + OpenFile, W: Write>(
     ensures one { (t u : Tree) → IsTreeOfSentence translator.now sentence.now t
         → IsTreeOfSentence translator.now sentence.now u → t ≡ u }
     ensures limits { (t : Tree) → IsTreeOfSentence translator.now sentence.now t
-        → OnOk result (IsWithinLimits most_depth most_nodes t) }
+        → OnOk result (IsWithinLimits max_depth max_nodes t) }
     ensures count { (t : Tree) → IsTreeOfSentence translator.now sentence.now t
         → IfOk result (λ count. count ≡ node_count t) }
     ensures file { (t : Tree) → IsTreeOfSentence translator.now sentence.now t
@@ -145,7 +145,7 @@ pub fn upgrade_file<F: Read + Write + Seek + OpenFile, W: Write>(
     ensures content { LeavesContent (is_honest_of old.new)
         (content_of old.old) (content_of old.new) }
     // D1 only if the number of failures rose on one of the two
-    ensures devices { BothLast is_honest_of (λ d. d.failures) old.old old.new
+    ensures devices { BothPersist is_honest_of (λ d. d.failures) old.old old.new
         is_honest_of (λ d. d.failures) tree.old tree.new (IsErrOf result Fault.Device) }
 {
     let mut between = MemDevice::new(alloc);

@@ -6,8 +6,8 @@ ghost use Rattle.passrun.specs.Rounds.{LeavesSomeFile};
 ghost use Rattle.treefile.specs.devices.Device.{LeavesContent, WhenHonest};
 ghost use Rattle.treefile.specs.declared.file.Access.TheVariants.{Writing};
 ghost use Rattle.treefile.specs.devices.Files.{IsNew, content_of, is_honest_of};
-ghost use Rattle.treefile.specs.devices.Several.{BothLast};
-ghost use Rattle.treefile.specs.ways.Beginning.{BeginsFile};
+ghost use Rattle.treefile.specs.devices.Several.{BothPersist};
+ghost use Rattle.treefile.specs.framing.Beginning.{BeginsFile};
 ghost use Rattle.aggen.specs.Sentences.{IsParseFault, IsScanFault};
 ghost use Rattle.aggen.specs.Translating.{IsAfterPasses, IsRefusedSentence, IsTranslationFault};
 ghost use Rattle.aggen.specs.Translating.{LeavesLastFiles, TranslatesSentence};
@@ -18,7 +18,7 @@ ghost use Rattle.aggen_files.specs.Stored.{StoresContent, stored_of};
 
 use aggen::{Fault, Report, Translator};
 use agoutput::write_bytes;
-use noted_file::Record;
+use noted_file::CallRecord;
 use std::alloc::{AllocError, Global};
 use std::fs::OpenFile;
 use std::io::{Read, Seek, Write};
@@ -45,15 +45,15 @@ fn path_in(alloc: Global, folder: &str, name: &str) -> Result<String, AllocError
 impl<F: Read + Write + Seek + OpenFile> WorkFiles<F> {
     /// Opens a.agt and b.agt in a folder, and creates those that are missing. Their contents stay
     /// until a translation clears them. `first` and `second` are the records that their devices
-    /// continue: `Record::new()`.
+    /// continue: `CallRecord::new()`.
     ///
     /// Fails with F1 if a file can't be opened, and with NoMemory if there is no memory for a path.
     pub fn open<R: Files<File = F>>(
         rt: &R,
         alloc: Global,
         folder: &str,
-        first: Record,
-        second: Record,
+        first: CallRecord,
+        second: CallRecord,
     ) -> Result<WorkFiles<F>, Fault>
         ensures a { IfOk result (λ files.
             IsNew Writing (path_of_a folder.now) first.events files.a) }
@@ -81,7 +81,7 @@ impl<F: Read + Write + Seek + OpenFile> WorkFiles<F> {
         ensures b_content { LeavesContent (is_honest_of self.new.b)
             (content_of self.old.b) (content_of self.new.b) }
         ensures failed { OnErr result (IsErrOf result DeviceFault.Failed) }
-        ensures devices { BothLast is_honest_of (λ d. d.failures) self.old.a self.new.a
+        ensures devices { BothPersist is_honest_of (λ d. d.failures) self.old.a self.new.a
             is_honest_of (λ d. d.failures) self.old.b self.new.b
             (IsErrOf result DeviceFault.Failed) }
     {
@@ -141,7 +141,7 @@ impl<F: Read + Write + Seek + OpenFile> WorkFiles<F> {
         ensures gathered { result ≢ Err Fault.Device →
             (self.new.a.gathered ≡ []) × (self.new.b.gathered ≡ []) }
         // D1 only if the number of failures rose on one of the two
-        ensures devices { BothLast is_honest_of (λ d. d.failures) self.old.a self.new.a
+        ensures devices { BothPersist is_honest_of (λ d. d.failures) self.old.a self.new.a
             is_honest_of (λ d. d.failures) self.old.b self.new.b
             (IsErrOf result Fault.Device) }
     {

@@ -2,7 +2,7 @@
 
 use aggen::{Fault, print_code, print_counts, print_plan, show_value};
 use command_line::InputPath;
-use messages::{Report, Source};
+use messages::{FaultReport, Source};
 use program_io::read_input;
 use std::alloc::Global;
 use std::io;
@@ -26,12 +26,12 @@ pub fn print_part<R: Files + Input + Print>(
     alloc: Global,
     grammar: InputPath<'_>,
     part: Part,
-) -> Result<(), Report> {
+) -> Result<(), FaultReport> {
     let bytes = read_input(rt, alloc, grammar)?;
     let grammar = Source::new(grammar.name(), bytes.as_slice());
     match write_part(rt, alloc, grammar.bytes, part) {
         Ok(()) => Ok(()),
-        Err(fault) => Err(Report::of_grammar(alloc, fault, grammar)),
+        Err(fault) => Err(FaultReport::of_grammar(alloc, fault, grammar)),
     }
 }
 
@@ -46,11 +46,11 @@ fn write_part<R: Print>(rt: &R, alloc: Global, text: &[u8], part: Part) -> Resul
 }
 
 /// Prints the value of an expression, by way of a tree file in memory.
-pub fn print_value<R: Print>(rt: &R, alloc: Global, text: &str) -> Result<(), Report> {
+pub fn print_value<R: Print>(rt: &R, alloc: Global, text: &str) -> Result<(), FaultReport> {
     let mut device = MemDevice::new(alloc);
     let mut out = io::writer(rt);
     match show_value(alloc, text, &mut device, &mut out) {
         Ok(()) => Ok(()),
-        Err(fault) => Err(Report::of_expression(alloc, fault, text)),
+        Err(fault) => Err(FaultReport::of_expression(alloc, fault, text)),
     }
 }

@@ -18,7 +18,7 @@ mod why;
 use aggen::{Fault, status};
 use command_line::{CommandLine, CommandLineFault, Request};
 use listings::{Part, print_part, print_value};
-use messages::Report;
+use messages::FaultReport;
 use program_io::fault_or;
 use std::alloc::{AllocError, Global};
 use std::fs;
@@ -55,7 +55,7 @@ fn exit_code<R: Env + Files + Input + Print + Eprint + Clock + AllocGlobal>(
     let alloc = rt.alloc();
     let words = match words_of(rt, alloc) {
         Ok(words) => words,
-        Err(fault) => return fail(rt, alloc, Screen::plain(), &Report::new(alloc, fault)),
+        Err(fault) => return fail(rt, alloc, Screen::plain(), &FaultReport::new(alloc, fault)),
     };
     match CommandLine::from_words(rt, alloc, words.as_slice()) {
         Ok(CommandLine { request, messages }) => {
@@ -71,13 +71,13 @@ fn exit_code<R: Env + Files + Input + Print + Eprint + Clock + AllocGlobal>(
             rt,
             alloc,
             Screen::plain(),
-            &Report::new(alloc, fault_of(fault)),
+            &FaultReport::new(alloc, fault_of(fault)),
         ),
     }
 }
 
 /// Prints the message of a failure, and returns its status.
-fn fail<R: Eprint>(rt: &R, alloc: Global, screen: Screen, report: &Report) -> ExitCode {
+fn fail<R: Eprint>(rt: &R, alloc: Global, screen: Screen, report: &FaultReport) -> ExitCode {
     screen.print(rt, alloc, report);
     ExitCode::from(status(&report.number))
 }
@@ -99,7 +99,7 @@ fn perform<R: Files + Input + Print + Eprint + Clock>(
     alloc: Global,
     request: Request<'_>,
     screen: Screen,
-) -> Result<ExitCode, Report> {
+) -> Result<ExitCode, FaultReport> {
     match request {
         Request::Nothing => Ok(()),
         Request::Job => run_input(rt, alloc, screen),

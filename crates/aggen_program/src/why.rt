@@ -8,7 +8,7 @@ use ag_value::NoMemory;
 use aggen::{BuildFault, CertifiedPlan, Fault, StuckGrammar, certify_plan};
 use agoutput::write_text;
 use command_line::WhyWords;
-use messages::{Report, Source};
+use messages::{FaultReport, Source};
 use plan_reasons::{Attribute, Explanation, LeastPlan, NameFault, attribute_named};
 use program_io::read_input;
 use std::alloc::Global;
@@ -21,7 +21,7 @@ pub fn explain_plan<R: Files + Input + Print>(
     rt: &R,
     alloc: Global,
     words: WhyWords<'_>,
-) -> Result<(), Report> {
+) -> Result<(), FaultReport> {
     let bytes = read_input(rt, alloc, words.grammar)?;
     let source = Source::new(words.grammar.name(), bytes.as_slice());
     match certify_plan(alloc, source.bytes) {
@@ -34,9 +34,9 @@ pub fn explain_plan<R: Files + Input + Print>(
             let attribute = find_attribute(alloc, &stuck.grammar, words.attribute)?;
             let text = text_of_stuck(alloc, source, &stuck, attribute);
             print_text(rt, alloc, text)?;
-            Err(Report::of_grammar(alloc, Fault::Assign(stuck), source))
+            Err(FaultReport::of_grammar(alloc, Fault::Assign(stuck), source))
         }
-        Err(fault) => Err(Report::of_grammar(alloc, Fault::from(fault), source)),
+        Err(fault) => Err(FaultReport::of_grammar(alloc, Fault::from(fault), source)),
     }
 }
 
@@ -45,7 +45,7 @@ fn find_attribute(
     alloc: Global,
     grammar: &Grammar,
     name: Option<&str>,
-) -> Result<Option<Attribute>, Report> {
+) -> Result<Option<Attribute>, FaultReport> {
     let Some(name) = name else {
         return Ok(None);
     };
@@ -56,8 +56,13 @@ fn find_attribute(
 }
 
 /// Returns the report of a text that is not the name of an attribute.
-fn report_of_name(alloc: Global, grammar: &Grammar, fault: NameFault<'_>, name: &str) -> Report {
-    let mut report = Report::new(alloc, Fault::Usage);
+fn report_of_name(
+    alloc: Global,
+    grammar: &Grammar,
+    fault: NameFault<'_>,
+    name: &str,
+) -> FaultReport {
+    let mut report = FaultReport::new(alloc, Fault::Usage);
     let written = fault.describe(&mut report.parts, grammar, name);
     report.or_bare(written)
 }
@@ -103,11 +108,11 @@ fn print_text<R: Print>(
     rt: &R,
     alloc: Global,
     text: Result<String, NoMemory>,
-) -> Result<(), Report> {
+) -> Result<(), FaultReport> {
     let mut out = io::writer(rt);
     match write_explanation(&mut out, text) {
         Ok(()) => Ok(()),
-        Err(fault) => Err(Report::new(alloc, fault)),
+        Err(fault) => Err(FaultReport::new(alloc, fault)),
     }
 }
 

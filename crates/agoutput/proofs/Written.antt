@@ -18,15 +18,15 @@ kept (Some os) (Some ms) (Some ns) xs p q = q ∙ p
 
 pub one_more : (old mid new : Option (List ℕ)) (bytes rest : List ℕ) (n : ℕ) → HasWritten old mid bytes rest → Appends mid new (take n rest) → HasWritten old new bytes (drop n rest)
 one_more old mid new bytes rest n so_far more = record {
-  front = so_far.front ++ take n rest;
-  cut = so_far.cut ∙ ap (λ (w : List ℕ). so_far.front ++ w) (sym (take-append-drop n rest)) ∙ sym (append_assoc so_far.front (take n rest) (drop n rest));
-  put = appended old mid new so_far.front (take n rest) so_far.put more;
+  prefix = so_far.prefix ++ take n rest;
+  cut = so_far.cut ∙ ap (λ (w : List ℕ). so_far.prefix ++ w) (sym (take-append-drop n rest)) ∙ sym (append_assoc so_far.prefix (take n rest) (drop n rest));
+  put = appended old mid new so_far.prefix (take n rest) so_far.put more;
 }
 
 pub none_more : (old mid new : Option (List ℕ)) (bytes rest : List ℕ) → HasWritten old mid bytes rest → Keeps mid new → AppendsBeginning old new bytes
-none_more old mid new bytes rest so_far same = record { front = so_far.front; rest = rest; cut = so_far.cut; put = kept old mid new so_far.front so_far.put same }
+none_more old mid new bytes rest so_far same = record { prefix = so_far.prefix; rest = rest; cut = so_far.cut; put = kept old mid new so_far.prefix so_far.put same }
 
 pub so_far_written : (old new : Option (List ℕ)) (bytes rest : List ℕ) → HasWritten old new bytes rest → AppendsBeginning old new bytes
-so_far_written old new bytes rest so_far = record { front = so_far.front; rest = rest; cut = so_far.cut; put = so_far.put }
+so_far_written old new bytes rest so_far = record { prefix = so_far.prefix; rest = rest; cut = so_far.cut; put = so_far.put }
 
 pub ruleset beginning = (none_more, so_far_written)

@@ -4,13 +4,13 @@ use Rattle.std.specs.Io.KnownBytes.{Appends}
 
 -- a prefix of these bytes was appended to the writer's bytes, if those are known
 pub record AppendsBeginning (old new : Option (List ℕ)) (bytes : List ℕ) : Type 0 where
-  pub front : List ℕ
+  pub prefix : List ℕ
   pub rest : List ℕ
-  pub cut : bytes ≡ front ++ rest
-  pub put : Appends old new front
+  pub cut : bytes ≡ prefix ++ rest
+  pub put : Appends old new prefix
 
 -- the bytes without their suffix `rest` were appended to the writer's bytes, if those are known
 pub record HasWritten (old new : Option (List ℕ)) (bytes rest : List ℕ) : Type 0 where
-  pub front : List ℕ
-  pub cut : bytes ≡ front ++ rest
-  pub put : Appends old new front
+  pub prefix : List ℕ
+  pub cut : bytes ≡ prefix ++ rest
+  pub put : Appends old new prefix

@@ -2,9 +2,9 @@
 use Rattle.std.proofs.Common.{◌≡◌, ◌<◌, ◌≤◌, ◌-◌, ℕ, List, [], Some, Ok, false, length, take, drop, refl, sym, ap, subst, ◌∙◌, arith}
 use Rattle.std.specs.Prelude.{nat_eq}
 use Rattle.std.proofs.lemmas.Bool.{ne_eqb}
-use Rattle.treefile.specs.ways.Backward.{next_before}
-use Rattle.backreader.specs.BackState.{StandBefore}
-use Rattle.treefile.specs.ways.Ending.{IsBytes, body_before, header_bytes}
+use Rattle.treefile.specs.framing.Backward.{next_before}
+use Rattle.backreader.specs.BackState.{EndsAt}
+use Rattle.treefile.specs.framing.Ending.{IsBytes, body_before, header_bytes}
 use Rattle.treefile.specs.records.TreeFile.{Version}
 
 pub next_is_body : (version : Version) (content body : List ℕ) (at : ℕ) → header_bytes < at → body_before version content at ≡ Ok body → next_before version content at ≡ Ok (Some body)
@@ -14,12 +14,12 @@ next_is_body version content body at far e =
     rw (apart, e) refl
 
 -- no bytes were read before an offset
-pub none_stand : (content : List ℕ) (at : ℕ) (bytes : List ℕ) → at ≤ length content → bytes ≡ [] → IsBytes (drop at content) → StandBefore content at bytes
-none_stand content at bytes within e known =
+pub none_occur : (content : List ℕ) (at : ℕ) (bytes : List ℕ) → at ≤ length content → bytes ≡ [] → IsBytes (drop at content) → EndsAt content at bytes
+none_occur content at bytes within e known =
     let z : at - 0 ≡ at = omega arith in
     let y : at - at ≡ 0 = omega arith in
-    subst (λ (xs : List ℕ). StandBefore content at xs) (sym e) record {
+    subst (λ (xs : List ℕ). EndsAt content at xs) (sym e) record {
       within = within;
-      stand = sym (ap (λ i. take (at - i) (drop i content)) z ∙ ap (λ i. take i (drop at content)) y);
+      occur = sym (ap (λ i. take (at - i) (drop i content)) z ∙ ap (λ i. take i (drop at content)) y);
       known = subst (λ (i : ℕ). IsBytes (drop i content)) (sym z) known;
     }

@@ -2,23 +2,23 @@
 use Rattle.std.proofs.Common.{◌≡◌, ℕ, Bool, true, false, List, [], ◌∷◌, ◌++◌, length, Option, Some, None, Result, Ok, Err, ap, sym, subst, ◌∙◌}
 use Rattle.ag_grammar.specs.declared.direction.Direction.{Direction}
 use Rattle.ag_grammar.specs.grammars.Passes.{other}
-use Rattle.backreader.specs.Turning.{IsFileOf, IsTurned, IsWithinLimits, TreeTurned, TurnTold}
+use Rattle.backreader.specs.Turning.{IsFileOf, IsTurned, IsWithinLimits, TreeTurned, Reverses}
 use Rattle.backreader.specs.declared.turning.TurnFault.{TurnFault}
 use Rattle.backreader.specs.declared.turning.TurnFault.TheVariants as turn_fault
-use Rattle.treefile.specs.ways.Backward.{ReadsBack, next_before}
-use Rattle.treefile.specs.ways.Ending.{is_tree_file, version_two_usable}
+use Rattle.treefile.specs.framing.Backward.{ReadsBack, next_before}
+use Rattle.treefile.specs.framing.Ending.{is_tree_file, version_two_usable}
 use Rattle.treefile.specs.records.Orders.{BodyTree, node_count, postfix, prefix}
 use Rattle.treefile.specs.records.TreeFile.{file, frame, version_two}
 use Rattle.treefile.specs.declared.reading.FrameFault.TheVariants as frame_fault
 use Rattle.std.specs.List.{flat_map}
-use Rattle.treefile.proofs.ways.Backward.{reads_apart, reads_same}
-use Rattle.treefile.proofs.ways.Files.{begins}
+use Rattle.treefile.proofs.framing.Backward.{reads_apart, reads_same}
+use Rattle.treefile.proofs.framing.Files.{begins}
 use Rattle.treefile.proofs.records.Orders.{one_tree}
 use Rattle.backreader.proofs.Whole.{tree_back}
 
 module _ (rank : List ℕ → Option ℕ) (pass : ℕ) (content : List ℕ) (honest : Bool) (turned : List ℕ) (direction : Direction) (tree : BodyTree) (is : IsFileOf rank direction tree content) where
   is_file : is_tree_file version_two content ≡ true
-  is_file = ap (is_tree_file version_two) is.stands ∙ begins version_two is.pass (flat_map frame (postfix direction tree)) version_two_usable
+  is_file = ap (is_tree_file version_two) is.occurs ∙ begins version_two is.pass (flat_map frame (postfix direction tree)) version_two_usable
 
   back : ReadsBack version_two content (length content) (prefix (other direction) tree)
   back = tree_back rank content direction tree is
@@ -38,21 +38,21 @@ module _ (rank : List ℕ → Option ℕ) (pass : ℕ) (content : List ℕ) (hon
       let same : two ≡ one = reads_same version_two content two one (length content) (tree_back rank content direction another has) back in
       (one_tree rank (other direction) another tree [] [] has.ranked is.ranked (ap (λ (bodies : List (List ℕ)). bodies ++ []) same)).0
 
-  pub tree_told : (result : Result ℕ TurnFault) → TurnTold rank pass content honest turned result → TreeTurned pass direction tree honest turned result
-  tree_told (Ok count) so =
+  pub tree_exact : (result : Result ℕ TurnFault) → Reverses rank pass content honest turned result → TreeTurned pass direction tree honest turned result
+  tree_exact (Ok count) so =
       let it : IsTurned rank pass content honest turned count direction = so direction in
       let same = same_tree it.tree it.from in (
         subst IsWithinLimits same it.within,
         it.count_is ∙ ap node_count same,
         λ h. it.to h ∙ ap (λ (t : BodyTree). file version_two pass (postfix (other direction) t)) same,
       )
-  tree_told (Err turn_fault.NotATreeFile) so =
+  tree_exact (Err turn_fault.NotATreeFile) so =
       let e : true ≡ false = sym is_file ∙ so in
       cc
-  tree_told (Err (turn_fault.Damaged at)) so =
+  tree_exact (Err (turn_fault.Damaged at)) so =
       let parts = reads_apart version_two content so.bodies (prefix (other direction) tree) (length content) at so.read.read back in
       no_damage at parts.0 parts.2 so.damage
-  tree_told (Err (turn_fault.NotATree at)) so = so.none direction tree is
-  tree_told (Err turn_fault.TooLarge) so = so.none direction tree is
-  tree_told (Err turn_fault.Device) so = tt
-  tree_told (Err turn_fault.NoMemory) so = tt
+  tree_exact (Err (turn_fault.NotATree at)) so = so.none direction tree is
+  tree_exact (Err turn_fault.TooLarge) so = so.none direction tree is
+  tree_exact (Err turn_fault.Device) so = tt
+  tree_exact (Err turn_fault.NoMemory) so = tt

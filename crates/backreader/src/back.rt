@@ -5,9 +5,9 @@ ghost use Rattle.std.specs.Prelude.{IfSome, IsErrOf, length};
 ghost use Rattle.std.specs.Option.{option_map};
 ghost use Rattle.backreader.specs.BackState.{HasRead, IsLarge, IsOver, IsStarted, Progress};
 ghost use Rattle.backreader.specs.BackState.{lent_body, progress_after};
-ghost use Rattle.treefile.specs.ways.Backward.{next_before, pass_in};
+ghost use Rattle.treefile.specs.framing.Backward.{next_before, pass_in};
 ghost use Rattle.treefile.specs.devices.Device.{LeavesContent, Persists, WhenHonest};
-ghost use Rattle.treefile.specs.ways.Ending.{IsBody, Told, length_bytes};
+ghost use Rattle.treefile.specs.framing.Ending.{IsBody, ReadsAs, length_bytes};
 ghost use Rattle.treefile.specs.records.TreeFile.{version_of, version_one, version_two};
 
 use crate::window::Window;
@@ -63,7 +63,7 @@ impl Back {
     /// and with D1 Device if a call of the device failed. Takes memory for a buffer of 4,096 bytes.
     pub fn start<D: Device>(alloc: Global, device: &mut D) -> Result<Back, FrameFault>
         // The number of the pass and B1 agree with the content.
-        ensures told { WhenHonest (D.is_honest device.new) (Told (λ back. back.progress.pass) result
+        ensures exact { WhenHonest (D.is_honest device.new) (ReadsAs (λ back. back.progress.pass) result
             (pass_in version_two (D.content device.old))) }
         ensures started { IfOk result (IsStarted version_two (D.is_honest device.new)
             (D.content device.old)) }
@@ -80,7 +80,7 @@ impl Back {
     /// bytes. Fails as `start` does, but with B1 if the first four bytes are not `AGT1`.
     pub fn start_old<D: Device>(alloc: Global, device: &mut D) -> Result<Back, FrameFault>
         // The number of the pass and B1 agree with the content.
-        ensures told { WhenHonest (D.is_honest device.new) (Told (λ back. back.progress.pass) result
+        ensures exact { WhenHonest (D.is_honest device.new) (ReadsAs (λ back. back.progress.pass) result
             (pass_in version_one (D.content device.old))) }
         ensures started { IfOk result (IsStarted version_one (D.is_honest device.new)
             (D.content device.old)) }
@@ -100,7 +100,7 @@ impl Back {
         device: &mut D,
     ) -> Result<Back, FrameFault>
         // The number of the pass and B1 agree with the content.
-        ensures told { WhenHonest (D.is_honest device.new) (Told (λ back. back.progress.pass) result
+        ensures exact { WhenHonest (D.is_honest device.new) (ReadsAs (λ back. back.progress.pass) result
             (pass_in (version_of version) (D.content device.old))) }
         ensures started { IfOk result (IsStarted (version_of version) (D.is_honest device.new)
             (D.content device.old)) }
@@ -137,8 +137,8 @@ impl Back {
             (λ now. HasRead (D.is_honest device.new) (D.content device.old) self.old
             (lent_body (λ body. body.now) result) now)) }
         // The body, None and B2 agree with the content.
-        ensures told { self.old.progress.fault ≡ None → WhenHonest (D.is_honest device.new)
-            (Told (option_map (λ body. body.now)) result
+        ensures exact { self.old.progress.fault ≡ None → WhenHonest (D.is_honest device.new)
+            (ReadsAs (option_map (λ body. body.now)) result
             (next_before self.old.progress.version (D.content device.old) self.old.progress.at)) }
         // NoMemory only if the frame has more bytes than the buffer of `start`
         ensures memory { self.old.progress.fault ≡ None → WhenHonest (D.is_honest device.new)

@@ -3,11 +3,11 @@
 ghost use Rattle.std.specs.Prelude.{◌≡◌, ◌≤◌, ◌<◌, ◌+◌, ◌-◌, ℕ, List, [], Ok, Err, length, min, vec_len};
 ghost use Rattle.std.specs.Prelude.{drop, slice_range, IfNone, IfOk, IfSome, IsErrOf, IsTrue, OnErr, OnOk};
 ghost use Rattle.std.specs.Option.{option_map};
-ghost use Rattle.backreader.specs.BackState.{IsLarge, StandBefore, buffer_bytes};
-ghost use Rattle.treefile.specs.ways.Backward.{next_before};
+ghost use Rattle.backreader.specs.BackState.{IsLarge, EndsAt, buffer_bytes};
+ghost use Rattle.treefile.specs.framing.Backward.{next_before};
 ghost use Rattle.treefile.specs.devices.Device.{LeavesContent, Persists, TakesNoMemory, WhenHonest};
-ghost use Rattle.treefile.specs.ways.Ending.{IsBytes, Told, body_before, greatest_body, header_bytes};
-ghost use Rattle.treefile.specs.ways.Ending.{least_body, length_bytes, number_before};
+ghost use Rattle.treefile.specs.framing.Ending.{IsBytes, ReadsAs, body_before, greatest_body, header_bytes};
+ghost use Rattle.treefile.specs.framing.Ending.{least_body, length_bytes, number_before};
 ghost use Rattle.treefile.specs.records.TreeFile.{version_of, version_two};
 ghost use Rattle.treefile.specs.declared.reading.FrameFault.TheVariants.{Damaged};
 
@@ -41,7 +41,7 @@ pub(crate) struct Window {
     ghost within: { to ≤ vec_len buffer },
     ghost roomy: { buffer_bytes ≤ vec_len buffer },
     ghost narrow: { vec_len buffer ≤ greatest_body (version_of version) + length_bytes },
-    ghost behind: { to - from + header_bytes ≤ at },
+    ghost following: { to - from + header_bytes ≤ at },
 }
 
 impl Window {
@@ -49,7 +49,7 @@ impl Window {
 
     /// Makes a window with no bytes before offset `at`, and a buffer of 4,096 bytes. Takes memory
     /// for it.
-    #[tactic(auto, using(crate::proofs::Standing::buffer_is_small))]
+    #[tactic(auto, using(crate::proofs::EndingAt::buffer_is_small))]
     pub(crate) fn new(alloc: Global, version: FileVersion, at: u64) -> Result<Window, AllocError>
         requires { header_bytes ≤ at }
         ensures version { IfOk result (λ window. window.version ≡ version) }
@@ -101,23 +101,23 @@ impl Window {
     /// failed. Takes memory for a frame that has more bytes than the buffer; after NoMemory nothing
     /// has changed.
     #[inline(always)]
-    #[tactic(auto, unfolding(treefile::specs::ways::Backward::next_before))]
+    #[tactic(auto, unfolding(treefile::specs::framing::Backward::next_before))]
     pub(crate) fn next<D: Device>(&mut self, device: &mut D) -> Result<Option<usize>, FrameFault>
         requires { WhenHonest (D.is_honest device.old)
-            (StandBefore (D.content device.old) self.old.at (unread self.old)) }
-        ensures told { WhenHonest (D.is_honest device.new) (Told (option_map (taken self.new)) result
+            (EndsAt (D.content device.old) self.old.at (unread self.old)) }
+        ensures exact { WhenHonest (D.is_honest device.new) (ReadsAs (option_map (taken self.new)) result
             (next_before (version_of self.old.version) (D.content device.old) self.old.at)) }
         ensures memory { WhenHonest (D.is_honest device.new)
             (IsErrOf result FrameFault.NoMemory →
             IsLarge (next_before (version_of self.old.version) (D.content device.old) self.old.at)) }
-        ensures stand { WhenHonest (D.is_honest device.new)
-            (StandBefore (D.content device.old) self.new.at (unread self.new)) }
+        ensures occur { WhenHonest (D.is_honest device.new)
+            (EndsAt (D.content device.old) self.new.at (unread self.new)) }
         ensures moved { IfOk result (λ found. IfSome found
             (λ count. self.new.at + count + length_bytes ≡ self.old.at)) }
         ensures none { IfOk result (λ found. IfNone found (self.new.at ≡ self.old.at)) }
         ensures kept { OnErr result (self.new.at ≡ self.old.at) }
         ensures version { self.new.version ≡ self.old.version }
-        ensures want { IsErrOf result FrameFault.NoMemory → unread self.new ≡ unread self.old }
+        ensures resource { IsErrOf result FrameFault.NoMemory → unread self.new ≡ unread self.old }
         ensures within { IfOk result (λ found. IfSome found
             (λ count. self.new.to + count ≤ vec_len self.new.buffer)) }
         ensures least { IfOk result (λ found. IfSome found (λ count. least_body ≤ count)) }
@@ -132,7 +132,7 @@ impl Window {
         if self.at == HEADER_BYTES {
             return Ok(None);
         }
-        if let Some(length) = self.at_hand() {
+        if let Some(length) = self.buffered_length() {
             self.take(length);
             return Ok(Some(length));
         }
@@ -145,7 +145,7 @@ impl Window {
             self.from = self.to - unread;
             return Err(FrameFault::NoMemory);
         }
-        self.load(device, length + LENGTH)?;
+        self.ensure_loaded(device, length + LENGTH)?;
         self.take(length);
         Ok(Some(length))
     }
@@ -160,9 +160,9 @@ impl Window {
 
     /// Returns the length of the body whose frame ends at the offset, if all of that frame was
     /// read: then it fits after the header, and in the buffer. Else returns `None`.
-    #[tactic(auto, using(crate::proofs::Standing::body_at_hand))]
-    fn at_hand(&self) -> Option<usize>
-        ensures found { (content : List ℕ) → StandBefore content self.now.at (unread self.now) →
+    #[tactic(auto, using(crate::proofs::EndingAt::body_at_hand))]
+    fn buffered_length(&self) -> Option<usize>
+        ensures found { (content : List ℕ) → EndsAt content self.now.at (unread self.now) →
             IfSome result (λ count. body_before (version_of self.now.version) content self.now.at
             ≡ Ok (slice_range content
             (self.now.at - length_bytes - count) (self.now.at - length_bytes))) }
@@ -186,10 +186,10 @@ impl Window {
     /// there. Fails with D1 if the device fails.
     #[cold]
     #[inline(never)]
-    #[tactic(auto, unfolding(treefile::specs::ways::Ending::body_before))]
+    #[tactic(auto, unfolding(treefile::specs::framing::Ending::body_before))]
     fn length_before<D: Device>(&mut self, device: &mut D) -> Result<Option<usize>, DeviceFault>
         requires { WhenHonest (D.is_honest device.old)
-            (StandBefore (D.content device.old) self.old.at (unread self.old)) }
+            (EndsAt (D.content device.old) self.old.at (unread self.old)) }
         ensures found { WhenHonest (D.is_honest device.new)
             (IfOk result (λ found. IfSome found
             (λ count. body_before (version_of self.old.version) (D.content device.old) self.old.at
@@ -204,8 +204,8 @@ impl Window {
         ensures least { IfOk result (λ found. IfSome found (λ count. least_body ≤ count)) }
         ensures greatest { IfOk result (λ found. IfSome found
             (λ count. count ≤ greatest_body (version_of self.old.version))) }
-        ensures stand { WhenHonest (D.is_honest device.new)
-            (StandBefore (D.content device.old) self.new.at (unread self.new)) }
+        ensures occur { WhenHonest (D.is_honest device.new)
+            (EndsAt (D.content device.old) self.new.at (unread self.new)) }
         ensures kept { Keeps self.old self.new }
         ensures at { self.new.at ≡ self.old.at }
         ensures version { self.new.version ≡ self.old.version }
@@ -218,7 +218,7 @@ impl Window {
         if self.at < HEADER_BYTES + LENGTH_BYTES {
             return Ok(None);
         }
-        self.load(device, LENGTH)?;
+        self.ensure_loaded(device, LENGTH)?;
         let length = self.number();
         if fits_before(self.version, self.at, u64::from(length)) {
             Ok(Some(length as usize))
@@ -230,7 +230,7 @@ impl Window {
     /// Returns the big-endian number in the last four bytes.
     fn number(&self) -> u32
         requires { length_bytes ≤ self.now.to - self.now.from }
-        ensures { (content : List ℕ) → StandBefore content self.now.at (unread self.now) →
+        ensures { (content : List ℕ) → EndsAt content self.now.at (unread self.now) →
             result ≡ number_before content self.now.at }
     {
         let mut number = [0; 4];
@@ -242,12 +242,12 @@ impl Window {
     fn take(&mut self, length: usize)
         requires { length + length_bytes ≤ self.old.to - self.old.from }
         ensures body { (content : List ℕ) →
-            StandBefore content self.old.at (unread self.old) → taken self.new length
+            EndsAt content self.old.at (unread self.old) → taken self.new length
             ≡ slice_range content
             (self.old.at - length_bytes - length) (self.old.at - length_bytes) }
-        ensures stand { (content : List ℕ) →
-            StandBefore content self.old.at (unread self.old) →
-            StandBefore content self.new.at (unread self.new) }
+        ensures occur { (content : List ℕ) →
+            EndsAt content self.old.at (unread self.old) →
+            EndsAt content self.new.at (unread self.new) }
         ensures buffer { self.new.buffer ≡ self.old.buffer }
         ensures to { self.new.to + length + length_bytes ≡ self.old.to }
         ensures at { self.new.at + length + length_bytes ≡ self.old.at }
@@ -277,14 +277,14 @@ impl Window {
 
     /// Reads more bytes if fewer than `count` were read. Requires room for `count` bytes in the
     /// buffer, and `count` bytes between the header and the offset.
-    fn load<D: Device>(&mut self, device: &mut D, count: usize) -> Result<(), DeviceFault>
+    fn ensure_loaded<D: Device>(&mut self, device: &mut D, count: usize) -> Result<(), DeviceFault>
         requires room { count ≤ vec_len self.old.buffer }
-        requires behind { header_bytes + count ≤ self.old.at }
-        requires stand { WhenHonest (D.is_honest device.old)
-            (StandBefore (D.content device.old) self.old.at (unread self.old)) }
+        requires following { header_bytes + count ≤ self.old.at }
+        requires occur { WhenHonest (D.is_honest device.old)
+            (EndsAt (D.content device.old) self.old.at (unread self.old)) }
         ensures enough { OnOk result (count ≤ self.new.to - self.new.from) }
-        ensures stand { WhenHonest (D.is_honest device.new)
-            (StandBefore (D.content device.old) self.new.at (unread self.new)) }
+        ensures occur { WhenHonest (D.is_honest device.new)
+            (EndsAt (D.content device.old) self.new.at (unread self.new)) }
         ensures kept { Keeps self.old self.new }
         ensures at { self.new.at ≡ self.old.at }
         ensures version { self.new.version ≡ self.old.version }
@@ -306,11 +306,11 @@ impl Window {
     #[inline(never)]
     fn fill<D: Device>(&mut self, device: &mut D) -> Result<(), DeviceFault>
         requires { WhenHonest (D.is_honest device.old)
-            (StandBefore (D.content device.old) self.old.at (unread self.old)) }
+            (EndsAt (D.content device.old) self.old.at (unread self.old)) }
         ensures full { OnOk result (self.new.to - self.new.from
             ≡ min (vec_len self.old.buffer) (self.old.at - header_bytes)) }
-        ensures stand { WhenHonest (D.is_honest device.new)
-            (StandBefore (D.content device.old) self.new.at (unread self.new)) }
+        ensures occur { WhenHonest (D.is_honest device.new)
+            (EndsAt (D.content device.old) self.new.at (unread self.new)) }
         ensures kept { Keeps self.old self.new }
         ensures at { self.new.at ≡ self.old.at }
         ensures version { self.new.version ≡ self.old.version }
@@ -320,7 +320,7 @@ impl Window {
         ensures persists { Persists (D.is_honest device.old) (D.is_honest device.new)
             (D.failures device.old) (D.failures device.new) (IsErrOf result DeviceFault.Failed) }
     {
-        self.slide();
+        self.move_to_end();
         let (from, count) = (self.from, self.to - self.from);
         let ahead = self.at - HEADER_BYTES - count as u64;
         let free = ahead.min(from as u64) as usize;
@@ -331,7 +331,7 @@ impl Window {
     }
 
     /// Moves the bytes to the end of the buffer.
-    fn slide(&mut self)
+    fn move_to_end(&mut self)
         ensures unread { unread self.new ≡ unread self.old }
         ensures room { vec_len self.new.buffer ≡ vec_len self.old.buffer }
         ensures end { self.new.to ≡ vec_len self.old.buffer }
@@ -361,7 +361,7 @@ fn read_part<D: Device>(
         (at + (to - from) ≤ length (D.content device.old)) }
     ensures read { WhenHonest (D.is_honest device.new) (OnOk result (slice_range buffer.new from to
         ≡ slice_range (D.content device.old) at (at + (to - from)))) }
-    ensures behind { drop to buffer.new ≡ drop to buffer.old }
+    ensures following { drop to buffer.new ≡ drop to buffer.old }
     ensures bytes { IsBytes buffer.new }
     ensures length { length buffer.new ≡ length buffer.old }
     ensures memory { TakesNoMemory result }

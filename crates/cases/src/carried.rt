@@ -10,18 +10,18 @@ use rows::words::{Mistake, first_word, printed, shown_bytes};
 use std::alloc::Global;
 
 /// Calls the named method on the current value as a `Carried`, and returns its result as text.
-pub fn carried_told(alloc: Global, rest: &str, value: &Value) -> Result<String, Mistake> {
+pub fn carried_answer(alloc: Global, rest: &str, value: &Value) -> Result<String, Mistake> {
     let (call, other) = first_word(rest);
     let carried = carried_of(alloc, value)?;
     match call {
         "number" => printed(alloc, &carried.as_number()),
-        "weighed" => weighed_told(alloc, value),
+        "weighed" => weighed_answer(alloc, value),
         "copy" => Ok(show(alloc, &carried.to_value(alloc)?)?),
-        "share" => shared_told(alloc, &carried),
-        "last" => last_told(alloc, carried),
-        "set" => set_told(alloc, carried),
-        "same" => same_told(alloc, &carried, &value_of(alloc, other, value)?),
-        _ => encoding_told(alloc, call, &carried),
+        "share" => shared_answer(alloc, &carried),
+        "last" => last_answer(alloc, carried),
+        "set" => set_answer(alloc, carried),
+        "same" => same_answer(alloc, &carried, &value_of(alloc, other, value)?),
+        _ => encoding_answer(alloc, call, &carried),
     }
 }
 
@@ -37,18 +37,18 @@ fn carried_of(alloc: Global, value: &Value) -> Result<Carried, Mistake>
 }
 
 /// Shows the value after `Carried::with_weight` with its own weight. Fails with `Unfit` if it is not well.
-fn weighed_told(alloc: Global, value: &Value) -> Result<String, Mistake> {
+fn weighed_answer(alloc: Global, value: &Value) -> Result<String, Mistake> {
     let copied = copy(alloc, value)?;
     if !is_well(&copied) {
         return Err(Mistake::Unfit);
     }
     let weight = weight(&copied);
-    lent_told(alloc, &Carried::with_weight(alloc, copied, weight)?)
+    lent_answer(alloc, &Carried::with_weight(alloc, copied, weight)?)
 }
 
 /// Shows the number or the value that a `Carried` returns. Fails with `Unfit` unless it returns exactly one of
 /// them.
-fn lent_told(alloc: Global, carried: &Carried) -> Result<String, Mistake> {
+fn lent_answer(alloc: Global, carried: &Carried) -> Result<String, Mistake> {
     match (carried.as_number(), carried.as_value()) {
         (Some(number), None) => Ok(show(alloc, &Value::Num(number))?),
         (None, Some(value)) => Ok(show(alloc, value)?),
@@ -57,27 +57,27 @@ fn lent_told(alloc: Global, carried: &Carried) -> Result<String, Mistake> {
 }
 
 /// Shares the value, and shows what the new owner returns while the first one exists.
-fn shared_told(alloc: Global, carried: &Carried) -> Result<String, Mistake> {
+fn shared_answer(alloc: Global, carried: &Carried) -> Result<String, Mistake> {
     let shared = carried.share(alloc)?;
     Ok(show(alloc, &shared.into_value(alloc)?)?)
 }
 
 /// Shares the value, drops the first owner, and shows what the second one returns.
-fn last_told(alloc: Global, carried: Carried) -> Result<String, Mistake> {
+fn last_answer(alloc: Global, carried: Carried) -> Result<String, Mistake> {
     let shared = carried.share(alloc)?;
     carried.release();
     Ok(show(alloc, &shared.into_value(alloc)?)?)
 }
 
 /// Replaces the value by the number 7, and shows it.
-fn set_told(alloc: Global, carried: Carried) -> Result<String, Mistake> {
+fn set_answer(alloc: Global, carried: Carried) -> Result<String, Mistake> {
     let mut set = carried;
     set.set_number(7);
-    lent_told(alloc, &set)
+    lent_answer(alloc, &set)
 }
 
 /// Returns whether the value equals `other`, and whether it equals itself shared.
-fn same_told(alloc: Global, carried: &Carried, other: &Value) -> Result<String, Mistake> {
+fn same_answer(alloc: Global, carried: &Carried, other: &Value) -> Result<String, Mistake> {
     let other = carried_of(alloc, other)?;
     let shared = carried.share(alloc)?;
     Ok(format!(in alloc; "{} {}", carried.same(&other), carried.same(&shared))?)
@@ -85,7 +85,7 @@ fn same_told(alloc: Global, carried: &Carried, other: &Value) -> Result<String, 
 
 /// Returns the encoding of the value, or what is read from the encoding followed by a zero byte: with
 /// `Carried::read` (`read`), with `read_beside` of the value (`beside`) or with `read_beside` of 7 (`apart`).
-fn encoding_told(alloc: Global, call: &str, carried: &Carried) -> Result<String, Mistake>
+fn encoding_answer(alloc: Global, call: &str, carried: &Carried) -> Result<String, Mistake>
     requires { IsWell carried.now }
 {
     let mut bytes = Vec::new(alloc);
@@ -101,13 +101,13 @@ fn encoding_told(alloc: Global, call: &str, carried: &Carried) -> Result<String,
         _ => return Err(Mistake::Misspelt),
     };
     match found {
-        Ok((read, len)) => read_told(alloc, &read, len),
+        Ok((read, len)) => read_answer(alloc, &read, len),
         Err(fault) => printed(alloc, &fault),
     }
 }
 
 /// Returns a value that was read, and the length of its encoding in bytes.
-fn read_told(alloc: Global, read: &Carried, len: usize) -> Result<String, Mistake> {
-    let shown = lent_told(alloc, read)?;
+fn read_answer(alloc: Global, read: &Carried, len: usize) -> Result<String, Mistake> {
+    let shown = lent_answer(alloc, read)?;
     Ok(format!(in alloc; "{shown} of {len} bytes")?)
 }

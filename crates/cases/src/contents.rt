@@ -32,7 +32,7 @@ fn used(alloc: Global) -> Result<MemDevice, AllocError> {
 }
 
 /// Returns the last body of a content, or its fault.
-pub fn last_told(alloc: Global, bytes: Vec<u8>) -> Result<String, Mistake> {
+pub fn last_answer(alloc: Global, bytes: Vec<u8>) -> Result<String, Mistake> {
     match last_body(alloc, &mut MemDevice::from_bytes(bytes)) {
         Ok(body) => Ok(shown_bytes(alloc, body.as_slice())?),
         Err(fault) => printed(alloc, &fault),
@@ -40,7 +40,7 @@ pub fn last_told(alloc: Global, bytes: Vec<u8>) -> Result<String, Mistake> {
 }
 
 /// Returns the kind, the number and the encoded values of a body.
-pub fn split_told(alloc: Global, body: &[u8]) -> Result<String, Mistake> {
+pub fn split_answer(alloc: Global, body: &[u8]) -> Result<String, Mistake> {
     match split_body(body) {
         Some((kind, number, spellings)) => {
             let spellings = shown_bytes(alloc, spellings)?;
@@ -52,8 +52,8 @@ pub fn split_told(alloc: Global, body: &[u8]) -> Result<String, Mistake> {
 
 /// Returns the bodies of a content from the last to the first, then how reading ends, and whether the next call
 /// returns the same.
-pub fn back_told(alloc: Global, bytes: Vec<u8>) -> Result<String, Mistake> {
-    bodies_told(alloc, &mut MemDevice::from_bytes(bytes))
+pub fn back_answer(alloc: Global, bytes: Vec<u8>) -> Result<String, Mistake> {
+    bodies_answer(alloc, &mut MemDevice::from_bytes(bytes))
 }
 
 /// The maximal number of bodies that are read.
@@ -61,55 +61,55 @@ const READ: u32 = 1000;
 
 /// Returns the pass of a file, its bodies from the last to the first, how reading ends, and whether the next call
 /// returns the same. Fails with `Unfit` if reading doesn't end within `READ` calls.
-fn bodies_told<D: Device>(alloc: Global, device: &mut D) -> Result<String, Mistake> {
+fn bodies_answer<D: Device>(alloc: Global, device: &mut D) -> Result<String, Mistake> {
     let mut back = match Back::start(alloc, device) {
         Ok(back) => back,
         Err(fault) => return printed(alloc, &fault),
     };
-    let mut told = format!(in alloc; "pass {}:", back.pass())?;
+    let mut answer = format!(in alloc; "pass {}:", back.pass())?;
     for _turn in 0..READ {
         let fault = match back.back(device) {
             Ok(Some(body)) => {
-                write!(told, " {}", shown_bytes(alloc, body)?)?;
+                write!(answer, " {}", shown_bytes(alloc, body)?)?;
                 continue;
             }
             Ok(None) => {
                 let again = back.back(device) == Ok(None);
-                write!(told, " end {again}, {} bodies", back.records())?;
-                return Ok(told);
+                write!(answer, " end {again}, {} bodies", back.records())?;
+                return Ok(answer);
             }
             Err(fault) => fault,
         };
         let again = back.back(device) == Err(fault);
-        write!(told, " {fault:?} {again}, {} bodies", back.records())?;
-        return Ok(told);
+        write!(answer, " {fault:?} {again}, {} bodies", back.records())?;
+        return Ok(answer);
     }
     Err(Mistake::Unfit)
 }
 
 /// Reverses a content into the file of a pass, and returns that file or the fault.
-pub fn turn_told(alloc: Global, pass: u16, bytes: Vec<u8>) -> Result<String, Mistake> {
+pub fn turn_answer(alloc: Global, pass: u16, bytes: Vec<u8>) -> Result<String, Mistake> {
     let mut from = MemDevice::from_bytes(bytes);
     let mut to = used(alloc)?;
     match turn(alloc, &mut from, &mut to, pass, &Fractions {}) {
-        Ok(count) => file_told(alloc, u64::from(count), to.bytes()),
+        Ok(count) => file_exact(alloc, u64::from(count), to.bytes()),
         Err(fault) => printed(alloc, &fault),
     }
 }
 
 /// Returns the number of records and the file.
-fn file_told(alloc: Global, count: u64, file: &[u8]) -> Result<String, Mistake> {
+fn file_exact(alloc: Global, count: u64, file: &[u8]) -> Result<String, Mistake> {
     let file = shown_bytes(alloc, file)?;
     Ok(format!(in alloc; "{count} records, {file}")?)
 }
 
 /// Returns the file of a pass with the records of a text, separated by `;`. `node 4 1 0` and `token 0 14` have
 /// values, `body 090807` has bytes.
-pub fn write_told(alloc: Global, text: &str) -> Result<String, Mistake> {
+pub fn write_exact(alloc: Global, text: &str) -> Result<String, Mistake> {
     let (pass, records) = halves(text, " : ")?;
     let mut device = used(alloc)?;
     let count = put_all(alloc, short_number(pass)?, &mut device, records)?;
-    file_told(alloc, count, device.bytes())
+    file_exact(alloc, count, device.bytes())
 }
 
 /// Writes the file of a pass with the records of a text. Returns their number.

@@ -53,7 +53,7 @@ fn shown(alloc: Global, expr: &Expr, lent: &Value) -> Result<String, Mistake> {
 }
 
 /// Returns the value of a text as it is shown, or the fault of the text.
-pub fn value_told(alloc: Global, text: &str, lent: &Value) -> Result<String, Mistake> {
+pub fn value_exact(alloc: Global, text: &str, lent: &Value) -> Result<String, Mistake> {
     match read_expr(alloc, text) {
         Ok(expr) => shown(alloc, &expr, lent),
         Err(fault) => printed(alloc, &fault),
@@ -72,7 +72,7 @@ fn counted(alloc: Global, expr: &Expr, lent: &Value) -> Result<String, Mistake> 
 }
 
 /// Evaluates a text and returns the meter's count, and whether the meter is full.
-pub fn meter_told(alloc: Global, text: &str, lent: &Value) -> Result<String, Mistake> {
+pub fn meter_answer(alloc: Global, text: &str, lent: &Value) -> Result<String, Mistake> {
     match read_expr(alloc, text) {
         Ok(expr) => counted(alloc, &expr, lent),
         Err(_) => Err(Mistake::Unfit),
@@ -80,7 +80,7 @@ pub fn meter_told(alloc: Global, text: &str, lent: &Value) -> Result<String, Mis
 }
 
 /// Returns the tree of a text, or its fault.
-pub fn tree_told(alloc: Global, text: &str) -> Result<String, Mistake> {
+pub fn tree_exact(alloc: Global, text: &str) -> Result<String, Mistake> {
     match read_expr(alloc, text) {
         Ok(expr) => printed(alloc, &expr),
         Err(fault) => printed(alloc, &fault),
@@ -97,7 +97,7 @@ fn tree_of(alloc: Global, text: &str) -> Result<String, Mistake> {
 
 /// Returns whether the texts on both sides of `&` have the same tree. Fails with `Unfit` if one isn't an
 /// expression.
-pub fn alike_told(alloc: Global, texts: &str) -> Result<String, Mistake> {
+pub fn alike_answer(alloc: Global, texts: &str) -> Result<String, Mistake> {
     let (first, second) = halves(texts, " & ")?;
     let first = tree_of(alloc, first)?;
     let second = tree_of(alloc, second)?;
@@ -106,21 +106,21 @@ pub fn alike_told(alloc: Global, texts: &str) -> Result<String, Mistake> {
 
 /// Returns the number of occurrences in an expression, and each of them.
 fn listed(alloc: Global, expr: &Expr) -> Result<String, Mistake> {
-    let mut told = format!(in alloc; "{} occurrences", occurrences(expr).len())?;
-    show_occurrences(&mut told, expr)?;
-    Ok(told)
+    let mut answer = format!(in alloc; "{} occurrences", occurrences(expr).len())?;
+    show_occurrences(&mut answer, expr)?;
+    Ok(answer)
 }
 
-fn show_occurrences(told: &mut String, expr: &Expr) -> Result<(), AllocError> {
+fn show_occurrences(answer: &mut String, expr: &Expr) -> Result<(), AllocError> {
     for occurrence in occurrences(expr) {
         let name = occurrence.attr.as_str();
-        write!(told, ", {}.{name} at {}", occurrence.place, occurrence.at)?;
+        write!(answer, ", {}.{name} at {}", occurrence.place, occurrence.at)?;
     }
     Ok(())
 }
 
 /// Returns the number of occurrences in a text, and each of them, or the fault of the text.
-pub fn occurrences_told(alloc: Global, text: &str) -> Result<String, Mistake> {
+pub fn occurrences_answer(alloc: Global, text: &str) -> Result<String, Mistake> {
     match read_expr(alloc, text) {
         Ok(expr) => listed(alloc, &expr),
         Err(fault) => printed(alloc, &fault),
@@ -133,7 +133,7 @@ fn number_shown(alloc: Global, expr: &Expr) -> Result<String, Mistake> {
 }
 
 /// Returns the number of occurrences in a text, or the fault of the text.
-pub fn count_told(alloc: Global, text: &str) -> Result<String, Mistake> {
+pub fn count_answer(alloc: Global, text: &str) -> Result<String, Mistake> {
     match read_expr(alloc, text) {
         Ok(expr) => number_shown(alloc, &expr),
         Err(fault) => printed(alloc, &fault),
@@ -154,7 +154,7 @@ fn ended(alloc: Global, expr: &Expr, at: usize) -> Result<String, Mistake> {
 
 /// Reads the expression from an offset in bytes to the next `;`, and returns where it ends and its occurrences.
 /// Fails with `Unfit` if the offset is not a character boundary.
-pub fn until_told(alloc: Global, written: &Written, rest: &str) -> Result<String, Mistake> {
+pub fn until_answer(alloc: Global, written: &Written, rest: &str) -> Result<String, Mistake> {
     let (from, text) = placed(written, rest)?;
     if !text.is_char_boundary(from) {
         return Err(Mistake::Unfit);
@@ -166,7 +166,7 @@ pub fn until_told(alloc: Global, written: &Written, rest: &str) -> Result<String
 }
 
 /// Returns what is expected at an offset of a text.
-pub fn expected_told(alloc: Global, written: &Written, rest: &str) -> Result<String, Mistake> {
+pub fn expected_answer(alloc: Global, written: &Written, rest: &str) -> Result<String, Mistake> {
     let (at, text) = placed(written, rest)?;
     let found = expected_at(alloc, text, at)?;
     printed(alloc, &found)

@@ -12,7 +12,7 @@ use rows::words::{Mistake, printed};
 use std::alloc::{AllocError, Global};
 
 /// Returns what a text reads as, or its fault.
-pub fn read_told(alloc: Global, text: &[u8]) -> Result<String, Mistake> {
+pub fn read_answer(alloc: Global, text: &[u8]) -> Result<String, Mistake> {
     match read_grammar(alloc, text) {
         Ok(raw) => raw_shown(alloc, &raw),
         Err(fault) => printed(alloc, &fault),
@@ -21,54 +21,54 @@ pub fn read_told(alloc: Global, text: &[u8]) -> Result<String, Mistake> {
 
 /// Returns a raw grammar as text, with a line for each symbol and each production.
 fn raw_shown(alloc: Global, raw: &RawGrammar) -> Result<String, Mistake> {
-    let mut told = format!(in alloc; "start {} at {}", raw.start.name.as_str(), raw.start.at)?;
-    show_lines(&mut told, raw)?;
-    Ok(told)
+    let mut answer = format!(in alloc; "start {} at {}", raw.start.name.as_str(), raw.start.at)?;
+    show_lines(&mut answer, raw)?;
+    Ok(answer)
 }
 
-fn show_lines(told: &mut String, raw: &RawGrammar) -> Result<(), AllocError> {
+fn show_lines(answer: &mut String, raw: &RawGrammar) -> Result<(), AllocError> {
     for symbol in raw.symbols.as_slice() {
-        show_symbol(told, symbol)?;
+        show_symbol(answer, symbol)?;
     }
     for production in raw.productions.as_slice() {
-        show_production(told, production)?;
+        show_production(answer, production)?;
     }
     Ok(())
 }
 
-fn show_symbol(told: &mut String, symbol: &RawSymbol) -> Result<(), AllocError> {
-    write!(told, "\nsymbol {} syn", symbol.name.name.as_str())?;
-    show_names(told, symbol.syn.as_slice())?;
-    told.push_str(" inh")?;
-    show_names(told, symbol.inh.as_slice())
+fn show_symbol(answer: &mut String, symbol: &RawSymbol) -> Result<(), AllocError> {
+    write!(answer, "\nsymbol {} syn", symbol.name.name.as_str())?;
+    show_names(answer, symbol.syn.as_slice())?;
+    answer.push_str(" inh")?;
+    show_names(answer, symbol.inh.as_slice())
 }
 
-fn show_names(told: &mut String, names: &[Named]) -> Result<(), AllocError> {
+fn show_names(answer: &mut String, names: &[Named]) -> Result<(), AllocError> {
     for name in names {
-        write!(told, " {}", name.name.as_str())?;
+        write!(answer, " {}", name.name.as_str())?;
     }
     Ok(())
 }
 
-fn show_production(told: &mut String, production: &RawProduction) -> Result<(), AllocError> {
-    write!(told, "\n{} =", production.left.name.as_str())?;
+fn show_production(answer: &mut String, production: &RawProduction) -> Result<(), AllocError> {
+    write!(answer, "\n{} =", production.left.name.as_str())?;
     for item in production.items.as_slice() {
         match item {
-            RawItem::Name(name) => write!(told, " {}", name.name.as_str())?,
-            RawItem::Literal(text) => write!(told, " {:?}", text.as_str())?,
-            RawItem::Class(number) => write!(told, " class {number}")?,
+            RawItem::Name(name) => write!(answer, " {}", name.name.as_str())?,
+            RawItem::Literal(text) => write!(answer, " {:?}", text.as_str())?,
+            RawItem::Class(number) => write!(answer, " class {number}")?,
         }
     }
     for rule in production.rules.as_slice() {
-        show_rule(told, rule)?;
+        show_rule(answer, rule)?;
     }
     Ok(())
 }
 
-fn show_rule(told: &mut String, rule: &RawRule) -> Result<(), AllocError> {
+fn show_rule(answer: &mut String, rule: &RawRule) -> Result<(), AllocError> {
     let target = &rule.target;
     write!(
-        told,
+        answer,
         "; {}.{} at {}",
         target.place,
         target.attr.as_str(),
@@ -77,7 +77,7 @@ fn show_rule(told: &mut String, rule: &RawRule) -> Result<(), AllocError> {
     for occurrence in occurrences(&rule.expr) {
         let attr = occurrence.attr.as_str();
         write!(
-            told,
+            answer,
             ", of {}.{attr} at {}",
             occurrence.place, occurrence.at
         )?;
@@ -86,7 +86,7 @@ fn show_rule(told: &mut String, rule: &RawRule) -> Result<(), AllocError> {
 }
 
 /// Returns what is expected at the offset of a text's fault. Fails with `Unfit` if the text has no fault.
-pub fn could_told(alloc: Global, text: &str) -> Result<String, Mistake> {
+pub fn could_answer(alloc: Global, text: &str) -> Result<String, Mistake> {
     match read_grammar(alloc, text.as_bytes()) {
         Ok(_) => Err(Mistake::Unfit),
         Err(fault) => {
@@ -137,43 +137,43 @@ pub fn verdict(alloc: Global, raw: RawGrammar) -> Result<String, Mistake>
 }
 
 /// Returns `accepted`, or the first fault of the grammar of a text.
-pub fn check_told(alloc: Global, text: &str) -> Result<String, Mistake> {
+pub fn check_answer(alloc: Global, text: &str) -> Result<String, Mistake> {
     verdict(alloc, raw_grammar(alloc, text)?)
 }
 
 /// Returns the parts of a grammar by number, with a line for each production.
-pub fn parts_told(alloc: Global, grammar: &Grammar) -> Result<String, AllocError> {
-    let mut told = format!(in alloc;
+pub fn parts_answer(alloc: Global, grammar: &Grammar) -> Result<String, AllocError> {
+    let mut answer = format!(in alloc;
         "start {} of {}, classes {:?}, literals",
         grammar.start(),
         grammar.symbols().len(),
         grammar.classes()
     )?;
-    show_literals_and_productions(&mut told, grammar)?;
-    Ok(told)
+    show_literals_and_productions(&mut answer, grammar)?;
+    Ok(answer)
 }
 
-fn show_literals_and_productions(told: &mut String, grammar: &Grammar) -> Result<(), AllocError> {
+fn show_literals_and_productions(answer: &mut String, grammar: &Grammar) -> Result<(), AllocError> {
     for literal in grammar.literals() {
-        write!(told, " {}", literal.as_str())?;
+        write!(answer, " {}", literal.as_str())?;
     }
     for production in grammar.productions() {
-        show_numbers(told, production)?;
+        show_numbers(answer, production)?;
     }
     Ok(())
 }
 
-fn show_numbers(told: &mut String, production: &Production) -> Result<(), AllocError> {
+fn show_numbers(answer: &mut String, production: &Production) -> Result<(), AllocError> {
     write!(
-        told,
+        answer,
         "\n{} = {:?}",
         production.left,
         production.items.as_slice()
     )?;
     for rule in production.rules.as_slice() {
-        write!(told, "; {}.{} of", rule.target.place, rule.target.attr)?;
+        write!(answer, "; {}.{} of", rule.target.place, rule.target.attr)?;
         for argument in rule.args.as_slice() {
-            write!(told, " {}.{}", argument.place, argument.attr)?;
+            write!(answer, " {}.{}", argument.place, argument.attr)?;
         }
     }
     Ok(())

@@ -10,7 +10,7 @@ use rows::words::{Mistake, halves, parts};
 use std::alloc::{AllocError, Global};
 
 /// Returns the strikes of the passes of a grammar's least assignment, as in a row.
-pub fn strikes_told(alloc: Global, grammar: &Grammar) -> Result<String, Mistake> {
+pub fn strikes_answer(alloc: Global, grammar: &Grammar) -> Result<String, Mistake> {
     match assign_with_strikes(alloc, grammar) {
         Ok((_, strikes)) => shown(alloc, strikes.passes.as_slice()),
         Err(AssignFault::Stuck(_)) => Err(Mistake::Unfit),
@@ -54,7 +54,7 @@ fn lists_of(alloc: Global, text: &str) -> Result<Items<Items<Strike>>, Mistake> 
 }
 
 /// Returns whether the strikes of a row show that its assignment is the least one of a grammar.
-pub fn least_told(alloc: Global, grammar: &Grammar, spelled: &str) -> Result<String, Mistake> {
+pub fn least_answer(alloc: Global, grammar: &Grammar, spelled: &str) -> Result<String, Mistake> {
     let (rows, lists) = halves(spelled, " : ")?;
     let assignment = assignment(alloc, rows)?;
     let strikes = Strikes {

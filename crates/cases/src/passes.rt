@@ -27,7 +27,7 @@ fn numbered_content(
 }
 
 /// Returns the numbers of nodes and evaluated rules of a pass, and its output file.
-fn passed_told(
+fn passed_answer(
     alloc: Global,
     passed: &Passed,
     rules: u64,
@@ -54,13 +54,13 @@ fn pass_over(
     }
     let mut meter = Meter::new();
     match run_pass(alloc, grammar, plan, pass, from, to, &mut meter) {
-        Ok(passed) => passed_told(alloc, &passed, meter.count(), to),
+        Ok(passed) => passed_answer(alloc, &passed, meter.count(), to),
         Err(fault) => printed(alloc, &fault),
     }
 }
 
 /// Runs a pass of a grammar's plan over a content.
-pub fn pass_told(
+pub fn pass_answer(
     alloc: Global,
     grammar: &Grammar,
     written: &Written,
@@ -73,14 +73,14 @@ pub fn pass_told(
 }
 
 /// Runs all passes of a grammar's plan over the tree of a sentence. Returns a line for each pass.
-pub fn through_told(alloc: Global, grammar: &Grammar, sentence: &str) -> Result<String, Mistake> {
+pub fn through_answer(alloc: Global, grammar: &Grammar, sentence: &str) -> Result<String, Mistake> {
     let tree = tree_of(alloc, grammar, sentence)?;
     let plan = plan_of(alloc, grammar)?;
-    passes_told(alloc, grammar, &plan, tree)
+    passes_answer(alloc, grammar, &plan, tree)
 }
 
 /// Runs all passes of a plan over a tree file. Returns a line for each pass.
-fn passes_told(
+fn passes_answer(
     alloc: Global,
     grammar: &Grammar,
     plan: &Plan,
@@ -89,32 +89,32 @@ fn passes_told(
     requires { IsPlan grammar.now plan.now.0 plan.now.1 }
 {
     let mut from = tree;
-    let mut told = String::new(alloc);
+    let mut answer = String::new(alloc);
     for pass in 1..=plan.assignment().passes() {
-        from = next_file(alloc, grammar, plan, pass, &mut from, &mut told)?;
+        from = next_file(alloc, grammar, plan, pass, &mut from, &mut answer)?;
     }
-    Ok(String::from_str(alloc, told.as_str().trim_end())?)
+    Ok(String::from_str(alloc, answer.as_str().trim_end())?)
 }
 
-/// Runs a pass of a plan, appends its line to `told`, and returns its output file.
+/// Runs a pass of a plan, appends its line to `answer`, and returns its output file.
 fn next_file(
     alloc: Global,
     grammar: &Grammar,
     plan: &Plan,
     pass: u16,
     from: &mut MemDevice,
-    told: &mut String,
+    answer: &mut String,
 ) -> Result<MemDevice, Mistake>
     requires { IsPlan grammar.now plan.now.0 plan.now.1 }
 {
     let mut to = MemDevice::new(alloc);
     let line = pass_over(alloc, grammar, plan, pass, from, &mut to)?;
-    write!(told, "pass {pass}: {line}\n")?;
+    write!(answer, "pass {pass}: {line}\n")?;
     Ok(to)
 }
 
 /// Returns the counts of several passes, and their last file.
-fn sum_told(
+fn sum_answer(
     alloc: Global,
     last: Last,
     sum: &Passed,
@@ -146,14 +146,14 @@ fn run_from(
     let mut b = MemDevice::new(alloc);
     let mut meter = Meter::new();
     match run_all(alloc, grammar, plan, first, a, &mut b, &mut meter) {
-        Ok((Last::A, sum)) => sum_told(alloc, Last::A, &sum, meter.count(), a),
-        Ok((Last::B, sum)) => sum_told(alloc, Last::B, &sum, meter.count(), &b),
+        Ok((Last::A, sum)) => sum_answer(alloc, Last::A, &sum, meter.count(), a),
+        Ok((Last::B, sum)) => sum_answer(alloc, Last::B, &sum, meter.count(), &b),
         Err(fault) => printed(alloc, &fault),
     }
 }
 
 /// Runs all passes of a grammar's plan over the tree of a sentence.
-pub fn run_told(alloc: Global, grammar: &Grammar, sentence: &str) -> Result<String, Mistake> {
+pub fn run_answer(alloc: Global, grammar: &Grammar, sentence: &str) -> Result<String, Mistake> {
     let mut device = tree_of(alloc, grammar, sentence)?;
     let plan = plan_of(alloc, grammar)?;
     run_from(alloc, grammar, &plan, 1, &mut device)
@@ -161,7 +161,7 @@ pub fn run_told(alloc: Global, grammar: &Grammar, sentence: &str) -> Result<Stri
 
 /// Runs all passes of another plan for a grammar over the tree of a sentence. In the row, `by` separates the
 /// sentence from the plan's assignment and code.
-pub fn run_by_told(alloc: Global, grammar: &Grammar, spelled: &str) -> Result<String, Mistake> {
+pub fn run_by_answer(alloc: Global, grammar: &Grammar, spelled: &str) -> Result<String, Mistake> {
     let (sentence, spelled) = halves(spelled, " by ")?;
     let mut device = tree_of(alloc, grammar, sentence)?;
     let (assignment, code) = pair(alloc, spelled)?;
@@ -172,7 +172,7 @@ pub fn run_by_told(alloc: Global, grammar: &Grammar, spelled: &str) -> Result<St
 }
 
 /// Runs the passes of a grammar's plan, from a given one on, over a content.
-pub fn run_bytes_told(
+pub fn run_bytes_answer(
     alloc: Global,
     grammar: &Grammar,
     written: &Written,

@@ -107,7 +107,7 @@ fn verdict(
 }
 
 /// Returns the number of passes of the assignment and code of a row, or their fault.
-pub fn plan_told(alloc: Global, grammar: &Grammar, spelled: &str) -> Result<String, Mistake> {
+pub fn plan_answer(alloc: Global, grammar: &Grammar, spelled: &str) -> Result<String, Mistake> {
     let (assignment, code) = pair(alloc, spelled)?;
     Ok(verdict(alloc, grammar, assignment, code)?)
 }
@@ -127,7 +127,7 @@ pub fn plan_of(alloc: Global, grammar: &Grammar) -> Result<Plan, Mistake>
 }
 
 /// Returns the listings of the passes and of the code of a grammar's plan.
-pub fn listing_told(alloc: Global, grammar: &Grammar) -> Result<String, Mistake> {
+pub fn listing_answer(alloc: Global, grammar: &Grammar) -> Result<String, Mistake> {
     let plan = plan_of(alloc, grammar)?;
     let mut listing = Vec::new(alloc);
     write_listings(alloc, &mut listing, grammar, &plan)?;
@@ -157,13 +157,13 @@ fn whole_lines(alloc: Global, bytes: &[u8]) -> Result<String, Mistake> {
 }
 
 /// Returns the greatest pass of an assignment.
-pub fn passes_told(alloc: Global, spelled: &str) -> Result<String, Mistake> {
+pub fn passes_answer(alloc: Global, spelled: &str) -> Result<String, Mistake> {
     let assignment = assignment(alloc, spelled)?;
     Ok(assignment.passes().to_string(alloc)?)
 }
 
 /// Returns the list of a production and a pass, in code that a row spells.
-pub fn list_told(alloc: Global, spelled: &str) -> Result<String, Mistake> {
+pub fn list_answer(alloc: Global, spelled: &str) -> Result<String, Mistake> {
     let (production, rest) = first_word(spelled);
     let (pass, lists) = halves(rest, " : ")?;
     let rows = rows_of_lists(alloc, lists)?;

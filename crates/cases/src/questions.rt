@@ -1,15 +1,15 @@
 //! The verbs of questions about grammars, plans, sentences and passes.
 
-use crate::grammars::{check_told, could_told, grammar, parts_told, read_told};
-use crate::least::{least_told, strikes_told};
-use crate::passes::{pass_told, run_by_told, run_bytes_told, run_told, through_told};
-use crate::plans::{list_told, listing_told, passes_told, plan_told};
-use crate::raw_grammars::chain_told;
-use crate::roots::{root_bytes_told, root_told};
+use crate::grammars::{check_answer, could_answer, grammar, parts_answer, read_answer};
+use crate::least::{least_answer, strikes_answer};
+use crate::passes::{pass_answer, run_answer, run_by_answer, run_bytes_answer, through_answer};
+use crate::plans::{list_answer, listing_answer, passes_answer, plan_answer};
+use crate::raw_grammars::chain_answer;
+use crate::roots::{root_answer, root_bytes_answer};
 use crate::sentences::{
-    choice_told, parse_failing_told, parse_told, scan_told, stand_told, table_told,
+    choice_answer, occur_answer, parse_exact, parse_failing_answer, scan_exact, table_answer,
 };
-use crate::stuck::{assign_told, stuck_told};
+use crate::stuck::{assign_answer, stuck_answer};
 use crate::value_questions;
 use crate::values::given;
 use ag_grammar::Grammar;
@@ -92,13 +92,13 @@ impl Question<'_> {
     fn of_plans(&self, grammar: &Grammar) -> Result<String, Mistake> {
         let (alloc, rest) = (self.alloc, self.rest);
         match self.verb {
-            "parts" => Ok(parts_told(alloc, grammar)?),
-            "listing" => listing_told(alloc, grammar),
-            "assign" => assign_told(alloc, grammar),
-            "plan" => plan_told(alloc, grammar, rest),
-            "stuck" => stuck_told(alloc, grammar, rest),
-            "strikes" => strikes_told(alloc, grammar),
-            "least" => least_told(alloc, grammar, rest),
+            "parts" => Ok(parts_answer(alloc, grammar)?),
+            "listing" => listing_answer(alloc, grammar),
+            "assign" => assign_answer(alloc, grammar),
+            "plan" => plan_answer(alloc, grammar, rest),
+            "stuck" => stuck_answer(alloc, grammar, rest),
+            "strikes" => strikes_answer(alloc, grammar),
+            "least" => least_answer(alloc, grammar, rest),
             _ => self.of_passes(grammar),
         }
     }
@@ -107,13 +107,13 @@ impl Question<'_> {
     fn of_passes(&self, grammar: &Grammar) -> Result<String, Mistake> {
         let (alloc, written) = (self.alloc, self.written);
         match self.verb {
-            "pass" => pass_told(alloc, grammar, written, self.rest),
-            "through" => through_told(alloc, grammar, self.text()),
-            "run" => run_told(alloc, grammar, self.text()),
-            "run-by" => run_by_told(alloc, grammar, self.rest),
-            "run-bytes" => run_bytes_told(alloc, grammar, written, self.rest),
-            "root" => root_told(alloc, grammar, self.text()),
-            "root-bytes" => root_bytes_told(alloc, grammar, self.text()),
+            "pass" => pass_answer(alloc, grammar, written, self.rest),
+            "through" => through_answer(alloc, grammar, self.text()),
+            "run" => run_answer(alloc, grammar, self.text()),
+            "run-by" => run_by_answer(alloc, grammar, self.rest),
+            "run-bytes" => run_bytes_answer(alloc, grammar, written, self.rest),
+            "root" => root_answer(alloc, grammar, self.text()),
+            "root-bytes" => root_bytes_answer(alloc, grammar, self.text()),
             _ => self.of_sentences(grammar),
         }
     }
@@ -122,13 +122,13 @@ impl Question<'_> {
     fn of_sentences(&self, grammar: &Grammar) -> Result<String, Mistake> {
         let alloc = self.alloc;
         match self.verb {
-            "table" => table_told(alloc, grammar),
-            "choice" => choice_told(alloc, grammar, self.rest),
-            "scan" => scan_told(alloc, grammar, self.text().as_bytes()),
-            "scan-bytes" => scan_told(alloc, grammar, bytes_of(alloc, self.text())?.as_slice()),
-            "parse" => parse_told(alloc, grammar, self.text()),
-            "parse-failing" => parse_failing_told(alloc, grammar, self.rest),
-            "stand" => stand_told(alloc, grammar, self.text()),
+            "table" => table_answer(alloc, grammar),
+            "choice" => choice_answer(alloc, grammar, self.rest),
+            "scan" => scan_exact(alloc, grammar, self.text().as_bytes()),
+            "scan-bytes" => scan_exact(alloc, grammar, bytes_of(alloc, self.text())?.as_slice()),
+            "parse" => parse_exact(alloc, grammar, self.text()),
+            "parse-failing" => parse_failing_answer(alloc, grammar, self.rest),
+            "stand" => occur_answer(alloc, grammar, self.text()),
             _ => Err(Mistake::Misspelt),
         }
     }
@@ -138,13 +138,13 @@ impl Question<'_> {
     fn of_texts(&self, given: &Value) -> Result<String, Mistake> {
         let (alloc, rest) = (self.alloc, self.rest);
         match self.verb {
-            "read" => read_told(alloc, self.text().as_bytes()),
-            "read-bytes" => read_told(alloc, bytes_of(alloc, self.text())?.as_slice()),
-            "could" => could_told(alloc, self.text()),
-            "check" => check_told(alloc, self.written.grammar.as_str()),
-            "chain" => chain_told(alloc, number(rest)?),
-            "passes" => passes_told(alloc, rest),
-            "list" => list_told(alloc, rest),
+            "read" => read_answer(alloc, self.text().as_bytes()),
+            "read-bytes" => read_answer(alloc, bytes_of(alloc, self.text())?.as_slice()),
+            "could" => could_answer(alloc, self.text()),
+            "check" => check_answer(alloc, self.written.grammar.as_str()),
+            "chain" => chain_answer(alloc, number(rest)?),
+            "passes" => passes_answer(alloc, rest),
+            "list" => list_answer(alloc, rest),
             _ => value_questions::answer(alloc, self.written, given, self.verb, rest),
         }
     }

@@ -80,7 +80,7 @@ fn chain(alloc: Global, raw: RawGrammar, last: u32) -> Result<RawGrammar, Mistak
 }
 
 /// Checks the grammar of S and a chain of `last` symbols. Returns `accepted`, or the first fault.
-pub fn chain_told(alloc: Global, last: u32) -> Result<String, Mistake> {
+pub fn chain_answer(alloc: Global, last: u32) -> Result<String, Mistake> {
     let bare = raw_grammar(alloc, "start S; symbol S syn out; S = s1 { $0.out = 0; }")?;
     let raw = chain(alloc, bare, last)?;
     if !is_readable(&raw) {

@@ -14,7 +14,7 @@ use std::alloc::Global;
 use treefile::MemDevice;
 
 /// Returns the root's text in a last file, quoted, or its fault.
-fn text_told(
+fn text_answer(
     alloc: Global,
     grammar: &Grammar,
     plan: &Plan,
@@ -29,10 +29,14 @@ fn text_told(
 }
 
 /// Returns the root's text in a content, by the plan of a grammar.
-pub fn root_bytes_told(alloc: Global, grammar: &Grammar, content: &str) -> Result<String, Mistake> {
+pub fn root_bytes_answer(
+    alloc: Global,
+    grammar: &Grammar,
+    content: &str,
+) -> Result<String, Mistake> {
     let mut file = MemDevice::from_bytes(bytes_of(alloc, content)?);
     let plan = plan_of(alloc, grammar)?;
-    text_told(alloc, grammar, &plan, &mut file)
+    text_answer(alloc, grammar, &plan, &mut file)
 }
 
 /// Runs a pass of a plan and returns its output file.
@@ -73,9 +77,9 @@ fn last_file(
 }
 
 /// Translates a sentence and returns the text of its root.
-pub fn root_told(alloc: Global, grammar: &Grammar, sentence: &str) -> Result<String, Mistake> {
+pub fn root_answer(alloc: Global, grammar: &Grammar, sentence: &str) -> Result<String, Mistake> {
     let tree = tree_of(alloc, grammar, sentence)?;
     let plan = plan_of(alloc, grammar)?;
     let mut file = last_file(alloc, grammar, &plan, tree)?;
-    text_told(alloc, grammar, &plan, &mut file)
+    text_answer(alloc, grammar, &plan, &mut file)
 }

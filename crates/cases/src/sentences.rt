@@ -13,7 +13,7 @@ use std::alloc::{AllocError, Global};
 use treefile::{Device, FuseDevice, MemDevice, Writer};
 
 /// Returns `no conflict`, or the least conflict of a grammar's tables.
-pub fn table_told(alloc: Global, grammar: &Grammar) -> Result<String, Mistake> {
+pub fn table_answer(alloc: Global, grammar: &Grammar) -> Result<String, Mistake> {
     match tables(alloc, grammar) {
         Ok(_) => Ok(String::from_str(alloc, "no conflict")?),
         Err(fault) => printed(alloc, &fault),
@@ -49,7 +49,7 @@ fn ahead(text: &str) -> Result<Ahead, Mistake> {
 }
 
 /// Returns the production that the tables predict for a symbol and a look-ahead.
-pub fn choice_told(alloc: Global, grammar: &Grammar, spelled: &str) -> Result<String, Mistake> {
+pub fn choice_answer(alloc: Global, grammar: &Grammar, spelled: &str) -> Result<String, Mistake> {
     let (symbol, rest) = first_word(spelled);
     let symbol = short_number(symbol)?;
     let ahead = ahead(rest)?;
@@ -58,7 +58,7 @@ pub fn choice_told(alloc: Global, grammar: &Grammar, spelled: &str) -> Result<St
 }
 
 /// Returns the tokens of a sentence, or its fault.
-pub fn scan_told(alloc: Global, grammar: &Grammar, sentence: &[u8]) -> Result<String, Mistake> {
+pub fn scan_exact(alloc: Global, grammar: &Grammar, sentence: &[u8]) -> Result<String, Mistake> {
     match scan(alloc, grammar, sentence) {
         Ok(sentence) => Ok(shown(alloc, &sentence)?),
         Err(fault) => printed(alloc, &fault),
@@ -67,33 +67,33 @@ pub fn scan_told(alloc: Global, grammar: &Grammar, sentence: &[u8]) -> Result<St
 
 /// Returns the number of tokens, and the kind, text and offset of each.
 fn shown(alloc: Global, sentence: &Sentence<'_>) -> Result<String, AllocError> {
-    let mut told = String::new(alloc);
+    let mut answer = String::new(alloc);
     let mut tokens = sentence.tokens();
     while let Some(token) = tokens.ahead() {
-        show_token(&mut told, token)?;
+        show_token(&mut answer, token)?;
         tokens.advance();
     }
-    format!(in alloc; "{} tokens{told}", tokens.taken())
+    format!(in alloc; "{} tokens{answer}", tokens.taken())
 }
 
 /// The maximal length in bytes of a token's text that is printed.
 const PRINTED: usize = 40;
 
-fn show_token(told: &mut String, token: Token<'_>) -> Result<(), AllocError> {
+fn show_token(answer: &mut String, token: Token<'_>) -> Result<(), AllocError> {
     let (kind, number) = match token.kind {
         Terminal::Literal(number) => ("literal", number),
         Terminal::Class(number) => ("class", number),
     };
-    write!(told, "; {kind} {number} ")?;
-    show_lex(told, token.lex)?;
-    write!(told, " at {}", token.at)
+    write!(answer, "; {kind} {number} ")?;
+    show_lex(answer, token.lex)?;
+    write!(answer, " at {}", token.at)
 }
 
-fn show_lex(told: &mut String, lex: &str) -> Result<(), AllocError> {
+fn show_lex(answer: &mut String, lex: &str) -> Result<(), AllocError> {
     if lex.len() > PRINTED {
-        return write!(told, "of {} bytes", lex.len());
+        return write!(answer, "of {} bytes", lex.len());
     }
-    write!(told, "[{lex}]")
+    write!(answer, "[{lex}]")
 }
 
 /// Scans a sentence. Fails with `Unfit` if it is rejected.
@@ -139,7 +139,7 @@ fn parse_sentence(
 }
 
 /// Returns the number of stored nodes and the tree's file of a sentence, or the parser's fault.
-pub fn parse_told(alloc: Global, grammar: &Grammar, sentence: &str) -> Result<String, Mistake> {
+pub fn parse_exact(alloc: Global, grammar: &Grammar, sentence: &str) -> Result<String, Mistake> {
     let mut device = MemDevice::new(alloc);
     match parse_sentence(alloc, grammar, sentence, &mut device)? {
         Ok(count) => shown_tree_file(alloc, count, device.bytes()),
@@ -148,7 +148,7 @@ pub fn parse_told(alloc: Global, grammar: &Grammar, sentence: &str) -> Result<St
 }
 
 /// Parses a sentence over a device whose given call fails. Returns the result and the number of bytes on the device.
-pub fn parse_failing_told(
+pub fn parse_failing_answer(
     alloc: Global,
     grammar: &Grammar,
     spelled: &str,
@@ -171,14 +171,14 @@ pub fn tree_of(alloc: Global, grammar: &Grammar, sentence: &str) -> Result<MemDe
 }
 
 /// Returns the number of tokens before the one at which a sentence is rejected, and what is expected there.
-pub fn stand_told(alloc: Global, grammar: &Grammar, sentence: &str) -> Result<String, Mistake> {
+pub fn occur_answer(alloc: Global, grammar: &Grammar, sentence: &str) -> Result<String, Mistake> {
     let tokens = tokens_of(alloc, grammar, sentence)?;
     let tables = tables_of(alloc, grammar)?;
-    stuck_told(alloc, grammar, &tables, &tokens)
+    stuck_answer(alloc, grammar, &tables, &tokens)
 }
 
 /// Returns the number of tokens before the one at which a parse fails, and what is expected there.
-fn stuck_told(
+fn stuck_answer(
     alloc: Global,
     grammar: &Grammar,
     tables: &Tables,

@@ -8,7 +8,7 @@ use rows::words::{Mistake, halves, parts, printed, short_number};
 use std::alloc::{AllocError, Global};
 
 /// Returns the least assignment of a grammar, or the certificate that there is none.
-pub fn assign_told(alloc: Global, grammar: &Grammar) -> Result<String, Mistake> {
+pub fn assign_answer(alloc: Global, grammar: &Grammar) -> Result<String, Mistake> {
     match assign(alloc, grammar) {
         Ok(assignment) => printed(alloc, &assignment.rows()),
         Err(AssignFault::Stuck(stuck)) => shown(alloc, &stuck),
@@ -18,33 +18,33 @@ pub fn assign_told(alloc: Global, grammar: &Grammar) -> Result<String, Mistake> 
 
 /// Returns a certificate as in a row.
 fn shown(alloc: Global, stuck: &Stuck) -> Result<String, Mistake> {
-    let mut told = String::from_str(alloc, "stuck")?;
-    show_parts(&mut told, stuck)?;
-    Ok(told)
+    let mut answer = String::from_str(alloc, "stuck")?;
+    show_parts(&mut answer, stuck)?;
+    Ok(answer)
 }
 
-fn show_parts(told: &mut String, stuck: &Stuck) -> Result<(), AllocError> {
+fn show_parts(answer: &mut String, stuck: &Stuck) -> Result<(), AllocError> {
     for (symbol, attr) in stuck.set.as_slice() {
-        write!(told, " {symbol}.{attr}")?;
+        write!(answer, " {symbol}.{attr}")?;
     }
-    show_strikes(told, stuck.odd.as_slice())?;
-    show_strikes(told, stuck.even.as_slice())
+    show_strikes(answer, stuck.odd.as_slice())?;
+    show_strikes(answer, stuck.even.as_slice())
 }
 
-fn show_strikes(told: &mut String, strikes: &[Strike]) -> Result<(), AllocError> {
-    told.push_str(" |")?;
+fn show_strikes(answer: &mut String, strikes: &[Strike]) -> Result<(), AllocError> {
+    answer.push_str(" |")?;
     for strike in strikes {
-        told.push(' ')?;
-        show_strike(told, strike)?;
+        answer.push(' ')?;
+        show_strike(answer, strike)?;
     }
     Ok(())
 }
 
 /// Writes a strike as in a row.
-pub fn show_strike(told: &mut String, strike: &Strike) -> Result<(), AllocError> {
-    write!(told, "{}.{}", strike.symbol, strike.attr)?;
+pub fn show_strike(answer: &mut String, strike: &Strike) -> Result<(), AllocError> {
+    write!(answer, "{}.{}", strike.symbol, strike.attr)?;
     write!(
-        told,
+        answer,
         ".{}.{}.{}",
         strike.production, strike.rule, strike.arg
     )
@@ -101,7 +101,7 @@ fn stuck(alloc: Global, spelled: &str) -> Result<Stuck, Mistake> {
 }
 
 /// Returns whether `check_stuck` accepts a row's certificate for a grammar.
-pub fn stuck_told(alloc: Global, grammar: &Grammar, spelled: &str) -> Result<String, Mistake> {
+pub fn stuck_answer(alloc: Global, grammar: &Grammar, spelled: &str) -> Result<String, Mistake> {
     let stuck = stuck(alloc, spelled)?;
     Ok(format!(in alloc; "{}", check_stuck(grammar, &stuck))?)
 }

@@ -1,12 +1,12 @@
 //! The verbs of questions about expressions, values and contents of devices.
 
-use crate::carried::carried_told;
-use crate::contents::{back_told, last_told, split_told, turn_told, write_told};
+use crate::carried::carried_answer;
+use crate::contents::{back_answer, last_answer, split_answer, turn_answer, write_exact};
 use crate::expressions::{
-    alike_told, count_told, expected_told, meter_told, occurrences_told, tree_told, until_told,
-    value_told,
+    alike_answer, count_answer, expected_answer, meter_answer, occurrences_answer, tree_exact,
+    until_answer, value_exact,
 };
-use crate::values::{decode_told, same_told, spell_told, told_of_value};
+use crate::values::{answer_of_value, decode_answer, same_answer, spell_answer};
 use ag_value::Value;
 use rows::words::{Mistake, bytes_of, first_word, short_number};
 use rows::written::Written;
@@ -23,14 +23,14 @@ pub fn answer(
 ) -> Result<String, Mistake> {
     let text = written.text_or(rest);
     match verb {
-        "value" => value_told(alloc, text, given),
-        "meter" => meter_told(alloc, text, given),
-        "tree" => tree_told(alloc, text),
-        "alike" => alike_told(alloc, text),
-        "occurrences" => occurrences_told(alloc, text),
-        "count" => count_told(alloc, text),
-        "until" => until_told(alloc, written, rest),
-        "expected" => expected_told(alloc, written, rest),
+        "value" => value_exact(alloc, text, given),
+        "meter" => meter_answer(alloc, text, given),
+        "tree" => tree_exact(alloc, text),
+        "alike" => alike_answer(alloc, text),
+        "occurrences" => occurrences_answer(alloc, text),
+        "count" => count_answer(alloc, text),
+        "until" => until_answer(alloc, written, rest),
+        "expected" => expected_answer(alloc, written, rest),
         _ => answer_of_values(alloc, written, given, verb, rest),
     }
 }
@@ -44,11 +44,11 @@ fn answer_of_values(
     rest: &str,
 ) -> Result<String, Mistake> {
     match verb {
-        "spell" => spell_told(alloc, given),
-        "weight" | "depth" | "well" | "copy" => told_of_value(alloc, verb, given),
-        "same" => same_told(alloc, written.text_or(rest), given),
-        "carried" => carried_told(alloc, rest, given),
-        "decode" => decode_told(alloc, bytes_of(alloc, written.text_or(rest))?.as_slice()),
+        "spell" => spell_answer(alloc, given),
+        "weight" | "depth" | "well" | "copy" => answer_of_value(alloc, verb, given),
+        "same" => same_answer(alloc, written.text_or(rest), given),
+        "carried" => carried_answer(alloc, rest, given),
+        "decode" => decode_answer(alloc, bytes_of(alloc, written.text_or(rest))?.as_slice()),
         _ => answer_of_contents(alloc, written, verb, rest),
     }
 }
@@ -61,14 +61,14 @@ fn answer_of_contents(
     rest: &str,
 ) -> Result<String, Mistake> {
     match verb {
-        "write" => write_told(alloc, rest),
-        "last" => last_told(alloc, bytes_of(alloc, written.text_or(rest))?),
-        "split" => split_told(alloc, bytes_of(alloc, rest)?.as_slice()),
-        "back" => back_told(alloc, bytes_of(alloc, written.text_or(rest))?),
+        "write" => write_exact(alloc, rest),
+        "last" => last_answer(alloc, bytes_of(alloc, written.text_or(rest))?),
+        "split" => split_answer(alloc, bytes_of(alloc, rest)?.as_slice()),
+        "back" => back_answer(alloc, bytes_of(alloc, written.text_or(rest))?),
         "turn" => {
             let (pass, rest) = first_word(rest);
             let bytes = bytes_of(alloc, written.text_or(rest))?;
-            turn_told(alloc, short_number(pass)?, bytes)
+            turn_answer(alloc, short_number(pass)?, bytes)
         }
         _ => Err(Mistake::Misspelt),
     }

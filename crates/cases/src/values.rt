@@ -46,7 +46,7 @@ fn doubled(alloc: Global, key: &str, value: &Value) -> Result<Value, Mistake> {
 }
 
 /// Returns the encoding of a value. Fails with `Unfit` if the value is not well.
-pub fn spell_told(alloc: Global, value: &Value) -> Result<String, Mistake> {
+pub fn spell_answer(alloc: Global, value: &Value) -> Result<String, Mistake> {
     if !is_well(value) {
         return Err(Mistake::Unfit);
     }
@@ -56,7 +56,7 @@ pub fn spell_told(alloc: Global, value: &Value) -> Result<String, Mistake> {
 }
 
 /// Returns the weight or the depth of a value, whether it is well, or its copy.
-pub fn told_of_value(alloc: Global, verb: &str, value: &Value) -> Result<String, Mistake> {
+pub fn answer_of_value(alloc: Global, verb: &str, value: &Value) -> Result<String, Mistake> {
     match verb {
         "weight" => Ok(weight(value).to_string(alloc)?),
         "depth" => Ok(depth(value).to_string(alloc)?),
@@ -72,21 +72,21 @@ fn copied(alloc: Global, value: &Value) -> Result<String, Mistake> {
 }
 
 /// Returns whether the value of a text equals the current value.
-pub fn same_told(alloc: Global, text: &str, value: &Value) -> Result<String, Mistake> {
+pub fn same_answer(alloc: Global, text: &str, value: &Value) -> Result<String, Mistake> {
     let other = value_of(alloc, text, value)?;
     Ok(format!(in alloc; "{}", same(&other, value))?)
 }
 
 /// Decodes a value. Returns it and the length of its encoding in bytes, or the fault.
-pub fn decode_told(alloc: Global, bytes: &[u8]) -> Result<String, Mistake> {
+pub fn decode_answer(alloc: Global, bytes: &[u8]) -> Result<String, Mistake> {
     match decode(alloc, bytes) {
-        Ok((value, length)) => decoded_told(alloc, &value, length),
+        Ok((value, length)) => decoded_answer(alloc, &value, length),
         Err(fault) => printed(alloc, &fault),
     }
 }
 
 /// Returns a value as it is shown, and the length of its encoding in bytes.
-fn decoded_told(alloc: Global, value: &Value, length: usize) -> Result<String, Mistake> {
+fn decoded_answer(alloc: Global, value: &Value, length: usize) -> Result<String, Mistake> {
     let shown = show(alloc, value)?;
     Ok(format!(in alloc; "{shown} of {length} bytes")?)
 }

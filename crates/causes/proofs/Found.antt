@@ -5,7 +5,7 @@ use Rattle.ag_grammar.specs.declared.grammar.Production.{Production}
 use Rattle.ag_grammar.specs.declared.grammar.Rule.{Rule}
 use Rattle.ag_grammar.specs.declared.grammar.Target.{Target}
 use Rattle.ag_grammar.specs.grammars.Accepted.{IsAccepted}
-use Rattle.ag_grammar.specs.grammars.AttributeGrammar.{Grammar, HasKind, Inherited, IsProduction, Kind, Synthesized, found_kind, given_kind, item_at, item_kinds}
+use Rattle.ag_grammar.specs.grammars.AttributeGrammar.{Grammar, HasKind, Inherited, IsProduction, Kind, Synthesized, used_kind, defined_kind, item_at, item_kinds}
 use Rattle.ag_grammar.specs.grammars.Solution.{Valuation}
 use Rattle.ag_grammar.specs.grammars.Tree.{Forest, Tree, node}
 use Rattle.origins.specs.Arising.{Table, is_arising}
@@ -55,7 +55,7 @@ kinds_differ e = let bad : ⊥ = cc in bad
 
 module _ (g : Grammar) (t : Tree) where
   -- from an argument to the rule that computes its instance
-  goes : (path beyond : List ℕ) (argument target : Target) (j i : ℕ) → argument.place ≡ j → target.place ≡ i → IsOfKind g t path argument (found_kind j) → IsOfKind g t beyond target (given_kind i) → place_path path j ≡ place_path beyond i → argument.attr ≡ target.attr → GoesTo (map suc path) argument (map suc beyond) target
+  goes : (path beyond : List ℕ) (argument target : Target) (j i : ℕ) → argument.place ≡ j → target.place ≡ i → IsOfKind g t path argument (used_kind j) → IsOfKind g t beyond target (defined_kind i) → place_path path j ≡ place_path beyond i → argument.attr ≡ target.attr → GoesTo (map suc path) argument (map suc beyond) target
   goes path beyond argument target zero zero ej ei taken given same attr = absurd (kinds_differ (one_kind g t path beyond argument target Inherited Synthesized taken given same (ej ∙ sym ei) attr))
   goes path beyond argument target zero (suc i) ej ei taken given same attr = (sym attr, inl (ej, ap (map suc) same ∙ map-append suc beyond (i ∷ []) ∙ ap (λ (z : ℕ). map suc beyond ++ z ∷ []) (sym ei)))
   goes path beyond argument target (suc j) zero ej ei taken given same attr = (sym attr, inr (subst (λ (z : ℕ). 0 < z) (sym ej) (omega arith), ap (map suc) (sym same) ∙ map-append suc path (j ∷ []) ∙ ap (λ (z : ℕ). map suc path ++ z ∷ []) (sym ej), ei))
@@ -66,10 +66,10 @@ module _ (g : Grammar) (t : Tree) where
 -- what is found, and that its first rule is one of its node
 record IsFoundAt (g : Grammar) (t : Tree) (v : Valuation) (instance : List ℕ) (attr : ℕ) : Type 0 where
   found : IsFound g t v instance attr
-  given : IsOfKind g t found.path found.target (given_kind found.target.place)
+  given : IsOfKind g t found.path found.target (defined_kind found.target.place)
 
 module _ (g : Grammar) (t : Tree) (v : Valuation) (accepted : IsAccepted g) where
-  given_by : (path : List ℕ) (r : Rule) (e : Table) (is : IsRuleAt g t v path r e) → IsOfKind g t path r.target (given_kind r.target.place)
+  given_by : (path : List ℕ) (r : Rule) (e : Table) (is : IsRuleAt g t v path r e) → IsOfKind g t path r.target (defined_kind r.target.place)
   given_by path r e is = record { production = is.production; trees = is.trees; there = is.there; of = is.of; is = is.is; kind_is = (accepted.complete is.production is.of is.is).no_other is.rule.0 r is.rule.1 }
 
   find : {instance : List ℕ} {attr : ℕ} → HasCause g t v instance attr → IsFoundAt g t v instance attr
@@ -93,7 +93,7 @@ module _ (g : Grammar) (t : Tree) (v : Valuation) (accepted : IsAccepted g) wher
   find (passed path r e k o is source takes cause) =
       let f = find cause in
       let h = f.found in
-      let taken : IsOfKind g t path o (found_kind o.place) = record { production = is.production; trees = is.trees; there = is.there; of = is.of; is = is.is; kind_is = accepted.normal is.production is.of is.is is.rule.0 r is.rule.1 k o takes } in
+      let taken : IsOfKind g t path o (used_kind o.place) = record { production = is.production; trees = is.trees; there = is.there; of = is.of; is = is.is; kind_is = accepted.normal is.production is.of is.is is.rule.0 r is.rule.1 k o takes } in
       let link : IsPassedFrom (in_tree g t v) (map suc path) r.target (map suc h.path) h.target = record {
         argument = o;
         passes = record { path = path; counted = refl; production = is.production; trees = is.trees; there = is.there; of = is.of; is = is.is; next = record { number = is.rule.0; rule = r; there = is.rule.1; gives = refl; index = k; takes = takes; source = subst (λ (z : Table). IsSource r z k) is.values source } };

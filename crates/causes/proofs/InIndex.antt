@@ -21,8 +21,8 @@ use Rattle.treefile.specs.declared.reading.FrameFault.{FrameFault}
 use Rattle.treefile.specs.records.OneTree.{IsRecorded}
 use Rattle.treefile.specs.records.Records.{copies_of, values_up_to}
 use Rattle.treefile.specs.records.TreeFile.{version_two}
-use Rattle.treefile.specs.ways.Backward.{next_before, some_body}
-use Rattle.treefile.specs.ways.Ending.{body_before, header_bytes}
+use Rattle.treefile.specs.framing.Backward.{next_before, some_body}
+use Rattle.treefile.specs.framing.Ending.{body_before, header_bytes}
 use Rattle.treefile.proofs.records.Copies.{copies_well, stored_well}
 use Rattle.treefile.proofs.records.Fitting.{numbered}
 use Rattle.treefile.proofs.records.Values.{values_well}
@@ -37,7 +37,7 @@ use Rattle.origins.proofs.Arguments.{argument_value, row}
 use Rattle.origins.proofs.Same.{node_is_no_token, one_body}
 use Rattle.tree_index.specs.Nodes.{HasChild, HasNodes, IsIndexOf, IsKid, StandsAt, Subtree, back_from, kids, nodes_of, record_of}
 use Rattle.tree_index.specs.declared.index.TreeIndex.{TreeIndex}
-use Rattle.tree_index.proofs.Kids.{record_there, root_stands}
+use Rattle.tree_index.proofs.Kids.{record_there, root_occurs}
 use Rattle.causes.specs.Chains.{DoesNext, DoesNextAt, IsCause, IsChain, Reading, itself, longer, places_of}
 use Rattle.causes.specs.Indexed.{AreLed, IsAtPlaces, IsCauseIn, IsEndAt, IsNumberAt, Leads, in_file, way}
 use Rattle.causes.specs.Laws.{IsInTree, in_tree}
@@ -129,7 +129,7 @@ root_number g index k t v has tree = record {
   counted = refl;
   tree = t;
   there = refl;
-  stands = root_stands
+  occurs = root_occurs
       (back_from k) t v;
 }
 
@@ -147,7 +147,7 @@ kid_number d t v places place number path p ts counted there kid =
           ∙ sym (map-append suc path (kid.index ∷ []));
       tree = kid.kid.tree;
       there = tree_further (Some t) path kid.index ∙ ap (λ (z : Option Tree). child_of z kid.index) there ∙ at.0;
-      stands = subst (λ (z : Valuation). StandsAt d (nodes_of d t v) number kid.kid.tree z) values kid.stands;
+      occurs = subst (λ (z : Valuation). StandsAt d (nodes_of d t v) number kid.kid.tree z) values kid.occurs;
     }
 
 child_of_tree : (g : Grammar) (index : TreeIndex) (places : List ℕ) (number place c : ℕ) (k : ℕ) (t : Tree) (v : Valuation)
@@ -155,11 +155,11 @@ child_of_tree : (g : Grammar) (index : TreeIndex) (places : List ℕ) (number pl
     → places ≡ map suc path → tree_at (Some t) path ≡ Some tree
     → StandsAt (back_from k) (nodes_of (back_from k) t v) number tree (values_at v path)
     → IsAtPlaces (back_from k) t v (places ++ place ∷ []) c
-child_of_tree g index places number place c k t v path (leaf d x) has_child has fits counted there stands = absurd
-    (has_child k t v fits.0 (leaf d x) (values_at v path) has fits.1 stands)
-child_of_tree g index places number place c k t v path (node p ts) has_child has fits counted there stands = kid_number
+child_of_tree g index places number place c k t v path (leaf d x) has_child has fits counted there occurs = absurd
+    (has_child k t v fits.0 (leaf d x) (values_at v path) has fits.1 occurs)
+child_of_tree g index places number place c k t v path (node p ts) has_child has fits counted there occurs = kid_number
     (back_from k) t v places place c path p ts counted there
-    (has_child k t v fits.0 (node p ts) (values_at v path) has fits.1 stands)
+    (has_child k t v fits.0 (node p ts) (values_at v path) has fits.1 occurs)
 
 pub child_number : (g : Grammar) (index : TreeIndex) (places : List ℕ) (number place c : ℕ) → IsNumberAt g index places number
     → HasChild g index number place c → IsNumberAt g index (places ++ place ∷ []) c
@@ -167,7 +167,7 @@ child_number g index places number place c numbered has_child k t v has tree =
     let at = numbered k t v has tree in
     let fits : IsSomeFit g (Some at.tree) = subst (IsSomeFit g) at.there (fits_at g at.path (Some t) (item.Symbol g.start, tree))
     in
-    child_of_tree g index places number place c k t v at.path at.tree has_child has fits at.counted at.there at.stands
+    child_of_tree g index places number place c k t v at.path at.tree has_child has fits at.counted at.there at.occurs
 
 -- a chain goes to a child,
 pub leads_down : (g : Grammar) (index : TreeIndex) (old new : List PathNode) (n : PathNode) → new ≡ old ++ n ∷ []
@@ -189,12 +189,12 @@ leads_up g index old new n is leads =
     both.1
 
 -- the last node has the number of the node at the end of the places
-pub last_number : (g : Grammar) (index : TreeIndex) (nodes front : List PathNode) (n : PathNode) → nodes ≡ front ++ n ∷ []
+pub last_number : (g : Grammar) (index : TreeIndex) (nodes prefix : List PathNode) (n : PathNode) → nodes ≡ prefix ++ n ∷ []
     → Leads g index nodes → IsNumberAt g index (places_of nodes) n.node
-last_number g index nodes front n is leads =
-    let turned : reverse nodes ≡ n ∷ reverse front = ap reverse is ∙ reverse-append front (n ∷ []) in
-    let both : AreLed g index (n ∷ reverse front) = subst (AreLed g index) turned leads in
-    let places : way (n ∷ reverse front) ≡ places_of nodes = ap way (sym turned) ∙ way_of nodes in
+last_number g index nodes prefix n is leads =
+    let turned : reverse nodes ≡ n ∷ reverse prefix = ap reverse is ∙ reverse-append prefix (n ∷ []) in
+    let both : AreLed g index (n ∷ reverse prefix) = subst (AreLed g index) turned leads in
+    let places : way (n ∷ reverse prefix) ≡ places_of nodes = ap way (sym turned) ∙ way_of nodes in
     subst (λ (z : List ℕ). IsNumberAt g index z n.node) places both.0
 
 -- what a rule does depends only on the values of its arguments
@@ -318,7 +318,7 @@ read_in_tree g index content places target does end body p vs accepted ends befo
       let recorded : IsSomeRecorded g m k (Some at.tree) w = subst (λ (z : Option Tree). IsSomeRecorded g m k z w) at.there
       (recorded_at g m k at.path (Some t) v root) in
       let is : body ≡ record_of g m k at.tree w = sym (found_body content end (record_of g m k at.tree w) body
-      (record_there g m k t v content index ends.number end at.tree w index_of at.stands ends.ends) before) in
+      (record_there g m k t v content index ends.number end at.tree w index_of at.occurs ends.ends) before) in
       in_tree_at g m k t v places target does body p vs at.path at.tree w recorded.0 accepted legal last refl at.counted at.there
       recorded.1 is node_is next,
 )
@@ -360,8 +360,8 @@ cause_in_tree g index content places target there number n cause indexed m k t v
     }
 
 -- the last of some nodes
-split_last : (nodes : List PathNode) (n : PathNode) → slice_get nodes (length nodes - 1) ≡ Some n → (front : List PathNode)
-    × (nodes ≡ front ++ n ∷ [])
+split_last : (nodes : List PathNode) (n : PathNode) → slice_get nodes (length nodes - 1) ≡ Some n → (prefix : List PathNode)
+    × (nodes ≡ prefix ++ n ∷ [])
 split_last [] n is = absurd (let bad : ⊥ = cc in bad)
 split_last (x ∷ []) n is = let same : x ≡ n = cc in ([], ap (λ (z : PathNode). z ∷ []) same)
 split_last (x ∷ y ∷ nodes) n is =

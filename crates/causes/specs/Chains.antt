@@ -6,7 +6,7 @@ use Rattle.ag_grammar.specs.declared.grammar.Rule.{Rule}
 use Rattle.ag_grammar.specs.declared.grammar.Target.{Target}
 use Rattle.ag_grammar.specs.grammars.AttributeGrammar.{Grammar, IsProduction}
 use Rattle.treefile.specs.records.TreeFile.{version_two}
-use Rattle.treefile.specs.ways.Ending.{body_before}
+use Rattle.treefile.specs.framing.Ending.{body_before}
 use Rattle.origins.specs.Arising.{Table, is_arising}
 use Rattle.origins.specs.Causes.{IsSource}
 use Rattle.origins.specs.Records.{IsNode}

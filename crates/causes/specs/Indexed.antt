@@ -22,7 +22,7 @@ pub record IsAtPlaces (d : Direction) (t : Tree) (v : Valuation) (places : List 
   pub counted : places ≡ map suc path
   pub tree : Tree
   pub there : tree_at (Some t) path ≡ Some tree
-  pub stands : StandsAt d (nodes_of d t v) number tree (values_at v path)
+  pub occurs : StandsAt d (nodes_of d t v) number tree (values_at v path)
 
 -- so it is in each tree of the grammar that the index has
 abbrev pub IsNumberAt : Grammar → TreeIndex → List ℕ → ℕ → Type 0

@@ -3,7 +3,7 @@
 ghost use Rattle.std.specs.Prelude.{◌≡◌, IfOk, IsErrOf, Ok};
 ghost use Rattle.treefile.specs.devices.Device.{LeavesContent, Persists, WhenHonest};
 ghost use Rattle.treefile.specs.records.TreeFile.{version_two};
-ghost use Rattle.treefile.specs.ways.Ending.{body_before};
+ghost use Rattle.treefile.specs.framing.Ending.{body_before};
 
 use std::alloc::Global;
 use treefile::{Device, FrameFault, read_body};

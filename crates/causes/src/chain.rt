@@ -7,15 +7,15 @@ ghost use Rattle.treefile.specs.devices.Device.{LeavesContent, Persists, WhenHon
 
 use crate::bodies::body_before;
 use crate::next_rule::{Next, next_at};
-use ag_grammar::limits::MOST_NODES;
+use ag_grammar::limits::MAX_NODES;
 use ag_grammar::{Grammar, Item, Target};
-use origins::{Record, RecordFault, record_of};
+use origins::{DecodeFault, LastRecord, record_of};
 use std::alloc::Global;
 use tree_index::{TreeFault, TreeIndex};
 use treefile::Device;
 
 /// The greatest number of rules in a chain: 16 attributes for each node.
-const MAX_STEPS: u32 = 16 * MOST_NODES;
+const MAX_STEPS: u32 = 16 * MAX_NODES;
 
 /// The cause of an error.
 #[derive(Debug, Drop)]
@@ -32,7 +32,7 @@ pub struct Cause {
 
 /// Where a chain begins: the places from the root to a node, and the target of a rule there.
 #[derive(Clone, Copy)]
-pub struct Start<'a> {
+pub struct ChainStart<'a> {
     /// The places of children, from 1.
     pub places: &'a [u16],
     /// The target.
@@ -88,12 +88,12 @@ impl<'a> Chain<'a> {
         };
         let body = body_before(alloc, device, end)?;
         match record_of(alloc, self.grammar, item, body.as_slice()) {
-            Ok(Record::Node(number, values)) => {
+            Ok(LastRecord::Node(number, values)) => {
                 Ok(next_at(alloc, self.grammar, number, values.as_slice(), target)?)
             }
-            Ok(Record::Token) => Ok(None),
-            Err(RecordFault::Damaged) => Err(TreeFault::Damaged(end)),
-            Err(RecordFault::NoMemory) => Err(TreeFault::NoMemory),
+            Ok(LastRecord::Token) => Ok(None),
+            Err(DecodeFault::Damaged) => Err(TreeFault::Damaged(end)),
+            Err(DecodeFault::NoMemory) => Err(TreeFault::NoMemory),
         }
     }
 
@@ -247,7 +247,7 @@ pub fn find_cause<D: Device>(
     alloc: Global,
     grammar: &Grammar,
     index: &TreeIndex,
-    start: &Start<'_>,
+    start: &ChainStart<'_>,
     device: &mut D,
 ) -> Result<Option<Cause>, TreeFault>
     // The error arises in the rule, and the rules of that number passed it on, each from one of its arguments

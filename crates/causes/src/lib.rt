@@ -10,6 +10,6 @@ pub mod laws;
 mod next_rule;
 mod tokens;
 
-pub use chain::{Cause, Start, find_cause};
+pub use chain::{Cause, ChainStart, find_cause};
 pub use next_rule::rule_for;
 pub use tokens::tokens_before;

@@ -18,7 +18,7 @@ pub struct Addition {
 
 /// All numbers that follow, in the order in which they are found, and their marks.
 #[derive(Debug, Drop)]
-pub struct Found {
+pub struct FoundNumbers {
     pub added: Vec<Addition>,
     pub marks: Vec<bool>,
 }

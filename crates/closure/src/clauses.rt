@@ -5,7 +5,7 @@ ghost use Rattle.closure.specs.Clauses.{IsClauseBelow};
 ghost use Rattle.closure.specs.Edges.{over, IsEdgeBelow};
 ghost use Rattle.closure.specs.Following.{is_marked, AreClosure};
 
-use crate::addition::Found;
+use crate::addition::FoundNumbers;
 use crate::clause::Clause;
 use crate::edges::{Edge, clauses_along};
 use crate::search::find;
@@ -84,7 +84,7 @@ impl Clauses {
     /// seeds, by theirs; and then for each number in its turn the heads of the clauses that wait
     /// for it, by their indices. Takes memory, and time linear in the lengths of the clauses and
     /// the seeds, and in the count.
-    pub fn find(&self, alloc: Global, seeds: &[usize]) -> Result<Found, NoMemory>
+    pub fn find(&self, alloc: Global, seeds: &[usize]) -> Result<FoundNumbers, NoMemory>
         requires { All (λ t. t < self.now.count) seeds.now }
         ensures len { IfOk result (λ found. length found.marks.items ≡ self.now.count) }
         ensures marks { IfOk result (λ found. AreClosure self.now.clauses seeds.now

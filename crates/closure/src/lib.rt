@@ -10,7 +10,7 @@ pub mod samples;
 mod search;
 mod waiting;
 
-pub use addition::{Addition, Found, Reason};
+pub use addition::{Addition, FoundNumbers, Reason};
 pub use clause::Clause;
 pub use clauses::Clauses;
 pub use edges::Edge;

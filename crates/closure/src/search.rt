@@ -8,7 +8,7 @@ ghost use Rattle.closure.specs.Following.{is_marked, AreClosure};
 ghost use Rattle.closure.specs.Search.{IsSearch, IsSettled, Grows};
 ghost use Rattle.closure.specs.Waiting.{rows, AreWaiting};
 
-use crate::addition::{Addition, Found, Reason};
+use crate::addition::{Addition, FoundNumbers, Reason};
 use crate::clause::Clause;
 use ag_value::NoMemory;
 use std::alloc::Global;
@@ -22,7 +22,7 @@ fn is_known(marks: &[bool], number: usize) -> bool
 
 /// Returns the length of the longest prefix of a body whose numbers are marked, if the first `from`
 /// are.
-fn known_in_front(marks: &[bool], body: &[usize], from: usize) -> usize
+fn leading_known(marks: &[bool], body: &[usize], from: usize) -> usize
     requires within { from ≤ length body.now }
     requires known { list_all (is_marked marks.now) (take from body.now) ≡ true }
     ensures within { result ≤ length body.now }
@@ -69,7 +69,7 @@ impl<'g> Search<'g> {
             self.old.added.items self.old.visited (slice_index_or self.old.clauses.now clause d) }
     {
         let body = self.clauses[clause].body.as_slice();
-        let passed = known_in_front(self.marks.as_slice(), body, self.passed[clause]);
+        let passed = leading_known(self.marks.as_slice(), body, self.passed[clause]);
         self.passed[clause] = passed;
         passed == body.len()
     }
@@ -174,7 +174,7 @@ pub(crate) fn find<'g>(
     uses: &[Vec<usize>],
     facts: &[usize],
     seeds: &'g [usize],
-) -> Result<Found, NoMemory>
+) -> Result<FoundNumbers, NoMemory>
     requires waiting { AreWaiting clauses.now (rows uses.now) facts.now }
     requires seeds { All (λ t. t < length uses.now) seeds.now }
     ensures len { IfOk result (λ found. length found.marks.items ≡ length uses.now) }
@@ -198,7 +198,7 @@ pub(crate) fn find<'g>(
         search.visited += 1;
         search.visit_all(uses[number].as_slice())?;
     }
-    Ok(Found {
+    Ok(FoundNumbers {
         added: search.added,
         marks: search.marks,
     })

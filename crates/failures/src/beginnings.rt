@@ -1,7 +1,7 @@
 //! Texts, listings, values and translations for a writer that doesn't accept all bytes: a prefix is written.
 
 use crate::endings::Ending;
-use crate::fractions::{FRACTIONS, SENTENCE, translator};
+use crate::fractions::{FRACTION_SENTENCE, FRACTIONS, translator};
 use crate::narrow::{Narrow, with_room};
 use aggen::{Translator, print_code, print_counts, print_plan, show_value};
 use agoutput::{TextOutFault, write_text};
@@ -46,14 +46,14 @@ fn translation_ending(alloc: Global, out: &mut Narrow) -> Result<Ending, Mistake
 fn ended(alloc: Global, translator: &Translator, out: &mut Narrow) -> Ending {
     let mut a = MemDevice::new(alloc);
     let mut b = MemDevice::new(alloc);
-    Ending::of(translator.translate(SENTENCE, &mut a, &mut b, out))
+    Ending::of(translator.translate(FRACTION_SENTENCE, &mut a, &mut b, out))
 }
 
 /// Calls what a word names with a writer that accepts a number of bytes, one in each call, and then none or, with
 /// `fails`, fails. Returns how the call ends, and the bytes that were written.
-pub fn beginning_told(alloc: Global, what: &str, spelled: &str) -> Result<String, Mistake> {
+pub fn beginning_answer(alloc: Global, what: &str, spelled: &str) -> Result<String, Mistake> {
     let (room, rest) = first_word(spelled);
     let mut out = with_room(alloc, number(room)? as usize, rest == "fails")?;
     let ending = written_to(alloc, what, &mut out)?;
-    Ok(ending.told(alloc, out.taken.as_slice())?)
+    Ok(ending.answer(alloc, out.taken.as_slice())?)
 }

@@ -27,8 +27,8 @@ pub enum Ending {
 
 impl Ending {
     /// Returns the ending of a result.
-    pub fn of<T: Drop>(told: Result<T, Fault>) -> Ending {
-        match told {
+    pub fn of<T: Drop>(answer: Result<T, Fault>) -> Ending {
+        match answer {
             Ok(_) => Ending::Done,
             Err(Fault::File) => Ending::File,
             Err(Fault::NotATreeFile) => Ending::NotATreeFile,
@@ -41,7 +41,7 @@ impl Ending {
     }
 
     /// Returns how a call ended, and what it wrote, quoted.
-    pub fn told(self, alloc: Global, written: &[u8]) -> Result<String, AllocError> {
+    pub fn answer(self, alloc: Global, written: &[u8]) -> Result<String, AllocError> {
         let written = str::from_utf8(written).unwrap_or("what is no text");
         format!(in alloc; "{self:?} {written:?}")
     }

@@ -2,7 +2,9 @@
 //! a failed call writes no translation, and the next run with the same translator and devices succeeds.
 
 use crate::endings::Ending;
-use crate::fractions::{FRACTIONS, SENTENCE, TREE, evaluated, old_tree, translated, translator};
+use crate::fractions::{
+    FRACTION_SENTENCE, FRACTION_TREE, FRACTIONS, evaluated, old_tree, translated, translator,
+};
 use aggen::Translator;
 use rows::words::{Mistake, first_word, number};
 use std::alloc::Global;
@@ -54,8 +56,8 @@ fn translates_twice(
     a: &mut Fused,
     b: &mut Fused,
 ) -> Result<bool, Mistake> {
-    let first = translated(alloc, translator, SENTENCE, a, b)?;
-    let second = translated(alloc, translator, SENTENCE, a, b)?;
+    let first = translated(alloc, translator, FRACTION_SENTENCE, a, b)?;
+    let second = translated(alloc, translator, FRACTION_SENTENCE, a, b)?;
     is_whole(first.as_str(), second.as_str())
 }
 
@@ -82,7 +84,7 @@ fn evaluates_twice(
 ) -> Result<bool, Mistake> {
     let first = evaluated(alloc, translator, tree, a, b)?;
     let second = evaluated(alloc, translator, tree, a, b)?;
-    if tree.inner().bytes() != TREE {
+    if tree.inner().bytes() != FRACTION_TREE {
         return Err(Mistake::Unfit);
     }
     is_whole(first.as_str(), second.as_str())
@@ -96,7 +98,7 @@ fn evaluates_without(
     a: u64,
     b: u64,
 ) -> Result<bool, Mistake> {
-    let bytes = TREE.to_vec(alloc)?;
+    let bytes = FRACTION_TREE.to_vec(alloc)?;
     let mut tree = FuseDevice::new(MemDevice::from_bytes(bytes), tree);
     let mut a = fused(alloc, a);
     let mut b = fused(alloc, b);
@@ -114,14 +116,14 @@ fn upgrades_twice(
     to: &mut Fused,
 ) -> Result<bool, Mistake> {
     let first = Ending::of(translator.upgrade(old, mid, to));
-    let is_whole = to.inner().bytes() == TREE;
+    let is_whole = to.inner().bytes() == FRACTION_TREE;
     let second = Ending::of(translator.upgrade(old, mid, to));
     if old.inner().bytes() != kept {
         return Err(Mistake::Unfit);
     }
     match (first, second) {
         (Ending::Done, Ending::Device) if is_whole => Ok(true),
-        (Ending::Device, Ending::Done) if to.inner().bytes() == TREE => Ok(false),
+        (Ending::Device, Ending::Done) if to.inner().bytes() == FRACTION_TREE => Ok(false),
         _ => Err(Mistake::Unfit),
     }
 }
@@ -188,7 +190,7 @@ fn run_device(word: &str) -> Result<RunDevice, Mistake> {
 
 /// Returns whether each call of a device fails as it should, and whether there are at least the row's number of
 /// calls.
-pub fn failing_told(alloc: Global, spelled: &str) -> Result<String, Mistake> {
+pub fn failing_answer(alloc: Global, spelled: &str) -> Result<String, Mistake> {
     let (word, least) = first_word(spelled);
     let device = run_device(word)?;
     let least = number(least)? as u64;

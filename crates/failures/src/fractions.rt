@@ -24,11 +24,11 @@ B = \"1\" { $0.bit = 1; }
 ";
 
 /// A sentence of this grammar, 13.25. Its translation is 868352.
-pub const SENTENCE: &[u8] = b"1101.01";
+pub const FRACTION_SENTENCE: &[u8] = b"1101.01";
 
 /// The file of its tree before the first pass: nodes of the productions 7, 7, 6, 7, 4, 5, 5, 5, 3, 6, 7, 4, 5, 3, 2
 /// and 0.
-pub const TREE: &[u8] = b"AGT2\0\0\
+pub const FRACTION_TREE: &[u8] = b"AGT2\0\0\
     \0\0\x07\0\0\0\x03\0\0\x07\0\0\0\x03\0\0\x06\0\0\0\x03\0\0\x07\0\0\0\x03\
     \0\0\x04\0\0\0\x03\0\0\x05\0\0\0\x03\0\0\x05\0\0\0\x03\0\0\x05\0\0\0\x03\
     \0\0\x03\0\0\0\x03\0\0\x06\0\0\0\x03\0\0\x07\0\0\0\x03\0\0\x04\0\0\0\x03\
@@ -36,7 +36,7 @@ pub const TREE: &[u8] = b"AGT2\0\0\
 
 /// Returns the same file in version 1. The tree has no tokens, so only the version's number differs.
 pub fn old_tree(alloc: Global) -> Result<Vec<u8>, Mistake> {
-    let mut bytes = TREE.to_vec(alloc)?;
+    let mut bytes = FRACTION_TREE.to_vec(alloc)?;
     if let Some(version) = bytes.get_mut(3) {
         *version = b'1';
     }
@@ -53,7 +53,7 @@ pub fn translated<D: Device>(
 ) -> Result<String, Mistake> {
     let mut out = Vec::new(alloc);
     let ending = Ending::of(translator.translate(sentence, a, b, &mut out));
-    Ok(ending.told(alloc, out.as_slice())?)
+    Ok(ending.answer(alloc, out.as_slice())?)
 }
 
 /// Evaluates a tree over two other devices. Returns how the call ends, and what was written.
@@ -66,7 +66,7 @@ pub fn evaluated<D: Device>(
 ) -> Result<String, Mistake> {
     let mut out = Vec::new(alloc);
     let ending = Ending::of(translator.evaluate_tree(tree, a, b, &mut out));
-    Ok(ending.told(alloc, out.as_slice())?)
+    Ok(ending.answer(alloc, out.as_slice())?)
 }
 
 /// Parses `1` over a device whose given call fails, and returns how the call ends.
@@ -76,7 +76,7 @@ fn parsed_without(alloc: Global, translator: &Translator, call: u64) -> Ending {
 }
 
 /// Builds a translator, and parses `1` over a device whose given call fails.
-pub fn parse_without_told(alloc: Global, call: &str) -> Result<String, Mistake> {
+pub fn parse_without_answer(alloc: Global, call: &str) -> Result<String, Mistake> {
     let call = number(call)? as u64;
     let translator = translator(alloc, FRACTIONS)?;
     printed(alloc, &parsed_without(alloc, &translator, call))

@@ -39,7 +39,7 @@ fn ended(alloc: Global, reader: Faltering<'_>, out: &mut Vec<u8>) -> Ending {
 
 /// Runs a job from a reader that returns at most `step` bytes in a read and whose given read fails. Returns how
 /// the call ends, and what was written.
-fn told_of(alloc: Global, bytes: &[u8], step: usize, read: u64) -> Result<String, Mistake> {
+fn reported_of(alloc: Global, bytes: &[u8], step: usize, read: u64) -> Result<String, Mistake> {
     let reader = Faltering {
         bytes,
         step,
@@ -47,14 +47,14 @@ fn told_of(alloc: Global, bytes: &[u8], step: usize, read: u64) -> Result<String
     };
     let mut out = Vec::new(alloc);
     let ending = ended(alloc, reader, &mut out);
-    Ok(ending.told(alloc, out.as_slice())?)
+    Ok(ending.answer(alloc, out.as_slice())?)
 }
 
 /// Returns whether a job succeeds if a given read fails. Otherwise it must fail with J2 and write nothing; in
 /// all other cases this fails with `Unfit`.
 fn is_done(alloc: Global, job: &[u8], step: usize, read: u64) -> Result<bool, Mistake> {
-    let told = told_of(alloc, job, step, read)?;
-    match told.as_str() {
+    let answer = reported_of(alloc, job, step, read)?;
+    match answer.as_str() {
         "Read \"\"" => Ok(false),
         "Done \"868352\"" => Ok(true),
         _ => Err(Mistake::Unfit),
@@ -74,7 +74,7 @@ fn reads_of(alloc: Global, job: &[u8], step: usize) -> Result<u64, Mistake> {
 
 /// Returns whether each read of a job of binary fractions fails as it should, and whether there are at least
 /// the row's number of reads.
-pub fn job_reads_told(alloc: Global, spelled: &str) -> Result<String, Mistake> {
+pub fn job_reads_answer(alloc: Global, spelled: &str) -> Result<String, Mistake> {
     let (step, least) = first_word(spelled);
     let step = number(step)? as usize;
     let least = number(least)? as u64;

@@ -2,7 +2,9 @@
 
 ghost use Rattle.std.specs.Prelude.{[], false, Some};
 
-use crate::fractions::{FRACTIONS, SENTENCE, TREE, evaluated, old_tree, translated, translator};
+use crate::fractions::{
+    FRACTION_SENTENCE, FRACTION_TREE, FRACTIONS, evaluated, old_tree, translated, translator,
+};
 use ag_eval::Meter;
 use aggen::Translator;
 use backreader::{Arity, Back, turn};
@@ -113,20 +115,20 @@ fn empty_liar(alloc: Global, lie: Lie) -> Liar {
 }
 
 /// Returns whether a run wrote nothing, unless it succeeded or its writer failed.
-fn is_clean(told: &str) -> bool {
-    told.starts_with("Done ") || told.starts_with("Write ") || told.ends_with(" \"\"")
+fn is_clean(answer: &str) -> bool {
+    answer.starts_with("Done ") || answer.starts_with("Write ") || answer.ends_with(" \"\"")
 }
 
 /// Translates the sentence over devices that lie. Returns how the call ends, and what was written.
 fn translation(alloc: Global, translator: &Translator, lie: Lie) -> Result<String, Mistake> {
     let mut a = empty_liar(alloc, lie);
     let mut b = empty_liar(alloc, lie);
-    translated(alloc, translator, SENTENCE, &mut a, &mut b)
+    translated(alloc, translator, FRACTION_SENTENCE, &mut a, &mut b)
 }
 
 /// Evaluates the tree over devices that lie. Returns how the call ends, and what was written.
 fn evaluation(alloc: Global, translator: &Translator, lie: Lie) -> Result<String, Mistake> {
-    let mut tree = liar_over(alloc, TREE, lie)?;
+    let mut tree = liar_over(alloc, FRACTION_TREE, lie)?;
     let mut a = empty_liar(alloc, lie);
     let mut b = empty_liar(alloc, lie);
     evaluated(alloc, translator, &mut tree, &mut a, &mut b)
@@ -146,7 +148,7 @@ fn run_passes(alloc: Global, translator: &Translator, a: &mut Liar, b: &mut Liar
 
 /// Runs passes over the sentence's tree on devices that lie.
 fn passes(alloc: Global, translator: &Translator, lie: Lie) -> Result<(), Mistake> {
-    let mut a = liar_over(alloc, TREE, lie)?;
+    let mut a = liar_over(alloc, FRACTION_TREE, lie)?;
     let mut b = empty_liar(alloc, lie);
     run_passes(alloc, translator, &mut a, &mut b);
     Ok(())
@@ -173,7 +175,7 @@ fn return_clean(alloc: Global, translator: &Translator, lie: Lie) -> Result<bool
 }
 
 /// Runs passes, `translate`, `evaluate_tree` and `upgrade`. Returns whether the calls that failed wrote nothing.
-pub fn lie_told(alloc: Global, word: &str) -> Result<String, Mistake> {
+pub fn lie_answer(alloc: Global, word: &str) -> Result<String, Mistake> {
     let lie = lie_named(word)?;
     let translator = translator(alloc, FRACTIONS)?;
     let is_clean = return_clean(alloc, &translator, lie)?;
@@ -182,14 +184,14 @@ pub fn lie_told(alloc: Global, word: &str) -> Result<String, Mistake> {
 
 /// Reverses a file over devices that lie.
 fn turned(alloc: Global, lie: Lie) -> Result<(), Mistake> {
-    let mut from = liar_over(alloc, TREE, lie)?;
+    let mut from = liar_over(alloc, FRACTION_TREE, lie)?;
     let mut to = empty_liar(alloc, lie);
     let _turned = turn(alloc, &mut from, &mut to, 1, &Chain {});
     Ok(())
 }
 
 /// Reverses a file over devices that lie, and returns `returned`.
-pub fn lie_turn_told(alloc: Global, word: &str) -> Result<String, Mistake> {
+pub fn lie_turn_answer(alloc: Global, word: &str) -> Result<String, Mistake> {
     turned(alloc, lie_named(word)?)?;
     Ok(String::from_str(alloc, "returned")?)
 }
@@ -208,8 +210,8 @@ fn lent(alloc: Global, device: &mut Liar) -> Result<u64, Mistake> {
 }
 
 /// Returns whether a reader returns no more bodies than the file has frames: its 118 bytes contain 16.
-pub fn lie_back_told(alloc: Global, word: &str) -> Result<String, Mistake> {
-    let mut device = liar_over(alloc, TREE, lie_named(word)?)?;
+pub fn lie_back_answer(alloc: Global, word: &str) -> Result<String, Mistake> {
+    let mut device = liar_over(alloc, FRACTION_TREE, lie_named(word)?)?;
     let lent = lent(alloc, &mut device)?;
     Ok(format!(in alloc; "{}", lent < 17)?)
 }

@@ -1,14 +1,14 @@
 //! The verbs of questions about failures.
 
-use crate::beginnings::beginning_told;
-use crate::failing::failing_told;
-use crate::fractions::parse_without_told;
-use crate::job_reads::job_reads_told;
-use crate::lying::{lie_back_told, lie_told, lie_turn_told};
-use crate::sharing::sharing_told;
-use crate::showing::{show_of_told, show_without_told};
-use crate::sources::source_of_told;
-use crate::translating::translate_three_told;
+use crate::beginnings::beginning_answer;
+use crate::failing::failing_answer;
+use crate::fractions::parse_without_answer;
+use crate::job_reads::job_reads_answer;
+use crate::lying::{lie_answer, lie_back_answer, lie_turn_answer};
+use crate::sharing::sharing_answer;
+use crate::showing::{show_of_answer, show_without_answer};
+use crate::sources::source_of_answer;
+use crate::translating::translate_three_answer;
 use rows::sheet::Questions;
 use rows::words::{Mistake, bytes_of};
 use rows::written::Written;
@@ -30,14 +30,14 @@ impl<R: Files> Questions for Failures<'_, R> {
         rest: &str,
     ) -> Result<String, Mistake> {
         match verb {
-            "failing" => failing_told(alloc, rest),
-            "sharing" => sharing_told(alloc, rest),
-            "parse-without" => parse_without_told(alloc, rest),
-            "show-without" => show_without_told(alloc, rest),
-            "show-of" => show_of_told(alloc, bytes_of(alloc, rest)?),
-            "job-reads" => job_reads_told(alloc, rest),
-            "source-of" => source_of_told(self.rt, alloc, rest),
-            "translate-three" => translate_three_told(alloc),
+            "failing" => failing_answer(alloc, rest),
+            "sharing" => sharing_answer(alloc, rest),
+            "parse-without" => parse_without_answer(alloc, rest),
+            "show-without" => show_without_answer(alloc, rest),
+            "show-of" => show_of_answer(alloc, bytes_of(alloc, rest)?),
+            "job-reads" => job_reads_answer(alloc, rest),
+            "source-of" => source_of_answer(self.rt, alloc, rest),
+            "translate-three" => translate_three_answer(alloc),
             _ => answer_of_lies(alloc, verb, rest),
         }
     }
@@ -46,11 +46,11 @@ impl<R: Files> Questions for Failures<'_, R> {
 /// Answers questions about devices that lie, and about writers that don't accept all bytes.
 fn answer_of_lies(alloc: Global, verb: &str, rest: &str) -> Result<String, Mistake> {
     match verb {
-        "lie" => lie_told(alloc, rest),
-        "lie-turn" => lie_turn_told(alloc, rest),
-        "lie-back" => lie_back_told(alloc, rest),
+        "lie" => lie_answer(alloc, rest),
+        "lie-turn" => lie_turn_answer(alloc, rest),
+        "lie-back" => lie_back_answer(alloc, rest),
         "text-into" | "counts-into" | "plan-into" | "code-into" | "show-into" | "translate-into" =>
-            beginning_told(alloc, verb, rest),
+            beginning_answer(alloc, verb, rest),
         _ => Err(Mistake::Misspelt),
     }
 }

@@ -1,7 +1,7 @@
 //! A device in memory that shares values, and fails at one of its calls.
 
 ghost use Rattle.std.specs.Prelude.{◌≡◌, ◌≤◌, IsFalse, IsTrue};
-ghost use Rattle.treefile.specs.devices.Device.{HasRisen, most_failures};
+ghost use Rattle.treefile.specs.devices.Device.{HasRisen, max_failures};
 
 use shared_bytes::{Body, SharedBytes};
 use std::alloc::Global;
@@ -34,19 +34,19 @@ impl SharedFuse {
     }
 
     /// Counts a call, and returns whether it is the one that fails.
-    fn burns(&mut self) -> bool
+    fn count_call(&mut self) -> bool
         ensures inner { self.new.inner ≡ self.old.inner }
         ensures kept { IsFalse result → self.new.failed ≡ self.old.failed }
         ensures counts { self.old.failed ≤ self.new.failed }
-        ensures bounded { self.old.failed ≤ most_failures → self.new.failed ≤ most_failures }
+        ensures bounded { self.old.failed ≤ max_failures → self.new.failed ≤ max_failures }
         ensures risen { IsTrue result → HasRisen self.old.failed self.new.failed }
     {
-        let burns = self.left == 1;
+        let count_call = self.left == 1;
         self.left = self.left.saturating_sub(1);
-        if burns {
+        if count_call {
             self.failed = self.failed.saturating_add(1);
         }
-        burns
+        count_call
     }
 }
 
@@ -60,28 +60,28 @@ impl Device for SharedFuse {
     ghost failures = { λ d. d.failed };
 
     fn len(&mut self) -> Result<u64, DeviceFault> {
-        if self.burns() {
+        if self.count_call() {
             return Err(DeviceFault::Failed);
         }
         self.inner.len()
     }
 
     fn append(&mut self, bytes: &[u8]) -> Result<(), DeviceFault> {
-        if self.burns() {
+        if self.count_call() {
             return Err(DeviceFault::Failed);
         }
         self.inner.append(bytes)
     }
 
     fn read_at(&mut self, at: u64, out: &mut [u8]) -> Result<(), DeviceFault> {
-        if self.burns() {
+        if self.count_call() {
             return Err(DeviceFault::Failed);
         }
         self.inner.read_at(at, out)
     }
 
     fn clear(&mut self) -> Result<(), DeviceFault> {
-        if self.burns() {
+        if self.count_call() {
             return Err(DeviceFault::Failed);
         }
         self.inner.clear()
@@ -92,7 +92,7 @@ impl Device for SharedFuse {
         parts: &SharedBytes,
         buffer: &mut Vec<u8>,
     ) -> Result<(), DeviceFault> {
-        if self.burns() {
+        if self.count_call() {
             return Err(DeviceFault::Failed);
         }
         self.shared = self.shared.saturating_add(1);

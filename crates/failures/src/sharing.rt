@@ -22,7 +22,7 @@ A = \"y\" {
 ";
 
 /// A sentence of this grammar. Its translation is 6.
-const SENTENCE: &[u8] = b"xxy";
+const FRACTION_SENTENCE: &[u8] = b"xxy";
 
 /// The ending of a translation that succeeds.
 const DONE: &str = "Done \"6\"";
@@ -53,8 +53,8 @@ fn fails_later(
     call: u64,
 ) -> Result<bool, Mistake> {
     let (mut a, mut b) = devices(alloc, word, call)?;
-    let first = translated(alloc, translator, SENTENCE, &mut a, &mut b)?;
-    let second = translated(alloc, translator, SENTENCE, &mut a, &mut b)?;
+    let first = translated(alloc, translator, FRACTION_SENTENCE, &mut a, &mut b)?;
+    let second = translated(alloc, translator, FRACTION_SENTENCE, &mut a, &mut b)?;
     if a.shared() == 0 || b.shared() == 0 {
         return Err(Mistake::Unfit);
     }
@@ -79,12 +79,12 @@ fn first_later(alloc: Global, translator: &Translator, word: &str) -> Result<u64
 fn translated_in_memory(alloc: Global, translator: &Translator) -> Result<String, Mistake> {
     let mut a = MemDevice::new(alloc);
     let mut b = MemDevice::new(alloc);
-    translated(alloc, translator, SENTENCE, &mut a, &mut b)
+    translated(alloc, translator, FRACTION_SENTENCE, &mut a, &mut b)
 }
 
 /// Returns whether each call of a device fails as it should, and whether there are at least the row's number of
 /// calls.
-pub fn sharing_told(alloc: Global, spelled: &str) -> Result<String, Mistake> {
+pub fn sharing_answer(alloc: Global, spelled: &str) -> Result<String, Mistake> {
     let (word, least) = first_word(spelled);
     let least = number(least)? as u64;
     let translator = translator(alloc, TABLES)?;

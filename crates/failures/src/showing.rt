@@ -12,12 +12,12 @@ use treefile::{Device, DeviceFault, FuseDevice, MemDevice};
 fn shown_over<D: Device>(alloc: Global, text: &str, device: &mut D) -> Result<String, Mistake> {
     let mut out = Vec::new(alloc);
     let ending = Ending::of(show_value(alloc, text, device, &mut out));
-    Ok(ending.told(alloc, out.as_slice())?)
+    Ok(ending.answer(alloc, out.as_slice())?)
 }
 
 /// Shows 14 over a device whose given call fails. Returns how the call ends, and what was written. The device
 /// is called eight times: it is cleared, appended to, measured and read.
-pub fn show_without_told(alloc: Global, call: &str) -> Result<String, Mistake> {
+pub fn show_without_answer(alloc: Global, call: &str) -> Result<String, Mistake> {
     let call = number(call)? as u64;
     let mut device = FuseDevice::new(MemDevice::new(alloc), call);
     shown_over(alloc, "14", &mut device)
@@ -54,7 +54,7 @@ impl Device for Other {
 }
 
 /// Shows 1 over a device that returns these bytes. Returns how the call ends, and what was written.
-pub fn show_of_told(alloc: Global, file: Vec<u8>) -> Result<String, Mistake> {
+pub fn show_of_answer(alloc: Global, file: Vec<u8>) -> Result<String, Mistake> {
     let mut device = Other {
         file: MemDevice::from_bytes(file),
     };

@@ -8,7 +8,7 @@ use std::rt::Files;
 
 /// Reads the file whose path is spelled by its bytes, and returns how the call ends. Fails with `Unfit` if the
 /// path is not UTF-8.
-pub fn source_of_told<R: Files>(rt: &R, alloc: Global, spelled: &str) -> Result<String, Mistake> {
+pub fn source_of_answer<R: Files>(rt: &R, alloc: Global, spelled: &str) -> Result<String, Mistake> {
     let path = bytes_of(alloc, spelled)?;
     match str::from_utf8(path.as_slice()) {
         Ok(path) => printed(alloc, &Ending::of(source_of(rt, alloc, path))),

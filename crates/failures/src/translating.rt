@@ -1,19 +1,19 @@
 //! Translations by a translator that has rejected a sentence.
 
-use crate::fractions::{FRACTIONS, SENTENCE, translated, translator};
+use crate::fractions::{FRACTION_SENTENCE, FRACTIONS, translated, translator};
 use aggen::Translator;
 use rows::words::Mistake;
 use std::alloc::Global;
 use treefile::MemDevice;
 
 /// Translates three sentences over the same devices, of which the second is rejected. Returns how each call ends.
-fn three_told(
+fn three_answer(
     alloc: Global,
     translator: &Translator,
     a: &mut MemDevice,
     b: &mut MemDevice,
 ) -> Result<String, Mistake> {
-    let first = translated(alloc, translator, SENTENCE, a, b)?;
+    let first = translated(alloc, translator, FRACTION_SENTENCE, a, b)?;
     let refused = translated(alloc, translator, b"12", a, b)?;
     let last = translated(alloc, translator, b"1", a, b)?;
     Ok(format!(in alloc; "{first}, {refused}, {last}")?)
@@ -23,11 +23,11 @@ fn three_told(
 fn three_translated(alloc: Global, translator: &Translator) -> Result<String, Mistake> {
     let mut a = MemDevice::new(alloc);
     let mut b = MemDevice::new(alloc);
-    three_told(alloc, translator, &mut a, &mut b)
+    three_answer(alloc, translator, &mut a, &mut b)
 }
 
 /// Builds a translator, and translates three sentences.
-pub fn translate_three_told(alloc: Global) -> Result<String, Mistake> {
+pub fn translate_three_answer(alloc: Global) -> Result<String, Mistake> {
     let translator = translator(alloc, FRACTIONS)?;
     three_translated(alloc, &translator)
 }

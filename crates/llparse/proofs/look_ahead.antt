@@ -1,7 +1,7 @@
 -- The sets that tables are made of, and that they agree with the definitions.
 pub mod Choices
 pub mod Columns
-pub mod Comes
+pub mod CanStart
 pub mod Edges
 pub mod Firsts
 pub mod Follows

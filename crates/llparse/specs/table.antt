@@ -1,6 +1,6 @@
 -- Tables: the sets that they are made of, and the least conflict.
 pub mod Columns
-pub mod Comes
+pub mod CanStart
 pub mod Edges
 pub mod Nodes
 pub mod Nullable

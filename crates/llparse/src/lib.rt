@@ -15,7 +15,7 @@ pub use laws::{
     left_recursion_is_least, one_tree, sample_is_free, small_tables_are_read, texts_are_given,
     what_is_left_is_so,
 };
-pub use sentence::expected::{Stuck, expected_at};
+pub use sentence::expected::{StuckPlace, expected_at};
 pub use sentence::parse_fault::ParseFault;
 pub use sentence::parsing::parse;
 pub use table::building::tables;

@@ -35,9 +35,9 @@ impl fmt::Display for Grouped {
 /// A text, with the number of each character that controls a terminal, can't be seen, or can be taken
 /// for a plain space.
 #[derive(Clone, Copy)]
-pub struct Plain<'a>(pub &'a str);
+pub struct PlainText<'a>(pub &'a str);
 
-impl fmt::Display for Plain<'_> {
+impl fmt::Display for PlainText<'_> {
     fn fmt<W: fmt::Write>(&self, f: &mut fmt::Formatter<W>) -> fmt::Result {
         for character in self.0.chars() {
             write_character(f, character)?;
@@ -46,12 +46,12 @@ impl fmt::Display for Plain<'_> {
     }
 }
 
-/// The text at an offset, printed as by `Plain`, and only the first characters of a long one. None is the
+/// The text at an offset, printed as by `PlainText`, and only the first characters of a long one. None is the
 /// end of the text.
 #[derive(Clone, Copy)]
-pub struct Found<'a>(pub Option<&'a str>);
+pub struct FoundText<'a>(pub Option<&'a str>);
 
-impl fmt::Display for Found<'_> {
+impl fmt::Display for FoundText<'_> {
     fn fmt<W: fmt::Write>(&self, f: &mut fmt::Formatter<W>) -> fmt::Result {
         let Some(found) = self.0 else {
             return f.write_str(END);

@@ -1,6 +1,6 @@
 //! What a text could go on with.
 
-use ag_expr::Expected as Part;
+use ag_expr::ExpectedPart as Part;
 use ag_text::Expected;
 use std::alloc::AllocError;
 

@@ -1,12 +1,12 @@
 //! Faults of expressions.
 
-use crate::display::{Found, begins_with};
+use crate::display::{FoundText, begins_with};
 use crate::expected::write_expected;
 use crate::hints::Context;
 use crate::parts::{Location, Parts};
 use crate::position::Position;
-use ag_expr::{Expected as Part, ExprFault, expected_at};
-use ag_grammar::limits::{MOST_LEVELS, MOST_PLACE};
+use ag_expr::{ExpectedPart as Part, ExprFault, expected_at};
+use ag_grammar::limits::{MAX_EXPR_LEVELS, MAX_PLACE};
 use ag_text::Expected;
 use ag_value::NoMemory;
 use std::alloc::{AllocError, Global};
@@ -80,17 +80,21 @@ pub fn describe_fault(
 
 /// Describes characters that begin no token.
 fn describe_no_token(parts: &mut Parts, context: &Context<'_>) -> Result<(), AllocError> {
-    write!(parts.found, "no token begins with {}", Found(context.found))?;
+    write!(
+        parts.found,
+        "no token begins with {}",
+        FoundText(context.found)
+    )?;
     parts.help.push_str(context.token_hint())
 }
 
 /// Describes a number that is too large.
 fn describe_number(parts: &mut Parts, context: &Context<'_>) -> Result<(), AllocError> {
-    write!(parts.found, "found {}", Found(context.found))?;
+    write!(parts.found, "found {}", FoundText(context.found))?;
     if begins_with(context.found, '$') {
         write!(
             parts.expected,
-            "expected a place of at most {MOST_PLACE} after `$`"
+            "expected a place of at most {MAX_PLACE} after `$`"
         )
     } else {
         write!(parts.expected, "expected a number of at most {}", i64::MAX)
@@ -101,7 +105,7 @@ fn describe_number(parts: &mut Parts, context: &Context<'_>) -> Result<(), Alloc
 fn describe_depth(parts: &mut Parts) -> Result<(), AllocError> {
     write!(
         parts.found,
-        "the expression nests more than {MOST_LEVELS} levels deep"
+        "the expression nests more than {MAX_EXPR_LEVELS} levels deep"
     )?;
     parts
         .help
@@ -115,7 +119,7 @@ fn describe_unexpected(
     context: &Context<'_>,
     expected: &[Expected],
 ) -> Result<(), AllocError> {
-    write!(parts.found, "found {}", Found(context.found))?;
+    write!(parts.found, "found {}", FoundText(context.found))?;
     describe_expected(parts, context, expected)?;
     parts.help.push_str(context.expression_hint(expected))
 }

@@ -1,7 +1,7 @@
 //! Hints for writers who are used to other languages: what they may have meant where a text is refused.
 
 use crate::display::{begins_with, found_at};
-use ag_expr::{Cursor, Expected as Part, Token};
+use ag_expr::{Cursor, ExpectedPart as Part, GrammarToken};
 use ag_text::Expected;
 
 /// The character that some editors write at the beginning of a file.
@@ -151,7 +151,7 @@ impl<'a> Context<'a> {
             return "";
         };
         match Cursor::new(found).peek() {
-            Some(Token::Name(_)) => hint,
+            Some(GrammarToken::Name(_)) => hint,
             _ => "",
         }
     }

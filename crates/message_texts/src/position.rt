@@ -1,6 +1,6 @@
 //! Positions in texts, and the files that have the texts.
 
-use crate::display::{Plain, utf8_prefix};
+use crate::display::{PlainText, utf8_prefix};
 use std::fmt;
 
 /// The name of standard input among those of files.
@@ -114,6 +114,6 @@ pub struct Place<'a> {
 impl fmt::Display for Place<'_> {
     fn fmt<W: fmt::Write>(&self, f: &mut fmt::Formatter<W>) -> fmt::Result {
         let Position { line, column } = self.position;
-        write!(f, "({}:{line}:{column})", Plain(self.name))
+        write!(f, "({}:{line}:{column})", PlainText(self.name))
     }
 }

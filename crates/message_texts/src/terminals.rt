@@ -1,6 +1,6 @@
 //! The terminals of a grammar, by their names.
 
-use crate::display::{MAX_NAMED, Plain};
+use crate::display::{MAX_NAMED, PlainText};
 use crate::expected::{END, separator_before};
 use ag_grammar::limits::{NAME, NUMBER};
 use ag_grammar::{Grammar, Terminal};
@@ -12,7 +12,7 @@ pub fn write_ahead(out: &mut String, grammar: &Grammar, ahead: Ahead) -> Result<
     match ahead {
         Ahead::Terminal(Terminal::Literal(number)) => {
             match grammar.literals().get(usize::from(number)) {
-                Some(text) => write!(out, "`{}`", Plain(text.as_str())),
+                Some(text) => write!(out, "`{}`", PlainText(text.as_str())),
                 None => Ok(()),
             }
         }

@@ -1,6 +1,6 @@
 //! Translations that are not texts.
 
-use crate::display::{Found, Grouped};
+use crate::display::{FoundText, Grouped};
 use crate::parts::Parts;
 use ag_value::{ErrorCode, MAX_WEIGHT, Value, show};
 use std::alloc::{AllocError, Global};
@@ -26,7 +26,11 @@ pub fn describe_value(alloc: Global, parts: &mut Parts, value: &Value) -> Result
 
 /// Describes a value that is shown like this.
 fn describe_shown(parts: &mut Parts, value: &Value, shown: &str) -> Result<(), AllocError> {
-    write!(parts.found, "the root's `out` is {}", Found(Some(shown)))?;
+    write!(
+        parts.found,
+        "the root's `out` is {}",
+        FoundText(Some(shown))
+    )?;
     match value {
         Value::Fault(ErrorCode::Big) => {
             write_size(&mut parts.found)?;
@@ -39,9 +43,9 @@ fn describe_shown(parts: &mut Parts, value: &Value, shown: &str) -> Result<(), A
 
 /// Writes which limit a value exceeded.
 fn write_size(out: &mut String) -> Result<(), AllocError> {
-    let (most, most_of_text) = (Grouped(MAX_WEIGHT as usize), Grouped(MAX_TEXT_BYTES));
+    let (most, max_of_text) = (Grouped(MAX_WEIGHT as usize), Grouped(MAX_TEXT_BYTES));
     write!(
         out,
-        ", since the translation or a value that it is computed from has more than {most} bytes (a text: {most_of_text})"
+        ", since the translation or a value that it is computed from has more than {most} bytes (a text: {max_of_text})"
     )
 }

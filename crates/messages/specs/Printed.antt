@@ -7,7 +7,7 @@ use Rattle.message_texts.specs.declared.parts.Location.{Location}
 use Rattle.message_texts.specs.declared.parts.Location.TheVariants as location
 use Rattle.message_texts.specs.declared.parts.Parts.{Parts}
 use Rattle.message_texts.specs.declared.position.Position.{Position}
-use Rattle.messages.specs.declared.report.Report.{Report}
+use Rattle.messages.specs.declared.report.FaultReport.{FaultReport}
 
 -- a position with its file as editors read it, as in ` (grammar.ag:4:47)`, or without one
 abbrev pub place_text : Option (String Global) → Position → List ℕ
@@ -56,6 +56,6 @@ file_text location.Whole (Some path) = codes ": " ++ string_bytes path
 file_text location.WithNumber (Some path) = codes ": " ++ string_bytes path
 
 -- the line: the fault with its number first, where it is, and what a reader can do
-abbrev pub line_of : Report → List ℕ
+abbrev pub line_of : FaultReport → List ℕ
 line_of report = printed report.number ++ location_text report.location report.file
     ++ parts_text (first_separator report.location) report.parts ++ file_text report.location report.file

@@ -5,14 +5,14 @@ ghost use Rattle.std.specs.Fmt.{WritesOnOk};
 ghost use Rattle.messages.specs.Printed.{file_text, first_separator, location_text, next_separator};
 ghost use Rattle.messages.specs.Printed.{part_text, parts_text, place_text};
 
-use crate::report::Report;
+use crate::report::FaultReport;
 use message_texts::{Location, Parts, Position};
 use std::fmt;
 
 /// Prints `N8 at 95 (grammar.ag:4:47): ..`: the number, the position, and after a colon what was expected,
 /// what was found and what to do, with commas between. A report without a position ends with its file,
 /// if it has one. For a fault in the whole of its input the colon is left out.
-impl fmt::Display for Report {
+impl fmt::Display for FaultReport {
     ghost use Rattle.std.specs.Prelude.{Some};
     ghost use Rattle.messages.specs.Printed.{line_of};
 
@@ -26,7 +26,7 @@ impl fmt::Display for Report {
     }
 }
 
-impl Report {
+impl FaultReport {
     /// Writes the position, if there is one.
     fn write_location<W: fmt::Write>(&self, f: &mut fmt::Formatter<W>) -> fmt::Result
         ensures { WritesOnOk W.write_str_gives f.old result

@@ -1,4 +1,4 @@
-//! Messages about faults: `Report` has a fault with its number, its location by file, line and column,
+//! Messages about faults: `FaultReport` has a fault with its number, its location by file, line and column,
 //! what was expected, what was found, and what to do, with the names of the grammar. It prints as one line.
 //!
 //! Each kind of input has a call that makes the report of a fault: `of_expression`, `of_grammar`,
@@ -12,4 +12,4 @@ mod report;
 
 pub use message_texts::{Position, Source};
 pub use refusals::ConvertedPaths;
-pub use report::Report;
+pub use report::FaultReport;

@@ -2,7 +2,7 @@
 
 ghost use Rattle.treefile.specs.devices.Device.{LeavesContent, Persists};
 
-use crate::report::Report;
+use crate::report::FaultReport;
 use ag_fault::Fault;
 use ag_grammar::Grammar;
 use llparse::Tables;
@@ -28,11 +28,11 @@ pub struct ConvertedPaths<'a> {
     pub new: &'a str,
 }
 
-impl Report {
+impl FaultReport {
     /// Returns the report of a fault of the file of this name, or of its content.
-    pub fn of_file(alloc: Global, number: Fault, path: &str) -> Report {
+    pub fn of_file(alloc: Global, number: Fault, path: &str) -> FaultReport {
         let is_named = matches!(number, Fault::File | Fault::Device | Fault::Run(_));
-        let report = Report::new(alloc, number);
+        let report = FaultReport::new(alloc, number);
         if is_named {
             report.with_file(alloc, path)
         } else {
@@ -41,8 +41,8 @@ impl Report {
     }
 
     /// Returns the report of a fault of the text of an expression.
-    pub fn of_expression(alloc: Global, number: Fault, text: &str) -> Report {
-        let mut report = Report::new(alloc, number);
+    pub fn of_expression(alloc: Global, number: Fault, text: &str) -> FaultReport {
+        let mut report = FaultReport::new(alloc, number);
         let written = match &report.number {
             Fault::Expr(fault) => {
                 report.location = locate_in_expression(*fault, text);
@@ -54,10 +54,14 @@ impl Report {
     }
 
     /// Returns the report of a fault of the text of a grammar, which is read again.
-    pub fn of_grammar(alloc: Global, number: Fault, source: Source<'_>) -> Report {
+    pub fn of_grammar(alloc: Global, number: Fault, source: Source<'_>) -> FaultReport {
         let text = GrammarText::new(alloc, source);
         let location = locate_fault_of_grammar(&number, &text);
-        let mut report = Report::new(alloc, number).with_location(alloc, location, source.name);
+        let mut report = FaultReport::new(alloc, number).with_location(
+            alloc,
+            location,
+            source.name,
+        );
         let written = describe_fault_of_grammar(&mut report.parts, &report.number, &text);
         report.or_bare(written)
     }
@@ -70,9 +74,13 @@ impl Report {
         grammar: &Grammar,
         tables: &Tables,
         sentence: Source<'_>,
-    ) -> Report {
+    ) -> FaultReport {
         let location = locate_fault_of_sentence(&number, &sentence);
-        let mut report = Report::new(alloc, number).with_location(alloc, location, sentence.name);
+        let mut report = FaultReport::new(alloc, number).with_location(
+            alloc,
+            location,
+            sentence.name,
+        );
         let sentence = ParsedSentence {
             grammar,
             tables,
@@ -95,7 +103,7 @@ impl Report {
         grammar: &Grammar,
         tree: &mut D,
         path: &str,
-    ) -> Report
+    ) -> FaultReport
         ensures content { LeavesContent (D.is_honest tree.new)
             (D.content tree.old) (D.content tree.new) }
         // nothing is said of a device that failed
@@ -106,7 +114,7 @@ impl Report {
             version: FileVersion::Two,
             grammar,
         };
-        Report::of_file(alloc, number, path).with_tree(alloc, format, tree)
+        FaultReport::of_file(alloc, number, path).with_tree(alloc, format, tree)
     }
 
     /// Returns the report of a fault of converting the tree in an old file, which is read again. It names
@@ -117,7 +125,7 @@ impl Report {
         grammar: &Grammar,
         old: &mut D,
         paths: ConvertedPaths<'_>,
-    ) -> Report
+    ) -> FaultReport
         ensures content { LeavesContent (D.is_honest old.new)
             (D.content old.old) (D.content old.new) }
         // nothing is said of a device that failed
@@ -134,11 +142,16 @@ impl Report {
             _ => false,
         };
         let path = if is_of_old { paths.old } else { paths.new };
-        Report::of_file(alloc, number, path).with_tree(alloc, format, old)
+        FaultReport::of_file(alloc, number, path).with_tree(alloc, format, old)
     }
 
     /// Returns the report with what is wrong with the tree in a file, or with its translation.
-    fn with_tree<D: Device>(mut self, alloc: Global, format: TreeFormat<'_>, tree: &mut D) -> Report
+    fn with_tree<D: Device>(
+        mut self,
+        alloc: Global,
+        format: TreeFormat<'_>,
+        tree: &mut D,
+    ) -> FaultReport
         ensures content { LeavesContent (D.is_honest tree.new)
             (D.content tree.old) (D.content tree.new) }
         ensures persists { Persists (D.is_honest tree.old) (D.is_honest tree.new)

@@ -1,8 +1,8 @@
 -- The faults of a raw grammar, and the result of the search for them.
-pub mod Asking
+pub mod ReferenceChecks
 pub mod Clauses
 pub mod Faults
 pub mod Found
-pub mod Lacking
-pub mod Placed
+pub mod Underivable
+pub mod PlacedItem
 pub mod Readable

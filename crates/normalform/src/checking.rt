@@ -15,10 +15,10 @@ ghost use Rattle.normalform.specs.numbers.Numbers.{numbered};
 
 use crate::fault::NormalFault;
 use crate::faults::clause::{clauses_of, reaching};
-use crate::faults::lacking::first_left;
 use crate::faults::limits::exceeded;
-use crate::faults::naming::{doubled, unknown};
-use crate::faults::rules::{doubled_rules, missing, not_found, not_given};
+use crate::faults::naming::{doubled_checks, unknown_checks};
+use crate::faults::rules::{doubled_rules, missing_checks, not_defined_here, not_found};
+use crate::faults::underivable::first_underivable;
 use crate::numbers::declared::Declared;
 use crate::numbers::moving::{move_symbols, name_at};
 use crate::numbers::numbering::{classes_of, literal_texts, names_of, productions_of, start_of};
@@ -59,10 +59,10 @@ fn naming_fault(
     requires { declared.now ≡ map symbol_of raw.now.symbols }
     ensures { IfOk result (λ f. f ≡ first_wrong (naming_checks raw.now)) }
 {
-    if let Some(fault) = unknown(alloc, declared, raw.productions.as_slice())? {
+    if let Some(fault) = unknown_checks(alloc, declared, raw.productions.as_slice())? {
         return Ok(Some(fault));
     }
-    if let Some(fault) = doubled(alloc, raw.symbols.as_slice())? {
+    if let Some(fault) = doubled_checks(alloc, raw.symbols.as_slice())? {
         return Ok(Some(fault));
     }
     Ok(bad_start(declared, &raw.start))
@@ -76,13 +76,13 @@ fn rule_fault(
 ) -> Result<Option<NormalFault>, NoMemory>
     ensures { IfOk result (λ f. f ≡ first_wrong (rule_kinds declared.now productions.now)) }
 {
-    if let Some(fault) = missing(alloc, declared, productions)? {
+    if let Some(fault) = missing_checks(alloc, declared, productions)? {
         return Ok(Some(fault));
     }
     if let Some(fault) = doubled_rules(alloc, declared, productions)? {
         return Ok(Some(fault));
     }
-    if let Some(fault) = not_given(alloc, declared, productions)? {
+    if let Some(fault) = not_defined_here(alloc, declared, productions)? {
         return Ok(Some(fault));
     }
     not_found(alloc, declared, productions)
@@ -119,7 +119,7 @@ fn unproductive(
     ensures none { IfOk result (λ o. o ≡ None → AreAll (IsProductive (numbered raw.now)) raw.now) }
 {
     let clauses = Clauses::new(alloc, clauses, raw.symbols.as_slice().len())?;
-    first_left(alloc, &clauses, &[])
+    first_underivable(alloc, &clauses, &[])
 }
 
 /// Returns the number of the first symbol that is not reached (N5).
@@ -140,7 +140,7 @@ fn unreachable(
     ensures none { IfOk result (λ o. o ≡ None → AreAll (IsReached (numbered raw.now)) raw.now) }
 {
     let clauses = Clauses::of_edges(alloc, edges, raw.symbols.as_slice().len())?;
-    first_left(alloc, &clauses, &[start])
+    first_underivable(alloc, &clauses, &[start])
 }
 
 /// Returns the first fault of N4 to N10.

@@ -1,11 +1,11 @@
 //! The search for the first fault of a raw grammar.
 
-pub mod asking;
 pub mod clause;
-pub mod lacking;
 pub mod limits;
 pub mod naming;
 pub mod placed;
 pub mod readable;
+pub mod reference_checks;
 pub mod rules;
 pub mod targets;
+pub mod underivable;

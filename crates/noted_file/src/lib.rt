@@ -5,4 +5,4 @@ mod noted;
 mod record;
 
 pub use noted::NotedFile;
-pub use record::Record;
+pub use record::CallRecord;

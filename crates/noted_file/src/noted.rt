@@ -5,7 +5,7 @@ ghost use Rattle.std.specs.Io.KnownBytes.{Appends};
 ghost use Rattle.noted_file.specs.Calls.{append_event, length_event, open_event, read_event};
 ghost use Rattle.noted_file.specs.Calls.{truncate_event};
 
-use crate::record::Record;
+use crate::record::CallRecord;
 use std::fs::{OpenFile, OpenOptions};
 use std::io::{self, Read, Seek, SeekFrom, Write};
 use std::marker::Model;
@@ -25,7 +25,7 @@ const TRUNCATE: u64 = 5;
 #[derive(Drop)]
 pub struct NotedFile<F> {
     file: F,
-    calls: Record,
+    calls: CallRecord,
 }
 
 impl<F> Model for NotedFile<F> {
@@ -48,7 +48,7 @@ impl<F: Read + Write + Seek + OpenFile> NotedFile<F> {
         rt: &Rt,
         how: &OpenOptions,
         path: &str,
-        before: Record,
+        before: CallRecord,
     ) -> io::Result<NotedFile<F>>
         ensures { IfOk result (λ noted. noted.events ≡ open_event path.now ∷ before.events) }
     {

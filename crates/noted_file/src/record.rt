@@ -8,22 +8,22 @@ use std::marker::{Model, PhantomData};
 /// The calls of one file with their answers, newest first, down to the content that the file had
 /// when it was opened. It occupies no memory: only contracts can read it.
 #[derive(Drop)]
-pub struct Record {
+pub struct CallRecord {
     marker: PhantomData<u8>,
     pub ghost events: { List Event },
 }
 
-impl Model for Record {
+impl Model for CallRecord {
     ghost also_owns = { λ _. ftrue };
 }
 
-impl Record {
+impl CallRecord {
     /// Makes the record of a file that is not open yet, with some initial content that no caller
     /// can choose.
-    pub fn new() -> Record
+    pub fn new() -> CallRecord
         ensures { IsFresh result.events }
     {
-        Record {
+        CallRecord {
             marker: PhantomData,
         }
     }

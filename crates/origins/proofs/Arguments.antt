@@ -12,7 +12,7 @@ use Rattle.ag_grammar.specs.declared.grammar.Production.{Production}
 use Rattle.ag_grammar.specs.declared.grammar.Symbol.{Symbol}
 use Rattle.ag_grammar.specs.declared.grammar.Target.{Target}
 use Rattle.ag_grammar.specs.declared.grammar.Terminal.TheVariants.{Literal, Class}
-use Rattle.ag_grammar.specs.grammars.AttributeGrammar.{Grammar, HasKind, Inherited, Kind, Synthesized, found_kind, item_at, item_kinds, stored_items, symbol_kinds}
+use Rattle.ag_grammar.specs.grammars.AttributeGrammar.{Grammar, HasKind, Inherited, Kind, Synthesized, used_kind, item_at, item_kinds, stored_items, symbol_kinds}
 use Rattle.ag_grammar.specs.grammars.Passes.{IsLegal, Passes}
 use Rattle.ag_grammar.specs.grammars.Running.{IsLastPass}
 use Rattle.ag_grammar.specs.grammars.Solution.{NoRule, SolvesAll, Valuation, at, children, rest}
@@ -21,14 +21,14 @@ use Rattle.treefile.specs.records.Records.{copies_of, copy_of, left_synthesized,
 use Rattle.origins.specs.Rows.{attribute_count, copied, copies_before, count_of_symbol, table_of}
 
 -- where each pass is at most k, all values are there, each at its number
-own_value : (k : ℕ) (ps : List ℕ) (e : ℕ → Value) (behind : List Value) (a : ℕ) (d : Value) → Each (λ p. p ≤ k) ps → a < length ps → get_or (values_up_to k ps e ++ behind) a d ≡ e a
-own_value k [] e behind a d all less = absurd (omega arith)
-own_value k (p ∷ ps) e behind zero d all less =
+own_value : (k : ℕ) (ps : List ℕ) (e : ℕ → Value) (following : List Value) (a : ℕ) (d : Value) → Each (λ p. p ≤ k) ps → a < length ps → get_or (values_up_to k ps e ++ following) a d ≡ e a
+own_value k [] e following a d all less = absurd (omega arith)
+own_value k (p ∷ ps) e following zero d all less =
     let test : nat_le p k ≡ true = le-leb p k (all 0 p refl) in
-    ap (λ b. get_or ((cond b (e 0 ∷ []) [] ++ values_up_to k ps (λ a. e (suc a))) ++ behind) 0 d) test
-own_value k (p ∷ ps) e behind (suc a) d all less =
+    ap (λ b. get_or ((cond b (e 0 ∷ []) [] ++ values_up_to k ps (λ a. e (suc a))) ++ following) 0 d) test
+own_value k (p ∷ ps) e following (suc a) d all less =
     let test : nat_le p k ≡ true = le-leb p k (all 0 p refl) in
-    ap (λ b. get_or ((cond b (e 0 ∷ []) [] ++ values_up_to k ps (λ a. e (suc a))) ++ behind) (suc a) d) test ∙ own_value k ps (λ a. e (suc a)) behind a d (λ i n h. all (suc i) n h) (omega arith)
+    ap (λ b. get_or ((cond b (e 0 ∷ []) [] ++ values_up_to k ps (λ a. e (suc a))) ++ following) (suc a) d) test ∙ own_value k ps (λ a. e (suc a)) following a d (λ i n h. all (suc i) n h) (omega arith)
 
 own_length : (k : ℕ) (ps : List ℕ) (e : ℕ → Value) → Each (λ p. p ≤ k) ps → length (values_up_to k ps e) ≡ length ps
 own_length k [] e all = refl
@@ -101,17 +101,17 @@ module _ (g : Grammar) (m : Passes) (k : ℕ) (legal : IsLegal g m) (last : IsLa
       let passes : left_synthesized g m (slice_get g.productions p) ≡ synthesized_passes g m s = ap (left_synthesized g m) f.1 ∙ ap (synthesized_passes g m) f.2 in
       ap (λ ps. length (values_up_to k ps (v []))) passes ∙ own_length k (synthesized_passes g m s) (v []) (synthesized_last s) ∙ synthesized_length s
 
-  copy_value : (x : Item) (t : Tree) (v : Valuation) (behind : List Value) (a : ℕ) (d : Value) → Fits g x t → SolvesAll NoRule g (more t none) (λ i. v) → a < copied g x → get_or (copy_of g m k t v ++ behind) a d ≡ v [] a
-  copy_value (item.Symbol s) (leaf c text) v behind a d f solves less = elim f [ ]
-  copy_value (item.Terminal (Literal l)) (leaf c text) v behind a d f solves less = elim f [ ]
-  copy_value (item.Terminal (Class c)) (leaf e text) v behind zero d f solves less = sym solves.0
-  copy_value (item.Terminal (Class c)) (leaf e text) v behind (suc a) d f solves less = absurd (omega arith)
-  copy_value (item.Terminal (Class c)) (node p ts) v behind a d f solves less = elim f [ ]
-  copy_value (item.Terminal (Literal l)) (node p ts) v behind a d f solves less = elim f [ ]
-  copy_value (item.Symbol s) (node p ts) v behind a d f solves less =
+  copy_value : (x : Item) (t : Tree) (v : Valuation) (following : List Value) (a : ℕ) (d : Value) → Fits g x t → SolvesAll NoRule g (more t none) (λ i. v) → a < copied g x → get_or (copy_of g m k t v ++ following) a d ≡ v [] a
+  copy_value (item.Symbol s) (leaf c text) v following a d f solves less = elim f [ ]
+  copy_value (item.Terminal (Literal l)) (leaf c text) v following a d f solves less = elim f [ ]
+  copy_value (item.Terminal (Class c)) (leaf e text) v following zero d f solves less = sym solves.0
+  copy_value (item.Terminal (Class c)) (leaf e text) v following (suc a) d f solves less = absurd (omega arith)
+  copy_value (item.Terminal (Class c)) (node p ts) v following a d f solves less = elim f [ ]
+  copy_value (item.Terminal (Literal l)) (node p ts) v following a d f solves less = elim f [ ]
+  copy_value (item.Symbol s) (node p ts) v following a d f solves less =
       let passes : left_synthesized g m (slice_get g.productions p) ≡ synthesized_passes g m s = ap (left_synthesized g m) f.1 ∙ ap (synthesized_passes g m) f.2 in
       let long = synthesized_length s in
-      ap (λ ps. get_or (values_up_to k ps (v []) ++ behind) a d) passes ∙ own_value k (synthesized_passes g m s) (v []) behind a d (synthesized_last s) (omega arith)
+      ap (λ ps. get_or (values_up_to k ps (v []) ++ following) a d) passes ∙ own_value k (synthesized_passes g m s) (v []) following a d (synthesized_last s) (omega arith)
 
   copied_value : (xs : List Item) (ts : Forest) (vs : ℕ → Valuation) (j a : ℕ) (x : Item) (d : Value) → FitsAll g xs ts → SolvesAll NoRule g ts vs → slice_get xs j ≡ Some x → a < copied g x → get_or (copies_of g m k ts vs) (copies_before g xs j + a) d ≡ vs j [] a
   copied_value [] ts vs j a x d f solves e less = absurd (let bad : ⊥ = cc in bad)
@@ -129,10 +129,10 @@ module _ (g : Grammar) (m : Passes) (k : ℕ) (legal : IsLegal g m) (last : IsLa
   attribute_length s = legal.whole s ∙ symbol_length (slice_get g.symbols s)
 
   -- what an argument stands for is where it should be
-  pub argument_value : (q : Production) (ts : Forest) (v : Valuation) (o : Target) → FitsAll g (stored_items q.items) ts → SolvesAll NoRule g ts (children v) → HasKind g q o (found_kind o.place) → table_of g q (row g m k q ts v) o.place o.attr ≡ at v o.place o.attr
+  pub argument_value : (q : Production) (ts : Forest) (v : Valuation) (o : Target) → FitsAll g (stored_items q.items) ts → SolvesAll NoRule g ts (children v) → HasKind g q o (used_kind o.place) → table_of g q (row g m k q ts v) o.place o.attr ≡ at v o.place o.attr
   argument_value q ts v o fits solves kind = go o.place o.attr kind
     where
-      go : (j a : ℕ) → slice_get (item_kinds g (item_at q j)) a ≡ Some (found_kind j) → table_of g q (row g m k q ts v) j a ≡ at v j a
+      go : (j a : ℕ) → slice_get (item_kinds g (item_at q j)) a ≡ Some (used_kind j) → table_of g q (row g m k q ts v) j a ≡ at v j a
       go zero a kind =
           let less = slice_get_within (symbol_kinds (slice_get g.symbols q.left)) a Inherited kind in
           let whole = legal.whole q.left in

@@ -104,7 +104,7 @@ record HasSource (r : Rule) (e : Table) : Type 0 where
   number : ℕ
   argument : Target
   source : IsSource r e number
-  stands : slice_get r.args number ≡ Some argument
+  occurs : slice_get r.args number ≡ Some argument
   error : fault_of (e argument.place argument.attr) ≡ None → ⊥
 
 source_of : (r : Rule) (e : Table) (c : ErrorCode) → fault_of (value_of r.expr.0 (environment r e)) ≡ Some c → is_arising e r ≡ false → HasSource r e
@@ -118,7 +118,7 @@ source_of r e c error quiet =
       number = k;
       argument = o;
       source = record { before = on; after = off };
-      stands = is;
+      occurs = is;
       error = λ clean. not_clean r e k on off (ap fault_of (ap (value_at e) is) ∙ clean);
     }
 
@@ -152,9 +152,9 @@ module _ (g : Grammar) (t : Tree) (v : Valuation) where
       by_fault path r is args (Some c) error value_is true test = inr (here path r (at (values_at v path)) is test)
       by_fault path r is args (Some c) error value_is false test =
           let s = source_of r (at (values_at v path)) c error test in
-          elim (args s.argument (s.number, s.stands)) [
+          elim (args s.argument (s.number, s.occurs)) [
             | inl clean ↦ absurd (s.error (ap fault_of (sym (at_instance path s.argument.place s.argument.attr)) ∙ clean))
-            | inr cause ↦ inr (passed path r (at (values_at v path)) s.number s.argument is s.source s.stands cause)
+            | inr cause ↦ inr (passed path r (at (values_at v path)) s.number s.argument is s.source s.occurs cause)
           ]
 
   mutual

@@ -16,7 +16,7 @@ use Rattle.treefile.specs.records.Orders.{prefix, prefix_all}
 use Rattle.treefile.specs.records.Records.{bodies_of, bodies_of_all}
 use Rattle.treefile.specs.records.TreeFile.{version_two}
 use Rattle.origins.specs.Origins.{HasOrigin, child, origin_count, origin_counts}
-use Rattle.origins.specs.Walking.{Kid, StandsIn, bodies_of_kid, count_in, in_order, kids, last_of, way}
+use Rattle.origins.specs.Walking.{Kid, OccursIn, bodies_of_kid, count_in, in_order, kids, last_of, way}
 use Rattle.origins.specs.declared.walk.Open.{Open}
 
 reverse_more : {X : Type 0} (x : X) (xs : List X) → reverse (x ∷ xs) ≡ reverse xs ++ x ∷ []
@@ -122,32 +122,32 @@ module _ (g : Grammar) where
   none_below [] v h = omega arith
   none_below (i ∷ path) v h = none_below path (λ p. v (i ∷ p)) h
 
-  stands_left : (xs ys : List Kid) (path : List ℕ) → StandsIn g xs path → StandsIn g (xs ++ ys) path
-  stands_left [] ys path h = absurd h
-  stands_left (x ∷ xs) ys path h = elim h [ inl a ↦ inl a | inr b ↦ inr (stands_left xs ys path b) ]
+  occurs_left : (xs ys : List Kid) (path : List ℕ) → OccursIn g xs path → OccursIn g (xs ++ ys) path
+  occurs_left [] ys path h = absurd h
+  occurs_left (x ∷ xs) ys path h = elim h [ inl a ↦ inl a | inr b ↦ inr (occurs_left xs ys path b) ]
 
-  stands_right : (xs ys : List Kid) (path : List ℕ) → StandsIn g ys path → StandsIn g (xs ++ ys) path
-  stands_right [] ys path h = h
-  stands_right (x ∷ xs) ys path h = inr (stands_right xs ys path h)
+  occurs_right : (xs ys : List Kid) (path : List ℕ) → OccursIn g ys path → OccursIn g (xs ++ ys) path
+  occurs_right [] ys path h = h
+  occurs_right (x ∷ xs) ys path h = inr (occurs_right xs ys path h)
 
-  stands_reversed : (xs : List Kid) (path : List ℕ) → StandsIn g xs path → StandsIn g (reverse xs) path
-  stands_reversed [] path h = absurd h
-  stands_reversed (x ∷ xs) path h = subst (λ (zs : List Kid). StandsIn g zs path) (sym (reverse_more x xs)) (elim h [ inl a ↦ stands_right (reverse xs) (x ∷ []) path (inl a) | inr b ↦ stands_left (reverse xs) (x ∷ []) path (stands_reversed xs path b) ])
+  occurs_reversed : (xs : List Kid) (path : List ℕ) → OccursIn g xs path → OccursIn g (reverse xs) path
+  occurs_reversed [] path h = absurd h
+  occurs_reversed (x ∷ xs) path h = subst (λ (zs : List Kid). OccursIn g zs path) (sym (reverse_more x xs)) (elim h [ inl a ↦ occurs_right (reverse xs) (x ∷ []) path (inl a) | inr b ↦ occurs_left (reverse xs) (x ∷ []) path (occurs_reversed xs path b) ])
 
-  stands_ordered : (d : Direction) (xs : List Kid) (path : List ℕ) → StandsIn g xs path → StandsIn g (in_order d xs) path
-  stands_ordered LeftToRight xs path h = h
-  stands_ordered RightToLeft xs path h = stands_reversed xs path h
+  occurs_ordered : (d : Direction) (xs : List Kid) (path : List ℕ) → OccursIn g xs path → OccursIn g (in_order d xs) path
+  occurs_ordered LeftToRight xs path h = h
+  occurs_ordered RightToLeft xs path h = occurs_reversed xs path h
 
-  stands_unordered : (d : Direction) (xs : List Kid) (path : List ℕ) → StandsIn g (in_order d xs) path → StandsIn g xs path
-  stands_unordered LeftToRight xs path h = h
-  stands_unordered RightToLeft xs path h = subst (λ (zs : List Kid). StandsIn g zs path) (reverse-reverse xs) (stands_reversed (reverse xs) path h)
+  occurs_unordered : (d : Direction) (xs : List Kid) (path : List ℕ) → OccursIn g (in_order d xs) path → OccursIn g xs path
+  occurs_unordered LeftToRight xs path h = h
+  occurs_unordered RightToLeft xs path h = subst (λ (zs : List Kid). OccursIn g zs path) (reverse-reverse xs) (occurs_reversed (reverse xs) path h)
 
-  stands_at : (n : ℕ) (ts : Forest) (vs : ℕ → Valuation) (i : ℕ) (path : List ℕ) → HasOrigin g path (child ts i) (vs i) → StandsIn g (kids n ts vs) ((n + i) ∷ path)
+  stands_at : (n : ℕ) (ts : Forest) (vs : ℕ → Valuation) (i : ℕ) (path : List ℕ) → HasOrigin g path (child ts i) (vs i) → OccursIn g (kids n ts vs) ((n + i) ∷ path)
   stands_at n none vs i path h = absurd (none_below path (vs i) h)
   stands_at n (more t ts) vs zero path h = let number : n + 0 ≡ n = omega arith in inl (path, ap (λ z. z ∷ path) number, h)
   stands_at n (more t ts) vs (suc i) path h =
       let number : suc n + i ≡ n + suc i = omega arith in
-      inr (subst (λ z. StandsIn g (kids (suc n) ts (rest vs)) (z ∷ path)) number (stands_at (suc n) ts (rest vs) i path h))
+      inr (subst (λ z. OccursIn g (kids (suc n) ts (rest vs)) (z ∷ path)) number (stands_at (suc n) ts (rest vs) i path h))
 
   -- the child of an origin, among children that are numbered from a number on
   pub record IsBelow (n : ℕ) (ts : Forest) (vs : ℕ → Valuation) (path : List ℕ) : Type 0 where
@@ -156,7 +156,7 @@ module _ (g : Grammar) where
     pub path_is : path ≡ (n + number) ∷ deeper
     pub has : HasOrigin g deeper (child ts number) (vs number)
 
-  is_below : (n : ℕ) (ts : Forest) (vs : ℕ → Valuation) (path : List ℕ) → StandsIn g (kids n ts vs) path → IsBelow n ts vs path
+  is_below : (n : ℕ) (ts : Forest) (vs : ℕ → Valuation) (path : List ℕ) → OccursIn g (kids n ts vs) path → IsBelow n ts vs path
   is_below n none vs path h = absurd h
   is_below n (more t ts) vs path h = elim h [
     | inl a ↦ (let number : n ≡ n + 0 = omega arith in record { number = 0; deeper = a.0; path_is = a.1 ∙ ap (λ z. z ∷ a.0) number; has = a.2 })
@@ -166,11 +166,11 @@ module _ (g : Grammar) where
   ]
 
   -- an origin below a child is in the children in any order,
-  pub stands_below : (d : Direction) (ts : Forest) (vs : ℕ → Valuation) (i : ℕ) (path : List ℕ) → HasOrigin g path (child ts i) (vs i) → StandsIn g (in_order d (kids 0 ts vs)) (i ∷ path)
-  stands_below d ts vs i path h =
+  pub occurs_below : (d : Direction) (ts : Forest) (vs : ℕ → Valuation) (i : ℕ) (path : List ℕ) → HasOrigin g path (child ts i) (vs i) → OccursIn g (in_order d (kids 0 ts vs)) (i ∷ path)
+  occurs_below d ts vs i path h =
       let number : 0 + i ≡ i = omega arith in
-      stands_ordered d (kids 0 ts vs) (i ∷ path) (subst (λ z. StandsIn g (kids 0 ts vs) (z ∷ path)) number (stands_at 0 ts vs i path h))
+      occurs_ordered d (kids 0 ts vs) (i ∷ path) (subst (λ z. OccursIn g (kids 0 ts vs) (z ∷ path)) number (stands_at 0 ts vs i path h))
 
   -- and an origin in them is below one
-  pub below_stands : (d : Direction) (ts : Forest) (vs : ℕ → Valuation) (path : List ℕ) → StandsIn g (in_order d (kids 0 ts vs)) path → IsBelow 0 ts vs path
-  below_stands d ts vs path h = is_below 0 ts vs path (stands_unordered d (kids 0 ts vs) path h)
+  pub below_occurs : (d : Direction) (ts : Forest) (vs : ℕ → Valuation) (path : List ℕ) → OccursIn g (in_order d (kids 0 ts vs)) path → IsBelow 0 ts vs path
+  below_occurs d ts vs path h = is_below 0 ts vs path (occurs_unordered d (kids 0 ts vs) path h)

@@ -8,7 +8,7 @@ use Rattle.ag_grammar.specs.declared.grammar.Production.{Production}
 use Rattle.ag_grammar.specs.declared.grammar.Rule.{Rule}
 use Rattle.ag_grammar.specs.declared.grammar.Target.{Target}
 use Rattle.ag_grammar.specs.declared.grammar.Terminal.TheVariants.{Literal, Class}
-use Rattle.ag_grammar.specs.grammars.AttributeGrammar.{Grammar, stored_items, item_at, IsArgument, IsRule, Kind, Synthesized, Inherited, symbol_kinds, item_kinds, given_kind, found_kind}
+use Rattle.ag_grammar.specs.grammars.AttributeGrammar.{Grammar, stored_items, item_at, IsArgument, IsRule, Kind, Synthesized, Inherited, symbol_kinds, item_kinds, defined_kind, used_kind}
 use Rattle.ag_grammar.specs.grammars.Accepted.{IsAccepted, IsStart, IsComplete, IsNormal}
 use Rattle.ag_grammar.specs.grammars.Tree.{Tree, Forest, leaf, node, none, more, Fits, FitsAll, IsTreeOf}
 use Rattle.ag_grammar.specs.declared.direction.Direction.{Direction}
@@ -112,12 +112,12 @@ abbrev InheritedOk : (List ℕ → ℕ → Type 0) → Grammar → Passes → �
 InheritedOk Ok g m k x path = (a p : ℕ) → slice_get (item_passes m x) a ≡ Some p → p ≤ k → slice_get (item_kinds g x) a ≡ Some Inherited → Ok path a
 
 module _ (Ok : List ℕ → ℕ → Type 0) (g : Grammar) (m : Passes) (k : ℕ) (q : Production) (path : List ℕ) (whole : (s : ℕ) → length (m s) ≡ length (symbol_kinds (slice_get g.symbols s))) (complete : IsComplete g q) (normal : IsNormal g q) (legal : IsLegalFor (HasPass m) q) (closed : (r : Rule) → IsRule q r → ((o : Target) → IsArgument r o → Ok (place_path path o.place) o.attr) → Ok (place_path path r.target.place) r.target.attr) (old : (j : ℕ) → Of Ok (λ p. p < k) (place_path path j) (item_passes m (item_at q j))) (given : InheritedOk Ok g m k (Some (item.Symbol q.left)) path) where
-  argument : (j i a p : ℕ) → MayUse k j i p → slice_get (item_passes m (item_at q i)) a ≡ Some p → slice_get (item_kinds g (item_at q i)) a ≡ Some (found_kind i) → ((i : ℕ) → Visited k j (suc i) → Of Ok (λ p. p ≤ k) (place_path path (suc i)) (item_passes m (item_at q (suc i)))) → Ok (place_path path i) a
+  argument : (j i a p : ℕ) → MayUse k j i p → slice_get (item_passes m (item_at q i)) a ≡ Some p → slice_get (item_kinds g (item_at q i)) a ≡ Some (used_kind i) → ((i : ℕ) → Visited k j (suc i) → Of Ok (λ p. p ≤ k) (place_path path (suc i)) (item_passes m (item_at q (suc i)))) → Ok (place_path path i) a
   argument j zero a p u h n vis = given a p h (may_le k j 0 p u) n
   argument zero (suc i) a p u h n vis = vis i tt a p h u
   argument (suc j) (suc i) a p u h n vis = elim u [ inl x ↦ absurd (let e = x.0 in omega arith) | inr y ↦ elim y [ inl x ↦ vis i x.0 a p h x.1 | inr x ↦ old (suc i) a p h x ] ]
 
-  by_rule : (j a : ℕ) → slice_get (item_passes m (item_at q j)) a ≡ Some k → slice_get (item_kinds g (item_at q j)) a ≡ Some (given_kind j) → ((i : ℕ) → Visited k j (suc i) → Of Ok (λ p. p ≤ k) (place_path path (suc i)) (item_passes m (item_at q (suc i)))) → Ok (place_path path j) a
+  by_rule : (j a : ℕ) → slice_get (item_passes m (item_at q j)) a ≡ Some k → slice_get (item_kinds g (item_at q j)) a ≡ Some (defined_kind j) → ((i : ℕ) → Visited k j (suc i) → Of Ok (λ p. p ≤ k) (place_path path (suc i)) (item_passes m (item_at q (suc i)))) → Ok (place_path path j) a
   by_rule j a h n vis =
       let o : Target = record { place = j; attr = a } in
       let c = complete.all o n in

@@ -41,7 +41,7 @@ rule_counted g t v path r e is on =
 -- at the end of a cause there is an origin
 pub causes_have_origins : CausesHaveOrigins
 causes_have_origins g t v path a (here at_path r e is on) = (at_path, rule_counted g t v at_path r e is on)
-causes_have_origins g t v path a (passed at_path r e k o is source stands cause) = causes_have_origins g t v (place_path at_path o.place) o.attr cause
+causes_have_origins g t v path a (passed at_path r e k o is source occurs cause) = causes_have_origins g t v (place_path at_path o.place) o.attr cause
 
 -- what holds at each node as far as something else does
 module _ (R S : List ℕ → List ℕ → Type 0) (g : Grammar) (m : Passes) (h : (path ps : List ℕ) → R path ps → S path ps) where

@@ -16,13 +16,13 @@ use Rattle.ag_grammar.specs.grammars.Passes.{IsLegal, Passes, direction_of, nth,
 use Rattle.ag_grammar.specs.grammars.Running.{IsLastPass}
 use Rattle.ag_grammar.specs.grammars.Solution.{Valuation, at as at_values, children, left_passes}
 use Rattle.ag_grammar.specs.grammars.Tree.{FitsAll, Forest, IsTreeOf, Tree, leaf, node}
-use Rattle.treefile.specs.ways.Backward.{ReadsBack, before_frame, next_before, pass_in, pass_of}
-use Rattle.treefile.proofs.ways.Backward.{pass_of_file}
+use Rattle.treefile.specs.framing.Backward.{ReadsBack, before_frame, next_before, pass_in, pass_of}
+use Rattle.treefile.proofs.framing.Backward.{pass_of_file}
 use Rattle.treefile.specs.records.OneTree.{IsRecorded}
 use Rattle.treefile.specs.records.Orders.{postfix, prefix}
 use Rattle.treefile.specs.records.Records.{IsFileOfTree, bodies_of, copies_of, node_body, token_body, values_up_to}
 use Rattle.treefile.specs.declared.reading.FrameFault.{FrameFault}
-use Rattle.treefile.specs.ways.Ending.{is_tree_file, version_two_usable}
+use Rattle.treefile.specs.framing.Ending.{is_tree_file, version_two_usable}
 use Rattle.treefile.specs.declared.reading.FrameFault.TheVariants.{NotATreeFile}
 use Rattle.treefile.proofs.records.Copies.{copies_well, stored_well}
 use Rattle.treefile.proofs.records.Fitting.{fits_version_two, numbered}
@@ -34,9 +34,9 @@ use Rattle.origins.specs.Arising.{arising_count}
 use Rattle.origins.specs.Origins.{AreOrigins, HasOrigin, origin_count}
 use Rattle.origins.specs.Records.{IsNode, IsTokenBody}
 use Rattle.origins.specs.Rows.{table_of}
-use Rattle.origins.specs.Walking.{AreOpen, ComesNext, Family, HasComeTo, HasEntered, IsComing, IsNotBefore, IsSoFar, IsToCome, Kid, StandsIn, bodies_of_kid, bodies_to_come, count_in, count_to_come, first_after, in_order, kids, last_of, to_come, way}
+use Rattle.origins.specs.Walking.{AreOpen, IsNextRecord, Family, HasComeTo, HasEntered, IsPending, IsNotBefore, IsSoFar, ArePending, Kid, OccursIn, bodies_of_kid, pending_bodies, count_in, pending_count, first_after, in_order, kids, last_of, upcoming, way}
 use Rattle.origins.specs.declared.walk.Open.{Open}
-use Rattle.origins.proofs.Children.{below_stands, count_ordered, drop_there, is_there, kid_number, kid_recorded, kids_bodies, kids_length, none_below, order_length, ordered_at, stands_below}
+use Rattle.origins.proofs.Children.{below_occurs, count_ordered, drop_there, is_there, kid_number, kid_recorded, kids_bodies, kids_length, none_below, order_length, ordered_at, occurs_below}
 use Rattle.origins.proofs.Order.{now_not_before, one_of_both, still_not_before}
 use Rattle.origins.proofs.Arguments.{row}
 use Rattle.origins.proofs.Same.{node_is_no_token, one_body, row_count}
@@ -47,37 +47,37 @@ moved o = record { production = o.production; children = o.children; visited = o
 
 module _ (g : Grammar) (m : Passes) (k : ℕ) (d : Direction) (t : Tree) (v : Valuation) (content : List ℕ) where
   -- an open node without children to come is left
-  leave_at : (at : ℕ) (o : Open) (os : List Open) (first : Option (List ℕ)) (count : ℕ) (fs : List Family) → o.children ≤ o.visited → AreOpen g m k (o ∷ os) fs → ReadsBack version_two content at (bodies_to_come g m k d (o ∷ os) fs) → count + count_to_come g d (o ∷ os) fs ≡ origin_count g t v
-      → ((path : List ℕ) → first ≡ Some path → HasOrigin g path (Some t) v) → ((path : List ℕ) → IsToCome g d (o ∷ os) fs path → HasOrigin g path (Some t) v) → ((path : List ℕ) → HasOrigin g path (Some t) v → IsToCome g d (o ∷ os) fs path ⊎ IsNotBefore first path)
+  leave_at : (at : ℕ) (o : Open) (os : List Open) (first : Option (List ℕ)) (count : ℕ) (fs : List Family) → o.children ≤ o.visited → AreOpen g m k (o ∷ os) fs → ReadsBack version_two content at (pending_bodies g m k d (o ∷ os) fs) → count + pending_count g d (o ∷ os) fs ≡ origin_count g t v
+      → ((path : List ℕ) → first ≡ Some path → HasOrigin g path (Some t) v) → ((path : List ℕ) → ArePending g d (o ∷ os) fs path → HasOrigin g path (Some t) v) → ((path : List ℕ) → HasOrigin g path (Some t) v → ArePending g d (o ∷ os) fs path ⊎ IsNotBefore first path)
       → IsSoFar g m k d t v content at os first count
-  leave_at at o os first count [] done fit read counted there coming all = elim fit [ ]
-  leave_at at o os first count (f ∷ fs) done fit read counted there coming all =
+  leave_at at o os first count [] done fit read counted there pending all = elim fit [ ]
+  leave_at at o os first count (f ∷ fs) done fit read counted there pending all =
       let long = kids_length g (stored_items fit.0.items) 0 f.trees f.values fit.2 in
       let ordered = order_length d (kids 0 f.trees f.values) in
       let many = fit.5 in
-      let nothing : to_come d o f ≡ [] = drop_all o.visited (in_order d (kids 0 f.trees f.values)) (omega arith) in
+      let nothing : upcoming d o f ≡ [] = drop_all o.visited (in_order d (kids 0 f.trees f.values)) (omega arith) in
       record {
         families = fs;
         fit = fit.6;
-        read = subst (λ (ks : List Kid). ReadsBack version_two content at (flat_map (bodies_of_kid g m k d) ks ++ bodies_to_come g m k d os fs)) nothing read;
-        counted = let less : count_in g (to_come d o f) ≡ 0 = ap (count_in g) nothing in omega arith;
+        read = subst (λ (ks : List Kid). ReadsBack version_two content at (flat_map (bodies_of_kid g m k d) ks ++ pending_bodies g m k d os fs)) nothing read;
+        counted = let less : count_in g (upcoming d o f) ≡ 0 = ap (count_in g) nothing in omega arith;
         there = there;
-        coming = λ path c. coming path (inr c);
+        pending = λ path c. pending path (inr c);
         all = λ path h. elim (all path h) [
-          | inl a ↦ elim a [ inl b ↦ absurd (subst (λ (ks : List Kid). StandsIn g ks b.0) nothing b.2) | inr c ↦ inl c ]
+          | inl a ↦ elim a [ inl b ↦ absurd (subst (λ (ks : List Kid). OccursIn g ks b.0) nothing b.2) | inr c ↦ inl c ]
           | inr b ↦ inr b
         ];
       }
 
   pub leave : (at : ℕ) (o : Open) (os : List Open) (first : Option (List ℕ)) (count : ℕ) → o.children ≤ o.visited → IsSoFar g m k d t v content at (o ∷ os) first count → IsSoFar g m k d t v content at os first count
-  leave at o os first count done s = leave_at at o os first count s.families done s.fit s.read s.counted s.there s.coming s.all
+  leave at o os first count done s = leave_at at o os first count s.families done s.fit s.read s.counted s.there s.pending s.all
 
   -- an open node's next child comes
-  visit_at : (at : ℕ) (o : Open) (os : List Open) (x : Item) (first : Option (List ℕ)) (count : ℕ) (fs : List Family) → o.visited < o.children → ((q : Production) → IsProduction g o.production q → slice_get (stored_items q.items) (nth d o.children o.visited) ≡ Some x) → AreOpen g m k (o ∷ os) fs → ReadsBack version_two content at (bodies_to_come g m k d (o ∷ os) fs) → count + count_to_come g d (o ∷ os) fs ≡ origin_count g t v
-      → ((path : List ℕ) → first ≡ Some path → HasOrigin g path (Some t) v) → ((path : List ℕ) → IsToCome g d (o ∷ os) fs path → HasOrigin g path (Some t) v) → ((path : List ℕ) → HasOrigin g path (Some t) v → IsToCome g d (o ∷ os) fs path ⊎ IsNotBefore first path)
-      → IsComing g m k d t v content at x (moved o ∷ os) first count
-  visit_at at o os x first count [] less is fit read counted there coming all = elim fit [ ]
-  visit_at at o os x first count (f ∷ fs) less is fit read counted there coming all =
+  visit_at : (at : ℕ) (o : Open) (os : List Open) (x : Item) (first : Option (List ℕ)) (count : ℕ) (fs : List Family) → o.visited < o.children → ((q : Production) → IsProduction g o.production q → slice_get (stored_items q.items) (nth d o.children o.visited) ≡ Some x) → AreOpen g m k (o ∷ os) fs → ReadsBack version_two content at (pending_bodies g m k d (o ∷ os) fs) → count + pending_count g d (o ∷ os) fs ≡ origin_count g t v
+      → ((path : List ℕ) → first ≡ Some path → HasOrigin g path (Some t) v) → ((path : List ℕ) → ArePending g d (o ∷ os) fs path → HasOrigin g path (Some t) v) → ((path : List ℕ) → HasOrigin g path (Some t) v → ArePending g d (o ∷ os) fs path ⊎ IsNotBefore first path)
+      → IsPending g m k d t v content at x (moved o ∷ os) first count
+  visit_at at o os x first count [] less is fit read counted there pending all = elim fit [ ]
+  visit_at at o os x first count (f ∷ fs) less is fit read counted there pending all =
       let ks = kids 0 f.trees f.values in
       let long : length ks ≡ length (stored_items fit.0.items) = kids_length g (stored_items fit.0.items) 0 f.trees f.values fit.2 in
       let ordered = order_length d ks in
@@ -92,27 +92,27 @@ module _ (g : Grammar) (m : Passes) (k : ℕ) (d : Direction) (t : Tree) (v : Va
       let one = kid_number 0 f.trees f.values (nth d o.children o.visited) kid here in
       let whole : kid.number ≡ nth d o.children o.visited = omega arith in whole ∙ ap (nth d o.children) (sym turn) in
       let one_more : suc o.visited ≡ o.visited + 1 = omega arith in
-      let rest_is : to_come d o f ≡ kid ∷ to_come d (moved o) f = drop_there (in_order d ks) o.visited kid found.1 ∙ ap (λ (n : ℕ). kid ∷ drop n (in_order d ks)) one_more in
+      let rest_is : upcoming d o f ≡ kid ∷ upcoming d (moved o) f = drop_there (in_order d ks) o.visited kid found.1 ∙ ap (λ (n : ℕ). kid ∷ drop n (in_order d ks)) one_more in
       let path_is : (deeper : List ℕ) → way d os ++ (kid.number ∷ deeper) ≡ way d (moved o ∷ os) ++ deeper = λ deeper. ap (λ (n : ℕ). way d os ++ (n ∷ deeper)) number ∙ sym (append_assoc (way d os) (last_of d (moved o) ∷ []) deeper) in
       let bodies = bodies_of_kid g m k d kid in
-      let others = flat_map (bodies_of_kid g m k d) (to_come d (moved o) f) in
+      let others = flat_map (bodies_of_kid g m k d) (upcoming d (moved o) f) in
       record {
         tree = kid.tree;
         values = kid.values;
         recorded = kid_recorded g m k (stored_items fit.0.items) 0 f.trees f.values (nth d o.children o.visited) kid x fit.2 fit.3 fit.4 here (is fit.0 fit.1);
         families = f ∷ fs;
         fit = fit;
-        read = subst (ReadsBack version_two content at) (append_assoc bodies others (bodies_to_come g m k d os fs)) (subst (λ (zs : List Kid). ReadsBack version_two content at (flat_map (bodies_of_kid g m k d) zs ++ bodies_to_come g m k d os fs)) rest_is read);
-        counted = let split : count_in g (to_come d o f) ≡ origin_count g kid.tree kid.values + count_in g (to_come d (moved o) f) = ap (count_in g) rest_is in omega arith;
+        read = subst (ReadsBack version_two content at) (append_assoc bodies others (pending_bodies g m k d os fs)) (subst (λ (zs : List Kid). ReadsBack version_two content at (flat_map (bodies_of_kid g m k d) zs ++ pending_bodies g m k d os fs)) rest_is read);
+        counted = let split : count_in g (upcoming d o f) ≡ origin_count g kid.tree kid.values + count_in g (upcoming d (moved o) f) = ap (count_in g) rest_is in omega arith;
         there = there;
-        below = λ deeper h. subst (λ path. HasOrigin g path (Some t) v) (path_is deeper) (coming (way d os ++ (kid.number ∷ deeper)) (inl (kid.number ∷ deeper, refl, subst (λ (zs : List Kid). StandsIn g zs (kid.number ∷ deeper)) (sym rest_is) (inl (deeper, refl, h)))));
-        coming = λ path c. elim c [
-          | inl a ↦ coming path (inl (a.0, a.1, subst (λ (zs : List Kid). StandsIn g zs a.0) (sym rest_is) (inr a.2)))
-          | inr b ↦ coming path (inr b)
+        below = λ deeper h. subst (λ path. HasOrigin g path (Some t) v) (path_is deeper) (pending (way d os ++ (kid.number ∷ deeper)) (inl (kid.number ∷ deeper, refl, subst (λ (zs : List Kid). OccursIn g zs (kid.number ∷ deeper)) (sym rest_is) (inl (deeper, refl, h)))));
+        pending = λ path c. elim c [
+          | inl a ↦ pending path (inl (a.0, a.1, subst (λ (zs : List Kid). OccursIn g zs a.0) (sym rest_is) (inr a.2)))
+          | inr b ↦ pending path (inr b)
         ];
         all = λ path h. elim (all path h) [
           | inl a ↦ elim a [
-            | inl b ↦ elim (let stands : StandsIn g (kid ∷ to_come d (moved o) f) b.0 = subst (λ (zs : List Kid). StandsIn g zs b.0) rest_is b.2 in stands) [
+            | inl b ↦ elim (let occurs : OccursIn g (kid ∷ upcoming d (moved o) f) b.0 = subst (λ (zs : List Kid). OccursIn g zs b.0) rest_is b.2 in occurs) [
               | inl c ↦ inl (c.0, b.1 ∙ ap (λ (z : List ℕ). way d os ++ z) c.1 ∙ path_is c.0, c.2)
               | inr c ↦ inr (inl (inl (b.0, b.1, c)))
             ]
@@ -122,8 +122,8 @@ module _ (g : Grammar) (m : Passes) (k : ℕ) (d : Direction) (t : Tree) (v : Va
         ];
       }
 
-  pub visit : (at : ℕ) (o : Open) (os : List Open) (x : Item) (first : Option (List ℕ)) (count : ℕ) → o.visited < o.children → ((q : Production) → IsProduction g o.production q → slice_get (stored_items q.items) (nth d o.children o.visited) ≡ Some x) → IsSoFar g m k d t v content at (o ∷ os) first count → IsComing g m k d t v content at x (moved o ∷ os) first count
-  visit at o os x first count less is s = visit_at at o os x first count s.families less is s.fit s.read s.counted s.there s.coming s.all
+  pub visit : (at : ℕ) (o : Open) (os : List Open) (x : Item) (first : Option (List ℕ)) (count : ℕ) → o.visited < o.children → ((q : Production) → IsProduction g o.production q → slice_get (stored_items q.items) (nth d o.children o.visited) ≡ Some x) → IsSoFar g m k d t v content at (o ∷ os) first count → IsPending g m k d t v content at x (moved o ∷ os) first count
+  visit at o os x first count less is s = visit_at at o os x first count s.families less is s.fit s.read s.counted s.there s.pending s.all
 
   -- what is found before an offset is what should be there
   same_body : (at : ℕ) (body another : List ℕ) → next_before version_two content at ≡ Ok (Some body) → next_before version_two content at ≡ Ok (Some another) → body ≡ another
@@ -135,48 +135,48 @@ module _ (g : Grammar) (m : Passes) (k : ℕ) (d : Direction) (t : Tree) (v : Va
   no_leaf c x (i ∷ path) w h = none_below g path (λ p. w (i ∷ p)) h
 
   -- a token was read
-  token_at : (at : ℕ) (x : Item) (os : List Open) (first : Option (List ℕ)) (count : ℕ) (body : List ℕ) (tree : Tree) (w : Valuation) (fs : List Family) → IsTokenBody body → next_before version_two content at ≡ Ok (Some body) → AreOpen g m k os fs → ReadsBack version_two content at (prefix d (bodies_of version_two g m k tree w) ++ bodies_to_come g m k d os fs) → count + (origin_count g tree w + count_to_come g d os fs) ≡ origin_count g t v
-      → ((path : List ℕ) → first ≡ Some path → HasOrigin g path (Some t) v) → ((path : List ℕ) → IsToCome g d os fs path → HasOrigin g path (Some t) v) → ((path : List ℕ) → HasOrigin g path (Some t) v → ((deeper : List ℕ) × (path ≡ way d os ++ deeper) × HasOrigin g deeper (Some tree) w) ⊎ IsToCome g d os fs path ⊎ IsNotBefore first path)
+  token_at : (at : ℕ) (x : Item) (os : List Open) (first : Option (List ℕ)) (count : ℕ) (body : List ℕ) (tree : Tree) (w : Valuation) (fs : List Family) → IsTokenBody body → next_before version_two content at ≡ Ok (Some body) → AreOpen g m k os fs → ReadsBack version_two content at (prefix d (bodies_of version_two g m k tree w) ++ pending_bodies g m k d os fs) → count + (origin_count g tree w + pending_count g d os fs) ≡ origin_count g t v
+      → ((path : List ℕ) → first ≡ Some path → HasOrigin g path (Some t) v) → ((path : List ℕ) → ArePending g d os fs path → HasOrigin g path (Some t) v) → ((path : List ℕ) → HasOrigin g path (Some t) v → ((deeper : List ℕ) × (path ≡ way d os ++ deeper) × HasOrigin g deeper (Some tree) w) ⊎ ArePending g d os fs path ⊎ IsNotBefore first path)
       → IsSoFar g m k d t v content (before_frame at body) os first count
-  token_at at x os first count body (node p ts) w fs is found fit read counted there coming all =
+  token_at at x os first count body (node p ts) w fs is found fit read counted there pending all =
       let same = same_body at body (node_body version_two g m k p (w []) (copies_of g m k ts (children w))) found read.0 in
       absurd (node_is_no_token p is.class _ is.spelling (sym same ∙ is.same))
-  token_at at x os first count body (leaf c text) w fs is found fit read counted there coming all =
+  token_at at x os first count body (leaf c text) w fs is found fit read counted there pending all =
       let same : token_body c text ≡ body = same_body at (token_body c text) body read.0 found in
       record {
         families = fs;
         fit = fit;
-        read = subst (λ (b : List ℕ). ReadsBack version_two content (before_frame at b) (bodies_to_come g m k d os fs)) same read.1;
+        read = subst (λ (b : List ℕ). ReadsBack version_two content (before_frame at b) (pending_bodies g m k d os fs)) same read.1;
         counted = omega arith;
         there = there;
-        coming = coming;
+        pending = pending;
         all = λ path h. elim (all path h) [ inl a ↦ absurd (no_leaf c text a.0 w a.2) | inr b ↦ b ];
       }
 
-  pub token : (at : ℕ) (x : Item) (os : List Open) (first : Option (List ℕ)) (count : ℕ) (body : List ℕ) → IsTokenBody body → next_before version_two content at ≡ Ok (Some body) → IsComing g m k d t v content at x os first count → IsSoFar g m k d t v content (before_frame at body) os first count
-  token at x os first count body is found s = token_at at x os first count body s.tree s.values s.families is found s.fit s.read s.counted s.there s.coming s.all
+  pub token : (at : ℕ) (x : Item) (os : List Open) (first : Option (List ℕ)) (count : ℕ) (body : List ℕ) → IsTokenBody body → next_before version_two content at ≡ Ok (Some body) → IsPending g m k d t v content at x os first count → IsSoFar g m k d t v content (before_frame at body) os first count
+  token at x os first count body is found s = token_at at x os first count body s.tree s.values s.families is found s.fit s.read s.counted s.there s.pending s.all
 
   -- an origin at an entered node, or below it
   entered : (os : List Open) (fs : List Family) (p n : ℕ) (q : Production) (r : ℕ) (ts : Forest) (w : Valuation) (first now : Option (List ℕ)) (path deeper : List ℕ) → now ≡ first_after first n (way d os) → n ≡ arising_count (slice_get g.productions r) (at_values w) → path ≡ way d os ++ deeper → HasOrigin g deeper (Some (node r ts)) w
-      → IsToCome g d (record { production = p; children = length (stored_items q.items); visited = 0 } ∷ os) (record { trees = ts; values = children w } ∷ fs) path ⊎ IsNotBefore now path
+      → ArePending g d (record { production = p; children = length (stored_items q.items); visited = 0 } ∷ os) (record { trees = ts; values = children w } ∷ fs) path ⊎ IsNotBefore now path
   entered os fs p n q r ts w first now path [] firsts arising e h =
       let same : path ≡ way d os = e ∙ append-nil (way d os) in
       let some : 0 < n = let here : 0 < arising_count (slice_get g.productions r) (at_values w) = h in omega arith in
       inr (subst (IsNotBefore now) (sym same) (subst (λ z. IsNotBefore z (way d os)) (sym firsts) (now_not_before first n (way d os) some)))
-  entered os fs p n q r ts w first now path (i ∷ deeper) firsts arising e h = inl (inl (i ∷ deeper, e, stands_below g d ts (children w) i deeper h))
+  entered os fs p n q r ts w first now path (i ∷ deeper) firsts arising e h = inl (inl (i ∷ deeper, e, occurs_below g d ts (children w) i deeper h))
 
   -- a node was entered
   enter_at : (at : ℕ) (x : Item) (os : List Open) (first now : Option (List ℕ)) (count total : ℕ) (body : List ℕ) (p : ℕ) (q : Production) (vs : List Value) (tree : Tree) (w : Valuation) (fs : List Family) → IsAccepted g → IsLegal g m → IsLastPass k m → IsProduction g p q → All IsWell vs → body ≡ body_of Node p vs → next_before version_two content at ≡ Ok (Some body)
       → total ≡ count + arising_count (Some q) (table_of g q vs) → now ≡ first_after first (arising_count (Some q) (table_of g q vs)) (way d os)
-      → IsRecorded g m k x tree w → AreOpen g m k os fs → ReadsBack version_two content at (prefix d (bodies_of version_two g m k tree w) ++ bodies_to_come g m k d os fs) → count + (origin_count g tree w + count_to_come g d os fs) ≡ origin_count g t v
-      → ((path : List ℕ) → first ≡ Some path → HasOrigin g path (Some t) v) → ((deeper : List ℕ) → HasOrigin g deeper (Some tree) w → HasOrigin g (way d os ++ deeper) (Some t) v) → ((path : List ℕ) → IsToCome g d os fs path → HasOrigin g path (Some t) v) → ((path : List ℕ) → HasOrigin g path (Some t) v → ((deeper : List ℕ) × (path ≡ way d os ++ deeper) × HasOrigin g deeper (Some tree) w) ⊎ IsToCome g d os fs path ⊎ IsNotBefore first path)
+      → IsRecorded g m k x tree w → AreOpen g m k os fs → ReadsBack version_two content at (prefix d (bodies_of version_two g m k tree w) ++ pending_bodies g m k d os fs) → count + (origin_count g tree w + pending_count g d os fs) ≡ origin_count g t v
+      → ((path : List ℕ) → first ≡ Some path → HasOrigin g path (Some t) v) → ((deeper : List ℕ) → HasOrigin g deeper (Some tree) w → HasOrigin g (way d os ++ deeper) (Some t) v) → ((path : List ℕ) → ArePending g d os fs path → HasOrigin g path (Some t) v) → ((path : List ℕ) → HasOrigin g path (Some t) v → ((deeper : List ℕ) × (path ≡ way d os ++ deeper) × HasOrigin g deeper (Some tree) w) ⊎ ArePending g d os fs path ⊎ IsNotBefore first path)
       → IsSoFar g m k d t v content (before_frame at body) (record { production = p; children = length (stored_items q.items); visited = 0 } ∷ os) now total
-  enter_at at x os first now count total body p q vs (leaf c text) w fs accepted legal last is well same found counts firsts recorded fit read counted there below coming all =
+  enter_at at x os first now count total body p q vs (leaf c text) w fs accepted legal last is well same found counts firsts recorded fit read counted there below pending all =
       let one = same_body at body (token_body c text) found read.0 in
       absurd (node_is_no_token p c _ _ (sym same ∙ one))
-  enter_at at (item.Terminal (Class c)) os first now count total body p q vs (node r ts) w fs accepted legal last is well same found counts firsts recorded fit read counted there below coming all = elim recorded.fits [ ]
-  enter_at at (item.Terminal (Literal l)) os first now count total body p q vs (node r ts) w fs accepted legal last is well same found counts firsts recorded fit read counted there below coming all = elim recorded.fits [ ]
-  enter_at at (item.Symbol s) os first now count total body p q vs (node r ts) w fs accepted legal last is well same found counts firsts recorded fit read counted there below coming all =
+  enter_at at (item.Terminal (Class c)) os first now count total body p q vs (node r ts) w fs accepted legal last is well same found counts firsts recorded fit read counted there below pending all = elim recorded.fits [ ]
+  enter_at at (item.Terminal (Literal l)) os first now count total body p q vs (node r ts) w fs accepted legal last is well same found counts firsts recorded fit read counted there below pending all = elim recorded.fits [ ]
+  enter_at at (item.Symbol s) os first now count total body p q vs (node r ts) w fs accepted legal last is well same found counts firsts recorded fit read counted there below pending all =
       let f = recorded.fits in
       let own = values_up_to k (left_passes m (slice_get g.productions r)) (w []) in
       let copies = copies_of g m k ts (children w) in
@@ -198,16 +198,16 @@ module _ (g : Grammar) (m : Passes) (k : ℕ) (d : Direction) (t : Tree) (v : Va
       record {
         families = record { trees = ts; values = children w } ∷ fs;
         fit = (q, is, fits, recorded.texts.1, recorded.well.1, refl, fit);
-        read = subst (λ (b : List ℕ). ReadsBack version_two content (before_frame at b) (flat_map (bodies_of_kid g m k d) (in_order d (kids 0 ts (children w))) ++ bodies_to_come g m k d os fs)) (sym one)
-            (subst (λ (bs : List (List ℕ)). ReadsBack version_two content (before_frame at (body_of Node r (own ++ copies))) (bs ++ bodies_to_come g m k d os fs)) (sym bodies) read.1);
+        read = subst (λ (b : List ℕ). ReadsBack version_two content (before_frame at b) (flat_map (bodies_of_kid g m k d) (in_order d (kids 0 ts (children w))) ++ pending_bodies g m k d os fs)) (sym one)
+            (subst (λ (bs : List (List ℕ)). ReadsBack version_two content (before_frame at (body_of Node r (own ++ copies))) (bs ++ pending_bodies g m k d os fs)) (sym bodies) read.1);
         counted = omega arith;
         there = λ path e. one_of_both (λ z. HasOrigin g z (Some t) v) first n (way d os) there root path (sym firsts ∙ e);
-        coming = λ path c. elim c [
-          | inl a ↦ (let b = below_stands g d ts (children w) a.0 a.2 in
+        pending = λ path c. elim c [
+          | inl a ↦ (let b = below_occurs g d ts (children w) a.0 a.2 in
               let number : 0 + b.number ≡ b.number = omega arith in
               let path_is : path ≡ way d os ++ (b.number ∷ b.deeper) = a.1 ∙ ap (λ (z : List ℕ). way d os ++ z) (b.path_is ∙ ap (λ z. z ∷ b.deeper) number) in
               subst (λ z. HasOrigin g z (Some t) v) (sym path_is) (below (b.number ∷ b.deeper) b.has))
-          | inr b ↦ coming path b
+          | inr b ↦ pending path b
         ];
         all = λ path h. elim (all path h) [
           | inl a ↦ entered os fs p n q r ts w first now path a.0 firsts arising a.1 a.2
@@ -217,11 +217,11 @@ module _ (g : Grammar) (m : Passes) (k : ℕ) (d : Direction) (t : Tree) (v : Va
 
   pub enter : (at : ℕ) (x : Item) (os : List Open) (first now : Option (List ℕ)) (count total : ℕ) (body : List ℕ) (p : ℕ) (q : Production) (vs : List Value) → IsAccepted g → IsLegal g m → IsLastPass k m → IsProduction g p q → All IsWell vs → body ≡ body_of Node p vs → next_before version_two content at ≡ Ok (Some body)
       → total ≡ count + arising_count (Some q) (table_of g q vs) → now ≡ first_after first (arising_count (Some q) (table_of g q vs)) (way d os)
-      → IsComing g m k d t v content at x os first count → IsSoFar g m k d t v content (before_frame at body) (record { production = p; children = length (stored_items q.items); visited = 0 } ∷ os) now total
-  enter at x os first now count total body p q vs accepted legal last is well same found counts firsts s = enter_at at x os first now count total body p q vs s.tree s.values s.families accepted legal last is well same found counts firsts s.recorded s.fit s.read s.counted s.there s.below s.coming s.all
+      → IsPending g m k d t v content at x os first count → IsSoFar g m k d t v content (before_frame at body) (record { production = p; children = length (stored_items q.items); visited = 0 } ∷ os) now total
+  enter at x os first now count total body p q vs accepted legal last is well same found counts firsts s = enter_at at x os first now count total body p q vs s.tree s.values s.families accepted legal last is well same found counts firsts s.recorded s.fit s.read s.counted s.there s.below s.pending s.all
 
   -- nothing is open: all origins were found
-  end_at : (at : ℕ) (first : Option (List ℕ)) (count : ℕ) (fs : List Family) → count + count_to_come g d [] fs ≡ origin_count g t v → ((path : List ℕ) → first ≡ Some path → HasOrigin g path (Some t) v) → ((path : List ℕ) → HasOrigin g path (Some t) v → IsToCome g d [] fs path ⊎ IsNotBefore first path) → AreOrigins g t v first count
+  end_at : (at : ℕ) (first : Option (List ℕ)) (count : ℕ) (fs : List Family) → count + pending_count g d [] fs ≡ origin_count g t v → ((path : List ℕ) → first ≡ Some path → HasOrigin g path (Some t) v) → ((path : List ℕ) → HasOrigin g path (Some t) v → ArePending g d [] fs path ⊎ IsNotBefore first path) → AreOrigins g t v first count
   end_at at None count fs counted there all = record {
     leads = λ path h. elim (all path h) [ inl a ↦ a | inr b ↦ b ];
     counted = omega arith;
@@ -235,7 +235,7 @@ module _ (g : Grammar) (m : Passes) (k : ℕ) (d : Direction) (t : Tree) (v : Va
   end at first count s = end_at at first count s.families s.counted s.there s.all
 
 -- the root comes first
-pub begin : (g : Grammar) (m : Passes) (k : ℕ) (t : Tree) (v : Valuation) (content : List ℕ) → IsAccepted g → IsLegal g m → IsTreeOf g t → IsFileOfTree version_two g m k t v content → IsComing g m k (other (direction_of k)) t v content (length content) (item.Symbol g.start) [] None 0
+pub begin : (g : Grammar) (m : Passes) (k : ℕ) (t : Tree) (v : Valuation) (content : List ℕ) → IsAccepted g → IsLegal g m → IsTreeOf g t → IsFileOfTree version_two g m k t v content → IsPending g m k (other (direction_of k)) t v content (length content) (item.Symbol g.start) [] None 0
 begin g m k t v content accepted legal tree is =
     let bodies = prefix (other (direction_of k)) (bodies_of version_two g m k t v) in
     let back : ReadsBack version_two content (length content) bodies = file_back version_two g m k t v content (fits_version_two g m accepted legal).1 tree is version_two_usable in
@@ -249,15 +249,15 @@ begin g m k t v content accepted legal tree is =
       counted = omega arith;
       there = λ path e. absurd (let bad : ⊥ = cc in bad);
       below = λ deeper h. h;
-      coming = λ path c. absurd c;
+      pending = λ path c. absurd c;
       all = λ path h. inl (path, refl, h);
     }
 
 -- how far a walk has come, over lists of open nodes with the innermost last
-pub read_token : (g : Grammar) (d : Direction) (content : List ℕ) (at : ℕ) (x : Item) (os : List Open) (first : Option (List ℕ)) (count : ℕ) (body : List ℕ) → IsTokenBody body → next_before version_two content at ≡ Ok (Some body) → ComesNext g d content at x os first count → HasComeTo g d content (before_frame at body) os first count
+pub read_token : (g : Grammar) (d : Direction) (content : List ℕ) (at : ℕ) (x : Item) (os : List Open) (first : Option (List ℕ)) (count : ℕ) (body : List ℕ) → IsTokenBody body → next_before version_two content at ≡ Ok (Some body) → IsNextRecord g d content at x os first count → HasComeTo g d content (before_frame at body) os first count
 read_token g d content at x os first count body is found next = λ m k t v small legal last tree file. token g m k d t v content at x os first count body is found (next m k t v small legal last tree file)
 
-pub read_node : (g : Grammar) (d : Direction) (content : List ℕ) (at : ℕ) (x : Item) (old new : List Open) (first now : Option (List ℕ)) (count total : ℕ) (body : List ℕ) (p : ℕ) (vs : List Value) → IsAccepted g → IsNode g body p vs → HasEntered g d p vs old new first now count total → next_before version_two content at ≡ Ok (Some body) → ComesNext g d content at x (reverse old) first count → HasComeTo g d content (before_frame at body) (reverse new) now total
+pub read_node : (g : Grammar) (d : Direction) (content : List ℕ) (at : ℕ) (x : Item) (old new : List Open) (first now : Option (List ℕ)) (count total : ℕ) (body : List ℕ) (p : ℕ) (vs : List Value) → IsAccepted g → IsNode g body p vs → HasEntered g d p vs old new first now count total → next_before version_two content at ≡ Ok (Some body) → IsNextRecord g d content at x (reverse old) first count → HasComeTo g d content (before_frame at body) (reverse new) now total
 read_node g d content at x old new first now count total body p vs accepted is entered found next =
     let q = entered.production in
     let node : Open = record { production = p; children = length (stored_items q.items); visited = 0 } in
@@ -278,12 +278,12 @@ pass_is : (content : List ℕ) (pass : ℕ) (b : Bool) → ◌≡◌ {A = Result
 pass_is content pass true e = cc
 pass_is content pass false e = absurd (let bad : ⊥ = cc in bad)
 
-pub begin_next : (g : Grammar) (d : Direction) (content : List ℕ) (at pass start : ℕ) (os : List Open) → IsAccepted g → at ≡ length content → d ≡ other (direction_of pass) → pass_in version_two content ≡ Ok pass → start ≡ g.start → os ≡ [] → ComesNext g d content at (item.Symbol start) os None 0
-begin_next g d content at pass start os accepted end direction told symbol nothing = λ m k t v small legal last tree file.
-    let stands : pass_of content ≡ k = ap pass_of file.stands ∙ pass_of_file version_two k (flat_map frame (postfix (direction_of k) (bodies_of version_two g m k t v))) version_two_usable small in
-    let same : pass ≡ k = sym (pass_is content pass (is_tree_file version_two content) told) ∙ stands in
+pub begin_next : (g : Grammar) (d : Direction) (content : List ℕ) (at pass start : ℕ) (os : List Open) → IsAccepted g → at ≡ length content → d ≡ other (direction_of pass) → pass_in version_two content ≡ Ok pass → start ≡ g.start → os ≡ [] → IsNextRecord g d content at (item.Symbol start) os None 0
+begin_next g d content at pass start os accepted end direction exact symbol nothing = λ m k t v small legal last tree file.
+    let occurs : pass_of content ≡ k = ap pass_of file.occurs ∙ pass_of_file version_two k (flat_map frame (postfix (direction_of k) (bodies_of version_two g m k t v))) version_two_usable small in
+    let same : pass ≡ k = sym (pass_is content pass (is_tree_file version_two content) exact) ∙ occurs in
     let way_is : other (direction_of k) ≡ d = sym (direction ∙ ap (λ z. other (direction_of z)) same) in
-    subst (λ (z : Direction). IsComing g m k z t v content at (item.Symbol start) os None 0) way_is
-    (subst (λ (z : ℕ). IsComing g m k (other (direction_of k)) t v content z (item.Symbol start) os None 0) (sym end)
-    (subst (λ (z : ℕ). IsComing g m k (other (direction_of k)) t v content (length content) (item.Symbol z) os None 0) (sym symbol)
-    (subst (λ (z : List Open). IsComing g m k (other (direction_of k)) t v content (length content) (item.Symbol g.start) z None 0) (sym nothing) (begin g m k t v content accepted legal tree file))))
+    subst (λ (z : Direction). IsPending g m k z t v content at (item.Symbol start) os None 0) way_is
+    (subst (λ (z : ℕ). IsPending g m k (other (direction_of k)) t v content z (item.Symbol start) os None 0) (sym end)
+    (subst (λ (z : ℕ). IsPending g m k (other (direction_of k)) t v content (length content) (item.Symbol z) os None 0) (sym symbol)
+    (subst (λ (z : List Open). IsPending g m k (other (direction_of k)) t v content (length content) (item.Symbol g.start) z None 0) (sym nothing) (begin g m k t v content accepted legal tree file))))

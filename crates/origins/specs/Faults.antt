@@ -3,12 +3,12 @@ use Rattle.ag_value.specs.declared.fault.ValueFault.{ValueFault}
 use Rattle.ag_value.specs.declared.fault.ValueFault.TheVariants as value_fault
 use Rattle.treefile.specs.declared.reading.FrameFault.{FrameFault}
 use Rattle.treefile.specs.declared.reading.FrameFault.TheVariants as frame_fault
-use Rattle.origins.specs.declared.fault.RecordFault.{RecordFault}
-use Rattle.origins.specs.declared.fault.RecordFault.TheVariants as record_fault
+use Rattle.origins.specs.declared.fault.DecodeFault.{DecodeFault}
+use Rattle.origins.specs.declared.fault.DecodeFault.TheVariants as record_fault
 use Rattle.origins.specs.declared.fault.WalkFault.{WalkFault}
 use Rattle.origins.specs.declared.fault.WalkFault.TheVariants as walk_fault
 
-abbrev pub record_fault_of : ValueFault → RecordFault
+abbrev pub record_fault_of : ValueFault → DecodeFault
 record_fault_of value_fault.Malformed = record_fault.Damaged
 record_fault_of value_fault.NoMemory = record_fault.NoMemory
 

@@ -6,8 +6,8 @@ use Rattle.ag_grammar.specs.declared.grammar.Production.{Production}
 use Rattle.ag_grammar.specs.grammars.AttributeGrammar.{Grammar, IsProduction}
 use Rattle.treefile.specs.declared.body.Kind.TheVariants.{Node, Token}
 use Rattle.treefile.specs.records.TreeFile.{body_from, body_of}
-use Rattle.origins.specs.declared.record.Record.{Record}
-use Rattle.origins.specs.declared.record.Record.TheVariants as record_of
+use Rattle.origins.specs.declared.record.LastRecord.{LastRecord}
+use Rattle.origins.specs.declared.record.LastRecord.TheVariants as record_of
 
 -- a body is the record of a node of a production, with well values
 pub record IsNode (g : Grammar) (body : List ℕ) (p : ℕ) (vs : List Value) : Type 0 where
@@ -22,6 +22,6 @@ pub record IsTokenBody (body : List ℕ) : Type 0 where
   pub spelling : List ℕ
   pub same : body ≡ body_from Token class spelling
 
-abbrev pub IsRecord : Grammar → List ℕ → Record → Type 0
+abbrev pub IsRecord : Grammar → List ℕ → LastRecord → Type 0
 IsRecord g body (record_of.Node p vs) = IsNode g body p vs
 IsRecord g body record_of.Token = IsTokenBody body

@@ -13,7 +13,7 @@ use Rattle.ag_grammar.specs.grammars.Solution.{AtEachNodeOf, NoRule, SolvesAll, 
 use Rattle.ag_grammar.specs.grammars.Tree.{FitsAll, Forest, IsTreeOf, Tree, none, more}
 use Rattle.backreader.specs.BackState.{BackState, IsOver}
 use Rattle.treefile.specs.devices.Device.{WhenHonest}
-use Rattle.treefile.specs.ways.Backward.{ReadsBack, before_frame, next_before}
+use Rattle.treefile.specs.framing.Backward.{ReadsBack, before_frame, next_before}
 use Rattle.treefile.specs.records.OneTree.{IsRecorded}
 use Rattle.treefile.specs.records.Orders.{prefix}
 use Rattle.treefile.specs.records.Records.{IsFileOfTree, bodies_of}
@@ -22,7 +22,7 @@ use Rattle.origins.specs.Origins.{HasOrigin, is_before, origin_count}
 use Rattle.origins.specs.Arising.{arising_count}
 use Rattle.origins.specs.Records.{IsRecord}
 use Rattle.origins.specs.Rows.{table_of}
-use Rattle.origins.specs.declared.record.Record.{Record}
+use Rattle.origins.specs.declared.record.LastRecord.{LastRecord}
 use Rattle.origins.specs.declared.walk.Open.{Open}
 
 -- a child with its values, and its number among the children of its node
@@ -47,8 +47,8 @@ pub record Family : Type 0 where
   pub values : ℕ → Valuation
 
 -- those that are not visited yet, in the order of the walk
-abbrev pub to_come : Direction → Open → Family → List Kid
-to_come d o f = drop o.visited (in_order d (kids 0 f.trees f.values))
+abbrev pub upcoming : Direction → Open → Family → List Kid
+upcoming d o f = drop o.visited (in_order d (kids 0 f.trees f.values))
 
 -- the number of the child that was visited last
 abbrev pub last_of : Direction → Open → ℕ
@@ -63,31 +63,31 @@ way d (o ∷ os) = way d os ++ last_of d o ∷ []
 abbrev pub bodies_of_kid : Grammar → Passes → ℕ → Direction → Kid → List (List ℕ)
 bodies_of_kid g m k d kid = prefix d (bodies_of version_two g m k kid.tree kid.values)
 
-abbrev pub bodies_to_come : Grammar → Passes → ℕ → Direction → List Open → List Family → List (List ℕ)
-bodies_to_come g m k d [] fs = []
-bodies_to_come g m k d (o ∷ os) [] = []
-bodies_to_come g m k d (o ∷ os) (f ∷ fs) = flat_map (bodies_of_kid g m k d) (to_come d o f) ++ bodies_to_come g m k d os fs
+abbrev pub pending_bodies : Grammar → Passes → ℕ → Direction → List Open → List Family → List (List ℕ)
+pending_bodies g m k d [] fs = []
+pending_bodies g m k d (o ∷ os) [] = []
+pending_bodies g m k d (o ∷ os) (f ∷ fs) = flat_map (bodies_of_kid g m k d) (upcoming d o f) ++ pending_bodies g m k d os fs
 
 -- the number of rules of some children in which an error arises
 abbrev pub count_in : Grammar → List Kid → ℕ
 count_in g [] = 0
 count_in g (kid ∷ others) = origin_count g kid.tree kid.values + count_in g others
 
-abbrev pub count_to_come : Grammar → Direction → List Open → List Family → ℕ
-count_to_come g d [] fs = 0
-count_to_come g d (o ∷ os) [] = 0
-count_to_come g d (o ∷ os) (f ∷ fs) = count_in g (to_come d o f) + count_to_come g d os fs
+abbrev pub pending_count : Grammar → Direction → List Open → List Family → ℕ
+pending_count g d [] fs = 0
+pending_count g d (o ∷ os) [] = 0
+pending_count g d (o ∷ os) (f ∷ fs) = count_in g (upcoming d o f) + pending_count g d os fs
 
 -- An origin is in one of some children, at the end of a path from their node.
-abbrev pub StandsIn : Grammar → List Kid → List ℕ → Type 0
-StandsIn g [] path = ⊥
-StandsIn g (kid ∷ others) path = ((deeper : List ℕ) × (path ≡ kid.number ∷ deeper) × HasOrigin g deeper (Some kid.tree) kid.values) ⊎ StandsIn g others path
+abbrev pub OccursIn : Grammar → List Kid → List ℕ → Type 0
+OccursIn g [] path = ⊥
+OccursIn g (kid ∷ others) path = ((deeper : List ℕ) × (path ≡ kid.number ∷ deeper) × HasOrigin g deeper (Some kid.tree) kid.values) ⊎ OccursIn g others path
 
 -- and in what is to come below open nodes
-abbrev pub IsToCome : Grammar → Direction → List Open → List Family → List ℕ → Type 0
-IsToCome g d [] fs path = ⊥
-IsToCome g d (o ∷ os) [] path = ⊥
-IsToCome g d (o ∷ os) (f ∷ fs) path = ((deeper : List ℕ) × (path ≡ way d os ++ deeper) × StandsIn g (to_come d o f) deeper) ⊎ IsToCome g d os fs path
+abbrev pub ArePending : Grammar → Direction → List Open → List Family → List ℕ → Type 0
+ArePending g d [] fs path = ⊥
+ArePending g d (o ∷ os) [] path = ⊥
+ArePending g d (o ∷ os) (f ∷ fs) path = ((deeper : List ℕ) × (path ≡ way d os ++ deeper) × OccursIn g (upcoming d o f) deeper) ⊎ ArePending g d os fs path
 
 -- Open nodes are of their productions, and their children are trees of the items.
 abbrev pub AreOpen : Grammar → Passes → ℕ → List Open → List Family → Type 0
@@ -108,25 +108,25 @@ IsNotBefore (Some first) path = is_before path first ≡ false
 pub record IsSoFar (g : Grammar) (m : Passes) (k : ℕ) (d : Direction) (t : Tree) (v : Valuation) (content : List ℕ) (at : ℕ) (open_nodes : List Open) (first : Option (List ℕ)) (count : ℕ) : Type 0 where
   pub families : List Family
   pub fit : AreOpen g m k open_nodes families
-  pub read : ReadsBack version_two content at (bodies_to_come g m k d open_nodes families)
-  pub counted : count + count_to_come g d open_nodes families ≡ origin_count g t v
+  pub read : ReadsBack version_two content at (pending_bodies g m k d open_nodes families)
+  pub counted : count + pending_count g d open_nodes families ≡ origin_count g t v
   pub there : (path : List ℕ) → first ≡ Some path → HasOrigin g path (Some t) v
-  pub coming : (path : List ℕ) → IsToCome g d open_nodes families path → HasOrigin g path (Some t) v
-  pub all : (path : List ℕ) → HasOrigin g path (Some t) v → IsToCome g d open_nodes families path ⊎ IsNotBefore first path
+  pub pending : (path : List ℕ) → ArePending g d open_nodes families path → HasOrigin g path (Some t) v
+  pub all : (path : List ℕ) → HasOrigin g path (Some t) v → ArePending g d open_nodes families path ⊎ IsNotBefore first path
 
 -- It comes to a child next, below open nodes.
-pub record IsComing (g : Grammar) (m : Passes) (k : ℕ) (d : Direction) (t : Tree) (v : Valuation) (content : List ℕ) (at : ℕ) (x : Item) (open_nodes : List Open) (first : Option (List ℕ)) (count : ℕ) : Type 0 where
+pub record IsPending (g : Grammar) (m : Passes) (k : ℕ) (d : Direction) (t : Tree) (v : Valuation) (content : List ℕ) (at : ℕ) (x : Item) (open_nodes : List Open) (first : Option (List ℕ)) (count : ℕ) : Type 0 where
   pub tree : Tree
   pub values : Valuation
   pub recorded : IsRecorded g m k x tree values
   pub families : List Family
   pub fit : AreOpen g m k open_nodes families
-  pub read : ReadsBack version_two content at (prefix d (bodies_of version_two g m k tree values) ++ bodies_to_come g m k d open_nodes families)
-  pub counted : count + (origin_count g tree values + count_to_come g d open_nodes families) ≡ origin_count g t v
+  pub read : ReadsBack version_two content at (prefix d (bodies_of version_two g m k tree values) ++ pending_bodies g m k d open_nodes families)
+  pub counted : count + (origin_count g tree values + pending_count g d open_nodes families) ≡ origin_count g t v
   pub there : (path : List ℕ) → first ≡ Some path → HasOrigin g path (Some t) v
   pub below : (deeper : List ℕ) → HasOrigin g deeper (Some tree) values → HasOrigin g (way d open_nodes ++ deeper) (Some t) v
-  pub coming : (path : List ℕ) → IsToCome g d open_nodes families path → HasOrigin g path (Some t) v
-  pub all : (path : List ℕ) → HasOrigin g path (Some t) v → ((deeper : List ℕ) × (path ≡ way d open_nodes ++ deeper) × HasOrigin g deeper (Some tree) values) ⊎ IsToCome g d open_nodes families path ⊎ IsNotBefore first path
+  pub pending : (path : List ℕ) → ArePending g d open_nodes families path → HasOrigin g path (Some t) v
+  pub all : (path : List ℕ) → HasOrigin g path (Some t) v → ((deeper : List ℕ) × (path ≡ way d open_nodes ++ deeper) × HasOrigin g deeper (Some tree) values) ⊎ ArePending g d open_nodes families path ⊎ IsNotBefore first path
 
 -- So it is of each tree and values whose file of the last pass the content is.
 abbrev pub OfEach : (Passes → ℕ → Tree → Valuation → Type 0) → Grammar → List ℕ → Type 0
@@ -135,8 +135,8 @@ OfEach P g content = (m : Passes) (k : ℕ) (t : Tree) (v : Valuation) → k < 2
 abbrev pub HasComeTo : Grammar → Direction → List ℕ → ℕ → List Open → Option (List ℕ) → ℕ → Type 0
 HasComeTo g d content at open_nodes first count = OfEach (λ m k t v. IsSoFar g m k d t v content at open_nodes first count) g content
 
-abbrev pub ComesNext : Grammar → Direction → List ℕ → ℕ → Item → List Open → Option (List ℕ) → ℕ → Type 0
-ComesNext g d content at x open_nodes first count = OfEach (λ m k t v. IsComing g m k d t v content at x open_nodes first count) g content
+abbrev pub IsNextRecord : Grammar → Direction → List ℕ → ℕ → Item → List Open → Option (List ℕ) → ℕ → Type 0
+IsNextRecord g d content at x open_nodes first count = OfEach (λ m k t v. IsPending g m k d t v content at x open_nodes first count) g content
 
 -- A reader is one of the content, of version 2, and no failure is final.
 pub record IsReady (honest : Bool) (content : List ℕ) (state : BackState) : Type 0 where
@@ -145,7 +145,7 @@ pub record IsReady (honest : Bool) (content : List ℕ) (state : BackState) : Ty
   pub unbroken : state.progress.fault ≡ None
 
 -- A record was read: its body is before the offset.
-pub record HasFetched (g : Grammar) (honest : Bool) (content : List ℕ) (old new : BackState) (r : Record) : Type 0 where
+pub record HasFetched (g : Grammar) (honest : Bool) (content : List ℕ) (old new : BackState) (r : LastRecord) : Type 0 where
   pub body : List ℕ
   pub found : WhenHonest honest (next_before version_two content old.progress.at ≡ Ok (Some body))
   pub is : IsRecord g body r

@@ -2,7 +2,7 @@
 
 ghost use Rattle.std.specs.Prelude.{◌≡◌};
 ghost use Rattle.origins.specs.Faults.{record_fault_of, walk_fault_of};
-ghost use Rattle.origins.specs.declared.fault.RecordFault.TheVariants as record_fault;
+ghost use Rattle.origins.specs.declared.fault.DecodeFault.TheVariants as record_fault;
 ghost use Rattle.origins.specs.declared.fault.WalkFault.TheVariants as walk_fault;
 
 use ag_value::{NoMemory, ValueFault};
@@ -10,20 +10,20 @@ use treefile::FrameFault;
 
 /// Why a record was not read.
 #[derive(Clone, Copy, Debug, PartialEq, Eq)]
-pub enum RecordFault {
+pub enum DecodeFault {
     /// The body is not a record of the expected item.
     Damaged,
     /// Memory was refused.
     NoMemory,
 }
 
-impl From<ValueFault> for RecordFault {
+impl From<ValueFault> for DecodeFault {
     ghost from_gives = { λ fault e. e ≡ record_fault_of fault };
 
-    fn from(fault: ValueFault) -> RecordFault {
+    fn from(fault: ValueFault) -> DecodeFault {
         match fault {
-            ValueFault::Malformed => RecordFault::Damaged,
-            ValueFault::NoMemory => RecordFault::NoMemory,
+            ValueFault::Malformed => DecodeFault::Damaged,
+            ValueFault::NoMemory => DecodeFault::NoMemory,
         }
     }
 }
@@ -35,9 +35,9 @@ pub enum WalkFault {
     /// not begin as a tree file, else the end of the first frame from the end of the file that shows it, or
     /// the offset at which one should end.
     Damaged(u64),
-    /// P2: the tree has more than `MOST_DEPTH` levels.
+    /// P2: the tree has more than `MAX_DEPTH` levels.
     TooDeep,
-    /// P3: the tree has more than `MOST_NODES` records.
+    /// P3: the tree has more than `MAX_NODES` records.
     TooManyNodes,
     /// D1: a call of the device failed.
     Device,

@@ -11,7 +11,7 @@ mod row;
 mod slots;
 mod walk;
 
-pub use fault::{RecordFault, WalkFault};
-pub use record::{Record, record_of};
+pub use fault::{DecodeFault, WalkFault};
+pub use record::{LastRecord, record_of};
 pub use row::Row;
 pub use walk::{Origins, find_origins};

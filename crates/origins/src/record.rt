@@ -6,15 +6,15 @@ ghost use Rattle.ag_value.specs.Spelling.{spelling_of};
 ghost use Rattle.ag_value.specs.Well.{IsWell};
 ghost use Rattle.origins.specs.Records.{IsRecord};
 
-use crate::fault::RecordFault;
+use crate::fault::DecodeFault;
 use ag_grammar::{Grammar, Item, Terminal};
 use ag_value::{Items, Value, decode};
 use std::alloc::Global;
-use treefile::{Kind, MOST_VALUES, split_body};
+use treefile::{Kind, MAX_VALUES, split_body};
 
 /// A record of the last file.
 #[derive(Drop)]
-pub enum Record {
+pub enum LastRecord {
     /// A node: the number of its production, and its values.
     Node(u16, Items<Value>),
     /// A token.
@@ -24,23 +24,23 @@ pub enum Record {
 /// Reads values from their spellings, which follow one another to the end of the bytes.
 ///
 /// Fails with Damaged if the bytes are not such spellings, or are those of more values than a record may have.
-fn values_in(alloc: Global, bytes: &[u8]) -> Result<Items<Value>, RecordFault>
+fn values_in(alloc: Global, bytes: &[u8]) -> Result<Items<Value>, DecodeFault>
     ensures well { IfOk result (λ values. All IsWell values) }
     ensures spelled { IfOk result (λ values. bytes.now ≡ flat_map spelling_of values) }
 {
     let mut values = Vec::new(alloc);
     let mut rest = bytes;
-    for _value in 0..MOST_VALUES + 1 {
+    for _value in 0..MAX_VALUES + 1 {
         if rest.is_empty() {
             return Ok(Items::from_vec(values));
         }
         let (value, length) = decode(alloc, rest)?;
         let Ok(()) = values.push(value) else {
-            return Err(RecordFault::NoMemory);
+            return Err(DecodeFault::NoMemory);
         };
         rest = &rest[length..];
     }
-    Err(RecordFault::Damaged)
+    Err(DecodeFault::Damaged)
 }
 
 /// Reads a body as the record of an item.
@@ -52,32 +52,32 @@ pub fn record_of(
     grammar: &Grammar,
     item: Item,
     body: &[u8],
-) -> Result<Record, RecordFault>
+) -> Result<LastRecord, DecodeFault>
     ensures { IfOk result (λ found. IsRecord grammar.now body.now found) }
 {
     let Some((kind, number, spellings)) = split_body(body) else {
-        return Err(RecordFault::Damaged);
+        return Err(DecodeFault::Damaged);
     };
     match item {
         Item::Symbol(symbol) => {
             if kind != Kind::Node {
-                return Err(RecordFault::Damaged);
+                return Err(DecodeFault::Damaged);
             }
             let Some(production) = grammar.productions().get(number as usize) else {
-                return Err(RecordFault::Damaged);
+                return Err(DecodeFault::Damaged);
             };
             if production.left != symbol {
-                return Err(RecordFault::Damaged);
+                return Err(DecodeFault::Damaged);
             }
             let values = values_in(alloc, spellings)?;
-            Ok(Record::Node(number, values))
+            Ok(LastRecord::Node(number, values))
         }
         Item::Terminal(Terminal::Class(class)) => {
             if kind != Kind::Token || number != class {
-                return Err(RecordFault::Damaged);
+                return Err(DecodeFault::Damaged);
             }
-            Ok(Record::Token)
+            Ok(LastRecord::Token)
         }
-        Item::Terminal(Terminal::Literal(_)) => Err(RecordFault::Damaged),
+        Item::Terminal(Terminal::Literal(_)) => Err(DecodeFault::Damaged),
     }
 }

@@ -2,7 +2,7 @@
 
 ghost use Rattle.std.specs.Prelude.{◌≤◌, All, length};
 ghost use Rattle.ag_value.specs.Well.{IsWell};
-ghost use Rattle.ag_grammar.specs.grammars.Accepted.{most_items};
+ghost use Rattle.ag_grammar.specs.grammars.Accepted.{max_items};
 
 use ag_grammar::{Grammar, Production};
 use ag_value::Value;
@@ -17,6 +17,6 @@ pub struct Row<'a> {
     pub production: &'a Production,
     /// The values, in the order of the record.
     pub values: &'a [Value],
-    ghost few: { length production.now.items ≤ most_items },
+    ghost few: { length production.now.items ≤ max_items },
     ghost well: { All IsWell values.now },
 }

@@ -1,7 +1,7 @@
 //! The indices of a rule's arguments in a node's record in the file of the last pass.
 
 ghost use Rattle.std.specs.Prelude.{◌≡◌, ◌+◌, ◌*◌, ◌≤◌, length};
-ghost use Rattle.ag_grammar.specs.grammars.Accepted.{most_attributes, most_items};
+ghost use Rattle.ag_grammar.specs.grammars.Accepted.{max_attributes, max_items};
 ghost use Rattle.ag_grammar.specs.grammars.AttributeGrammar.{stored_items};
 ghost use Rattle.treefile.specs.records.Records.{synthesized_count};
 ghost use Rattle.std.specs.Prelude.{slice_get};
@@ -12,7 +12,7 @@ use ag_grammar::{Grammar, Item, Production, Target, Terminal};
 /// Returns the number of a symbol's attributes; 0 if the grammar does not have it.
 fn attribute_count(grammar: &Grammar, symbol: u16) -> usize
     ensures count { result ≡ attribute_count grammar.now symbol }
-    ensures room { result ≤ most_attributes }
+    ensures room { result ≤ max_attributes }
 {
     match grammar.symbols().get(symbol as usize) {
         Some(symbol) => symbol.attribute_count(),
@@ -23,7 +23,7 @@ fn attribute_count(grammar: &Grammar, symbol: u16) -> usize
 /// Returns the number of its synthesized attributes.
 fn synthesized_count(grammar: &Grammar, symbol: u16) -> usize
     ensures count { result ≡ synthesized_count (slice_get grammar.now.symbols symbol) }
-    ensures room { result ≤ most_attributes }
+    ensures room { result ≤ max_attributes }
 {
     match grammar.symbols().get(symbol as usize) {
         Some(symbol) => symbol.syn.as_slice().len(),
@@ -34,7 +34,7 @@ fn synthesized_count(grammar: &Grammar, symbol: u16) -> usize
 /// Returns the number of copies that a record has of the values at an item.
 fn copied(grammar: &Grammar, item: Item) -> usize
     ensures count { result ≡ copied grammar.now item }
-    ensures room { result ≤ most_attributes }
+    ensures room { result ≤ max_attributes }
 {
     match item {
         Item::Symbol(symbol) => synthesized_count(grammar, symbol),
@@ -45,14 +45,14 @@ fn copied(grammar: &Grammar, item: Item) -> usize
 
 /// Returns the number of copies that it has of the values at the first `children` children of a right side.
 fn copies_before(grammar: &Grammar, items: &[Item], children: u16) -> usize
-    requires { length items.now ≤ most_items }
+    requires { length items.now ≤ max_items }
     ensures count { result ≡ copies_before grammar.now (stored_items items.now) children }
-    ensures room { result ≤ most_attributes * length items.now }
+    ensures room { result ≤ max_attributes * length items.now }
 {
     match items {
         [] => 0,
         [item, others @ ..] => {
-            if !item.has_place() {
+            if !item.is_stored_child() {
                 return copies_before(grammar, others, children);
             }
             if children == 0 {
@@ -65,9 +65,9 @@ fn copies_before(grammar: &Grammar, items: &[Item], children: u16) -> usize
 
 /// Returns the index at which the values at a place begin.
 fn start_of(grammar: &Grammar, production: &Production, place: u16) -> usize
-    requires { length production.now.items ≤ most_items }
+    requires { length production.now.items ≤ max_items }
     ensures start { result ≡ start grammar.now production.now place }
-    ensures room { result ≤ most_attributes + most_attributes * most_items }
+    ensures room { result ≤ max_attributes + max_attributes * max_items }
 {
     if place == 0 {
         return 0;
@@ -78,7 +78,7 @@ fn start_of(grammar: &Grammar, production: &Production, place: u16) -> usize
 
 /// Returns the index of the value of an argument.
 pub(crate) fn slot_of(grammar: &Grammar, production: &Production, argument: Target) -> usize
-    requires { length production.now.items ≤ most_items }
+    requires { length production.now.items ≤ max_items }
     ensures { result ≡ slot grammar.now production.now argument }
 {
     start_of(grammar, production, argument.place) + argument.attr as usize

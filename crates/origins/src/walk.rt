@@ -8,13 +8,13 @@ ghost use Rattle.ag_grammar.specs.grammars.Accepted.{IsAccepted};
 ghost use Rattle.ag_grammar.specs.grammars.AttributeGrammar.{IsProduction, stored_items};
 ghost use Rattle.treefile.specs.devices.Device.{LeavesContent, Persists, WhenHonest};
 ghost use Rattle.origins.specs.Origins.{AreOriginsIn, is_before};
-ghost use Rattle.origins.specs.Walking.{ComesNext, HasComeTo, HasEntered, HasFetched, IsReady};
+ghost use Rattle.origins.specs.Walking.{IsNextRecord, HasComeTo, HasEntered, HasFetched, IsReady};
 ghost use Rattle.origins.specs.Walking.{earlier, first_after, last_of, way};
 
-use crate::fault::{RecordFault, WalkFault};
-use crate::record::{Record, record_of};
+use crate::fault::{DecodeFault, WalkFault};
+use crate::record::{LastRecord, record_of};
 use crate::row::Row;
-use ag_grammar::limits::{MOST_DEPTH, MOST_NODES};
+use ag_grammar::limits::{MAX_DEPTH, MAX_NODES};
 use ag_grammar::{Direction, Grammar, Item};
 use ag_value::{Items, NoMemory, Value};
 use backreader::Back;
@@ -22,7 +22,7 @@ use std::alloc::Global;
 use treefile::Device;
 
 /// The greatest number of turns to an open node: one for each node below it, and one to leave it.
-const MAX_TURNS: u32 = 2 * MOST_NODES + 1;
+const MAX_TURNS: u32 = 2 * MAX_NODES + 1;
 
 /// Where errors arise in a tree.
 #[derive(Debug, Drop)]
@@ -130,7 +130,7 @@ pub(crate) fn stored_among(items: &[Item]) -> u16
 {
     let mut count = 0;
     for item in items {
-        if item.has_place() {
+        if item.is_stored_child() {
             count += 1;
         }
     }
@@ -170,7 +170,7 @@ impl Walk {
         grammar: &Grammar,
         item: Item,
         device: &mut D,
-    ) -> Result<Record, WalkFault>
+    ) -> Result<LastRecord, WalkFault>
         requires { IsReady (D.is_honest device.old) (D.content device.old) self.old.back }
         ensures fetched { IfOk result (λ found. HasFetched grammar.now (D.is_honest device.new)
             (D.content device.old) self.old.back self.new.back found) }
@@ -183,10 +183,10 @@ impl Walk {
         ensures persists { Persists (D.is_honest device.old) (D.is_honest device.new)
             (D.failures device.old) (D.failures device.new) (IsErrOf result WalkFault.Device) }
     {
-        if self.nodes.len() >= MOST_DEPTH {
+        if self.nodes.len() >= MAX_DEPTH {
             return Err(WalkFault::TooDeep);
         }
-        if self.back.records() >= u64::from(MOST_NODES) {
+        if self.back.records() >= u64::from(MAX_NODES) {
             return Err(WalkFault::TooManyNodes);
         }
         let end = self.back.end();
@@ -195,8 +195,8 @@ impl Walk {
         };
         match record_of(alloc, grammar, item, body) {
             Ok(record) => Ok(record),
-            Err(RecordFault::Damaged) => Err(WalkFault::Damaged(end)),
-            Err(RecordFault::NoMemory) => Err(WalkFault::NoMemory),
+            Err(DecodeFault::Damaged) => Err(WalkFault::Damaged(end)),
+            Err(DecodeFault::NoMemory) => Err(WalkFault::NoMemory),
         }
     }
 
@@ -247,7 +247,7 @@ impl Walk {
         device: &mut D,
     ) -> Result<(), WalkFault>
         requires ready { IsReady (D.is_honest device.old) (D.content device.old) self.old.back }
-        requires next { WhenHonest (D.is_honest device.old) (ComesNext context.now.grammar.now
+        requires next { WhenHonest (D.is_honest device.old) (IsNextRecord context.now.grammar.now
             context.now.direction (D.content device.old) self.old.back.progress.at item (reverse self.old.nodes.items)
             self.old.found.first self.old.found.count) }
         ensures ready { OnOk result (IsReady (D.is_honest device.new) (D.content device.old)
@@ -261,8 +261,13 @@ impl Walk {
             (D.failures device.old) (D.failures device.new) (IsErrOf result WalkFault.Device) }
     {
         match self.fetch(alloc, context.grammar, item, device)? {
-            Record::Token => Ok(()),
-            Record::Node(number, values) => self.enter(alloc, context, number, values.as_slice()),
+            LastRecord::Token => Ok(()),
+            LastRecord::Node(number, values) => self.enter(
+                alloc,
+                context,
+                number,
+                values.as_slice(),
+            ),
         }
     }
 

@@ -7,5 +7,5 @@ pub mod Following
 pub mod Growing
 pub mod Reasons
 pub mod Sample
-pub mod Told
+pub mod ReportedStrikes
 pub mod Walked

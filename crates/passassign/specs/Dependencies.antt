@@ -48,8 +48,8 @@ abbrev pub OfEach : {X Y : Type 0} → (ℕ → X → Y → Type 0) → List X �
 OfEach {X} R xs y = (i : ℕ) × (x : X) × (slice_get xs i ≡ Some x) × R i x y
 
 -- the same for the elements before index n
-abbrev pub OfFront : {X Y : Type 0} → (ℕ → X → Y → Type 0) → List X → ℕ → Y → Type 0
-OfFront {X} R xs n y = (i : ℕ) × (x : X) × (i < n) × (slice_get xs i ≡ Some x) × R i x y
+abbrev pub OfPrefix : {X Y : Type 0} → (ℕ → X → Y → Type 0) → List X → ℕ → Y → Type 0
+OfPrefix {X} R xs n y = (i : ℕ) × (x : X) × (i < n) × (slice_get xs i ≡ Some x) × R i x y
 
 -- the members of the second list are those of the first, and those with property P
 pub record Adds {X : Type 0} (P : X → Type 0) (old new : List X) : Type 0 where

@@ -6,7 +6,7 @@ pub mod Laws
 pub mod Least
 pub mod Making
 pub mod PassStrikes
-pub mod Progress
+pub mod PassesSoFar
 pub mod Rows
 pub mod Sample
 pub mod Searching

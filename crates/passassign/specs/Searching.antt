@@ -64,7 +64,7 @@ IsStrikeOf all barred xs i x = (u : Dependency) × (dependency_by all barred x.r
 -- Strikes by the dependencies that are the reasons of additions.
 pub record AreStrikesOf (all barred : List Dependency) (added : List Addition) (xs : List Strike) : Type 0 where
   pub len : length xs ≡ length added
-  pub told : (i : ℕ) (x : Addition) → slice_get added i ≡ Some x → IsStrikeOf all barred xs i x
+  pub exact : (i : ℕ) (x : Addition) → slice_get added i ≡ Some x → IsStrikeOf all barred xs i x
 
 -- the attribute of a slot is struck
 abbrev pub IsStruckAt : List Strike → ℕ → Type 0

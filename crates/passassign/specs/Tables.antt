@@ -1,7 +1,7 @@
 -- The table in which the program records the passes of the attributes.
 use Rattle.std.specs.Prelude.{ℕ, ◌≡◌, ◌+◌, ◌*◌, ◌<◌, ◌↔◌, List, Option, Some, None, Bool, true, false, cond, nat_lt, slice_get, slice_index_or, length, unwrap_or}
 use Rattle.ag_grammar.specs.declared.grammar.Symbol.{Symbol}
-use Rattle.ag_grammar.specs.grammars.Accepted.{most_attributes, most_symbols}
+use Rattle.ag_grammar.specs.grammars.Accepted.{max_attributes, max_symbols}
 use Rattle.ag_grammar.specs.grammars.AttributeGrammar.{Kind, symbol_names, symbol_kinds}
 use Rattle.passassign.specs.declared.table.State.{State}
 use Rattle.passassign.specs.declared.table.State.TheVariants.{Absent, Open, Given}
@@ -10,11 +10,11 @@ use Rattle.passassign.specs.Rows.{passes_of}
 
 -- the slot of an attribute: each symbol has as many slots as it may have attributes
 abbrev pub slot_of : ℕ → ℕ → ℕ
-slot_of s a = s * most_attributes + a
+slot_of s a = s * max_attributes + a
 
 -- the greatest number of slots of a table
-abbrev pub most_slots : ℕ
-most_slots = most_symbols * most_attributes
+abbrev pub max_slots : ℕ
+max_slots = max_symbols * max_attributes
 
 -- the state of a slot
 abbrev pub state_at : List State → ℕ → State
@@ -22,7 +22,7 @@ state_at states k = slice_index_or states k Absent
 
 -- the state of an attribute
 abbrev pub state_of : List State → ℕ → ℕ → State
-state_of states s a = cond (nat_lt a most_attributes) (state_at states (slot_of s a)) Absent
+state_of states s a = cond (nat_lt a max_attributes) (state_at states (slot_of s a)) Absent
 
 -- the pass of a state
 abbrev pub given : State → Option ℕ
@@ -49,8 +49,8 @@ first_state count a = cond (nat_lt a count) Open Absent
 
 -- the initial table of some symbols
 pub record IsFirstTable (symbols : List Symbol) (states : List State) : Type 0 where
-  pub len : length states ≡ length symbols * most_attributes
-  pub at : (s a : ℕ) → a < most_attributes → s < length symbols → state_at states (slot_of s a) ≡ first_state (attribute_count (slice_get symbols s)) a
+  pub len : length states ≡ length symbols * max_attributes
+  pub at : (s a : ℕ) → a < max_attributes → s < length symbols → state_at states (slot_of s a) ≡ first_state (attribute_count (slice_get symbols s)) a
 
 -- a symbol of this number has an attribute of this number
 abbrev pub IsDeclared : List Symbol → ℕ → ℕ → Type 0
@@ -58,7 +58,7 @@ IsDeclared symbols s a = (k : Kind) × (slice_get (symbol_kinds (slice_get symbo
 
 -- A table of some symbols: it has a state for each of their attributes, and for no others.
 pub record IsTable (symbols : List Symbol) (states : List State) : Type 0 where
-  pub len : length states ≡ length symbols * most_attributes
+  pub len : length states ≡ length symbols * max_attributes
   pub there : (s a : ℕ) → (state_of states s a ≡ Absent → ⊥) ↔ IsDeclared symbols s a
 
 -- whether a slot is marked

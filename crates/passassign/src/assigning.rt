@@ -3,17 +3,17 @@
 ghost use Rattle.std.specs.Prelude.{ℕ, ◌≡◌, ◌+◌, ◌^◌, ◌<◌, ◌≤◌, ◌↔◌, ◌++◌, [], ◌∷◌, true};
 ghost use Rattle.std.specs.Prelude.{IfErr, IfOk, OnOk, length};
 ghost use Rattle.ag_grammar.specs.Lists.{Each, Has};
-ghost use Rattle.ag_grammar.specs.grammars.Accepted.{most_attributes, most_symbols};
+ghost use Rattle.ag_grammar.specs.grammars.Accepted.{max_attributes, max_symbols};
 ghost use Rattle.ag_grammar.specs.grammars.AttributeGrammar.{Grammar as Plain, attribute_names};
 ghost use Rattle.passassign.specs.Answer.{IsInDeclaredOrder, IsFault};
 ghost use Rattle.passassign.specs.Certificate.{stuck_of};
 ghost use Rattle.passassign.specs.Least.{IsLeast};
 ghost use Rattle.passassign.specs.PassStrikes.{AreStrikesOf, AreStrikesSoFar, IsLastInUse};
-ghost use Rattle.passassign.specs.Progress.{AreOpenIn, IsLeft, IsNext, IsProgress};
-ghost use Rattle.passassign.specs.Progress.{IsWith, open_count};
+ghost use Rattle.passassign.specs.PassesSoFar.{AreOpenIn, IsLeft, IsNext, IsProgress};
+ghost use Rattle.passassign.specs.PassesSoFar.{IsWith, open_count};
 ghost use Rattle.passassign.specs.Rows.{passes_of, AreFew};
 ghost use Rattle.passassign.specs.Searching.{AreReady};
-ghost use Rattle.passassign.specs.Tables.{most_slots, slot_of, state_at, table_passes};
+ghost use Rattle.passassign.specs.Tables.{max_slots, slot_of, state_at, table_passes};
 ghost use Rattle.passassign.specs.declared.assigning.AssignFault.TheVariants as fault;
 ghost use Rattle.passassign.specs.declared.table.State.TheVariants.{Open};
 
@@ -45,7 +45,7 @@ impl From<NoMemory> for AssignFault {
 /// The passes made so far: the states of the attributes, the number of the next pass, and its
 /// direction.
 #[derive(Debug, Drop)]
-pub(crate) struct Progress {
+pub(crate) struct PassesSoFar {
     pub states: Vec<State>,
     pub next: u16,
     pub direction: Direction,
@@ -76,7 +76,7 @@ impl StrikeLog {
 fn make_pass(
     alloc: Global,
     dependencies: &Dependencies,
-    progress: &mut Progress,
+    progress: &mut PassesSoFar,
 ) -> Result<Vec<Strike>, NoMemory>
     requires ready { AreReady dependencies.now (length progress.old.states.items) }
     requires next { progress.old.next + 1 < 2 ^ 16 }
@@ -105,15 +105,15 @@ fn make_pass(
 /// first of which has the direction of the next pass.
 fn left_of(
     alloc: Global,
-    progress: &Progress,
+    progress: &PassesSoFar,
     first: Vec<Strike>,
     second: Vec<Strike>,
 ) -> Result<Stuck, NoMemory>
-    requires { length progress.now.states.items ≤ most_slots }
+    requires { length progress.now.states.items ≤ max_slots }
     ensures strikes { IfOk result (λ c.
         c ≡ stuck_of progress.now.direction c.set first.items second.items) }
     ensures all { IfOk result (λ c. (s a : ℕ) → Has c.set (s, a)
-        ↔ (a < most_attributes) × (state_at progress.now.states.items (slot_of s a) ≡ Open)) }
+        ↔ (a < max_attributes) × (state_at progress.now.states.items (slot_of s a) ≡ Open)) }
     ensures ordered { IfOk result (λ c. IsInDeclaredOrder c.set) }
 {
     let set = Items::from_vec(open_ones(alloc, progress.states.as_slice())?);
@@ -139,12 +139,12 @@ fn left_of(
 fn advance(
     alloc: Global,
     dependencies: &Dependencies,
-    progress: &mut Progress,
+    progress: &mut PassesSoFar,
     kept: &mut StrikeLog,
     open_before: usize,
 ) -> Result<usize, AssignFault>
     requires ready { AreReady dependencies.now (length progress.old.states.items) }
-    requires len { length progress.old.states.items ≤ most_slots }
+    requires len { length progress.old.states.items ≤ max_slots }
     requires next { progress.old.next + 2 < 2 ^ 16 }
     requires some { 0 < open_before }
     requires count { open_before ≡ open_count progress.old.states.items }
@@ -191,8 +191,8 @@ pub(crate) fn assign_all(
     wants_strikes: bool,
 ) -> Result<(Assignment, Strikes), AssignFault>
     requires accepted { (g : Plain) × IsWith symbols.now productions.now g }
-    requires count { length symbols.now ≤ most_symbols }
-    requires attributes { Each (λ s. length (attribute_names s) ≤ most_attributes) symbols.now }
+    requires count { length symbols.now ≤ max_symbols }
+    requires attributes { Each (λ s. length (attribute_names s) ≤ max_attributes) symbols.now }
     ensures least { IfOk result (λ x. (g : Plain)
         → IsWith symbols.now productions.now g → IsLeast g (passes_of x.0)) }
     ensures few { IfOk result (λ x. (g : Plain)
@@ -206,7 +206,7 @@ pub(crate) fn assign_all(
     let states = open_all(alloc, symbols)?;
     let dependencies = Dependencies::of(alloc, productions, states.len())?;
     let mut open_now = count_open(states.as_slice());
-    let mut progress = Progress {
+    let mut progress = PassesSoFar {
         states,
         next: 1,
         direction: Direction::RightToLeft,

@@ -2,7 +2,7 @@
 
 ghost use Rattle.std.specs.Prelude.{◌≡◌, ◌≤◌, length, IfOk, OnOk, slice_get};
 ghost use Rattle.ag_grammar.specs.expressions.Occurrences.{AreDifferent};
-ghost use Rattle.ag_grammar.specs.grammars.Accepted.{most_rules};
+ghost use Rattle.ag_grammar.specs.grammars.Accepted.{max_rules};
 ghost use Rattle.passassign.specs.Dependencies.{symbol_of, table_slot};
 ghost use Rattle.passassign.specs.Dependencies.{OfEach, Adds, IsByArgument, IsByRule};
 ghost use Rattle.passassign.specs.Dependencies.{IsByProduction, AreDependencies};
@@ -94,7 +94,7 @@ fn put_arguments(
     place: u16,
     args: &[Target],
 ) -> Result<(), NoMemory>
-    requires few { length args.now ≤ most_rules }
+    requires few { length args.now ≤ max_rules }
     ensures { OnOk result (Adds (OfEach (IsByArgument places.now head place) args.now)
         found.old.items found.new.items) }
 {

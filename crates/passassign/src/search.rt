@@ -3,7 +3,7 @@
 
 ghost use Rattle.std.specs.Prelude.{ℕ, ◌≡◌, ◌*◌, ◌↔◌, Some, IfOk, IsTrue, OnOk, length, map};
 ghost use Rattle.ag_grammar.specs.Lists.{Each};
-ghost use Rattle.ag_grammar.specs.grammars.Accepted.{IsAccepted, most_attributes};
+ghost use Rattle.ag_grammar.specs.grammars.Accepted.{IsAccepted, max_attributes};
 ghost use Rattle.ag_grammar.specs.grammars.AttributeGrammar.{Grammar as Plain};
 ghost use Rattle.passassign.specs.Certificate.{IsAhead};
 ghost use Rattle.passassign.specs.Dependencies.{Adds, AreDependencies};
@@ -57,7 +57,7 @@ impl Dependencies {
         count: usize,
     ) -> Result<Dependencies, NoMemory>
         requires accepted { (g : Plain) × IsAccepted g × (g.productions ≡ productions.now)
-            × (count ≡ length g.symbols * most_attributes) }
+            × (count ≡ length g.symbols * max_attributes) }
         ensures all { IfOk result (λ found. AreDependencies productions.now found.all.items) }
         ensures ready { IfOk result (λ found. AreReady found count) }
     {

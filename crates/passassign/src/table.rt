@@ -4,16 +4,16 @@ ghost use Rattle.std.specs.Prelude.{ℕ, ◌≡◌, ◌+◌, ◌*◌, ◌/◌, �
 ghost use Rattle.std.specs.Prelude.{[], ◌∷◌, count_by, length};
 ghost use Rattle.std.specs.Prelude.{true, false, IfOk, OnOk, Some, slice_get, unwrap_or};
 ghost use Rattle.ag_grammar.specs.Lists.{Each, Has};
-ghost use Rattle.ag_grammar.specs.grammars.Accepted.{most_attributes, most_symbols};
+ghost use Rattle.ag_grammar.specs.grammars.Accepted.{max_attributes, max_symbols};
 ghost use Rattle.ag_grammar.specs.grammars.AttributeGrammar.{attribute_names};
 ghost use Rattle.passassign.specs.Answer.{IsInDeclaredOrder};
 ghost use Rattle.passassign.specs.Rows.{numbers_of};
-ghost use Rattle.passassign.specs.Tables.{most_slots, slot_of, state_at, first_state, given, is_open};
+ghost use Rattle.passassign.specs.Tables.{max_slots, slot_of, state_at, first_state, given, is_open};
 ghost use Rattle.passassign.specs.Tables.{after_pass, is_marked, AreRowsOfTable, IsFirstTable};
 ghost use Rattle.passassign.specs.declared.table.State.TheVariants.{Open};
 
 use ag_grammar::Symbol;
-use ag_grammar::limits::MOST_ATTRIBUTES;
+use ag_grammar::limits::MAX_ATTRIBUTES;
 use ag_value::NoMemory;
 use std::alloc::Global;
 
@@ -32,7 +32,7 @@ pub(crate) enum State {
 pub(crate) fn slot(symbol: u16, attr: u16) -> usize
     ensures { result ≡ slot_of symbol attr }
 {
-    symbol as usize * MOST_ATTRIBUTES + attr as usize
+    symbol as usize * MAX_ATTRIBUTES + attr as usize
 }
 
 /// Returns the state of a slot.
@@ -70,13 +70,13 @@ fn state_at_first(attr: usize, count: usize) -> State
 
 /// Appends the slots of a symbol with `count` attributes.
 fn open_symbol(states: &mut Vec<State>, count: usize) -> Result<(), NoMemory>
-    ensures len { OnOk result (length states.new.items ≡ length states.old.items + most_attributes) }
+    ensures len { OnOk result (length states.new.items ≡ length states.old.items + max_attributes) }
     ensures kept { OnOk result ((k : ℕ) → k < length states.old.items
         → state_at states.new.items k ≡ state_at states.old.items k) }
-    ensures put { OnOk result ((a : ℕ) → a < most_attributes
+    ensures put { OnOk result ((a : ℕ) → a < max_attributes
         → state_at states.new.items (length states.old.items + a) ≡ first_state count a) }
 {
-    for attr in 0..MOST_ATTRIBUTES {
+    for attr in 0..MAX_ATTRIBUTES {
         states.push(state_at_first(attr, count))?;
     }
     Ok(())
@@ -84,7 +84,7 @@ fn open_symbol(states: &mut Vec<State>, count: usize) -> Result<(), NoMemory>
 
 /// Makes the table of all attributes, none of which has a pass.
 pub(crate) fn open_all(alloc: Global, symbols: &[Symbol]) -> Result<Vec<State>, NoMemory>
-    requires { Each (λ s. length (attribute_names s) ≤ most_attributes) symbols.now }
+    requires { Each (λ s. length (attribute_names s) ≤ max_attributes) symbols.now }
     ensures { IfOk result (λ states. IsFirstTable symbols.now states.items) }
 {
     let mut states = Vec::new(alloc);
@@ -108,7 +108,7 @@ fn pass_at(states: &[State], slot: usize) -> u16
 /// Returns the passes of `count` slots of a table from slot `from` on.
 fn row(alloc: Global, states: &[State], from: usize, count: usize) -> Result<Vec<u16>, NoMemory>
     requires from { from < 2 ^ 32 }
-    requires count { count ≤ most_attributes }
+    requires count { count ≤ max_attributes }
     ensures len { IfOk result (λ row. length row.items ≡ count) }
     ensures passes { IfOk result (λ row. (a : ℕ) → a < count
         → slice_get row.items a ≡ Some (unwrap_or (given (state_at states.now (from + a))) 0)) }
@@ -126,8 +126,8 @@ pub(crate) fn rows(
     symbols: &[Symbol],
     states: &[State],
 ) -> Result<Vec<Vec<u16>>, NoMemory>
-    requires count { length symbols.now ≤ most_symbols }
-    requires attributes { Each (λ s. length (attribute_names s) ≤ most_attributes) symbols.now }
+    requires count { length symbols.now ≤ max_symbols }
+    requires attributes { Each (λ s. length (attribute_names s) ≤ max_attributes) symbols.now }
     ensures { IfOk result (λ rows. AreRowsOfTable symbols.now states.now (numbers_of rows.items)) }
 {
     let mut rows = Vec::new(alloc);
@@ -135,7 +135,7 @@ pub(crate) fn rows(
         rows.push(row(
             alloc,
             states,
-            index * MOST_ATTRIBUTES,
+            index * MAX_ATTRIBUTES,
             symbol.attribute_count(),
         )?)?;
     }
@@ -144,16 +144,16 @@ pub(crate) fn rows(
 
 /// Appends an attribute if it has no pass.
 fn put_open(found: &mut Vec<(u16, u16)>, state: State, slot: usize) -> Result<(), NoMemory>
-    requires { slot < 2 ^ 16 * most_attributes }
+    requires { slot < 2 ^ 16 * max_attributes }
     ensures puts { OnOk result (is_open state ≡ true
         → found.new.items
-        ≡ found.old.items ++ (slot / most_attributes, slot % most_attributes) ∷ []) }
+        ≡ found.old.items ++ (slot / max_attributes, slot % max_attributes) ∷ []) }
     ensures other { OnOk result (is_open state ≡ false → found.new.items ≡ found.old.items) }
 {
     if has_none(state) {
         found.push((
-            (slot / MOST_ATTRIBUTES) as u16,
-            (slot % MOST_ATTRIBUTES) as u16,
+            (slot / MAX_ATTRIBUTES) as u16,
+            (slot % MAX_ATTRIBUTES) as u16,
         ))?;
     }
     Ok(())
@@ -161,9 +161,9 @@ fn put_open(found: &mut Vec<(u16, u16)>, state: State, slot: usize) -> Result<()
 
 /// Returns the attributes that have no pass, in the order of the table.
 pub(crate) fn open_ones(alloc: Global, states: &[State]) -> Result<Vec<(u16, u16)>, NoMemory>
-    requires { length states.now ≤ most_slots }
+    requires { length states.now ≤ max_slots }
     ensures all { IfOk result (λ found. (s a : ℕ)
-        → Has found.items (s, a) ↔ (a < most_attributes) × (state_at states.now (slot_of s a) ≡ Open)) }
+        → Has found.items (s, a) ↔ (a < max_attributes) × (state_at states.now (slot_of s a) ≡ Open)) }
     ensures ordered { IfOk result (λ found. IsInDeclaredOrder found.items) }
 {
     let mut found = Vec::new(alloc);

@@ -14,15 +14,15 @@ use Rattle.ag_grammar.specs.grammars.AttributeGrammar.{item_at, IsArgument}
 use Rattle.ag_grammar.specs.grammars.Passes.{Passes, HasPass, IsBefore, direction_of, item_passes}
 use Rattle.passcode.specs.declared.instr.Instr.{Instr}
 use Rattle.passcode.specs.declared.instr.Instr.TheVariants as instr
-use Rattle.passcode.specs.Agreement.{GivesTargets, HasArguments, HasPlace, IsAtHand, IsChild, IsGiving, IsListFor, IsRuleAt}
-use Rattle.passcode.specs.Agreement.{Precedes, StandsBefore, StandsOnceIf, VisitsPlaces, giving, instruction_of}
+use Rattle.passcode.specs.Agreement.{GivesTargets, HasArguments, HasPlace, IsAvailable, IsChild, IsGiving, IsListFor, IsRuleAt}
+use Rattle.passcode.specs.Agreement.{Precedes, OccursBefore, OccursOnceIf, VisitsPlaces, def_of, instruction_of}
 use Rattle.passcode.specs.Course as Course
 use Rattle.passcode.specs.Course.{Phase, State, Between, Got, Gone, Ended, MayGive, MayRun, IsTurnOf, Runs, after, arity}
 use Rattle.passcode.specs.Course.{place_of, start, state_at}
 use Rattle.passcode.proofs.Marks.{end_mark, got_child, get_mark, go_mark, put_mark, read_is, rule_mark, run_stays, run_is, run_in}
 use Rattle.passcode.proofs.Marks.{read_in}
-use Rattle.passcode.proofs.States.{IsMark, MayRunTo, kept, once, precedes, runs_by_index, stands, state_next}
-use Rattle.passcode.proofs.Turns.{has_place, turn_before, turn_of}
+use Rattle.passcode.proofs.States.{IsMark, MayRunTo, kept, once, precedes, runs_by_index, occurs, state_next}
+use Rattle.passcode.proofs.Turns.{is_stored_child, turn_before, turn_of}
 
 -- an attribute of pass 1 or a later one at a place of the right side is a declared symbol's
 pub has_symbol : (m : Passes) (q : Production) (o : Target) (k : ℕ) → 1 ≤ k → HasPass m q o k → (s : ℕ)
@@ -57,22 +57,22 @@ module _ (m : Passes) (q : Production) (k : ℕ) (xs : List Instr) (one : 1 ≤ 
 
   -- the mark of an instruction decides what is before an index, and what is in the list at all
   module _ (A : State → Type 0) (x : Instr) (mark : IsMark m q k A x) where
-    in_front : (i j : ℕ) (y : Instr) → slice_get xs i ≡ Some x → slice_get xs j ≡ Some y → A (state_at q start xs j) → i < j
-    in_front i j y a b = precedes m q k xs (length xs) may_to A x mark i j (slice_get_within xs i x a) (slice_get_within xs j y b)
+    before_it : (i j : ℕ) (y : Instr) → slice_get xs i ≡ Some x → slice_get xs j ≡ Some y → A (state_at q start xs j) → i < j
+    before_it i j y a b = precedes m q k xs (length xs) may_to A x mark i j (slice_get_within xs i x a) (slice_get_within xs j y b)
         a
 
     there : A (state_at q start xs (length xs)) → Has xs x
-    there a = let s = stands m q k xs (length xs) may_to A x mark (length xs) (omega arith) a in (s.0, s.2)
+    there a = let s = occurs m q k xs (length xs) may_to A x mark (length xs) (omega arith) a in (s.0, s.2)
 
     single : (i j : ℕ) → slice_get xs i ≡ Some x → slice_get xs j ≡ Some x → i ≡ j
     single i j a b = once m q k xs (length xs) may_to A x mark i j (slice_get_within xs i x a) (slice_get_within xs j x b) a b
 
-    standing : (P : Type 0) → (P → A (state_at q start xs (length xs))) → (Has xs x → P) → StandsOnceIf P xs x
-    standing P forth back = record { there = λ p. there (forth p); only = back; once = single }
+    occurring : (P : Type 0) → (P → A (state_at q start xs (length xs))) → (Has xs x → P) → OccursOnceIf P xs x
+    occurring P forth back = record { there = λ p. there (forth p); only = back; once = single }
 
   -- `End` is last, and all is done there
-  end : StandsBefore xs (length xs) instr.End
-  end = stands m q k xs (length xs) may_to (λ s. s.phase ≡ Ended) instr.End (end_mark m q k) (length xs) (omega arith)
+  end : OccursBefore xs (length xs) instr.End
+  end = occurs m q k xs (length xs) may_to (λ s. s.phase ≡ Ended) instr.End (end_mark m q k) (length xs) (omega arith)
       (runs_by_index m q k start xs runs).1
 
   last : (n : ℕ) → slice_get xs n ≡ Some instr.End → suc n ≡ length xs
@@ -112,7 +112,7 @@ module _ (m : Passes) (q : Production) (k : ℕ) (xs : List Instr) (one : 1 ≤ 
   run_rule r u is has = subst (λ (s : State). Has s.done r) (sym final) (done_at.2 u.target.place r u is refl has)
 
   place : (n j : ℕ) (x : Instr) (p : Phase) → slice_get xs n ≡ Some x → IsTurnOf q k (state_at q start xs n) p j → HasPlace q j
-  place n j x p e turn = subst (HasPlace q) (sym turn.place) (has_place q k (state_at q start xs n).turn turn.within)
+  place n j x p e turn = subst (HasPlace q) (sym turn.place) (is_stored_child q k (state_at q start xs n).turn turn.within)
 
   child : (n j : ℕ) → slice_get xs n ≡ Some (instr.Go j) → IsChild q j
   child n j e =
@@ -122,51 +122,51 @@ module _ (m : Passes) (q : Production) (k : ℕ) (xs : List Instr) (one : 1 ≤ 
       subst (IsChild q) (sym turn.place) (got turn.phase_is)
 
   run_within : (n t : ℕ) → n ≤ length xs → t < run_in (state_at q start xs n) → t < arity q
-  run_within n t front less =
-      let more = kept m q k xs (length xs) may_to (λ s. t < run_in s) (run_stays m q k t) n (length xs) front (omega arith) less
+  run_within n t prefix less =
+      let more = kept m q k xs (length xs) may_to (λ s. t < run_in s) (run_stays m q k t) n (length xs) prefix (omega arith) less
       in
       let e = run_final in
       omega arith
 
   -- the `Get`, `Go` and `Put` of a place
   module _ (t : ℕ) (within : t < arity q) where
-    get_in_front : (i j : ℕ) (y : Instr) → slice_get xs i ≡ Some (instr.Get (place_of q k t)) → slice_get xs j ≡ Some y
+    get_before : (i j : ℕ) (y : Instr) → slice_get xs i ≡ Some (instr.Get (place_of q k t)) → slice_get xs j ≡ Some y
         → t < read_in (state_at q start xs j) → i < j
-    get_in_front = in_front (λ s. t < read_in s) (instr.Get (place_of q k t)) (get_mark m q k t within)
+    get_before = before_it (λ s. t < read_in s) (instr.Get (place_of q k t)) (get_mark m q k t within)
 
-    put_in_front : (i j : ℕ) (y : Instr) → slice_get xs i ≡ Some (instr.Put (place_of q k t)) → slice_get xs j ≡ Some y
+    put_before : (i j : ℕ) (y : Instr) → slice_get xs i ≡ Some (instr.Put (place_of q k t)) → slice_get xs j ≡ Some y
         → t < (state_at q start xs j).turn → i < j
-    put_in_front = in_front (λ s. t < s.turn) (instr.Put (place_of q k t)) (put_mark m q k t within)
+    put_before = before_it (λ s. t < s.turn) (instr.Put (place_of q k t)) (put_mark m q k t within)
 
-    go_in_front : IsChild q (place_of q k t) → (i j : ℕ) (y : Instr) → slice_get xs i ≡ Some (instr.Go (place_of q k t))
+    go_before : IsChild q (place_of q k t) → (i j : ℕ) (y : Instr) → slice_get xs i ≡ Some (instr.Go (place_of q k t))
         → slice_get xs j ≡ Some y → t < run_in (state_at q start xs j) → i < j
-    go_in_front is = in_front (λ s. t < run_in s) (instr.Go (place_of q k t)) (go_mark m q k t within is)
+    go_before is = before_it (λ s. t < run_in s) (instr.Go (place_of q k t)) (go_mark m q k t within is)
 
-    get_once : StandsOnceIf (HasPlace q (place_of q k t)) xs (instr.Get (place_of q k t))
-    get_once = standing (λ s. t < read_in s) (instr.Get (place_of q k t)) (get_mark m q k t within) (HasPlace q (place_of q k t))
-        (λ h. (let e = read_final in omega arith)) (λ h. has_place q k t within)
+    get_once : OccursOnceIf (HasPlace q (place_of q k t)) xs (instr.Get (place_of q k t))
+    get_once = occurring (λ s. t < read_in s) (instr.Get (place_of q k t)) (get_mark m q k t within) (HasPlace q (place_of q k t))
+        (λ h. (let e = read_final in omega arith)) (λ h. is_stored_child q k t within)
 
-    put_once : StandsOnceIf (HasPlace q (place_of q k t)) xs (instr.Put (place_of q k t))
-    put_once = standing (λ s. t < s.turn) (instr.Put (place_of q k t)) (put_mark m q k t within) (HasPlace q (place_of q k t))
-        (λ h. (let e = turn_final in omega arith)) (λ h. has_place q k t within)
+    put_once : OccursOnceIf (HasPlace q (place_of q k t)) xs (instr.Put (place_of q k t))
+    put_once = occurring (λ s. t < s.turn) (instr.Put (place_of q k t)) (put_mark m q k t within) (HasPlace q (place_of q k t))
+        (λ h. (let e = turn_final in omega arith)) (λ h. is_stored_child q k t within)
 
-    go_once : IsChild q (place_of q k t) → StandsOnceIf (IsChild q (place_of q k t)) xs (instr.Go (place_of q k t))
-    go_once is = standing (λ s. t < run_in s) (instr.Go (place_of q k t)) (go_mark m q k t within is) (IsChild q (place_of q k t))
+    go_once : IsChild q (place_of q k t) → OccursOnceIf (IsChild q (place_of q k t)) xs (instr.Go (place_of q k t))
+    go_once is = occurring (λ s. t < run_in s) (instr.Go (place_of q k t)) (go_mark m q k t within is) (IsChild q (place_of q k t))
         (λ h. (let e = run_final in omega arith)) (λ h. is)
 
   -- What is there once if a place is of some kind: it is enough to know it of each place of that kind.
   once_at : (P : ℕ → Type 0) (x : ℕ → Instr) → ((n j : ℕ) → slice_get xs n ≡ Some (x j) → P j) → ((j : ℕ) → P j → HasPlace q j)
-      → ((t : ℕ) → t < arity q → P (place_of q k t) → StandsOnceIf (P (place_of q k t)) xs (x (place_of q k t))) → (j : ℕ)
-      → StandsOnceIf (P j) xs (x j)
+      → ((t : ℕ) → t < arity q → P (place_of q k t) → OccursOnceIf (P (place_of q k t)) xs (x (place_of q k t))) → (j : ℕ)
+      → OccursOnceIf (P j) xs (x j)
   once_at P x only places each j = record {
     there = λ p. (at_place p).there p;
     only = λ h. only h.0 j h.1;
     once = λ i n a b. (at_place (only i j a)).once i n a b;
   }
     where
-      at_place : P j → StandsOnceIf (P j) xs (x j)
+      at_place : P j → OccursOnceIf (P j) xs (x j)
       at_place p = let turn = turn_of q k j (places j p) in
-          subst (λ j. StandsOnceIf (P j) xs (x j)) (sym turn.2) (each turn.0 turn.1 (subst P turn.2 p))
+          subst (λ j. OccursOnceIf (P j) xs (x j)) (sym turn.2) (each turn.0 turn.1 (subst P turn.2 p))
 
   visits : VisitsPlaces q k xs
   visits = record {
@@ -175,20 +175,20 @@ module _ (m : Passes) (q : Production) (k : ℕ) (xs : List Instr) (one : 1 ≤ 
     gone = once_at (IsChild q) instr.Go child (λ j p. (item.Symbol p.0, p.1)) go_once;
     put = once_at (HasPlace q) instr.Put (λ n j e. place n j (instr.Put j) Gone e (may n (instr.Put j) e)) (λ j p. p)
         (λ t less p. put_once t less);
-    go_behind_get = λ j i n a b. (
+    go_after_get = λ j i n a b. (
         let turn = (may n (instr.Go j) b).0 in
         let count = read_is (state_at q start xs n) Got turn.phase_is in
-        get_in_front (state_at q start xs n).turn turn.within i n (instr.Go j) (a ∙ ap (λ j. Some (instr.Get j)) turn.place) b
+        get_before (state_at q start xs n).turn turn.within i n (instr.Go j) (a ∙ ap (λ j. Some (instr.Get j)) turn.place) b
         (omega arith));
-    put_behind_go = λ j i n a b. (
+    put_after_go = λ j i n a b. (
         let turn = may n (instr.Put j) b in
         let count = run_is (state_at q start xs n) Gone turn.phase_is in
-        go_in_front (state_at q start xs n).turn turn.within (subst (IsChild q) turn.place (child i j a)) i n (instr.Put j)
+        go_before (state_at q start xs n).turn turn.within (subst (IsChild q) turn.place (child i j a)) i n (instr.Put j)
         (a ∙ ap (λ j. Some (instr.Go j)) turn.place) b (omega arith));
-    put_behind_get = λ j i n a b. (
+    put_after_get = λ j i n a b. (
         let turn = may n (instr.Put j) b in
         let count = read_is (state_at q start xs n) Gone turn.phase_is in
-        get_in_front (state_at q start xs n).turn turn.within i n (instr.Put j) (a ∙ ap (λ j. Some (instr.Get j)) turn.place) b
+        get_before (state_at q start xs n).turn turn.within i n (instr.Put j) (a ∙ ap (λ j. Some (instr.Get j)) turn.place) b
         (omega arith));
     in_direction = λ i j before s n a b. (
         let first = may s (instr.Put i) a in
@@ -196,13 +196,13 @@ module _ (m : Passes) (q : Production) (k : ℕ) (xs : List Instr) (one : 1 ≤ 
         let earlier = turn_before q k (state_at q start xs s).turn (state_at q start xs n).turn first.within next.within
         (subst (IsBefore (direction_of k) (place_of q k (state_at q start xs s).turn)) next.place
         (subst (λ i. IsBefore (direction_of k) i j) first.place before)) in
-        put_in_front (state_at q start xs s).turn first.within s n (instr.Get j) (a ∙ ap (λ j. Some (instr.Put j)) first.place) b
+        put_before (state_at q start xs s).turn first.within s n (instr.Get j) (a ∙ ap (λ j. Some (instr.Put j)) first.place) b
         earlier);
   }
 
   -- a rule's own instruction
-  of_rule : (s : State) (j a r : ℕ) (g : MayGive m q k s j a r) → giving j a r ≡ instruction_of g.rule r
-  of_rule s j a r g = ap (λ (o : Target). giving o.place o.attr r) (sym g.target)
+  of_rule : (s : State) (j a r : ℕ) (g : MayGive m q k s j a r) → def_of j a r ≡ instruction_of g.rule r
+  of_rule s j a r g = ap (λ (o : Target). def_of o.place o.attr r) (sym g.target)
 
   is_own : (i : Instr) → IsGiving i → Has xs i → (r : ℕ) × (u : Rule) × IsRuleAt q r u × (i ≡ instruction_of u r)
   is_own i (zero, a, r, inl e) h = let turn = (may h.0 (instr.Set 0 a r) (h.1 ∙ ap Some e)).0 in
@@ -213,7 +213,7 @@ module _ (m : Passes) (q : Production) (k : ℕ) (xs : List Instr) (one : 1 ≤ 
       (r, g.rule, g.numbered, e ∙ of_rule (state_at q start xs h.0) 0 a r g)
 
   -- where a rule's own instruction is it may give its value
-  may_give : (j a r n : ℕ) → slice_get xs n ≡ Some (giving j a r) → MayGive m q k (state_at q start xs n) j a r
+  may_give : (j a r n : ℕ) → slice_get xs n ≡ Some (def_of j a r) → MayGive m q k (state_at q start xs n) j a r
   may_give zero a r n e = (may n (instr.Def a r) e).1
   may_give (suc j) a r n e = (may n (instr.Set (suc j) a r) e).1
 
@@ -227,14 +227,14 @@ module _ (m : Passes) (q : Production) (k : ℕ) (xs : List Instr) (one : 1 ≤ 
 
   gives : GivesTargets m q k xs
   gives = record {
-    given = λ r u is. standing (λ s. Has s.done r) (instruction_of u r) (rule_mark m q k r u is) (HasPass m q u.target k)
+    given = λ r u is. occurring (λ s. Has s.done r) (instruction_of u r) (rule_mark m q k r u is) (HasPass m q u.target k)
         (run_rule r u is)
         (λ h. subst (λ (w : Rule). HasPass m q w.target k) (same r h.0 u is h.1) (its_own r h.0 u is h.1).passed);
     own = is_own;
-    behind_get = λ j a r i n b c. (
+    after_get = λ j a r i n b c. (
         let turn = (may n (instr.Set j a r) c).0 in
         let count = read_is (state_at q start xs n) Got turn.phase_is in
-        get_in_front (state_at q start xs n).turn turn.within i n (instr.Set j a r) (b ∙ ap (λ j. Some (instr.Get j)) turn.place)
+        get_before (state_at q start xs n).turn turn.within i n (instr.Set j a r) (b ∙ ap (λ j. Some (instr.Get j)) turn.place)
         c (omega arith));
     before_go = before_go;
   }
@@ -244,16 +244,16 @@ module _ (m : Passes) (q : Production) (k : ℕ) (xs : List Instr) (one : 1 ≤ 
       before_go (suc j) a r i n b c =
           let g = (may i (instr.Set (suc j) a r) b).1 in
           let done = (may n (instr.Go (suc j)) c).1 r g.rule g.numbered (ap (λ (o : Target). o.place) g.target) g.passed in
-          in_front (λ s. Has s.done r) (instruction_of g.rule r) (rule_mark m q k r g.rule g.numbered) i n (instr.Go (suc j))
+          before_it (λ s. Has s.done r) (instruction_of g.rule r) (rule_mark m q k r g.rule g.numbered) i n (instr.Go (suc j))
           (b ∙ ap Some (of_rule (state_at q start xs i) (suc j) a r g)) c done
 
   arguments : HasArguments m q k xs
   arguments r n u o is e arg = go hand
     where
-      hand : Course.IsAtHand m q k (state_at q start xs n) o
-      hand = (its_own r n u is e).at_hand o (subst (λ (w : Rule). IsArgument w o) (sym (same r n u is e)) arg)
+      hand : Course.IsAvailable m q k (state_at q start xs n) o
+      hand = (its_own r n u is e).available o (subst (λ (w : Rule). IsArgument w o) (sym (same r n u is e)) arg)
 
-      go : Course.IsAtHand m q k (state_at q start xs n) o → IsAtHand m q k xs n o
+      go : Course.IsAvailable m q k (state_at q start xs n) o → IsAvailable m q k xs n o
       go (p, has, most, inl less) = inr (inl (p, has, less))
       go (p, has, most, inr (inl own)) = inl own
       go (p, has, most, inr (inr (t, less, place))) = elim (cases_lt p k) [
@@ -262,12 +262,12 @@ module _ (m : Passes) (q : Production) (k : ℕ) (xs : List Instr) (one : 1 ≤ 
             let this : p ≡ k = omega arith in
             let now : HasPass m q o k = subst (HasPass m q o) this has in
             let s = has_symbol m q o k one now in
-            let front = slice_get_within xs n (instruction_of u r) e in
+            let prefix = slice_get_within xs n (instruction_of u r) e in
             let within = run_within n t (omega arith) less in
             let is_child : IsChild q (place_of q k t) = (s.0, (omega arith, ap (item_at q) (sym place) ∙ s.1)) in
-            let go = stands m q k xs (length xs) may_to (λ s. t < run_in s) (instr.Go (place_of q k t))
+            let go = occurs m q k xs (length xs) may_to (λ s. t < run_in s) (instr.Go (place_of q k t))
             (go_mark m q k t within is_child) n (let w = slice_get_within xs n (instruction_of u r) e in omega arith) less in
-            inr (inr (now, subst (λ j. StandsBefore xs n (instr.Go j)) (sym place) go)))
+            inr (inr (now, subst (λ j. OccursBefore xs n (instr.Go j)) (sym place) go)))
       ]
 
   pub agrees : IsListFor m q k xs

@@ -12,15 +12,15 @@ use Rattle.ag_grammar.specs.grammars.AttributeGrammar.{item_at, IsArgument}
 use Rattle.ag_grammar.specs.grammars.Passes.{Passes, HasPass, IsBefore, IsLegalFor, MayUse, direction_of}
 use Rattle.passcode.specs.declared.instr.Instr.{Instr}
 use Rattle.passcode.specs.declared.instr.Instr.TheVariants as instr
-use Rattle.passcode.specs.Agreement.{HasPlace, IsAtHand, IsChild, IsListFor, IsRuleAt, StandsOnceIf, giving, instruction_of}
+use Rattle.passcode.specs.Agreement.{HasPlace, IsAvailable, IsChild, IsListFor, IsRuleAt, OccursOnceIf, def_of, instruction_of}
 use Rattle.passcode.specs.Course as Course
 use Rattle.passcode.specs.Course.{AreGiven, Phase, State, Between, Got, Gone, Ended, IsTurnOf, MayGive, MayRun, Runs, after}
 use Rattle.passcode.specs.Course.{arity, place_of, read_count, run_count, start, state_at}
 use Rattle.passcode.proofs.Agreeing.{has_symbol}
 use Rattle.passcode.proofs.Marks.{end_mark, get_mark, go_mark, got_child, put_mark, read_in, read_is, read_within, run_is}
 use Rattle.passcode.proofs.Marks.{rule_mark, run_in}
-use Rattle.passcode.proofs.States.{IsMark, MayRunTo, index_runs, kept, marked, stands}
-use Rattle.passcode.proofs.Turns.{has_place, place_before, turn_of}
+use Rattle.passcode.proofs.States.{IsMark, MayRunTo, index_runs, kept, marked, occurs}
+use Rattle.passcode.proofs.Turns.{is_stored_child, place_before, turn_of}
 
 -- the phase of a node, by how many children were read and passed
 phase_between : (p : Phase) (t : ℕ) → read_count p t ≤ t → (p ≡ Ended → ⊥) → p ≡ Between
@@ -49,36 +49,36 @@ may_use_most k (suc j) i p (inr (inl h)) = h.1
 may_use_most k (suc j) i p (inr (inr less)) = omega arith
 
 -- the parts of a rule's own instruction
-set_parts : (j a r : ℕ) (o : Target) (s : ℕ) → instr.Set j a r ≡ giving o.place o.attr s → (o ≡ record { place = j; attr = a })
+set_parts : (j a r : ℕ) (o : Target) (s : ℕ) → instr.Set j a r ≡ def_of o.place o.attr s → (o ≡ record { place = j; attr = a })
     × (r ≡ s)
 set_parts j a r o s = go o.place o.attr
   where
-    go : (p b : ℕ) → instr.Set j a r ≡ giving p b s → ◌≡◌ {A = Target} (record { place = p; attr = b })
+    go : (p b : ℕ) → instr.Set j a r ≡ def_of p b s → ◌≡◌ {A = Target} (record { place = p; attr = b })
         (record { place = j; attr = a }) × (r ≡ s)
     go zero b e = absurd (let bad : ⊥ = cc in bad)
     go (suc p) b e = (cc, cc)
 
-def_parts : (a r : ℕ) (o : Target) (s : ℕ) → instr.Def a r ≡ giving o.place o.attr s → (o ≡ record { place = 0; attr = a })
+def_parts : (a r : ℕ) (o : Target) (s : ℕ) → instr.Def a r ≡ def_of o.place o.attr s → (o ≡ record { place = 0; attr = a })
     × (r ≡ s)
 def_parts a r o s = go o.place o.attr
   where
-    go : (p b : ℕ) → instr.Def a r ≡ giving p b s → ◌≡◌ {A = Target} (record { place = p; attr = b })
+    go : (p b : ℕ) → instr.Def a r ≡ def_of p b s → ◌≡◌ {A = Target} (record { place = p; attr = b })
         (record { place = 0; attr = a }) × (r ≡ s)
     go zero b e = (cc, cc)
     go (suc p) b e = absurd (let bad : ⊥ = cc in bad)
 
-set_place : (j a r : ℕ) (o : Target) (s : ℕ) → instr.Set j a r ≡ giving o.place o.attr s → 1 ≤ j
+set_place : (j a r : ℕ) (o : Target) (s : ℕ) → instr.Set j a r ≡ def_of o.place o.attr s → 1 ≤ j
 set_place j a r o s = go o.place
   where
-    go : (p : ℕ) → instr.Set j a r ≡ giving p o.attr s → 1 ≤ j
+    go : (p : ℕ) → instr.Set j a r ≡ def_of p o.attr s → 1 ≤ j
     go zero e = absurd (let bad : ⊥ = cc in bad)
     go (suc p) e = let same : j ≡ suc p = cc in omega arith
 
 set_of : (u : Rule) (r j : ℕ) → 1 ≤ j → u.target.place ≡ j → instruction_of u r ≡ instr.Set j u.target.attr r
 set_of u r zero least e = absurd (omega arith)
-set_of u r (suc j) least e = ap (λ p. giving p u.target.attr r) e
+set_of u r (suc j) least e = ap (λ p. def_of p u.target.attr r) e
 
-not_end : (j a r : ℕ) → giving j a r ≡ instr.End → ⊥
+not_end : (j a r : ℕ) → def_of j a r ≡ instr.End → ⊥
 not_end zero a r e = let bad : ⊥ = cc in bad
 not_end (suc j) a r e = let bad : ⊥ = cc in bad
 
@@ -100,16 +100,16 @@ module _ (m : Passes) (q : Production) (k : ℕ) (xs : List Instr) (one : 1 ≤ 
         → A (state_at q start xs n)
     seen A y mark i less at = marked m q k xs n may A y mark i n less (omega arith) at
 
-    new : (A : State → Type 0) → IsMark m q k A x → (P : Type 0) → StandsOnceIf P xs x → A (state_at q start xs n) → ⊥
-    new A mark P stands_once a =
-        let before = stands m q k xs n may A x mark n (omega arith) a in
+    new : (A : State → Type 0) → IsMark m q k A x → (P : Type 0) → OccursOnceIf P xs x → A (state_at q start xs n) → ⊥
+    new A mark P occurs_once a =
+        let before = occurs m q k xs n may A x mark n (omega arith) a in
         let less = before.1 in
-        let same = stands_once.once before.0 n before.2 is in
+        let same = occurs_once.once before.0 n before.2 is in
         omega arith
 
     going : (state_at q start xs n).phase ≡ Ended → ⊥
     going e =
-        let before = stands m q k xs n may (λ s. s.phase ≡ Ended) instr.End (end_mark m q k) n (omega arith) e in
+        let before = occurs m q k xs n may (λ s. s.phase ≡ Ended) instr.End (end_mark m q k) n (omega arith) e in
         let less = before.1 in
         let last = list.ends.last before.0 before.2 in
         let within = slice_get_within xs n x is in
@@ -118,38 +118,38 @@ module _ (m : Passes) (q : Production) (k : ℕ) (xs : List Instr) (one : 1 ≤ 
     -- if the `Get` of a turn is before it, the child was read
     was_read : (t j : ℕ) → t < arity q → j ≡ place_of q k t → ((i : ℕ) → slice_get xs i ≡ Some (instr.Get j) → i < n)
         → t < read_in (state_at q start xs n)
-    was_read t j within place front =
-        let get = (list.visits.got j).there (subst (HasPlace q) (sym place) (has_place q k t within)) in
-        seen (λ s. t < read_in s) (instr.Get (place_of q k t)) (get_mark m q k t within) get.0 (front get.0 get.1)
+    was_read t j within place prefix =
+        let get = (list.visits.got j).there (subst (HasPlace q) (sym place) (is_stored_child q k t within)) in
+        seen (λ s. t < read_in s) (instr.Get (place_of q k t)) (get_mark m q k t within) get.0 (prefix get.0 get.1)
         (get.1 ∙ ap (λ j. Some (instr.Get j)) place)
 
     was_run : (t j : ℕ) → t < arity q → j ≡ place_of q k t → IsChild q j → ((i : ℕ) → slice_get xs i ≡ Some (instr.Go j) → i < n)
         → t < run_in (state_at q start xs n)
-    was_run t j within place child front =
+    was_run t j within place child prefix =
         let go = (list.visits.gone j).there child in
         seen (λ s. t < run_in s) (instr.Go (place_of q k t)) (go_mark m q k t within (subst (IsChild q) place child)) go.0
-        (front go.0 go.1) (go.1 ∙ ap (λ j. Some (instr.Go j)) place)
+        (prefix go.0 go.1) (go.1 ∙ ap (λ j. Some (instr.Go j)) place)
 
     was_put : (t j : ℕ) → t < arity q → j ≡ place_of q k t → ((i : ℕ) → slice_get xs i ≡ Some (instr.Put j) → i < n)
         → t < (state_at q start xs n).turn
-    was_put t j within place front =
-        let put = (list.visits.put j).there (subst (HasPlace q) (sym place) (has_place q k t within)) in
-        seen (λ s. t < s.turn) (instr.Put (place_of q k t)) (put_mark m q k t within) put.0 (front put.0 put.1)
+    was_put t j within place prefix =
+        let put = (list.visits.put j).there (subst (HasPlace q) (sym place) (is_stored_child q k t within)) in
+        seen (λ s. t < s.turn) (instr.Put (place_of q k t)) (put_mark m q k t within) put.0 (prefix put.0 put.1)
         (put.1 ∙ ap (λ j. Some (instr.Put j)) place)
 
     was_given : (r : ℕ) (u : Rule) → IsRuleAt q r u → HasPass m q u.target k
         → ((i : ℕ) → slice_get xs i ≡ Some (instruction_of u r) → i < n) → Has (state_at q start xs n).done r
-    was_given r u at passed front =
-        let give = (list.gives.given r u at).there passed in
-        seen (λ s. Has s.done r) (instruction_of u r) (rule_mark m q k r u at) give.0 (front give.0 give.1) give.1
+    was_given r u at passed prefix =
+        let run_rule = (list.gives.given r u at).there passed in
+        seen (λ s. Has s.done r) (instruction_of u r) (rule_mark m q k r u at) run_rule.0 (prefix run_rule.0 run_rule.1) run_rule.1
 
     turn_here : (p : Phase) (t j : ℕ) → t < arity q → j ≡ place_of q k t → s.phase ≡ p → t ≡ s.turn → IsTurnOf q k s p j
     turn_here p t j within place phase same = record
         { phase_is = phase; within = subst (λ t. t < arity q) same within; place = place ∙ ap (place_of q k) same }
 
     -- what is at hand at the index is at hand in its state
-    hand : (r : ℕ) (u : Rule) → IsRuleAt q r u → HasPass m q u.target k → (o : Target) → IsArgument u o → IsAtHand m q k xs n o
-        → Course.IsAtHand m q k s o
+    hand : (r : ℕ) (u : Rule) → IsRuleAt q r u → HasPass m q u.target k → (o : Target) → IsArgument u o → IsAvailable m q k xs n o
+        → Course.IsAvailable m q k s o
     hand r u at passed o arg (inl own) = let p = allowed u o k (r, at) arg passed in
         (p.0, p.1, may_use_most k u.target.place o.place p.0 p.2, inr (inl own))
     hand r u at passed o arg (inr (inl h)) = let low = h.2 in (h.0, h.1, omega arith, inl low)
@@ -170,9 +170,9 @@ module _ (m : Passes) (q : Production) (k : ℕ) (xs : List Instr) (one : 1 ≤ 
       numbered = at;
       target = target;
       passed = passed;
-      at_hand = λ o arg. hand r u at passed o arg (list.arguments r n u o at here arg);
+      available = λ o arg. hand r u at passed o arg (list.arguments r n u o at here arg);
       fresh = new (λ s. Has s.done r) (subst (IsMark m q k (λ s. Has s.done r)) (sym own) (rule_mark m q k r u at))
-          (HasPass m q u.target k) (subst (StandsOnceIf (HasPass m q u.target k) xs) (sym own) (list.gives.given r u at));
+          (HasPass m q u.target k) (subst (OccursOnceIf (HasPass m q u.target k) xs) (sym own) (list.gives.given r u at));
     }
       where
         here : slice_get xs n ≡ Some (instruction_of u r)
@@ -227,7 +227,7 @@ module _ (m : Passes) (q : Production) (k : ℕ) (xs : List Instr) (one : 1 ≤ 
         low : run_in now ≤ turn.0
         low = elim (cases_lt turn.0 (run_in now)) [
           | inl less ↦ absurd (
-              let before = stands m q k xs n may (λ s. turn.0 < run_in s) (instr.Go (place_of q k turn.0))
+              let before = occurs m q k xs n may (λ s. turn.0 < run_in s) (instr.Go (place_of q k turn.0))
               (go_mark m q k turn.0 turn.1 (subst (IsChild q) turn.2 child)) n (omega arith) less in
               go before.0 before.1 (before.2 ∙ ap (λ j. Some (instr.Go j)) (sym turn.2)))
           | inr le ↦ le
@@ -238,7 +238,7 @@ module _ (m : Passes) (q : Production) (k : ℕ) (xs : List Instr) (one : 1 ≤ 
 
     set_may : (j a r : ℕ) → slice_get xs n ≡ Some (instr.Set j a r) → MayRun m q k (state_at q start xs n) (instr.Set j a r)
     set_may j a r is = (
-      got_turn (instr.Set j a r) is j child (λ i e. list.gives.behind_get j a r i n e is)
+      got_turn (instr.Set j a r) is j child (λ i e. list.gives.after_get j a r i n e is)
           (λ i less e. let after = list.gives.before_go j a r n i is e in omega arith),
       subst (MayGive m q k (state_at q start xs n) j a) (sym parts.1)
           (may_give n (instr.Set j a r) is may j a own.0 own.1 own.2 parts.0 own.3),
@@ -278,7 +278,7 @@ module _ (m : Passes) (q : Production) (k : ℕ) (xs : List Instr) (one : 1 ≤ 
 
     go_may : (j : ℕ) → slice_get xs n ≡ Some (instr.Go j) → MayRun m q k (state_at q start xs n) (instr.Go j)
     go_may j is = (
-      got_turn (instr.Go j) is j child (λ i e. list.visits.go_behind_get j i n e is)
+      got_turn (instr.Go j) is j child (λ i e. list.visits.go_after_get j i n e is)
           (λ i less e. let same = (list.visits.gone j).once i n e is in omega arith),
       λ r u at here passed. was_given n (instr.Go j) is may r u at passed
           (λ i e. list.gives.before_go j u.target.attr r i n (e ∙ ap Some (set_of u r j child.1.0 here)) is),
@@ -302,7 +302,7 @@ module _ (m : Passes) (q : Production) (k : ℕ) (xs : List Instr) (one : 1 ≤ 
         ]
 
         read : turn.0 < read_in now
-        read = was_read n (instr.Put j) is may turn.0 j turn.1 turn.2 (λ i e. list.visits.put_behind_get j i n e is)
+        read = was_read n (instr.Put j) is may turn.0 j turn.1 turn.2 (λ i e. list.visits.put_after_get j i n e is)
 
         -- the pass has run in a declared symbol's child
         not_got : now.phase ≡ Got → ⊥
@@ -314,7 +314,7 @@ module _ (m : Passes) (q : Production) (k : ℕ) (xs : List Instr) (one : 1 ≤ 
             let here = kept m q k xs n may (λ s. s.phase ≡ Got → IsChild q (place_of q k s.turn)) (got_child m q k) 0 n
             (omega arith) (omega arith) (λ e. absurd (let bad : ⊥ = cc in bad)) e in
             let child = subst (IsChild q) (ap (place_of q k) (sym same) ∙ sym turn.2) here in
-            let run = was_run n (instr.Put j) is may turn.0 j turn.1 turn.2 child (λ i e. list.visits.put_behind_go j i n e is) in
+            let run = was_run n (instr.Put j) is may turn.0 j turn.1 turn.2 child (λ i e. list.visits.put_after_go j i n e is) in
             let none = run_is now Got e in
             omega arith
 
@@ -329,8 +329,8 @@ module _ (m : Passes) (q : Production) (k : ℕ) (xs : List Instr) (one : 1 ≤ 
     )
       where
         -- all is before `End`
-        front : (x : Instr) → (x ≡ instr.End → ⊥) → (i : ℕ) → slice_get xs i ≡ Some x → i < n
-        front x other i e = elim (cases_eq i n) [
+        prefix : (x : Instr) → (x ≡ instr.End → ⊥) → (i : ℕ) → slice_get xs i ≡ Some x → i < n
+        prefix x other i e = elim (cases_eq i n) [
           | inl same ↦ absurd (other (let both : Some x ≡ Some instr.End = sym e ∙ ap (slice_get xs) same ∙ is in cc))
           | inr apart ↦ (let last = list.ends.last n is in let within = slice_get_within xs i x e in omega arith)
         ]
@@ -338,7 +338,7 @@ module _ (m : Passes) (q : Production) (k : ℕ) (xs : List Instr) (one : 1 ≤ 
         all_put : arity q ≤ now.turn
         all_put = elim (cases_lt now.turn (arity q)) [
           | inl less ↦ absurd (let put = was_put n instr.End is may now.turn (place_of q k now.turn) less refl
-              (front (instr.Put (place_of q k now.turn)) (λ e. let bad : ⊥ = cc in bad)) in omega arith)
+              (prefix (instr.Put (place_of q k now.turn)) (λ e. let bad : ⊥ = cc in bad)) in omega arith)
           | inr le ↦ le
         ]
 
@@ -347,7 +347,7 @@ module _ (m : Passes) (q : Production) (k : ℕ) (xs : List Instr) (one : 1 ≤ 
 
         given : (j : ℕ) → AreGiven m q k now j
         given j r u at here passed = was_given n instr.End is may r u at passed
-            (front (instruction_of u r) (not_end u.target.place u.target.attr r))
+            (prefix (instruction_of u r) (not_end u.target.place u.target.attr r))
 
     step : (x : Instr) → slice_get xs n ≡ Some x → MayRun m q k (state_at q start xs n) x
     step (instr.Get j) is = get_may j is

@@ -6,7 +6,7 @@ use Rattle.ag_grammar.specs.declared.grammar.Item.{Item}
 use Rattle.ag_grammar.specs.declared.grammar.Production.{Production}
 use Rattle.ag_grammar.specs.declared.grammar.Symbol.{Symbol}
 use Rattle.ag_grammar.specs.declared.grammar.Terminal.TheVariants.{Literal, Class}
-use Rattle.ag_grammar.specs.grammars.Accepted.{IsAccepted, most_attributes}
+use Rattle.ag_grammar.specs.grammars.Accepted.{IsAccepted, max_attributes}
 use Rattle.ag_grammar.specs.grammars.AttributeGrammar.{Grammar, IsProduction, Synthesized, Inherited, attribute_names, item_at}
 use Rattle.ag_grammar.specs.grammars.AttributeGrammar.{symbol_kinds}
 use Rattle.ag_grammar.specs.grammars.Passes.{Passes, IsLegal, item_passes}
@@ -21,8 +21,8 @@ use Rattle.passcode.proofs.Following.{follows}
 use Rattle.passcode.proofs.Leaving.{list_runs}
 
 module _ (g : Grammar) (m : Passes) (accepted : IsAccepted g) (legal : IsLegal g m) where
-  few_kinds : (s : Option Symbol) → ((x : Symbol) → s ≡ Some x → length (attribute_names x) ≤ most_attributes)
-      → length (symbol_kinds s) ≤ most_attributes
+  few_kinds : (s : Option Symbol) → ((x : Symbol) → s ≡ Some x → length (attribute_names x) ≤ max_attributes)
+      → length (symbol_kinds s) ≤ max_attributes
   few_kinds None few = omega arith
   few_kinds (Some x) few =
       let n = few x refl in
@@ -32,7 +32,7 @@ module _ (g : Grammar) (m : Passes) (accepted : IsAccepted g) (legal : IsLegal g
       let d = length-map x.inh (λ n. Inherited) in
       omega arith
 
-  few_attributes : (o : Option Item) → length (item_passes m o) ≤ most_attributes
+  few_attributes : (o : Option Item) → length (item_passes m o) ≤ max_attributes
   few_attributes None = omega arith
   few_attributes (Some (item.Symbol s)) = let same = legal.whole s in let few =
       few_kinds (slice_get g.symbols s) (λ x e. accepted.limits.attribute_count s x e) in omega arith

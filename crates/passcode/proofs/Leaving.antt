@@ -19,8 +19,8 @@ use Rattle.ag_grammar.specs.grammars.Counts.{is_pass, pass_at}
 use Rattle.ag_grammar.specs.grammars.Passes.{Passes, HasPass, IsBefore, IsLegalFor, MayUse, direction_of, item_passes}
 use Rattle.passcode.specs.declared.instr.Instr.{Instr}
 use Rattle.passcode.specs.declared.instr.Instr.TheVariants as instr
-use Rattle.passcode.specs.Agreement.{IsChild, IsRuleAt, giving}
-use Rattle.passcode.specs.Course.{AreGiven, IsAtHand, IsFinal, IsTurnOf, IsVisited, MayGive, MayRun, Phase, Runs, State, Between}
+use Rattle.passcode.specs.Agreement.{IsChild, IsRuleAt, def_of}
+use Rattle.passcode.specs.Course.{AreGiven, IsAvailable, IsFinal, IsTurnOf, IsVisited, MayGive, MayRun, Phase, Runs, State, Between}
 use Rattle.passcode.specs.Course.{Got, Gone, Ended, after, after_get, arity, place_of, run_count, start}
 use Rattle.passcode.specs.Listing.{child_part, instruction_left, own_part, visits, is_same, left_at, left_for, left_from, left_in}
 use Rattle.passcode.specs.Listing.{list_of, rule_for, visit}
@@ -28,7 +28,7 @@ use Rattle.passcode.proofs.Agreeing.{has_symbol}
 use Rattle.passcode.proofs.Following.{may_use_most}
 use Rattle.passcode.proofs.Marks.{read_in, read_is, read_within, run_after, run_in, run_is}
 use Rattle.passcode.proofs.States.{IsKept}
-use Rattle.passcode.proofs.Turns.{has_place, one_turn, turn_before, turn_of}
+use Rattle.passcode.proofs.Turns.{is_stored_child, one_turn, turn_before, turn_of}
 
 one_target : (o w : Target) → o.place ≡ w.place → o.attr ≡ w.attr → o ≡ w
 one_target o w e f =
@@ -110,7 +110,7 @@ module _ (m : Passes) (q : Production) (k : ℕ) (one : 1 ≤ k) (single : Diffe
     pub target : rule.target ≡ o
     pub passed : HasPass m q o k
     pub new : Has old number → ⊥
-    pub alone : left_for m q k old o ≡ giving o.place o.attr number ∷ []
+    pub alone : left_for m q k old o ≡ def_of o.place o.attr number ∷ []
 
   left_is : (o : Target) → IsNothing o ⊎ IsOne o
   left_is o = by_pass (is_pass k (pass_at m q o)) refl
@@ -119,7 +119,7 @@ module _ (m : Passes) (q : Production) (k : ℕ) (one : 1 ≤ k) (single : Diffe
           → IsNothing o ⊎ IsOne o
       by_list r p e true h = inl record {
         empty = ap (λ b. cond b (instruction_left old o (rule_for q o)) []) p ∙ ap (instruction_left old o) e
-            ∙ ap (λ b. cond b [] (giving o.place o.attr r ∷ [])) h;
+            ∙ ap (λ b. cond b [] (def_of o.place o.attr r ∷ [])) h;
         run = λ s u at same passed. (
             let found = rule_found q.rules o r e in
             let this : s ≡ r = single s r u found.0 at found.1 (same ∙ sym found.2) in
@@ -135,7 +135,7 @@ module _ (m : Passes) (q : Production) (k : ℕ) (one : 1 ≤ k) (single : Diffe
             passed = (is_the_pass k (pass_at m q o)).0 p;
             new = lacks_number old r h;
             alone = ap (λ b. cond b (instruction_left old o (rule_for q o)) []) p ∙ ap (instruction_left old o) e
-                ∙ ap (λ b. cond b [] (giving o.place o.attr r ∷ [])) h;
+                ∙ ap (λ b. cond b [] (def_of o.place o.attr r ∷ [])) h;
           }
 
       by_rule : is_pass k (pass_at m q o) ≡ true → (n : Option ℕ) → rule_for q o ≡ n → IsNothing o ⊎ IsOne o
@@ -172,16 +172,16 @@ module _ (m : Passes) (q : Production) (k : ℕ) (one : 1 ≤ k) (single : Diffe
       one_turn q k t u within (omega arith) (sym is ∙ place) in omega arith
   new_place t j s (inr (phase, turn, all, is)) (u, less, place) = omega arith
 
-  after_giving : (s : State) (j a r : ℕ) → after q s (giving j a r) ≡ record s { done = r ∷ s.done }
+  after_giving : (s : State) (j a r : ℕ) → after q s (def_of j a r) ≡ record s { done = r ∷ s.done }
   after_giving s zero a r = refl
   after_giving s (suc j) a r = refl
 
-  may_run : (t j a r : ℕ) (s : State) → IsGivingAt t j s → MayGive m q k s j a r → MayRun m q k s (giving j a r)
-  may_run t zero a r s (inl (phase, turn, within, is)) give = absurd (omega arith)
-  may_run t (suc j) a r s (inl (phase, turn, within, is)) give =
-      (record { phase_is = phase; within = omega arith; place = is ∙ ap (place_of q k) (sym turn) }, give)
-  may_run t zero a r s (inr (phase, turn, all, is)) give = ((λ e. let bad : ⊥ = cc in bad), give)
-  may_run t (suc j) a r s (inr (phase, turn, all, is)) give = absurd (omega arith)
+  may_run : (t j a r : ℕ) (s : State) → IsGivingAt t j s → MayGive m q k s j a r → MayRun m q k s (def_of j a r)
+  may_run t zero a r s (inl (phase, turn, within, is)) run_rule = absurd (omega arith)
+  may_run t (suc j) a r s (inl (phase, turn, within, is)) run_rule =
+      (record { phase_is = phase; within = omega arith; place = is ∙ ap (place_of q k) (sym turn) }, run_rule)
+  may_run t zero a r s (inr (phase, turn, all, is)) run_rule = ((λ e. let bad : ⊥ = cc in bad), run_rule)
+  may_run t (suc j) a r s (inr (phase, turn, all, is)) run_rule = absurd (omega arith)
 
   -- the turn of the place of an argument of the pass
   place_turn : (o : Target) → HasPass m q o k → (o.place ≡ 0 → ⊥) → (t : ℕ) × (t < arity q) × (o.place ≡ place_of q k t)
@@ -274,7 +274,7 @@ module _ (m : Passes) (q : Production) (k : ℕ) (one : 1 ≤ k) (single : Diffe
       numbered = it.numbered;
       target = it.target;
       passed = passed;
-      at_hand = hand;
+      available = hand;
       fresh = λ done. elim (way.only it.number it.rule it.numbered done) [
         | inl is ↦ it.new is
         | inr (inl h) ↦ new_place t j s here (subst (IsVisited q k t) (ap (λ (o : Target). o.place) it.target) h)
@@ -285,7 +285,7 @@ module _ (m : Passes) (q : Production) (k : ℕ) (one : 1 ≤ k) (single : Diffe
         passed : HasPass m q it.rule.target k
         passed = subst (λ o. HasPass m q o k) (sym it.target) it.passed
 
-        hand : (o : Target) → IsArgument it.rule o → IsAtHand m q k s o
+        hand : (o : Target) → IsArgument it.rule o → IsAvailable m q k s o
         hand o arg =
             let p = allowed it.rule o k (it.number, it.numbered) arg passed in (
               p.0,
@@ -298,16 +298,16 @@ module _ (m : Passes) (q : Production) (k : ℕ) (one : 1 ≤ k) (single : Diffe
   abbrev at_place : (j a n : ℕ) → List Instr
   at_place j a n = flat_map (λ a. left_for m q k old (record { place = j; attr = a })) (range_with_len a n)
 
-  give : (n t j a : ℕ) (s : State) (ys : List Instr) → IsGivingAt t j s → Way t j a s
+  run_rule : (n t j a : ℕ) (s : State) (ys : List Instr) → IsGivingAt t j s → Way t j a s
       → ((s' : State) → IsGivingAt t j s' → Way t j (a + n) s' → Runs m q k s' ys) → Runs m q k s (at_place j a n ++ ys)
-  give zero t j a s ys here way next = next s here (subst (λ a. Way t j a s) (let z : a ≡ a + 0 = omega arith in z) way)
-  give (suc n) t j a s ys here way next = elim (left_is (record { place = j; attr = a })) [
+  run_rule zero t j a s ys here way next = next s here (subst (λ a. Way t j a s) (let z : a ≡ a + 0 = omega arith in z) way)
+  run_rule (suc n) t j a s ys here way next = elim (left_is (record { place = j; attr = a })) [
     | inl none ↦ subst (λ l. Runs m q k s ((l ++ at_place j (a + 1) n) ++ ys)) (sym none.empty)
-        (give n t j (a + 1) s ys here (skip t j a s way none) onward)
+        (run_rule n t j (a + 1) s ys here (skip t j a s way none) onward)
     | inr it ↦ subst (λ l. Runs m q k s ((l ++ at_place j (a + 1) n) ++ ys)) (sym it.alone) (
       may_run t j a it.number s here (may_give t j a s way it here),
       subst (λ s. Runs m q k s (at_place j (a + 1) n ++ ys)) (sym (after_giving s j a it.number))
-          (give n t j (a + 1) (record s { done = it.number ∷ s.done }) ys here (run_one t j a s way it) onward),
+          (run_rule n t j (a + 1) (record s { done = it.number ∷ s.done }) ys here (run_one t j a s way it) onward),
     )
   ]
     where
@@ -387,12 +387,12 @@ module _ (m : Passes) (q : Production) (k : ℕ) (one : 1 ≤ k) (single : Diffe
       subst (Runs m q k s)
       (sym (append_assoc (left_at m q k old (place_of q k t)) (instr.Go (place_of q k t) ∷ instr.Put (place_of q k t) ∷ [])
       ys))
-      (give (attribute_count (place_of q k t)) t (place_of q k t) 0 s
-      (instr.Go (place_of q k t) ∷ instr.Put (place_of q k t) ∷ ys) (inl (phase, turn, within, refl)) way behind)
+      (run_rule (attribute_count (place_of q k t)) t (place_of q k t) 0 s
+      (instr.Go (place_of q k t) ∷ instr.Put (place_of q k t) ∷ ys) (inl (phase, turn, within, refl)) way following)
     where
-      behind : (s' : State) → IsGivingAt t (place_of q k t) s' → Way t (place_of q k t) (0 + attribute_count (place_of q k t)) s'
+      following : (s' : State) → IsGivingAt t (place_of q k t) s' → Way t (place_of q k t) (0 + attribute_count (place_of q k t)) s'
           → Runs m q k s' (instr.Go (place_of q k t) ∷ instr.Put (place_of q k t) ∷ ys)
-      behind s' (inl (phase, turn, within, is)) way =
+      following s' (inl (phase, turn, within, is)) way =
           let way' : Way t (place_of q k t) (attribute_count (place_of q k t)) s' =
           subst (λ n. Way t (place_of q k t) n s')
           (let z : 0 + attribute_count (place_of q k t) ≡ attribute_count (place_of q k t) = omega arith in z) way in
@@ -405,16 +405,16 @@ module _ (m : Passes) (q : Production) (k : ℕ) (one : 1 ≤ k) (single : Diffe
                   (refl, ap suc turn, record { kept = next_way.kept; ran = next_way.ran; only = next_way.only }),
             ),
           )
-      behind s' (inr h) way = absurd (let none = h.3 in omega arith)
+      following s' (inr h) way = absurd (let none = h.3 in omega arith)
 
   own_runs : (s : State) → IsBetween (arity q) s → Runs m q k s (own_part m q k old)
-  own_runs s (phase, turn, way) = give (attribute_count 0) (arity q) 0 0 s (instr.End ∷ []) (inr (phase, turn, refl, refl)) way
-      behind
+  own_runs s (phase, turn, way) = run_rule (attribute_count 0) (arity q) 0 0 s (instr.End ∷ []) (inr (phase, turn, refl, refl)) way
+      following
     where
-      behind : (s' : State) → IsGivingAt (arity q) 0 s' → Way (arity q) 0 (0 + attribute_count 0) s'
+      following : (s' : State) → IsGivingAt (arity q) 0 s' → Way (arity q) 0 (0 + attribute_count 0) s'
           → Runs m q k s' (instr.End ∷ [])
-      behind s' (inl h) way = absurd (let none = h.3 in omega arith)
-      behind s' (inr (phase, turn, all, is)) way = ((phase, turn, given), refl)
+      following s' (inl h) way = absurd (let none = h.3 in omega arith)
+      following s' (inr (phase, turn, all, is)) way = ((phase, turn, given), refl)
         where
           given : (j : ℕ) → AreGiven m q k s' j
           given j r u at place has = elim (cases_eq u.target.place 0) [
@@ -441,7 +441,7 @@ module _ (m : Passes) (q : Production) (k : ℕ) (one : 1 ≤ k) (single : Diffe
       at_item : ((s' : State) → IsBetween (suc t) s' → Runs m q k s' (visits m q k old (t + 1) n ++ own_part m q k old))
           → (o : Option Item) → item_at q (place_of q k t) ≡ o
           → Runs m q k s (visit m q k old (place_of q k t) o ++ (visits m q k old (t + 1) n ++ own_part m q k old))
-      at_item next None e = absurd (let x = has_place q k t (omega arith) in let both = sym e ∙ x.1.1 in let bad : ⊥ = cc in bad)
+      at_item next None e = absurd (let x = is_stored_child q k t (omega arith) in let both = sym e ∙ x.1.1 in let bad : ⊥ = cc in bad)
       at_item next (Some (item.Symbol x)) e = (
         turn_now,
         child_runs t (after q s (instr.Get (place_of q k t))) (visits m q k old (t + 1) n ++ own_part m q k old) (omega arith)

@@ -11,7 +11,7 @@ use Rattle.ag_grammar.specs.grammars.AttributeGrammar.{item_at}
 use Rattle.ag_grammar.specs.grammars.Passes.{Passes}
 use Rattle.passcode.specs.declared.instr.Instr.{Instr}
 use Rattle.passcode.specs.declared.instr.Instr.TheVariants as instr
-use Rattle.passcode.specs.Agreement.{IsChild, IsRuleAt, giving, instruction_of}
+use Rattle.passcode.specs.Agreement.{IsChild, IsRuleAt, def_of, instruction_of}
 use Rattle.passcode.specs.Course.{Phase, State, Between, Got, Gone, Ended, MayGive, MayRun, after, after_get, arity, place_of}
 use Rattle.passcode.specs.Course.{read_count, run_count, start}
 use Rattle.passcode.proofs.States.{IsKept, IsMark}
@@ -208,11 +208,11 @@ module _ (m : Passes) (q : Production) (k : ℕ) where
 
   -- the own instruction of a rule
   module _ (r : ℕ) (u : Rule) (at : IsRuleAt q r u) where
-    own : (s : State) (j a : ℕ) → MayGive m q k s j a r → giving j a r ≡ instruction_of u r
+    own : (s : State) (j a : ℕ) → MayGive m q k s j a r → def_of j a r ≡ instruction_of u r
     own s j a gives =
         let both : Some gives.rule ≡ Some u = sym gives.numbered ∙ at in
         let same : u ≡ gives.rule = cc in
-        ap (λ (o : Target). giving o.place o.attr r) (sym gives.target) ∙ ap (λ (w : Rule). instruction_of w r) (sym same)
+        ap (λ (o : Target). def_of o.place o.attr r) (sym gives.target) ∙ ap (λ (w : Rule). instruction_of w r) (sym same)
 
     pub rule_mark : IsMark m q k (λ s. Has s.done r) (instruction_of u r)
     rule_mark = record {
@@ -238,11 +238,11 @@ module _ (m : Passes) (q : Production) (k : ℕ) where
         stays s (instr.Def a n) may h = more s n h
         stays s instr.End may h = h
 
-        made : (j a : ℕ) (s : State) → MayRun m q k s (giving j a r) → Has (after q s (giving j a r)).done r
+        made : (j a : ℕ) (s : State) → MayRun m q k s (def_of j a r) → Has (after q s (def_of j a r)).done r
         made zero a s may = (0, refl)
         made (suc j) a s may = (0, refl)
 
-        before : (j a : ℕ) (s : State) → MayRun m q k s (giving j a r) → Has s.done r → ⊥
+        before : (j a : ℕ) (s : State) → MayRun m q k s (def_of j a r) → Has s.done r → ⊥
         before zero a s may h = may.1.fresh h
         before (suc j) a s may h = may.1.fresh h
 

@@ -7,8 +7,8 @@ use Rattle.ag_grammar.specs.grammars.AttributeGrammar.{IsArgument}
 use Rattle.ag_grammar.specs.grammars.Passes.{HasPass, IsLegal}
 use Rattle.ag_grammar.specs.grammars.Sample.{attribute, sample, sample_passes, rule_out}
 use Rattle.ag_grammar.proofs.grammars.samples.NumberSample.{accepted}
-use Rattle.passcode.specs.Agreement.{IsListFor, IsRuleAt, StandsOnceIf, instruction_of}
-use Rattle.passcode.specs.Course.{AreGiven, IsAtHand, IsVisited, Runs, start}
+use Rattle.passcode.specs.Agreement.{IsListFor, IsRuleAt, OccursOnceIf, instruction_of}
+use Rattle.passcode.specs.Course.{AreGiven, IsAvailable, IsVisited, Runs, start}
 use Rattle.passcode.specs.Limits.{IsPlanned}
 use Rattle.passcode.specs.Sample.{sample_production, sample_list, forward_list, late_list, undefined_list}
 use Rattle.passcode.specs.Sample.{hasty_list, hasty_passes, hasty_production, hasty_rule}
@@ -72,7 +72,7 @@ calm_runs = (
       numbered = refl;
       target = refl;
       passed = refl;
-      at_hand = λ o arg. subst (IsAtHand calm_passes hasty_production 1 start) (own_attribute o arg)
+      available = λ o arg. subst (IsAvailable calm_passes hasty_production 1 start) (own_attribute o arg)
           (1, refl, omega arith, inr (inl refl));
       fresh = λ h. (let e : slice_get {X = ℕ} [] h.0 ≡ Some 0 = h.1 in let bad : ⊥ = cc in bad);
     },
@@ -87,8 +87,8 @@ calm_runs = (
 pub hasty_agrees : IsListFor hasty_passes hasty_production 1 hasty_list
 hasty_agrees = record {
   visits = calm.visits;
-  gives = record { given = given; own = calm.gives.own; behind_get = calm.gives.behind_get; before_go = calm.gives.before_go };
-  arguments = λ r n u o at stands arg. inl
+  gives = record { given = given; own = calm.gives.own; after_get = calm.gives.after_get; before_go = calm.gives.before_go };
+  arguments = λ r n u o at occurs arg. inl
       (ap (λ (o : Target). o.place)
       (sym (own_attribute o (subst (λ (w : Rule). IsArgument w o) (sym (only_rule r u at).0) arg))));
   ends = calm.ends;
@@ -98,7 +98,7 @@ hasty_agrees = record {
     calm = agrees calm_passes hasty_production 1 hasty_list (omega arith) calm_runs
 
     given : (r : ℕ) (u : Rule) → IsRuleAt hasty_production r u
-        → StandsOnceIf (HasPass hasty_passes hasty_production u.target 1) hasty_list (instruction_of u r)
+        → OccursOnceIf (HasPass hasty_passes hasty_production u.target 1) hasty_list (instruction_of u r)
     given r u at =
         let was = calm.gives.given r u at in
         let is = only_rule r u at in
@@ -110,9 +110,9 @@ hasty_agrees = record {
 
 pub hasty_stops : Runs hasty_passes hasty_production 1 start hasty_list → ⊥
 hasty_stops h =
-    let give = h.0.1 in
-    let is = only_rule 0 give.rule give.numbered in
-    let hand = give.at_hand (attribute 0 1) (subst (λ (w : Rule). IsArgument w (attribute 0 1)) is.0 (0, refl)) in
+    let run_rule = h.0.1 in
+    let is = only_rule 0 run_rule.rule run_rule.numbered in
+    let hand = run_rule.available (attribute 0 1) (subst (λ (w : Rule). IsArgument w (attribute 0 1)) is.0 (0, refl)) in
     let passed : Some 2 ≡ Some hand.0 = hand.1 in
     let second : 2 ≡ hand.0 = cc in
     let most = hand.2 in

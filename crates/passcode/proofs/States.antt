@@ -5,10 +5,10 @@ use Rattle.std.proofs.lemmas.Bool.{cases_eq, cases_lt}
 use Rattle.ag_grammar.specs.declared.grammar.Production.{Production}
 use Rattle.ag_grammar.specs.grammars.Passes.{Passes}
 use Rattle.passcode.specs.declared.instr.Instr.{Instr}
-use Rattle.passcode.specs.Agreement.{StandsBefore}
+use Rattle.passcode.specs.Agreement.{OccursBefore}
 use Rattle.passcode.specs.Course.{State, Ended, MayRun, Runs, after, start, state_at}
 
-further : (xs : List Instr) (n : ℕ) (x : Instr) → StandsBefore xs n x → StandsBefore xs (suc n) x
+further : (xs : List Instr) (n : ℕ) (x : Instr) → OccursBefore xs n x → OccursBefore xs (suc n) x
 further xs n x s = (s.0, (let less = s.1 in omega arith), s.2)
 
 module _ (m : Passes) (q : Production) (k : ℕ) where
@@ -74,19 +74,19 @@ module _ (m : Passes) (q : Production) (k : ℕ) where
     pub only : (s : State) (y : Instr) → MayRun m q k s y → A (after q s y) → A s ⊎ (y ≡ x)
 
   module _ (xs : List Instr) (n : ℕ) (may : MayRunTo start xs n) (A : State → Type 0) (x : Instr) (mark : IsMark A x) where
-    stands_next : (j : ℕ) → j < n → (A (state_at q start xs j) → StandsBefore xs j x) → A (state_at q start xs (suc j))
-        → (o : Option Instr) → slice_get xs j ≡ o → StandsBefore xs (suc j) x
-    stands_next j less before a None e = further xs j x (before (subst A (state_stays start xs j e) a))
-    stands_next j less before a (Some y) e = elim
+    occurs_next : (j : ℕ) → j < n → (A (state_at q start xs j) → OccursBefore xs j x) → A (state_at q start xs (suc j))
+        → (o : Option Instr) → slice_get xs j ≡ o → OccursBefore xs (suc j) x
+    occurs_next j less before a None e = further xs j x (before (subst A (state_stays start xs j e) a))
+    occurs_next j less before a (Some y) e = elim
         (mark.only (state_at q start xs j) y (may j y less e) (subst A (state_next start xs j y e) a)) [
           | inl was ↦ further xs j x (before was)
           | inr same ↦ (j, omega arith, e ∙ ap Some same)
         ]
 
     -- if the mark is there, the instruction is before
-    pub stands : (j : ℕ) → j ≤ n → A (state_at q start xs j) → StandsBefore xs j x
-    stands zero most a = absurd (mark.none a)
-    stands (suc j) most a = stands_next j (omega arith) (λ b. stands j (omega arith) b) a (slice_get xs j) refl
+    pub occurs : (j : ℕ) → j ≤ n → A (state_at q start xs j) → OccursBefore xs j x
+    occurs zero most a = absurd (mark.none a)
+    occurs (suc j) most a = occurs_next j (omega arith) (λ b. occurs j (omega arith) b) a (slice_get xs j) refl
 
     -- and after the instruction the mark is there
     pub marked : (i j : ℕ) → i < j → j ≤ n → slice_get xs i ≡ Some x → A (state_at q start xs j)
@@ -107,7 +107,7 @@ module _ (m : Passes) (q : Production) (k : ℕ) where
     -- and before each index at which the mark is there
     pub precedes : (i j : ℕ) → i < n → j < n → slice_get xs i ≡ Some x → A (state_at q start xs j) → i < j
     precedes i j a b at there =
-        let s = stands j (omega arith) there in
+        let s = occurs j (omega arith) there in
         let less = s.1 in
         let same : s.0 ≡ i = once s.0 i (omega arith) a s.2 at in
         omega arith

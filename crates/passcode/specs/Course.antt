@@ -53,8 +53,8 @@ abbrev pub IsFinal : Production → ℕ → State → ℕ → ℕ → Type 0
 IsFinal q k s j p = (p < k) ⊎ ((j ≡ 0) ⊎ IsVisited q k (run_count s.phase s.turn) j)
 
 -- An attribute at a place is available: it has no later pass, and its value is final.
-abbrev pub IsAtHand : Passes → Production → ℕ → State → Target → Type 0
-IsAtHand m q k s o = (p : ℕ) × HasPass m q o p × (p ≤ k) × IsFinal q k s o.place p
+abbrev pub IsAvailable : Passes → Production → ℕ → State → Target → Type 0
+IsAvailable m q k s o = (p : ℕ) × HasPass m q o p × (p ≤ k) × IsFinal q k s o.place p
 
 -- Rule r may compute an attribute at a place in pass k: its arguments are available, and it was not run before.
 pub record MayGive (m : Passes) (q : Production) (k : ℕ) (s : State) (j a r : ℕ) : Type 0 where
@@ -62,7 +62,7 @@ pub record MayGive (m : Passes) (q : Production) (k : ℕ) (s : State) (j a r : 
   pub numbered : IsRuleAt q r rule
   pub target : rule.target ≡ record { place = j; attr = a }
   pub passed : HasPass m q rule.target k
-  pub at_hand : (o : Target) → IsArgument rule o → IsAtHand m q k s o
+  pub available : (o : Target) → IsArgument rule o → IsAvailable m q k s o
   pub fresh : Has s.done r → ⊥
 
 -- each rule of the pass with a target at a place was run

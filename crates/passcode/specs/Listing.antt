@@ -10,7 +10,7 @@ use Rattle.ag_grammar.specs.grammars.Counts.{is_pass, pass_at}
 use Rattle.ag_grammar.specs.grammars.Passes.{Passes, item_passes}
 use Rattle.passcode.specs.declared.instr.Instr.{Instr}
 use Rattle.passcode.specs.declared.instr.Instr.TheVariants as instr
-use Rattle.passcode.specs.Agreement.{giving}
+use Rattle.passcode.specs.Agreement.{def_of}
 use Rattle.passcode.specs.Rows.{Lists, IsListOf}
 use Rattle.passcode.specs.Course.{Phase, Between, Got, Gone, Ended, arity, place_of}
 
@@ -25,7 +25,7 @@ rule_for q o = position (λ u. is_same u.target o) q.rules
 -- the instruction of a rule, unless it was run
 abbrev pub instruction_left : List ℕ → Target → Option ℕ → List Instr
 instruction_left done o None = []
-instruction_left done o (Some r) = cond (list_any (nat_eq r) done) [] (giving o.place o.attr r ∷ [])
+instruction_left done o (Some r) = cond (list_any (nat_eq r) done) [] (def_of o.place o.attr r ∷ [])
 
 -- the instruction that computes an attribute of pass k
 abbrev pub left_for : Passes → Production → ℕ → List ℕ → Target → List Instr

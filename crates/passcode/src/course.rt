@@ -1,12 +1,12 @@
 //! The list of instructions of one production in one pass.
 
 ghost use Rattle.std.specs.Prelude.{◌≡◌, ◌≤◌, ◌++◌, ◌↔◌, [], IfOk, IsTrue, OnOk, length};
-ghost use Rattle.ag_grammar.specs.grammars.Accepted.{most_rules};
+ghost use Rattle.ag_grammar.specs.grammars.Accepted.{max_rules};
 ghost use Rattle.ag_grammar.specs.grammars.AttributeGrammar.{item_at};
 ghost use Rattle.ag_grammar.specs.grammars.Counts.{pass_at};
 ghost use Rattle.ag_grammar.specs.grammars.Passes.{HasPass};
 ghost use Rattle.passassign.specs.Rows.{passes_of};
-ghost use Rattle.passcode.specs.Agreement.{giving};
+ghost use Rattle.passcode.specs.Agreement.{def_of};
 ghost use Rattle.passcode.specs.Course.{arity};
 ghost use Rattle.passcode.specs.Limits.{IsPlanned};
 ghost use Rattle.passcode.specs.Listing.{is_same, left_at, left_for, list_of, rule_for, visit};
@@ -20,7 +20,7 @@ use std::alloc::Global;
 /// Returns the instruction that computes an attribute at a place by the rule with a number. Does not
 /// allocate.
 pub fn instruction(place: u16, attr: u16, rule: u16) -> Instr
-    ensures { result ≡ giving place attr rule }
+    ensures { result ≡ def_of place attr rule }
 {
     if place == 0 {
         Instr::Def { attr, rule }
@@ -35,7 +35,7 @@ pub fn arity(production: &Production) -> usize
 {
     let mut count = 0;
     for item in production.items.as_slice() {
-        if item.has_place() {
+        if item.is_stored_child() {
             count += 1;
         }
     }
@@ -76,7 +76,7 @@ impl<'a> Course<'a> {
 
     /// Returns the number of the rule that computes an attribute at a place, if there is one.
     fn rule_for(&self, target: Target) -> Option<u16>
-        requires { length self.now.production.now.rules ≤ most_rules }
+        requires { length self.now.production.now.rules ≤ max_rules }
         ensures { result ≡ rule_for self.now.production.now target }
     {
         for (number, rule) in self.production.rules.as_slice().iter().enumerate() {
@@ -90,7 +90,7 @@ impl<'a> Course<'a> {
     /// Appends the instruction that computes an attribute at a place, if the attribute has the pass and
     /// a rule computes it.
     fn put_given(&self, list: &mut Vec<Instr>, target: Target) -> Result<(), NoMemory>
-        requires { length self.now.production.now.rules ≤ most_rules }
+        requires { length self.now.production.now.rules ≤ max_rules }
         ensures { OnOk result (list.new.items ≡ list.old.items ++ left_for
             (passes_of self.now.assignment.now) self.now.production.now self.now.pass [] target) }
     {

@@ -1,11 +1,11 @@
-pub mod Brought
+pub mod Converted
 pub mod course
 pub mod Damage
 pub mod places
 pub mod Recorded
 pub mod Refusing
 pub mod steps
-pub mod Telling
+pub mod RecordedPasses
 pub mod Totals
 pub mod Upgraded
 pub mod WorkedDamage

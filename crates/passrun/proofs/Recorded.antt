@@ -28,7 +28,7 @@ use Rattle.treefile.specs.records.TreeFile.{body_from, kind_byte}
 use Rattle.planchecker.specs.courses.Settings.{Setting}
 use Rattle.passrun.specs.declared.reading.record.RecordFault.{RecordFault}
 use Rattle.passrun.specs.passing.Places.{Table, copied_passes, copies, row_passes}
-use Rattle.passrun.specs.reading.Reading.{AllWell, AreTaken, AreUntaken, IsNodeBody, IsNodeRead, IsNoNode, IsNoNodeBody, IsNoRow, IsTaken, IsUntaken, StandInFront, one_value}
+use Rattle.passrun.specs.reading.Reading.{AllWell, AreTaken, AreUntaken, IsNodeBody, IsNodeRead, IsNoNode, IsNoNodeBody, IsNoRow, IsTaken, IsUntaken, PrependsTo, one_value}
 
 -- A signed number of 64 bits is well.
 pub number_well : (z : ℤ) → mag z < 2 ^ 63 → IsWell (Num z)
@@ -48,12 +48,12 @@ pub zero_well : IsWell (Num (pos 0))
 zero_well = number_well (pos 0) (omega arith)
 
 -- Equal lists begin with each other.
-pub stand_alone : (old new : List Value) → new ≡ old → StandInFront old new
-stand_alone old new same = ([], same ∙ sym (append-nil old))
+pub occur_alone : (old new : List Value) → new ≡ old → PrependsTo old new
+occur_alone old new same = ([], same ∙ sym (append-nil old))
 
 -- Beginning with a list is transitive.
-pub stand_on : (old now new : List Value) → StandInFront old now → StandInFront now new → StandInFront old new
-stand_on old now new front more = (front.0 ++ more.0, more.1 ∙ ap (λ xs. xs ++ more.0) front.1 ∙ append_assoc old front.0 more.0)
+pub occur_on : (old now new : List Value) → PrependsTo old now → PrependsTo now new → PrependsTo old new
+occur_on old now new prefix more = (prefix.0 ++ more.0, more.1 ∙ ap (λ xs. xs ++ more.0) prefix.1 ∙ append_assoc old prefix.0 more.0)
 
 not_le : (a b : ℕ) → b < a → nat_le a b ≡ false
 not_le a b h = lt-leb a b h
@@ -128,8 +128,8 @@ more_taken read write p ps bytes rest left old mid new one more =
       row = more.row ∙ ap (λ xs. xs ++ values_up_to write ps f) one.row ∙ append_assoc old (one_value write p v) (values_up_to write ps f);
       spelled = one.spelled ∙ ap (λ (xs : List ℕ). flat_map spelling_of (one_value read p v) ++ xs) more.spelled ∙ sym (spelled_on (one_value read p v) (values_up_to read ps f) left);
       only = λ h others well is.
-          let behind = flat_map spelling_of (values_up_to read ps (λ a. h (suc a))) ++ others in
-          let first = one.only (h 0) behind (well 0) (is ∙ spelled_on (one_value read p (h 0)) (values_up_to read ps (λ a. h (suc a))) others) in
+          let following = flat_map spelling_of (values_up_to read ps (λ a. h (suc a))) ++ others in
+          let first = one.only (h 0) following (well 0) (is ∙ spelled_on (one_value read p (h 0)) (values_up_to read ps (λ a. h (suc a))) others) in
           more.only (λ a. h (suc a)) others (λ a. well (suc a)) (sym first);
     }
 
@@ -138,8 +138,8 @@ first_untaken read p ps bytes nothing h others well is = nothing (h 0) (flat_map
 
 pub others_untaken : (read write p : ℕ) (ps bytes rest : List ℕ) (old mid : List Value) → IsTaken read write p bytes rest old mid → AreUntaken read ps rest → AreUntaken read (p ∷ ps) bytes
 others_untaken read write p ps bytes rest old mid one nothing h others well is =
-    let behind = flat_map spelling_of (values_up_to read ps (λ a. h (suc a))) ++ others in
-    nothing (λ a. h (suc a)) others (λ a. well (suc a)) (sym (one.only (h 0) behind (well 0) (is ∙ spelled_on (one_value read p (h 0)) (values_up_to read ps (λ a. h (suc a))) others)))
+    let following = flat_map spelling_of (values_up_to read ps (λ a. h (suc a))) ++ others in
+    nothing (λ a. h (suc a)) others (λ a. well (suc a)) (sym (one.only (h 0) following (well 0) (is ∙ spelled_on (one_value read p (h 0)) (values_up_to read ps (λ a. h (suc a))) others)))
 
 -- Bytes are not a row if the bytes after the first value are not a row of the other values.
 pub others_no_row : (read write p : ℕ) (ps bytes rest : List ℕ) (old mid : List Value) → IsTaken read write p bytes rest old mid → IsNoRow read ps rest → IsNoRow read (p ∷ ps) bytes
@@ -164,17 +164,17 @@ first_well f e g h zero a = g a
 first_well f e g h (suc j) a = h j a
 
 -- The values of attributes with passes ps are followed by others: a valuation of the others.
-abbrev behind_of : List ℕ → (ℕ → Value) → ℕ → Value
-behind_of [] g = g
-behind_of (p ∷ ps) g = behind_of ps (λ a. g (suc a))
+abbrev after_of : List ℕ → (ℕ → Value) → ℕ → Value
+after_of [] g = g
+after_of (p ∷ ps) g = after_of ps (λ a. g (suc a))
 
-behind_well : (ps : List ℕ) (g : ℕ → Value) → ((a : ℕ) → IsWell (g a)) → (a : ℕ) → IsWell (behind_of ps g a)
-behind_well [] g h a = h a
-behind_well (p ∷ ps) g h a = behind_well ps (λ a. g (suc a)) (λ a. h (suc a)) a
+after_well : (ps : List ℕ) (g : ℕ → Value) → ((a : ℕ) → IsWell (g a)) → (a : ℕ) → IsWell (after_of ps g a)
+after_well [] g h a = h a
+after_well (p ∷ ps) g h a = after_well ps (λ a. g (suc a)) (λ a. h (suc a)) a
 
-values_parted : (k : ℕ) (ps qs : List ℕ) (g : ℕ → Value) → values_up_to k (ps ++ qs) g ≡ values_up_to k ps g ++ values_up_to k qs (behind_of ps g)
+values_parted : (k : ℕ) (ps qs : List ℕ) (g : ℕ → Value) → values_up_to k (ps ++ qs) g ≡ values_up_to k ps g ++ values_up_to k qs (after_of ps g)
 values_parted k [] qs g = refl
-values_parted k (p ∷ ps) qs g = ap (λ vs. one_value k p (g 0) ++ vs) (values_parted k ps qs (λ a. g (suc a))) ∙ sym (append_assoc (one_value k p (g 0)) (values_up_to k ps (λ a. g (suc a))) (values_up_to k qs (behind_of ps (λ a. g (suc a)))))
+values_parted k (p ∷ ps) qs g = ap (λ vs. one_value k p (g 0) ++ vs) (values_parted k ps qs (λ a. g (suc a))) ∙ sym (append_assoc (one_value k p (g 0)) (values_up_to k ps (λ a. g (suc a))) (values_up_to k qs (after_of ps (λ a. g (suc a)))))
 
 -- A valuation of both.
 abbrev joined : List ℕ → (ℕ → Value) → (ℕ → Value) → ℕ → Value
@@ -192,14 +192,14 @@ values_joined k (p ∷ ps) qs f g = ap (λ vs. one_value k p (f 0) ++ vs) (value
 -- The copies at the items of a right side, as a table. Literals have no place in it.
 abbrev table_of : Setting → List Item → (ℕ → Value) → Table
 table_of c [] g = λ j. g
-table_of c (item.Symbol s ∷ xs) g = first_row g (table_of c xs (behind_of (copied_passes c (item.Symbol s)) g))
-table_of c (item.Terminal (Class d) ∷ xs) g = first_row g (table_of c xs (behind_of (0 ∷ []) g))
+table_of c (item.Symbol s ∷ xs) g = first_row g (table_of c xs (after_of (copied_passes c (item.Symbol s)) g))
+table_of c (item.Terminal (Class d) ∷ xs) g = first_row g (table_of c xs (after_of (0 ∷ []) g))
 table_of c (item.Terminal (Literal l) ∷ xs) g = table_of c xs g
 
 table_well : (c : Setting) (xs : List Item) (g : ℕ → Value) → ((a : ℕ) → IsWell (g a)) → AllWell (table_of c xs g)
 table_well c [] g h = λ j. h
-table_well c (item.Symbol s ∷ xs) g h = first_well g (table_of c xs (behind_of (copied_passes c (item.Symbol s)) g)) h (table_well c xs (behind_of (copied_passes c (item.Symbol s)) g) (behind_well (copied_passes c (item.Symbol s)) g h))
-table_well c (item.Terminal (Class d) ∷ xs) g h = first_well g (table_of c xs (behind_of (0 ∷ []) g)) h (table_well c xs (behind_of (0 ∷ []) g) (behind_well (0 ∷ []) g h))
+table_well c (item.Symbol s ∷ xs) g h = first_well g (table_of c xs (after_of (copied_passes c (item.Symbol s)) g)) h (table_well c xs (after_of (copied_passes c (item.Symbol s)) g) (after_well (copied_passes c (item.Symbol s)) g h))
+table_well c (item.Terminal (Class d) ∷ xs) g h = first_well g (table_of c xs (after_of (0 ∷ []) g)) h (table_well c xs (after_of (0 ∷ []) g) (after_well (0 ∷ []) g h))
 table_well c (item.Terminal (Literal l) ∷ xs) g h = table_well c xs g h
 
 abbrev item_passes_of : Setting → List Item → List ℕ
@@ -209,8 +209,8 @@ copies_parted : (c : Setting) (k : ℕ) (xs : List Item) (g : ℕ → Value) →
 copies_parted c k [] g = refl
 copies_parted c k (item.Symbol s ∷ xs) g =
     let ps = copied_passes c (item.Symbol s) in
-    values_parted k ps (item_passes_of c xs) g ∙ ap (λ vs. values_up_to k ps g ++ vs) (copies_parted c k xs (behind_of ps g))
-copies_parted c k (item.Terminal (Class d) ∷ xs) g = values_parted k (0 ∷ []) (item_passes_of c xs) g ∙ ap (λ vs. values_up_to k (0 ∷ []) g ++ vs) (copies_parted c k xs (behind_of (0 ∷ []) g))
+    values_parted k ps (item_passes_of c xs) g ∙ ap (λ vs. values_up_to k ps g ++ vs) (copies_parted c k xs (after_of ps g))
+copies_parted c k (item.Terminal (Class d) ∷ xs) g = values_parted k (0 ∷ []) (item_passes_of c xs) g ∙ ap (λ vs. values_up_to k (0 ∷ []) g ++ vs) (copies_parted c k xs (after_of (0 ∷ []) g))
 copies_parted c k (item.Terminal (Literal l) ∷ xs) g = copies_parted c k xs g
 
 -- The values of a table as a valuation of the copies.
@@ -261,7 +261,7 @@ pub row_read : (c : Setting) (s p : ℕ) (q : Production) (body spellings : List
 row_read c s p q body spellings old new there left is_body taken =
     let g = taken.values in
     let own = c.passes q.left in
-    let rest = behind_of own g in
+    let rest = after_of own g in
     let parted : (k : ℕ) → values_up_to k (row_passes c q) g ≡ values_up_to k own g ++ copies c k (stored_items q.items) (table_of c q.items rest) =
     λ k. values_parted k own (item_passes_of c q.items) g ∙ ap (λ vs. values_up_to k own g ++ vs) (copies_parted c k q.items rest) in
     record {
@@ -271,7 +271,7 @@ row_read c s p q body spellings old new there left is_body taken =
       values = g;
       well = taken.well;
       table = table_of c q.items rest;
-      table_well = table_well c q.items rest (behind_well own g taken.well);
+      table_well = table_well c q.items rest (after_well own g taken.well);
       row = taken.row ∙ ap (λ vs. old ++ vs) (parted c.write ∙ ap (λ s. values_up_to c.write (c.passes s) g ++ copies c c.write (stored_items q.items) (table_of c q.items rest)) left);
       same = is_body ∙ ap (body_from Node p) (taken.spelled ∙ append-nil (flat_map spelling_of (values_up_to c.read (row_passes c q) g)) ∙ ap (flat_map spelling_of) (parted c.read
           ∙ ap (λ ps. values_up_to c.read ps g ++ copies c c.read (stored_items q.items) (table_of c q.items rest)) (ap c.passes left ∙ sym (passes_left c s p q there left))));
@@ -390,16 +390,16 @@ empty_is [] h = refl
 empty_is (x ∷ xs) h = absurd (omega arith)
 
 -- The passes of the items from one on, if those of the items before it are at the beginning.
-pub passes_more : (f : Item → List ℕ) (front whole : List ℕ) (xs : List Item) (i : ℕ) (d : Item) → i < length xs → front ++ flat_map f (drop i xs) ≡ whole → (front ++ f (get_or xs i d)) ++ flat_map f (drop (i + 1) xs) ≡ whole
-passes_more f front whole xs i d less is = append_assoc front (f (get_or xs i d)) (flat_map f (drop (i + 1) xs)) ∙ ap (λ (ps : List ℕ). front ++ ps) (step xs i less) ∙ is
+pub passes_more : (f : Item → List ℕ) (prefix whole : List ℕ) (xs : List Item) (i : ℕ) (d : Item) → i < length xs → prefix ++ flat_map f (drop i xs) ≡ whole → (prefix ++ f (get_or xs i d)) ++ flat_map f (drop (i + 1) xs) ≡ whole
+passes_more f prefix whole xs i d less is = append_assoc prefix (f (get_or xs i d)) (flat_map f (drop (i + 1) xs)) ∙ ap (λ (ps : List ℕ). prefix ++ ps) (step xs i less) ∙ is
   where
     step : (xs : List Item) (i : ℕ) → i < length xs → f (get_or xs i d) ++ flat_map f (drop (i + 1) xs) ≡ flat_map f (drop i xs)
     step [] i less = absurd (omega arith)
     step (x ∷ xs) zero less = refl
     step (x ∷ xs) (suc i) less = let n : suc i + 1 ≡ suc (i + 1) = omega arith in ap (λ n. f (get_or (x ∷ xs) (suc i) d) ++ flat_map f (drop n (x ∷ xs))) n ∙ step xs i (omega arith)
 
-pub passes_whole : (f : Item → List ℕ) (front whole : List ℕ) (xs : List Item) (i : ℕ) → length xs ≤ i → front ++ flat_map f (drop i xs) ≡ whole → front ≡ whole
-passes_whole f front whole xs i past is = sym (append-nil front) ∙ ap (λ (ys : List Item). front ++ flat_map f ys) (sym (drop_past xs i past)) ∙ is
+pub passes_whole : (f : Item → List ℕ) (prefix whole : List ℕ) (xs : List Item) (i : ℕ) → length xs ≤ i → prefix ++ flat_map f (drop i xs) ≡ whole → prefix ≡ whole
+passes_whole f prefix whole xs i past is = sym (append-nil prefix) ∙ ap (λ (ys : List Item). prefix ++ flat_map f ys) (sym (drop_past xs i past)) ∙ is
   where
     drop_past : (xs : List Item) (i : ℕ) → length xs ≤ i → drop i xs ≡ []
     drop_past [] zero past = refl

@@ -10,23 +10,23 @@ use Rattle.ag_grammar.specs.grammars.AttributeGrammar.{stored_items}
 use Rattle.ag_value.specs.declared.value.Value.{Value, Text}
 use Rattle.treefile.specs.declared.reading.FrameFault.{FrameFault}
 use Rattle.treefile.specs.declared.reading.FrameFault.TheVariants as frame_fault
-use Rattle.treefile.specs.ways.Backward.{next_before, pass_in}
+use Rattle.treefile.specs.framing.Backward.{next_before, pass_in}
 use Rattle.treefile.specs.devices.Device.{WhenHonest}
-use Rattle.treefile.specs.ways.Ending.{Told}
+use Rattle.treefile.specs.framing.Ending.{ReadsAs}
 use Rattle.treefile.specs.records.TreeFile.{version_two}
-use Rattle.treefile.specs.ways.Awaited.{Breaks, ToCome}
+use Rattle.treefile.specs.framing.ExpectedRecords.{Breaks, Pending}
 use Rattle.treefile.specs.records.Records.{values_up_to}
-use Rattle.treefile.proofs.ways.Backward.{damage_is_there, never_no_file}
+use Rattle.treefile.proofs.framing.Backward.{damage_is_there, never_no_file}
 use Rattle.backreader.specs.BackState.{BackState}
 use Rattle.passcode.specs.declared.instr.Instr.TheVariants as instr
 use Rattle.planchecker.specs.courses.Settings.{Setting, list_at}
 use Rattle.planchecker.specs.courses.Sound.{IsSound}
-use Rattle.passrun.specs.declared.laid.laying.PlaceRow.{PlaceRow}
+use Rattle.passrun.specs.declared.layouts.building.PlaceRow.{PlaceRow}
 use Rattle.passrun.specs.declared.passing.machine.Machine.{Machine}
 use Rattle.passrun.specs.declared.passing.open_node.OpenNode.{OpenNode}
 use Rattle.passrun.specs.declared.run_fault.RunFault.{RunFault}
 use Rattle.passrun.specs.passing.Ahead.{IsRunFault}
-use Rattle.passrun.specs.Damage.{AreRecords, ComesTo, IsDamaged, IsReadable, source}
+use Rattle.passrun.specs.Damage.{AreRecords, ArrivesAt, IsDamaged, IsReadable, source}
 use Rattle.passrun.specs.passing.Ends.{RunsBetween}
 use Rattle.passrun.specs.Faults.{run_fault_of_frame}
 use Rattle.passrun.specs.reading.Fetching.{HasFetched, IsUnfetched}
@@ -34,7 +34,7 @@ use Rattle.passrun.specs.passing.Places.{copied_passes, copies}
 use Rattle.passrun.specs.reading.Reading.{Agrees, IsRead, read_values}
 use Rattle.passrun.specs.passing.Running.{RunsFrom}
 use Rattle.passrun.proofs.course.Ahead.{disagreed, unfetched}
-use Rattle.passrun.proofs.Damage.{broken, tellable, unstarted}
+use Rattle.passrun.proofs.Damage.{broken, decidable, unstarted}
 use Rattle.passrun.proofs.steps.Steps.{get_first}
 use Rattle.passrun.proofs.steps.Turning.{Answers, begins_so, got_place}
 
@@ -46,14 +46,14 @@ some_lent None e = absurd cc
 -- When the record of a child is fetched, that child is the first to be read, with the copy of its values.
 record FirstCome (c : Setting) (content : List ℕ) (m : Machine) (x : OpenNode) (j : ℕ) (row : PlaceRow) : Type 0 where
   values : ℕ → Value
-  left : ToCome
+  left : Pending
   readable : IsReadable (source c) content
-  here : ComesTo (source c) content m.back.progress.at ((suc (length m.waiting.items + 1), (row.item, Some (values_up_to c.read (copied_passes c row.item) values))) ∷ left)
+  here : ArrivesAt (source c) content m.back.progress.at ((suc (length m.waiting.items + 1), (row.item, Some (values_up_to c.read (copied_passes c row.item) values))) ∷ left)
   count : m.back.progress.records ≡ length here.bodies
   found : (more : List Value) → (rest : List Value) × (drop (x.base + row.start) (m.values.items ++ more) ≡ values_up_to c.write (copied_passes c row.item) values ++ rest)
 
-abbrev in_front : ℕ → Item → List Value → ToCome → ToCome
-in_front n x copy left = (n, (x, Some copy)) ∷ left
+abbrev before_it : ℕ → Item → List Value → Pending → Pending
+before_it n x copy left = (n, (x, Some copy)) ∷ left
 
 -- The values that were read come after the other values.
 pub read_row : (c : Setting) (x : Item) (p : ℕ) (body : List ℕ) (old new : List Value) → IsRead c x p body old new → (row : List Value) × (new ≡ old ++ row)
@@ -67,7 +67,7 @@ module _ (c : Setting) (sound : IsSound c) where
   first_come honest content m x j row (to_honest, to, meter, r) at is w =
       let xs = reverse m.waiting.items in
       let i = got_place c sound honest content m x j row (to_honest, to, meter, r) at is in
-      let first = get_first c sound m.root x xs m.values.items r.running.tapes (meter - m.begun) r.running.todo j i.production row.item at i.there i.stands r.running.passing in
+      let first = get_first c sound m.root x xs m.values.items r.running.tapes (meter - m.begun) r.running.todo j i.production row.item at i.there i.occurs r.running.passing in
       let l = length-reverse m.waiting.items in
       let level : suc (suc (length xs)) ≡ suc (length m.waiting.items + 1) = omega arith in
       record {
@@ -77,7 +77,7 @@ module _ (c : Setting) (sound : IsSound c) where
         here = record {
           bodies = r.running.tapes.read;
           read = r.running.read w;
-          records = subst (AreRecords (source c) r.running.tapes.read) (first.2 ∙ ap (λ n. in_front n row.item (values_up_to c.read (copied_passes c row.item) first.0) first.1) level) r.running.ahead;
+          records = subst (AreRecords (source c) r.running.tapes.read) (first.2 ∙ ap (λ n. before_it n row.item (values_up_to c.read (copied_passes c row.item) first.0) first.1) level) r.running.ahead;
           few = r.running.few;
         };
         count = r.running.records;
@@ -99,37 +99,37 @@ module _ (c : Setting) (sound : IsSound c) where
       let back_row = begins_so c row.item p h.body m.values.items read h.taken in
       let more = read_row c row.item p h.body m.values.items read h.taken in
       let found = z.found more.0 in
-      let front = ours_are ∙ ap (λ n. drop n read) from_is ∙ ap (drop (x.base + row.start)) more.1 ∙ found.1 in
+      let prefix = ours_are ∙ ap (λ n. drop n read) from_is ∙ ap (drop (x.base + row.start)) more.1 ∙ found.1 in
       let deep = h.deep in
       let few = h.few in
       let count = z.count in
-      let other = agrees z.values (read_values c row.item p h.body m.values.items read h.taken) found.0 back_row.0 front (theirs_are ∙ ap (λ n. drop n read) start_is ∙ back_row.1) in
+      let other = agrees z.values (read_values c row.item p h.body m.values.items read h.taken) found.0 back_row.0 prefix (theirs_are ∙ ap (λ n. drop n read) start_is ∙ back_row.1) in
       disagreed c sound row.item p (suc (length m.waiting.items + 1)) content h.body m.back.progress.at z.left m.values.items read h.taken z.values (λ same. not_true (other.1 same)) z.readable z.here (omega arith) (omega arith) (h.found w)
 
   -- The content does not begin as a tree file.
-  pub not_started : (content : List ℕ) (view : BackState → ℕ) (f : FrameFault) → Told view (Err f) (pass_in version_two content) → IsRunFault c content (run_fault_of_frame f)
-  not_started content view frame_fault.NotATreeFile told = (unstarted (source c) (tellable c sound) content frame_fault.NotATreeFile told).1
-  not_started content view (frame_fault.Damaged at) told = absurd (let z = (unstarted (source c) (tellable c sound) content (frame_fault.Damaged at) told).0 in cc)
-  not_started content view frame_fault.Device told = tt
-  not_started content view frame_fault.NoMemory told = tt
+  pub not_started : (content : List ℕ) (view : BackState → ℕ) (f : FrameFault) → ReadsAs view (Err f) (pass_in version_two content) → IsRunFault c content (run_fault_of_frame f)
+  not_started content view frame_fault.NotATreeFile exact = (unstarted (source c) (decidable c sound) content frame_fault.NotATreeFile exact).1
+  not_started content view (frame_fault.Damaged at) exact = absurd (let z = (unstarted (source c) (decidable c sound) content (frame_fault.Damaged at) exact).0 in cc)
+  not_started content view frame_fault.Device exact = tt
+  not_started content view frame_fault.NoMemory exact = tt
 
   pub root_unfetched : (start : ℕ) (content : List ℕ) (state : BackState) (f : RunFault) → start ≡ c.grammar.start → IsReadable (source c) content → state.progress.at ≡ length content → state.progress.records ≡ 0 → IsUnfetched c (item.Symbol start) 0 content state f → IsRunFault c content f
   root_unfetched start content state f is readable end fresh h =
-      let here : ComesTo (source c) content state.progress.at ((1, (item.Symbol c.grammar.start, None)) ∷ []) = record { bodies = []; read = sym end; records = refl; few = omega arith } in
+      let here : ArrivesAt (source c) content state.progress.at ((1, (item.Symbol c.grammar.start, None)) ∷ []) = record { bodies = []; read = sym end; records = refl; few = omega arith } in
       unfetched c sound (item.Symbol c.grammar.start) None 0 content state [] f readable here fresh (subst (λ s. IsUnfetched c (item.Symbol s) 0 content state f) is h)
 
   -- No child is to be read, and a frame is left.
-  pub left_over : (content : List ℕ) (at : ℕ) (body : List ℕ) → IsReadable (source c) content → ComesTo (source c) content at [] → next_before version_two content at ≡ Ok (Some body) → IsDamaged (source c) content at
-  left_over content at body readable here found = broken (source c) (tellable c sound) content at readable ([], here, tt, subst (Breaks version_two c.grammar c.passes c.read []) (sym found) tt)
+  pub left_over : (content : List ℕ) (at : ℕ) (body : List ℕ) → IsReadable (source c) content → ArrivesAt (source c) content at [] → next_before version_two content at ≡ Ok (Some body) → IsDamaged (source c) content at
+  left_over content at body readable here found = broken (source c) (decidable c sound) content at readable ([], here, tt, subst (Breaks version_two c.grammar c.passes c.read []) (sym found) tt)
 
-  pub end_refused : (content : List ℕ) (at : ℕ) (view : Option (Bor (List ℕ)) → Option (List ℕ)) (f : FrameFault) → IsReadable (source c) content → ComesTo (source c) content at [] → Told view (Err f) (next_before version_two content at) → IsRunFault c content (run_fault_of_frame f)
-  end_refused content at view frame_fault.NotATreeFile readable here told = absurd (never_no_file version_two content at told)
-  end_refused content at view (frame_fault.Damaged b) readable here told = subst (IsDamaged (source c) content) (sym (damage_is_there version_two content at b told)) (broken (source c) (tellable c sound) content at readable ([], here, tt, subst (Breaks version_two c.grammar c.passes c.read []) (sym told) tt))
-  end_refused content at view frame_fault.Device readable here told = tt
-  end_refused content at view frame_fault.NoMemory readable here told = tt
+  pub end_refused : (content : List ℕ) (at : ℕ) (view : Option (Bor (List ℕ)) → Option (List ℕ)) (f : FrameFault) → IsReadable (source c) content → ArrivesAt (source c) content at [] → ReadsAs view (Err f) (next_before version_two content at) → IsRunFault c content (run_fault_of_frame f)
+  end_refused content at view frame_fault.NotATreeFile readable here exact = absurd (never_no_file version_two content at exact)
+  end_refused content at view (frame_fault.Damaged b) readable here exact = subst (IsDamaged (source c) content) (sym (damage_is_there version_two content at b exact)) (broken (source c) (decidable c sound) content at readable ([], here, tt, subst (Breaks version_two c.grammar c.passes c.read []) (sym exact) tt))
+  end_refused content at view frame_fault.Device readable here exact = tt
+  end_refused content at view frame_fault.NoMemory readable here exact = tt
 
   -- All records of a tree were read.
-  pub end_come : (honest : Bool) (content : List ℕ) (to_honest : Bool) (to : List ℕ) (m : Machine) → RunsBetween c honest content to_honest to m None → WhenHonest honest (IsReadable (source c) content × ComesTo (source c) content m.back.progress.at [])
+  pub end_come : (honest : Bool) (content : List ℕ) (to_honest : Bool) (to : List ℕ) (m : Machine) → RunsBetween c honest content to_honest to m None → WhenHonest honest (IsReadable (source c) content × ArrivesAt (source c) content m.back.progress.at [])
   end_come honest content to_honest to m (meter, r) w = (r.running.readable w, record { bodies = r.running.tapes.read; read = r.running.read w; records = subst (AreRecords (source c) r.running.tapes.read) r.running.passing.nothing r.running.ahead; few = r.running.few })
 
   pub end_version : (honest : Bool) (content : List ℕ) (to_honest : Bool) (to : List ℕ) (m : Machine) → RunsBetween c honest content to_honest to m None → m.back.progress.version ≡ version_two

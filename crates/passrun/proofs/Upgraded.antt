@@ -14,19 +14,19 @@ use Rattle.ag_grammar.specs.grammars.Accepted.{IsAccepted}
 use Rattle.ag_grammar.specs.grammars.AttributeGrammar.{Grammar, stored_items}
 use Rattle.ag_grammar.specs.grammars.Tree as tree
 use Rattle.ag_grammar.specs.grammars.Tree.{Fits, FitsAll, Forest, IsTreeOf, Tree}
-use Rattle.treefile.specs.ways.Awaited.{Breaks}
-use Rattle.treefile.specs.ways.Backward.{ReadsTo, next_before, pass_in}
+use Rattle.treefile.specs.framing.ExpectedRecords.{Breaks}
+use Rattle.treefile.specs.framing.Backward.{ReadsTo, next_before, pass_in}
 use Rattle.treefile.specs.devices.Device.{WhenHonest}
-use Rattle.treefile.specs.ways.Ending.{IsBody, IsBytes, Told, version_one_usable}
-use Rattle.treefile.specs.records.FirstFile.{IsFirstFile, first_bodies, first_bodies_all, first_file, unassigned}
+use Rattle.treefile.specs.framing.Ending.{IsBody, IsBytes, ReadsAs, version_one_usable}
+use Rattle.treefile.specs.records.FirstFile.{IsFirstFile, first_bodies, first_bodies_all, first_file, no_passes}
 use Rattle.treefile.specs.records.Orders as orders
 use Rattle.treefile.specs.records.Orders.{AreRanked, IsRanked, postfix, prefix}
-use Rattle.treefile.specs.records.Records.{FitsVersion, most_copied, most_copies, synthesized_count}
+use Rattle.treefile.specs.records.Records.{FitsVersion, max_copied, max_copies, synthesized_count}
 use Rattle.treefile.specs.records.TreeFile.{file, frame, header, version_one, version_two}
 use Rattle.treefile.specs.declared.body.Kind.TheVariants.{Node}
 use Rattle.treefile.specs.declared.reading.FrameFault.{FrameFault}
 use Rattle.treefile.specs.declared.reading.FrameFault.TheVariants as frame_fault
-use Rattle.treefile.proofs.ways.Backward.{back_is_file, damage_is_there, never_no_file, none_at_header, reads_whole}
+use Rattle.treefile.proofs.framing.Backward.{back_is_file, damage_is_there, never_no_file, none_at_header, reads_whole}
 use Rattle.treefile.proofs.records.FirstFile.{bodies_are, is_first_file, same_count, same_depth, unassigned_from_one}
 use Rattle.treefile.proofs.records.Fitting.{numbered}
 use Rattle.treefile.proofs.records.OneTree.{one_file}
@@ -34,39 +34,39 @@ use Rattle.treefile.proofs.records.Records.{bodies_fit}
 use Rattle.treefile.proofs.records.Texts.{texts_are_given}
 use Rattle.backreader.specs.BackState.{IsOver, BackState, Progress}
 use Rattle.backreader.specs.Ranks.{rank_of}
-use Rattle.backreader.specs.Turning.{IsFileOf, IsWithinLimits, TreeTurned, TurnTold, most_records}
+use Rattle.backreader.specs.Turning.{IsFileOf, IsWithinLimits, TreeTurned, Reverses, max_records}
 use Rattle.backreader.specs.declared.turning.TurnFault.{TurnFault}
 use Rattle.backreader.specs.declared.turning.TurnFault.TheVariants as turn_fault
 use Rattle.backreader.proofs.Mirror.{postfix-reverse}
-use Rattle.backreader.proofs.OneTurning.{tree_told}
-use Rattle.backreader.proofs.Standing.{all_bytes}
+use Rattle.backreader.proofs.OneTurning.{tree_exact}
+use Rattle.backreader.proofs.EndingAt.{all_bytes}
 use Rattle.passrun.specs.Faults.{run_fault_of_frame, run_fault_of_turn}
-use Rattle.passrun.specs.Upgrading.{Brought, IsAt, IsBrought, IsUpgradeFault, IsUpgraded, old_file, stored_count}
+use Rattle.passrun.specs.Upgrading.{Converted, IsAt, IsConverted, IsUpgradeFault, IsUpgraded, old_file, stored_count}
 use Rattle.passrun.specs.declared.run_fault.RunFault.TheVariants as fault
-use Rattle.passrun.proofs.Brought.{breaks_at, no_first, tellable}
+use Rattle.passrun.proofs.Converted.{breaks_at, no_first, decidable}
 use Rattle.passrun.proofs.Damage.{other_pass, readable, unstarted}
 
 module _ (g : Grammar) (accepted : IsAccepted g) where
   -- ---- the beginning of the file
 
-  pub not_begun : {X : Type 0} (view : X → ℕ) (content : List ℕ) (f : FrameFault) → Told view (Err f) (pass_in version_one content) → IsUpgradeFault g content (run_fault_of_frame f)
+  pub not_begun : {X : Type 0} (view : X → ℕ) (content : List ℕ) (f : FrameFault) → ReadsAs view (Err f) (pass_in version_one content) → IsUpgradeFault g content (run_fault_of_frame f)
   not_begun view content frame_fault.NotATreeFile found =
-      let damaged = (unstarted (old_file g) (tellable g accepted) content frame_fault.NotATreeFile found).1 in
+      let damaged = (unstarted (old_file g) (decidable g accepted) content frame_fault.NotATreeFile found).1 in
       (no_first g accepted content damaged.none, damaged.shown)
   not_begun view content (frame_fault.Damaged at) found =
-      let other = (unstarted (old_file g) (tellable g accepted) content (frame_fault.Damaged at) found).0 in
+      let other = (unstarted (old_file g) (decidable g accepted) content (frame_fault.Damaged at) found).0 in
       absurd cc
   not_begun view content frame_fault.Device found = tt
   not_begun view content frame_fault.NoMemory found = tt
 
   pub of_other_pass : (content : List ℕ) (pass : ℕ) → pass_in version_one content ≡ Ok pass → pass ≢ 0 → IsUpgradeFault g content (fault.Damaged 4)
   of_other_pass content pass found not =
-      let damaged = other_pass (old_file g) (tellable g accepted) content pass (omega arith) found not in
+      let damaged = other_pass (old_file g) (decidable g accepted) content pass (omega arith) found not in
       (no_first g accepted content damaged.none, damaged.shown)
 
   pub begins_at : (content : List ℕ) (pass : ℕ) (progress : Progress) → pass_in version_one content ≡ Ok pass → pass ≡ 0 → progress.at ≡ length content → progress.records ≡ 0 → IsAt g content progress ((1, (item.Symbol g.start, None)) ∷ [])
   begins_at content pass progress found first end fresh = record {
-    readable = readable (old_file g) (tellable g accepted) content pass found first;
+    readable = readable (old_file g) (decidable g accepted) content pass found first;
     way = record { bodies = []; read = sym end; records = refl; few = omega arith };
     counted = fresh;
   }
@@ -75,49 +75,49 @@ module _ (g : Grammar) (accepted : IsAccepted g) where
 
   pub left_over : (content : List ℕ) (progress : Progress) (at : ℕ) (body : List ℕ) → at ≡ progress.at → IsAt g content progress [] → next_before version_one content progress.at ≡ Ok (Some body) → IsUpgradeFault g content (fault.Damaged at)
   left_over content progress at body same here found =
-      subst (λ n. IsUpgradeFault g content (fault.Damaged n)) (sym same) (breaks_at g accepted content progress [] here tt (subst (Breaks version_one g unassigned 0 []) (sym found) tt))
+      subst (λ n. IsUpgradeFault g content (fault.Damaged n)) (sym same) (breaks_at g accepted content progress [] here tt (subst (Breaks version_one g no_passes 0 []) (sym found) tt))
 
-  pub fault_behind : {X : Type 0} (view : X → Option (List ℕ)) (content : List ℕ) (progress : Progress) (f : FrameFault) → IsAt g content progress [] → Told view (Err f) (next_before version_one content progress.at) → IsUpgradeFault g content (run_fault_of_frame f)
-  fault_behind view content progress frame_fault.NotATreeFile here found = absurd (never_no_file version_one content progress.at found)
-  fault_behind view content progress (frame_fault.Damaged at) here found =
-      subst (λ n. IsUpgradeFault g content (fault.Damaged n)) (sym (damage_is_there version_one content progress.at at found)) (breaks_at g accepted content progress [] here tt (subst (Breaks version_one g unassigned 0 []) (sym found) tt))
-  fault_behind view content progress frame_fault.Device here found = tt
-  fault_behind view content progress frame_fault.NoMemory here found = tt
+  pub fault_after : {X : Type 0} (view : X → Option (List ℕ)) (content : List ℕ) (progress : Progress) (f : FrameFault) → IsAt g content progress [] → ReadsAs view (Err f) (next_before version_one content progress.at) → IsUpgradeFault g content (run_fault_of_frame f)
+  fault_after view content progress frame_fault.NotATreeFile here found = absurd (never_no_file version_one content progress.at found)
+  fault_after view content progress (frame_fault.Damaged at) here found =
+      subst (λ n. IsUpgradeFault g content (fault.Damaged n)) (sym (damage_is_there version_one content progress.at at found)) (breaks_at g accepted content progress [] here tt (subst (Breaks version_one g no_passes 0 []) (sym found) tt))
+  fault_after view content progress frame_fault.Device here found = tt
+  fault_after view content progress frame_fault.NoMemory here found = tt
 
   -- The root's tree was converted, and nothing is left after it.
-  pub whole_brought : (content : List ℕ) (before : Progress) (now : BackState) (honest : Bool) (out_old out : List ℕ) (texts : List Value) → IsAt g content before ((1, (item.Symbol g.start, None)) ∷ []) → before.at ≡ length content → before.records ≡ 0
-      → Brought g content [] (item.Symbol g.start ∷ []) 1 before now.progress honest out_old out texts → IsOver content now → now.progress.records ≤ most_records → next_before version_one content now.progress.at ≡ Ok None → WhenHonest honest (out_old ≡ header version_two 1)
-      → IsBrought g content honest out
-  whole_brought content before now honest out_old out texts here end fresh brought over few none begun = go brought.trees brought.fits brought.deep brought.read brought.nodes brought.written
+  pub whole_converted : (content : List ℕ) (before : Progress) (now : BackState) (honest : Bool) (out_old out : List ℕ) (texts : List Value) → IsAt g content before ((1, (item.Symbol g.start, None)) ∷ []) → before.at ≡ length content → before.records ≡ 0
+      → Converted g content [] (item.Symbol g.start ∷ []) 1 before now.progress honest out_old out texts → IsOver content now → now.progress.records ≤ max_records → next_before version_one content now.progress.at ≡ Ok None → WhenHonest honest (out_old ≡ header version_two 1)
+      → IsConverted g content honest out
+  whole_converted content before now honest out_old out texts here end fresh converted over few none begun = go converted.trees converted.fits converted.deep converted.read converted.nodes converted.written
     where
       bytes : IsBytes content
       bytes = all_bytes content now over (none_at_header version_one content now.progress.at none)
 
       go : (ts : Forest) → FitsAll g (item.Symbol g.start ∷ []) ts → tree.deepest ts ≤ 257 - 1 → ReadsTo version_one content before.at (orders.prefix_all RightToLeft (first_bodies_all version_one ts)) now.progress.at → now.progress.records ≡ before.records + tree.node_counts ts
-          → WhenHonest honest (out ≡ out_old ++ flat_map frame (orders.postfix_all RightToLeft (first_bodies_all version_two ts))) → IsBrought g content honest out
+          → WhenHonest honest (out ≡ out_old ++ flat_map frame (orders.postfix_all RightToLeft (first_bodies_all version_two ts))) → IsConverted g content honest out
       go tree.none fits deep read nodes written = elim fits [ ]
       go (tree.more t (tree.more u ts)) fits deep read nodes written = elim fits.1 [ ]
       go (tree.more t tree.none) fits deep read nodes written =
           let bodies = prefix RightToLeft (first_bodies version_one t) in
           let from_end : ReadsTo version_one content (length content) bodies now.progress.at = subst (λ n. ReadsTo version_one content n bodies now.progress.at) end read in
-          let stands : content ≡ first_file version_one t =
+          let occurs : content ≡ first_file version_one t =
           back_is_file version_one content bytes bodies version_one_usable here.readable.begins (reads_whole version_one content bodies (length content) now.progress.at from_end none)
           ∙ ap (λ n. file version_one n (reverse bodies)) here.readable.number ∙ ap (file version_one 0) (sym (postfix-reverse LeftToRight (first_bodies version_one t))) in
           record {
             tree = t;
             fits = fits.0;
             within = record { deep = omega arith; large = omega arith };
-            from = is_first_file version_one g t content fits.0 stands;
+            from = is_first_file version_one g t content fits.0 occurs;
             to = λ h. written h ∙ ap (λ (xs : List ℕ). xs ++ flat_map frame (postfix RightToLeft (first_bodies version_two t))) (begun h);
           }
 
   -- A content is the file of version 1 and pass 0 of at most one tree.
   first_tree : (content : List ℕ) (t s : Tree) → IsTreeOf g t → IsTreeOf g s → IsFirstFile version_one g t content → IsFirstFile version_one g s content → t ≡ s
   first_tree content t s fits also file other =
-      let telling = tellable g accepted in
+      let telling = decidable g accepted in
       let texts = texts_are_given g t in
       let words = texts_are_given g s in
-      (one_file version_one g unassigned 0 t s texts.0 words.0 content telling.usable telling.fits telling.few fits also (file unassigned texts.0 unassigned_from_one texts.1) (other unassigned words.0 unassigned_from_one words.1)).0
+      (one_file version_one g no_passes 0 t s texts.0 words.0 content telling.usable telling.fits telling.few fits also (file no_passes texts.0 unassigned_from_one texts.1) (other no_passes words.0 unassigned_from_one words.1)).0
 
   -- ---- reversing the intermediate file
 
@@ -149,32 +149,32 @@ module _ (g : Grammar) (accepted : IsAccepted g) where
     tree_many (x ∷ xs) (tree.more t ts) fits = ap suc (tree_many xs ts fits.1)
 
   -- The records fit in frames.
-  few_copies : (xs : List Item) → most_copies g unassigned xs ≤ length xs
+  few_copies : (xs : List Item) → max_copies g no_passes xs ≤ length xs
   few_copies [] = omega arith
   few_copies (x ∷ xs) = omega (arith, few_copied x, few_copies xs)
     where
-      few_copied : (x : Item) → most_copied g unassigned x ≤ 1
-      few_copied (item.Symbol s) = omega (arith, length-take (synthesized_count (slice_get g.symbols s)) (unassigned s))
+      few_copied : (x : Item) → max_copied g no_passes x ≤ 1
+      few_copied (item.Symbol s) = omega (arith, length-take (synthesized_count (slice_get g.symbols s)) (no_passes s))
       few_copied (item.Terminal (Class c)) = omega arith
       few_copied (item.Terminal (Literal l)) = omega arith
 
-  pub room : FitsVersion version_two g unassigned
+  pub room : FitsVersion version_two g no_passes
   room = record { tokens = omega arith; nodes = λ p q is. let stored = accepted.limits.stored_count p q is in omega (arith, few_copies (stored_items q.items)) }
 
   between : (t : Tree) (mid : List ℕ) → IsTreeOf g t → mid ≡ file version_two 1 (postfix RightToLeft (first_bodies version_two t)) → IsFileOf (rank_of (stored_count g)) RightToLeft (first_bodies version_two t) mid
   between t mid fits is =
       let texts = texts_are_given g t in
-      let first = is_first_file version_two g t (first_file version_two t) fits refl unassigned texts.0 unassigned_from_one texts.1 in
+      let first = is_first_file version_two g t (first_file version_two t) fits refl no_passes texts.0 unassigned_from_one texts.1 in
       record {
         ranked = ranked (item.Symbol g.start) t fits;
-        bodies = subst (λ b. All (IsBody version_two) (postfix RightToLeft b)) (bodies_are version_two g unassigned unassigned_from_one t texts.0) (bodies_fit version_two g unassigned 0 RightToLeft room (item.Symbol g.start) t texts.0 fits first.texts first.well);
+        bodies = subst (λ b. All (IsBody version_two) (postfix RightToLeft b)) (bodies_are version_two g no_passes unassigned_from_one t texts.0) (bodies_fit version_two g no_passes 0 RightToLeft room (item.Symbol g.start) t texts.0 fits first.texts first.well);
         pass = 1;
-        stands = is;
+        occurs = is;
       }
 
-  module _ (content mid : List ℕ) (honest : Bool) (turned : List ℕ) (is : IsBrought g content true mid) where
-    told : (result : Result ℕ TurnFault) → TurnTold (rank_of (stored_count g)) 0 mid honest turned result → TreeTurned 0 RightToLeft (first_bodies version_two is.tree) honest turned result
-    told result so = tree_told (rank_of (stored_count g)) 0 mid honest turned RightToLeft (first_bodies version_two is.tree) (between is.tree mid is.fits (is.to refl)) result so
+  module _ (content mid : List ℕ) (honest : Bool) (turned : List ℕ) (is : IsConverted g content true mid) where
+    exact : (result : Result ℕ TurnFault) → Reverses (rank_of (stored_count g)) 0 mid honest turned result → TreeTurned 0 RightToLeft (first_bodies version_two is.tree) honest turned result
+    exact result so = tree_exact (rank_of (stored_count g)) 0 mid honest turned RightToLeft (first_bodies version_two is.tree) (between is.tree mid is.fits (is.to refl)) result so
 
     within : IsWithinLimits (first_bodies version_two is.tree)
     within =
@@ -183,18 +183,18 @@ module _ (g : Grammar) (accepted : IsAccepted g) where
         record { deep = omega (arith, same_depth version_two is.tree); large = omega (arith, same_count version_two is.tree) }
 
     -- The intermediate file can be reversed, so that only D1 and NoMemory occur.
-    pub turned_fault : (f : TurnFault) → TurnTold (rank_of (stored_count g)) 0 mid honest turned (Err f) → IsUpgradeFault g content (run_fault_of_turn f)
-    turned_fault turn_fault.NotATreeFile so = absurd (told (Err turn_fault.NotATreeFile) so)
-    turned_fault (turn_fault.Damaged at) so = absurd (told (Err (turn_fault.Damaged at)) so)
-    turned_fault (turn_fault.NotATree at) so = absurd (told (Err (turn_fault.NotATree at)) so)
-    turned_fault turn_fault.TooLarge so = absurd (told (Err turn_fault.TooLarge) so within)
+    pub turned_fault : (f : TurnFault) → Reverses (rank_of (stored_count g)) 0 mid honest turned (Err f) → IsUpgradeFault g content (run_fault_of_turn f)
+    turned_fault turn_fault.NotATreeFile so = absurd (exact (Err turn_fault.NotATreeFile) so)
+    turned_fault (turn_fault.Damaged at) so = absurd (exact (Err (turn_fault.Damaged at)) so)
+    turned_fault (turn_fault.NotATree at) so = absurd (exact (Err (turn_fault.NotATree at)) so)
+    turned_fault turn_fault.TooLarge so = absurd (exact (Err turn_fault.TooLarge) so within)
     turned_fault turn_fault.Device so = tt
     turned_fault turn_fault.NoMemory so = tt
 
     -- The reversed file is that of version 2.
-    pub turned_tree : (count : ℕ) → TurnTold (rank_of (stored_count g)) 0 mid honest turned (Ok count) → IsUpgraded g content mid honest turned count
+    pub turned_tree : (count : ℕ) → Reverses (rank_of (stored_count g)) 0 mid honest turned (Ok count) → IsUpgraded g content mid honest turned count
     turned_tree count so =
-        let it = told (Ok count) so in
+        let it = exact (Ok count) so in
         record {
           tree = is.tree;
           fits = is.fits;

@@ -6,9 +6,9 @@ use Rattle.ag_value.specs.declared.value.Value.{Value, Num}
 use Rattle.ag_value.specs.Well.{IsWell}
 use Rattle.ag_grammar.specs.declared.grammar.Item.TheVariants as item
 use Rattle.ag_grammar.specs.declared.grammar.Production.{Production}
-use Rattle.treefile.specs.ways.Awaited.{Breaks, IsNoRecord, IsNodeRecord, root_to_come}
-use Rattle.treefile.specs.ways.Backward.{next_before}
-use Rattle.treefile.specs.ways.Ending.{body_before, fits_before, is_tree_file}
+use Rattle.treefile.specs.framing.ExpectedRecords.{Breaks, IsNoRecord, IsNodeRecord, pending_root}
+use Rattle.treefile.specs.framing.Backward.{next_before}
+use Rattle.treefile.specs.framing.Ending.{body_before, fits_before, is_tree_file}
 use Rattle.treefile.specs.records.TreeFile.{file, header, version_two}
 use Rattle.treefile.specs.Worked.{binary, binary_passes, copies_1_of_one, production_of}
 use Rattle.treefile.proofs.records.Spelled.{same_node}
@@ -35,7 +35,7 @@ unfolding next_before
 before_header = refl
 
 pub header_alone : ShowsAt (fractions 0) (header version_two 0) 6
-header_alone = inr (inr (record { begins = header_begins; number = refl }, (root_to_come binary, record { bodies = []; read = refl; records = refl; few = omega arith }, (omega arith, omega arith), subst (Breaks version_two binary binary_passes 0 (root_to_come binary)) (sym before_header) tt)))
+header_alone = inr (inr (record { begins = header_begins; number = refl }, (pending_root binary, record { bodies = []; read = refl; records = refl; few = omega arith }, (omega arith, omega arith), subst (Breaks version_two binary binary_passes 0 (pending_root binary)) (sym before_header) tt)))
 
 -- After the header the root exceeds a limit of 0 levels, and a limit of 0 nodes.
 pub root_deep : ExceedsDepth (fractions_within 0 1) (header version_two 0)
@@ -49,7 +49,7 @@ abbrev numbers : ℕ → Value
 numbers a = Num (pos 65536)
 
 q_record : IsNodeRecord version_two binary binary_passes 0 1 (0 ∷ 0 ∷ 1 ∷ []) 1 (production_of 1 []) numbers
-q_record = record { production = refl; left = refl; well = λ a n has le. well_number 65536 (omega arith); copies = []; are_copies = (refl, All-nil IsWell); stands = refl }
+q_record = record { production = refl; left = refl; well = λ a n has le. well_number 65536 (omega arith); copies = []; are_copies = (refl, All-nil IsWell); occurs = refl }
 
 q_is_none : IsNoRecord version_two binary binary_passes 0 (item.Symbol 0, None) (0 ∷ 0 ∷ 1 ∷ [])
 q_is_none ys is =
@@ -71,4 +71,4 @@ unfolding next_before body_before fits_before
 q_at_end = refl
 
 pub q_alone : ShowsAt (fractions 0) (file version_two 0 ((0 ∷ 0 ∷ 1 ∷ []) ∷ [])) 13
-q_alone = inr (inr (record { begins = q_begins; number = refl }, (root_to_come binary, record { bodies = []; read = refl; records = refl; few = omega arith }, (omega arith, omega arith), subst (Breaks version_two binary binary_passes 0 (root_to_come binary)) (sym q_at_end) q_is_none)))
+q_alone = inr (inr (record { begins = q_begins; number = refl }, (pending_root binary, record { bodies = []; read = refl; records = refl; few = omega arith }, (omega arith, omega arith), subst (Breaks version_two binary binary_passes 0 (pending_root binary)) (sym q_at_end) q_is_none)))

@@ -7,7 +7,7 @@ pub mod Lending
 pub mod Moves
 pub mod Ruled
 pub mod Running
-pub mod Stays
+pub mod Preserves
 pub mod Steps
 pub mod Supposed
 pub mod Turning

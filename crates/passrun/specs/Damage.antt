@@ -4,10 +4,10 @@ use Rattle.std.specs.Prelude.{ℕ, suc, ◌≡◌, ◌≢◌, ◌<◌, ◌≤◌
 use Rattle.ag_grammar.specs.declared.direction.Direction.{Direction}
 use Rattle.ag_grammar.specs.grammars.AttributeGrammar.{Grammar}
 use Rattle.ag_grammar.specs.grammars.Passes.{Passes, direction_of, other}
-use Rattle.ag_grammar.specs.grammars.Tree.{most_depth, most_nodes}
-use Rattle.treefile.specs.ways.Awaited.{Breaks, Child, HasNoTree, HasNoTreeWithin, IsRecordOf, ToCome, before_others, root_to_come}
-use Rattle.treefile.specs.ways.Backward.{ReadsTo, next_before, pass_of}
-use Rattle.treefile.specs.ways.Ending.{is_tree_file}
+use Rattle.ag_grammar.specs.grammars.Tree.{max_depth, max_nodes}
+use Rattle.treefile.specs.framing.ExpectedRecords.{Breaks, Child, HasNoTree, HasNoTreeWithin, IsRecordOf, Pending, before_others, pending_root}
+use Rattle.treefile.specs.framing.Backward.{ReadsTo, next_before, pass_of}
+use Rattle.treefile.specs.framing.Ending.{is_tree_file}
 use Rattle.treefile.specs.records.TreeFile.{Version, version_two}
 use Rattle.treefile.specs.Worked.{binary, binary_passes}
 use Rattle.planchecker.specs.courses.Settings.{Setting}
@@ -26,7 +26,7 @@ pub record Source : Type 0 where
 
 -- A pass reads the file of the previous pass.
 abbrev pub source : Setting → Source
-source c = record { version = version_two; grammar = c.grammar; passes = c.passes; pass = c.read; depth = most_depth; nodes = most_nodes }
+source c = record { version = version_two; grammar = c.grammar; passes = c.passes; pass = c.read; depth = max_depth; nodes = max_nodes }
 
 -- A content begins as such a file.
 pub record IsReadable (s : Source) (content : List ℕ) : Type 0 where
@@ -35,19 +35,19 @@ pub record IsReadable (s : Source) (content : List ℕ) : Type 0 where
 
 -- Reading bodies turns a list of children to be read into the list that remains: each body is a record of the
 -- first child, whose level is within the limit, and its own children, in a direction, replace that child.
-abbrev pub Leaves : Source → Direction → ToCome → List (List ℕ) → ToCome → Type 0
+abbrev pub Leaves : Source → Direction → Pending → List (List ℕ) → Pending → Type 0
 Leaves s d todo [] left = todo ≡ left
 Leaves s d [] (body ∷ bodies) left = ⊥
 Leaves s d (x ∷ xs) (body ∷ bodies) left = (ys : List Child) × (x.0 ≤ s.depth) × IsRecordOf s.version s.grammar s.passes s.pass x.1 body ys × Leaves s d (before_others d (suc x.0) ys xs) bodies left
 
 -- The bodies that are read, from the end of a file, are records of the grammar at their places: the root's
 -- first, and each node's before those of its children. The remaining children are still to be read.
-abbrev pub AreRecords : Source → List (List ℕ) → ToCome → Type 0
-AreRecords s bodies todo = Leaves s (other (direction_of s.pass)) (root_to_come s.grammar) bodies todo
+abbrev pub AreRecords : Source → List (List ℕ) → Pending → Type 0
+AreRecords s bodies todo = Leaves s (other (direction_of s.pass)) (pending_root s.grammar) bodies todo
 
 -- From the end of a content back to an offset there are only frames, no more than the limit of nodes, and
 -- their bodies are such records.
-pub record ComesTo (s : Source) (content : List ℕ) (at : ℕ) (todo : ToCome) : Type 0 where
+pub record ArrivesAt (s : Source) (content : List ℕ) (at : ℕ) (todo : Pending) : Type 0 where
   pub bodies : List (List ℕ)
   pub read : ReadsTo s.version content (length content) bodies at
   pub records : AreRecords s bodies todo
@@ -55,7 +55,7 @@ pub record ComesTo (s : Source) (content : List ℕ) (at : ℕ) (todo : ToCome) 
 
 -- The first child to be read after a number of bodies exceeds no limit: neither that of levels nor that of
 -- nodes.
-abbrev pub IsWithin : Source → ToCome → (count : ℕ) → Type 0
+abbrev pub IsWithin : Source → Pending → (count : ℕ) → Type 0
 IsWithin s [] count = Unit {0}
 IsWithin s (x ∷ xs) count = (x.0 ≤ s.depth) × (count < s.nodes)
 
@@ -63,7 +63,7 @@ IsWithin s (x ∷ xs) count = (x.0 ≤ s.depth) × (count < s.nodes)
 -- there; or one whose body is not a record of the first child to be read; or no child is to be read, and a
 -- frame is left; or the header ends there, and a child is still to be read.
 abbrev pub BreaksAt : Source → List ℕ → ℕ → Type 0
-BreaksAt s content at = (todo : ToCome) × (way : ComesTo s content at todo) × IsWithin s todo (length way.bodies) × Breaks s.version s.grammar s.passes s.pass todo (next_before s.version content at)
+BreaksAt s content at = (todo : Pending) × (way : ArrivesAt s content at todo) × IsWithin s todo (length way.bodies) × Breaks s.version s.grammar s.passes s.pass todo (next_before s.version content at)
 
 -- The offset at which a content shows that it is the file of no tree: 0 if it does not begin as a tree file
 -- of the version, 4 if it is that of another pass, and otherwise the one at which reading meets damage.
@@ -77,8 +77,8 @@ pub record ExceedsDepth (s : Source) (content : List ℕ) : Type 0 where
   pub at : ℕ
   pub level : ℕ
   pub next : Child
-  pub others : ToCome
-  pub way : ComesTo s content at ((level, next) ∷ others)
+  pub others : Pending
+  pub way : ArrivesAt s content at ((level, next) ∷ others)
   pub deep : s.depth < level
 
 -- The limit of nodes is exceeded before damage is met: as many bodies were read as the limit allows, and a
@@ -88,8 +88,8 @@ pub record ExceedsNodes (s : Source) (content : List ℕ) : Type 0 where
   pub at : ℕ
   pub level : ℕ
   pub next : Child
-  pub others : ToCome
-  pub way : ComesTo s content at ((level, next) ∷ others)
+  pub others : Pending
+  pub way : ArrivesAt s content at ((level, next) ∷ others)
   pub within : level ≤ s.depth
   pub full : length way.bodies ≡ s.nodes
 
@@ -120,7 +120,7 @@ Shows s content fault.NoMemory = ⊥
 
 -- The file of pass k of a tree of binary fractions.
 abbrev pub fractions : ℕ → Source
-fractions k = record { version = version_two; grammar = binary; passes = binary_passes; pass = k; depth = most_depth; nodes = most_nodes }
+fractions k = record { version = version_two; grammar = binary; passes = binary_passes; pass = k; depth = max_depth; nodes = max_nodes }
 
 -- The file of pass 0 of a tree of binary fractions within limits.
 abbrev pub fractions_within : (depth nodes : ℕ) → Source

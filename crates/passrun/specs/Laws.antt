@@ -15,19 +15,19 @@ use Rattle.treefile.specs.records.Records.{IsFileOfTree}
 use Rattle.treefile.specs.Runs.{RunsPass}
 use Rattle.treefile.specs.records.TreeFile.{version_two}
 use Rattle.passrun.specs.declared.passing.ends.Passed.{Passed}
-use Rattle.passrun.specs.declared.laid.job.Job.{Job}
+use Rattle.passrun.specs.declared.layouts.context.PassContext.{PassContext}
 use Rattle.passrun.specs.declared.last.Last.{Last}
 use Rattle.passrun.specs.declared.run_fault.RunFault.{RunFault}
 use Rattle.passrun.specs.Damage.{Shows, Source}
-use Rattle.passrun.specs.laid.Jobs.{CanRun}
-use Rattle.passrun.specs.laid.Layouts.{IsLayout}
+use Rattle.passrun.specs.layouts.Contexts.{CanRun}
+use Rattle.passrun.specs.layouts.Layouts.{IsLayout}
 use Rattle.passrun.specs.Passed.{IsPassed}
 use Rattle.passrun.specs.Rounds.{HasRunAll}
 
 -- A pass of a plan of an accepted grammar can run, with a table that has the slots of each rule.
 abbrev pub PlansCanRun : Type 0
-PlansCanRun = (job : Job) (passes : ℕ) → IsAccepted job.grammar.now → IsPlan job.grammar.now job.plan.now.0 job.plan.now.1 → IsGreatest passes job.plan.now.0 → 1 ≤ job.pass → job.pass ≤ passes
-    → IsLayout (setting_of job.grammar.now job.plan.now job.pass) job.rows.now → CanRun job
+PlansCanRun = (context : PassContext) (passes : ℕ) → IsAccepted context.grammar.now → IsPlan context.grammar.now context.plan.now.0 context.plan.now.1 → IsGreatest passes context.plan.now.0 → 1 ≤ context.pass → context.pass ≤ passes
+    → IsLayout (setting_of context.grammar.now context.plan.now context.pass) context.rows.now → CanRun context
 
 -- At most one of R1 with an offset, P2 and P3 shows in a content.
 abbrev pub ShowsOnce : Type 0
@@ -38,8 +38,8 @@ abbrev pub CountsPass : Grammar → Passes → ℕ → (from : List ℕ) → (co
 CountsPass g m k from count evals = (t : Tree) (u : Valuation) → IsTreeOf g t → IsFileOfTree version_two g m k t u from → (count ≡ node_count t) × (evals ≡ rules_of_pass m (suc k) g t)
 
 -- The result of a pass for some tree holds for every tree that has the file it read: there is only one.
-abbrev pub PassesAreTold : Type 0
-PassesAreTold =
+abbrev pub PassesAreRecorded : Type 0
+PassesAreRecorded =
     (g : Grammar) (plan : List (List ℕ) × Lists) (k : ℕ) (from to : List ℕ) (count evals : ℕ) → IsAccepted g → IsLegal g (passes_of plan.0) → 1 ≤ k
     → IsPassed (setting_of g plan k) from to count evals → RunsPass version_two g (passes_of plan.0) (k - 1) from to × CountsPass g (passes_of plan.0) (k - 1) from count evals
 

@@ -1,6 +1,6 @@
 pub mod Damage
 pub mod Faults
-pub mod laid
+pub mod layouts
 pub mod Laws
 pub mod Passed
 pub mod passing

@@ -6,19 +6,19 @@ use Rattle.std.specs.List.{flat_map}
 use Rattle.ag_value.specs.declared.value.Value.{Value}
 use Rattle.ag_value.specs.Well.{IsWell}
 use Rattle.ag_grammar.specs.grammars.Solution.{Valuation, Solves, OfPass}
-use Rattle.ag_grammar.specs.grammars.Tree.{Tree, IsTreeOf, IsWithinLimits, node_count, most_depth, most_nodes}
+use Rattle.ag_grammar.specs.grammars.Tree.{Tree, IsTreeOf, IsWithinLimits, node_count, max_depth, max_nodes}
 use Rattle.ag_grammar.specs.grammars.Counts.{rules_of_pass}
-use Rattle.treefile.specs.ways.Awaited.{ToCome}
-use Rattle.treefile.specs.ways.Backward.{ReadsTo}
+use Rattle.treefile.specs.framing.ExpectedRecords.{Pending}
+use Rattle.treefile.specs.framing.Backward.{ReadsTo}
 use Rattle.treefile.specs.devices.Device.{WhenHonest}
 use Rattle.treefile.specs.records.Records.{IsFileOfTree}
 use Rattle.treefile.specs.records.TreeFile.{frame, header, version_two}
-use Rattle.treefile.specs.ways.Writing as writing
+use Rattle.treefile.specs.framing.Writing as writing
 use Rattle.backreader.specs.BackState.{IsOver, BackState}
 use Rattle.planchecker.specs.courses.Settings.{Setting}
 use Rattle.passrun.specs.declared.passing.open_node.OpenNode.{OpenNode}
 use Rattle.passrun.specs.Damage.{AreRecords, IsReadable, source}
-use Rattle.passrun.specs.passing.Passing.{Passing, Tapes}
+use Rattle.passrun.specs.passing.NodeInvariant.{NodeInvariant, Transcript}
 
 -- A pass ran from one content to another: there are a tree and values such that the one is the file of the
 -- previous pass and the other that of the pass, and the values satisfy each equation whose target is of the
@@ -31,20 +31,20 @@ pub record IsPassed (c : Setting) (content to : List ℕ) (count evals : ℕ) : 
   pub from : IsFileOfTree version_two c.grammar c.passes c.read tree values content
   pub written : IsFileOfTree version_two c.grammar c.passes c.write tree values to
   pub solved : Solves (OfPass c.passes c.write) c.grammar tree values
-  pub limits : IsWithinLimits most_depth most_nodes tree
+  pub limits : IsWithinLimits max_depth max_nodes tree
   pub nodes : count ≡ node_count tree
   pub rules : evals ≡ rules_of_pass c.passes c.write c.grammar tree
 
 -- A pass runs between two devices: its transcript agrees with the reader and the writer. The bodies that were
 -- read are records of the grammar at their places, and the open nodes still have these children to read.
 pub record IsRunning (c : Setting) (root : ℕ) (honest : Bool) (content : List ℕ) (to_honest : Bool) (to : List ℕ) (state : BackState) (out : writing.Progress) (values : List Value) (stack : List OpenNode) (evals : ℕ) : Type 0 where
-  pub tapes : Tapes
-  pub todo : ToCome
-  pub passing : Passing c root stack values tapes evals todo
+  pub tapes : Transcript
+  pub todo : Pending
+  pub passing : NodeInvariant c root stack values tapes evals todo
   pub over : WhenHonest honest (IsOver content state)
   pub read : WhenHonest honest (ReadsTo version_two content (length content) tapes.read state.progress.at)
   pub records : state.progress.records ≡ length tapes.read
-  pub few : length tapes.read ≤ most_nodes
+  pub few : length tapes.read ≤ max_nodes
   pub put : WhenHonest to_honest (to ≡ header version_two c.write ++ flat_map frame tapes.put)
   pub written : out.written ≡ length tapes.put
   pub version : state.progress.version ≡ version_two

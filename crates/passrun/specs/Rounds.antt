@@ -6,8 +6,8 @@ use Rattle.ag_grammar.specs.grammars.Counts.{rules_of_pass, sum_of_passes}
 use Rattle.ag_grammar.specs.grammars.Passes.{Passes}
 use Rattle.ag_grammar.specs.grammars.Running.{IsTheSolution}
 use Rattle.ag_grammar.specs.grammars.Solution.{Valuation}
-use Rattle.ag_grammar.specs.grammars.Tree.{Tree, IsTreeOf, IsWithinLimits, most_depth, most_nodes, node_count}
-use Rattle.treefile.specs.ways.Beginning.{LeavesBeginning}
+use Rattle.ag_grammar.specs.grammars.Tree.{Tree, IsTreeOf, IsWithinLimits, max_depth, max_nodes, node_count}
+use Rattle.treefile.specs.framing.Beginning.{LeavesBeginning}
 use Rattle.treefile.specs.records.Records.{IsFileOfTree}
 use Rattle.treefile.specs.Runs.{RunsPasses}
 use Rattle.treefile.specs.records.TreeFile.{version_two}
@@ -60,7 +60,7 @@ pub record HoldsTree (g : Grammar) (m : Passes) (k : ℕ) (content : List ℕ) :
   pub tree : Tree
   pub values : Valuation
   pub is_tree : IsTreeOf g tree
-  pub within : IsWithinLimits most_depth most_nodes tree
+  pub within : IsWithinLimits max_depth max_nodes tree
   pub file : IsFileOfTree version_two g m k tree values content
 
 -- All passes after pass k ran, up to the last one. They left two contents: that of the device that has the

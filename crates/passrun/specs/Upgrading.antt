@@ -10,18 +10,18 @@ use Rattle.ag_grammar.specs.declared.grammar.Production.{Production}
 use Rattle.ag_grammar.specs.declared.grammar.Terminal.TheVariants.{Class}
 use Rattle.ag_grammar.specs.grammars.AttributeGrammar.{Grammar, IsProduction, stored_items}
 use Rattle.ag_grammar.specs.grammars.Tree.{FitsAll, Forest, IsTokenText, IsTreeOf, IsWithinLimits, Tree, deepest, node_count, node_counts}
-use Rattle.treefile.specs.ways.Awaited.{Child, ToCome, before_others, children_with_copies}
-use Rattle.treefile.specs.ways.Backward.{ReadsTo, before_frame, next_before}
+use Rattle.treefile.specs.framing.ExpectedRecords.{Child, Pending, before_others, children_with_copies}
+use Rattle.treefile.specs.framing.Backward.{ReadsTo, before_frame, next_before}
 use Rattle.treefile.specs.devices.Device.{WhenHonest}
-use Rattle.treefile.specs.records.FirstFile.{HasNoFirstTree, HasNoFirstTreeWithin, IsFirstFile, first_bodies, first_bodies_all, leaf_texts, unassigned}
+use Rattle.treefile.specs.records.FirstFile.{HasNoFirstTree, HasNoFirstTreeWithin, IsFirstFile, first_bodies, first_bodies_all, leaf_texts, no_passes}
 use Rattle.treefile.specs.records.Orders.{postfix, postfix_all, prefix_all}
 use Rattle.treefile.specs.records.TreeFile.{body_of, file, frame, version_one, version_two}
-use Rattle.treefile.specs.ways.Writing as writing
+use Rattle.treefile.specs.framing.Writing as writing
 use Rattle.treefile.specs.declared.body.Kind.{Kind}
 use Rattle.treefile.specs.declared.body.Kind.TheVariants.{Node, Token}
 use Rattle.backreader.specs.BackState.{IsOver, BackState, Progress}
-use Rattle.backreader.specs.Turning.{most_levels, most_records}
-use Rattle.passrun.specs.Damage.{ComesTo, ExceedsDepth, ExceedsNodes, IsReadable, ShowsAt, Source}
+use Rattle.backreader.specs.Turning.{max_levels, max_records}
+use Rattle.passrun.specs.Damage.{ArrivesAt, ExceedsDepth, ExceedsNodes, IsReadable, ShowsAt, Source}
 use Rattle.passrun.specs.declared.reading.old_record.OldRecord.{OldRecord}
 use Rattle.passrun.specs.declared.reading.old_record.OldRecord.TheVariants as old
 use Rattle.passrun.specs.declared.run_fault.RunFault.{RunFault}
@@ -29,7 +29,7 @@ use Rattle.passrun.specs.declared.run_fault.RunFault.TheVariants as fault
 
 -- How an old file is read: as the file of version 1 and pass 0 of a tree.
 abbrev pub old_file : Grammar → Source
-old_file g = record { version = version_one; grammar = g; passes = unassigned; pass = 0; depth = most_levels; nodes = most_records }
+old_file g = record { version = version_one; grammar = g; passes = no_passes; pass = 0; depth = max_levels; nodes = max_records }
 
 -- The old content is the file of version 1 and pass 0 of exactly one tree, which is within the limits and has
 -- this number of nodes. The new content, on an honest device, is the file of version 2 of the same tree. The
@@ -37,7 +37,7 @@ old_file g = record { version = version_one; grammar = g; passes = unassigned; p
 pub record IsUpgraded (g : Grammar) (content between : List ℕ) (honest : Bool) (upgraded : List ℕ) (count : ℕ) : Type 0 where
   pub tree : Tree
   pub fits : IsTreeOf g tree
-  pub within : IsWithinLimits most_levels most_records tree
+  pub within : IsWithinLimits max_levels max_records tree
   pub from : IsFirstFile version_one g tree content
   pub only : (another : Tree) → IsTreeOf g another → IsFirstFile version_one g another content → another ≡ tree
   pub halfway : between ≡ file version_two 1 (postfix RightToLeft (first_bodies version_two tree))
@@ -50,8 +50,8 @@ pub record IsUpgraded (g : Grammar) (content between : List ℕ) (honest : Bool)
 -- NoMemory say nothing about the content.
 abbrev pub IsUpgradeFault : Grammar → List ℕ → RunFault → Type 0
 IsUpgradeFault g content (fault.Damaged at) = HasNoFirstTree version_one g content × ShowsAt (old_file g) content at
-IsUpgradeFault g content fault.TooDeep = ((nodes : ℕ) → HasNoFirstTreeWithin most_levels nodes version_one g content) × ExceedsDepth (old_file g) content
-IsUpgradeFault g content fault.TooManyNodes = ((levels : ℕ) → HasNoFirstTreeWithin levels most_records version_one g content) × ExceedsNodes (old_file g) content
+IsUpgradeFault g content fault.TooDeep = ((nodes : ℕ) → HasNoFirstTreeWithin max_levels nodes version_one g content) × ExceedsDepth (old_file g) content
+IsUpgradeFault g content fault.TooManyNodes = ((levels : ℕ) → HasNoFirstTreeWithin levels max_records version_one g content) × ExceedsNodes (old_file g) content
 IsUpgradeFault g content fault.Device = Unit {0}
 IsUpgradeFault g content fault.NoMemory = Unit {0}
 
@@ -67,23 +67,23 @@ body_in (old.Node p) = body_of Node p []
 body_in (old.Token d v) = body_of Token d (v ∷ [])
 
 -- The children of a right side that are to be read.
-abbrev pub to_come : Grammar → List Item → List Child
-to_come g xs = children_with_copies false g unassigned 0 (stored_items xs) []
+abbrev pub upcoming : Grammar → List Item → List Child
+upcoming g xs = children_with_copies false g no_passes 0 (stored_items xs) []
 
 -- The children of some items to be read at a level, from right to left, before others.
-abbrev pub coming : Grammar → ℕ → List Item → ToCome → ToCome
-coming g level xs others = before_others RightToLeft level (to_come g xs) others
+abbrev pub pending : Grammar → ℕ → List Item → Pending → Pending
+pending g level xs others = before_others RightToLeft level (upcoming g xs) others
 
 -- The progress of a reader in an old file: it returned records of the grammar at their places, and these
 -- children are still to be read.
-pub record IsAt (g : Grammar) (content : List ℕ) (progress : Progress) (todo : ToCome) : Type 0 where
+pub record IsAt (g : Grammar) (content : List ℕ) (progress : Progress) (todo : Pending) : Type 0 where
   pub readable : IsReadable (old_file g) content
-  pub way : ComesTo (old_file g) content progress.at todo
+  pub way : ArrivesAt (old_file g) content progress.at todo
   pub counted : progress.records ≡ length way.bodies
 
 -- The reason why the trees of items at a level could not be converted, whatever is to be read after them.
-abbrev pub IsUnbrought : Grammar → List ℕ → List Item → (level : ℕ) → Progress → RunFault → Type 0
-IsUnbrought g content xs level progress f = (others : ToCome) → IsAt g content progress (coming g level xs others) → IsUpgradeFault g content f
+abbrev pub IsUnconverted : Grammar → List ℕ → List Item → (level : ℕ) → Progress → RunFault → Type 0
+IsUnconverted g content xs level progress f = (others : Pending) → IsAt g content progress (pending g level xs others) → IsUpgradeFault g content f
 
 -- The reader is one of an old file, and has not failed for good. No more records were written than read, and
 -- no more were read than the limit.
@@ -92,7 +92,7 @@ pub record IsReady (honest : Bool) (content : List ℕ) (state : BackState) (out
   pub version : state.progress.version ≡ version_one
   pub unbroken : state.progress.fault ≡ None
   pub whole : out.is_broken ≡ false
-  pub few : state.progress.records ≤ most_records
+  pub few : state.progress.records ≤ max_records
   pub written : out.written ≤ state.progress.records
 
 -- A record of an item was read, whose tree is at a level.
@@ -101,19 +101,19 @@ pub record HasTaken (g : Grammar) (x : Item) (level : ℕ) (honest : Bool) (cont
   pub found : WhenHonest honest (next_before version_one content before.progress.at ≡ Ok (Some (body_in r)))
   pub over : WhenHonest honest (IsOver content now)
   pub progress : now.progress ≡ record before.progress { at = before_frame before.progress.at (body_in r); records = before.progress.records + 1 }
-  pub deep : level ≤ most_levels
-  pub few : before.progress.records < most_records
+  pub deep : level ≤ max_levels
+  pub few : before.progress.records < max_records
 
 -- Trees of the last items of a right side were converted, from right to left: their records were read, and
 -- those of version 2 were written. Those of the items before them are still to be read. The texts are those
 -- of the tokens, the last one first.
-pub record Brought (g : Grammar) (content : List ℕ) (front xs : List Item) (level : ℕ) (before now : Progress) (honest : Bool) (out_old out_now : List ℕ) (texts : List Value) : Type 0 where
+pub record Converted (g : Grammar) (content : List ℕ) (prefix xs : List Item) (level : ℕ) (before now : Progress) (honest : Bool) (out_old out_now : List ℕ) (texts : List Value) : Type 0 where
   pub trees : Forest
   pub fits : FitsAll g (stored_items xs) trees
-  pub deep : deepest trees ≤ suc most_levels - level
+  pub deep : deepest trees ≤ suc max_levels - level
   pub read : ReadsTo version_one content before.at (prefix_all RightToLeft (first_bodies_all version_one trees)) now.at
   pub nodes : now.records ≡ before.records + node_counts trees
-  pub on : (others : ToCome) → IsAt g content before (coming g level (front ++ xs) others) → IsAt g content now (coming g level front others)
+  pub on : (others : Pending) → IsAt g content before (pending g level (prefix ++ xs) others) → IsAt g content now (pending g level prefix others)
   pub written : WhenHonest honest (out_now ≡ out_old ++ flat_map frame (postfix_all RightToLeft (first_bodies_all version_two trees)))
   pub texts_are : texts ≡ reverse (leaf_texts trees)
 
@@ -124,10 +124,10 @@ text_list (Some v) = v ∷ []
 
 -- The content is the file of version 1 and pass 0 of a tree within the limits. The other content, on an
 -- honest device, is a file with pass number 1 of its records of version 2, from right to left.
-pub record IsBrought (g : Grammar) (content : List ℕ) (honest : Bool) (mid : List ℕ) : Type 0 where
+pub record IsConverted (g : Grammar) (content : List ℕ) (honest : Bool) (mid : List ℕ) : Type 0 where
   pub tree : Tree
   pub fits : IsTreeOf g tree
-  pub within : IsWithinLimits most_levels most_records tree
+  pub within : IsWithinLimits max_levels max_records tree
   pub from : IsFirstFile version_one g tree content
   pub to : WhenHonest honest (mid ≡ file version_two 1 (postfix RightToLeft (first_bodies version_two tree)))
 

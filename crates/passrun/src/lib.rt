@@ -6,9 +6,9 @@
 #![tactic(auto)]
 
 mod display;
-mod laid;
 mod last;
 pub mod laws;
+mod layouts;
 mod passes;
 mod passing;
 mod reading;

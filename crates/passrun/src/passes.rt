@@ -2,7 +2,7 @@
 
 ghost use Rattle.std.specs.Prelude.{◌≡◌, ◌+◌, ◌-◌, ◌^◌, ◌<◌, ◌≤◌, ℕ, IfErr, IfOk, IsErrOf};
 ghost use Rattle.std.specs.Prelude.{OnErr, OnOk};
-ghost use Rattle.ag_grammar.specs.grammars.Tree.{most_nodes};
+ghost use Rattle.ag_grammar.specs.grammars.Tree.{max_nodes};
 ghost use Rattle.passassign.specs.Rows.{IsGreatest, passes_of};
 ghost use Rattle.passrun.specs.passing.Ahead.{IsRunFault};
 ghost use Rattle.passrun.specs.Rounds.{HasRunAll, IsPassedOn, LeavesRound, LeavesSolutions};
@@ -10,9 +10,9 @@ ghost use Rattle.passrun.specs.Rounds.{LeavesSomeFile, last_content, other_conte
 ghost use Rattle.passrun.specs.Rounds.{one_more as added};
 ghost use Rattle.planchecker.specs.Plans.{IsPlan};
 ghost use Rattle.planchecker.specs.courses.Settings.{setting_of};
-ghost use Rattle.treefile.specs.ways.Beginning.{LeavesBeginning};
+ghost use Rattle.treefile.specs.framing.Beginning.{LeavesBeginning};
 ghost use Rattle.treefile.specs.devices.Device.{WhenHonest};
-ghost use Rattle.treefile.specs.devices.Several.{BothLast};
+ghost use Rattle.treefile.specs.devices.Several.{BothPersist};
 
 use crate::last::Last;
 use crate::passing::ends::Passed;
@@ -54,7 +54,7 @@ fn next_pass<D: Device>(
     meter: &mut Meter,
 ) -> Result<Passed, RunFault>
     requires plan { IsPlan grammar.now plan.now.0 plan.now.1 }
-    requires behind { (passes : ℕ) × IsGreatest passes plan.now.0 × (done + 1 ≤ passes) }
+    requires following { (passes : ℕ) × IsGreatest passes plan.now.0 × (done + 1 ≤ passes) }
     requires room { done < 65535 }
     requires meter { meter.old ≤ 2 ^ 63 }
     ensures passed { WhenHonest (D.is_honest a.new) (WhenHonest (D.is_honest b.new)
@@ -75,11 +75,11 @@ fn next_pass<D: Device>(
     ensures b_left { WhenHonest (D.is_honest b.new)
         (LeavesSomeFile (D.content b.old) (D.content b.new)) }
     ensures counts { IfOk result (λ p. (p.read ≡ p.nodes) × (p.written ≡ p.nodes)) }
-    ensures few { IfOk result (λ p. p.nodes ≤ most_nodes) }
+    ensures few { IfOk result (λ p. p.nodes ≤ max_nodes) }
     ensures rises { meter.old ≤ meter.new }
     ensures meter { OnOk result (meter.new ≤ meter.old + 2 ^ 36) }
     // D1 only if the number of failures rose on one of the two
-    ensures devices { BothLast D.is_honest D.failures a.old a.new
+    ensures devices { BothPersist D.is_honest D.failures a.old a.new
         D.is_honest D.failures b.old b.new (IsErrOf result RunFault.Device) }
 {
     match last {
@@ -113,8 +113,8 @@ fn one_more(sum: Passed, passed: Passed) -> Passed
 ///
 /// Stops at the first pass that fails, and returns its fault, as `run_pass` does. Fails with R1
 /// (`Damaged`) and an offset if the file on `a` is not one that pass `first` - 1 writes for a tree
-/// of the grammar. Fails with P2 (`TooDeep`) if it encodes no tree of at most `MOST_DEPTH` levels,
-/// and with P3 (`TooManyNodes`) if it encodes no tree of at most `MOST_NODES` stored nodes. Fails
+/// of the grammar. Fails with P2 (`TooDeep`) if it encodes no tree of at most `MAX_DEPTH` levels,
+/// and with P3 (`TooManyNodes`) if it encodes no tree of at most `MAX_NODES` stored nodes. Fails
 /// with D1 (`Device`) if a call of one of the devices failed, and with `NoMemory` if memory cannot
 /// be allocated.
 ///
@@ -161,13 +161,13 @@ pub fn run_all<D: Device>(
     ensures b_left { WhenHonest (D.is_honest b.new)
         (LeavesSomeFile (D.content b.old) (D.content b.new)) }
     // for any devices, honest or not
-    ensures few { IfOk result (λ r. (r.1.nodes ≤ most_nodes)
+    ensures few { IfOk result (λ r. (r.1.nodes ≤ max_nodes)
         × (r.1.read ≤ 2 ^ 36) × (r.1.written ≤ 2 ^ 36)) }
     // for any devices, honest or not
     ensures rises { meter.old ≤ meter.new }
     ensures meter { OnOk result (meter.new ≤ meter.old + 2 ^ 52) }
     // D1 only if the number of failures rose on one of the two
-    ensures devices { BothLast D.is_honest D.failures a.old a.new
+    ensures devices { BothPersist D.is_honest D.failures a.old a.new
         D.is_honest D.failures b.old b.new (IsErrOf result RunFault.Device) }
 {
     let _start = grammar.start();

@@ -5,23 +5,23 @@ ghost use Rattle.std.specs.Prelude.{OnErr, OnOk, [], ◌∷◌, ◌++◌, ℕ};
 ghost use Rattle.ag_value.specs.Well.{IsWell};
 ghost use Rattle.ag_grammar.specs.grammars.Accepted.{IsAccepted};
 ghost use Rattle.ag_grammar.specs.grammars.AttributeGrammar.{stored_items};
-ghost use Rattle.backreader.specs.Turning.{most_records};
+ghost use Rattle.backreader.specs.Turning.{max_records};
 ghost use Rattle.passrun.specs.Faults.{run_fault_of_turn};
-ghost use Rattle.passrun.specs.passing.Ahead.{IsWant};
+ghost use Rattle.passrun.specs.passing.Ahead.{IsResourceFault};
 ghost use Rattle.passrun.specs.passing.Putting.{AddsFrames, HasPut, LeavesFrames};
-ghost use Rattle.passrun.specs.Upgrading.{Brought, HasTaken, IsBrought, IsReady, IsUnbrought};
+ghost use Rattle.passrun.specs.Upgrading.{Converted, HasTaken, IsConverted, IsReady, IsUnconverted};
 ghost use Rattle.passrun.specs.Upgrading.{IsUpgradeFault, IsUpgraded, stored_count, text_list};
 ghost use Rattle.treefile.specs.records.TreeFile.{version_two};
-ghost use Rattle.treefile.specs.ways.Beginning.{LeavesBeginning};
+ghost use Rattle.treefile.specs.framing.Beginning.{LeavesBeginning};
 ghost use Rattle.treefile.specs.devices.Device.{LeavesContent, Persists, WhenHonest};
-ghost use Rattle.treefile.specs.devices.Several.{BothLast, ThreeLast};
+ghost use Rattle.treefile.specs.devices.Several.{BothPersist, ThreePersist};
 
 use crate::reading::old_record::{OldRecord, old_record};
 use crate::reading::record::RecordFault;
 use crate::run_fault::RunFault;
 use ag_grammar::{Grammar, Item};
 use ag_value::{NoMemory, Value};
-use backreader::{Arity, Back, MOST_LEVELS, MOST_RECORDS, turn};
+use backreader::{Arity, Back, MAX_OLD_LEVELS, MAX_RECORDS, turn};
 use std::alloc::Global;
 use std::slice;
 use treefile::{Device, Kind, Writer};
@@ -41,7 +41,7 @@ struct Upgrading {
 
 impl Upgrading {
     /// Reads the record of an item whose subtree is at depth `level`: the record before the one
-    /// read last. Fails with P2 if the level exceeds `MOST_LEVELS`, with P3 if `MOST_RECORDS`
+    /// read last. Fails with P2 if the level exceeds `MAX_OLD_LEVELS`, with P3 if `MAX_RECORDS`
     /// records were read already, and with R1 and the offset at which the record should end if a
     /// record of the item does not end there. Fails with D1 if the device fails, and with
     /// `NoMemory` if memory cannot be allocated.
@@ -61,17 +61,17 @@ impl Upgrading {
             (D.content from.old) self.old.back self.new.back r) }
         ensures writer { self.new.writer ≡ self.old.writer }
         ensures refused { IfErr result (λ f. WhenHonest (D.is_honest from.new)
-            (IsUnbrought grammar.now (D.content from.old) (item ∷ []) level
+            (IsUnconverted grammar.now (D.content from.old) (item ∷ []) level
             self.old.back.progress f)) }
         ensures content { LeavesContent (D.is_honest from.new)
             (D.content from.old) (D.content from.new) }
         ensures persists { Persists (D.is_honest from.old) (D.is_honest from.new)
             (D.failures from.old) (D.failures from.new) (IsErrOf result RunFault.Device) }
     {
-        if MOST_LEVELS < level {
+        if MAX_OLD_LEVELS < level {
             return Err(RunFault::TooDeep);
         }
-        if self.back.records() >= MOST_RECORDS {
+        if self.back.records() >= MAX_RECORDS {
             return Err(RunFault::TooManyNodes);
         }
         let end = self.back.end();
@@ -100,12 +100,12 @@ impl Upgrading {
         requires accepted { IsAccepted grammar.now }
         requires ready { IsReady (D.is_honest from.old) (D.content from.old)
             self.old.back self.old.writer }
-        ensures brought { IfOk result (λ text. WhenHonest (D.is_honest from.new)
-            (Brought grammar.now (D.content from.old) [] (item ∷ []) level
+        ensures converted { IfOk result (λ text. WhenHonest (D.is_honest from.new)
+            (Converted grammar.now (D.content from.old) [] (item ∷ []) level
             self.old.back.progress self.new.back.progress
             (E.is_honest to.new) (E.content to.old) (E.content to.new) (text_list text))) }
         ensures refused { IfErr result (λ f. WhenHonest (D.is_honest from.new)
-            (IsUnbrought grammar.now (D.content from.old) (item ∷ []) level
+            (IsUnconverted grammar.now (D.content from.old) (item ∷ []) level
             self.old.back.progress f)) }
         ensures ready { OnOk result (IsReady (D.is_honest from.new) (D.content from.old)
             self.new.back self.new.writer) }
@@ -121,10 +121,10 @@ impl Upgrading {
             (E.content to.old) (E.content to.new)) }
         ensures content { LeavesContent (D.is_honest from.new)
             (D.content from.old) (D.content from.new) }
-        ensures devices { BothLast D.is_honest D.failures from.old from.new
+        ensures devices { BothPersist D.is_honest D.failures from.old from.new
             E.is_honest E.failures to.old to.new (IsErrOf result RunFault.Device) }
     {
-        if !item.has_place() {
+        if !item.is_stored_child() {
             return Ok(None);
         }
         let production = match self.record(alloc, grammar, item, level, from)? {
@@ -170,22 +170,22 @@ fn add_text(texts: &mut Vec<Value>, text: Option<Value>) -> Result<(), NoMemory>
 
 /// Reads the file of version 1 and pass 0 of a tree backward, and writes the tree's records of
 /// version 2 from right to left.
-fn bring<D: Device, E: Device>(
+fn convert<D: Device, E: Device>(
     alloc: Global,
     grammar: &Grammar,
     from: &mut D,
     to: &mut E,
 ) -> Result<(), RunFault>
     ensures accepted { IsAccepted grammar.now }
-    ensures brought { OnOk result (WhenHonest (D.is_honest from.new)
-        (IsBrought grammar.now (D.content from.old) (E.is_honest to.new) (E.content to.new))) }
+    ensures converted { OnOk result (WhenHonest (D.is_honest from.new)
+        (IsConverted grammar.now (D.content from.old) (E.is_honest to.new) (E.content to.new))) }
     ensures refused { IfErr result (λ f. WhenHonest (D.is_honest from.new)
         (IsUpgradeFault grammar.now (D.content from.old) f)) }
     ensures left { WhenHonest (E.is_honest to.new)
         (LeavesBeginning 1 (E.content to.old) (E.content to.new)) }
     ensures content { LeavesContent (D.is_honest from.new)
         (D.content from.old) (D.content from.new) }
-    ensures devices { BothLast D.is_honest D.failures from.old from.new
+    ensures devices { BothPersist D.is_honest D.failures from.old from.new
         E.is_honest E.failures to.old to.new (IsErrOf result RunFault.Device) }
 {
     let root = Item::Symbol(grammar.start());
@@ -230,7 +230,7 @@ fn stored_among(items: &[Item]) -> u32
 {
     let mut count = 0;
     for item in items {
-        if item.has_place() {
+        if item.is_stored_child() {
             count += 1;
         }
     }
@@ -241,13 +241,13 @@ fn stored_among(items: &[Item]) -> u32
 /// from the first device, and writes to the third one the file of version 2 and pass 0 of the same
 /// tree: the file that `parse` writes for a sentence with this tree. Writes the same records from
 /// right to left to the second device in between. Returns the number of stored nodes. The call
-/// recurses over at most `MOST_LEVELS` (256) levels. The first device always keeps its content.
+/// recurses over at most `MAX_OLD_LEVELS` (256) levels. The first device always keeps its content.
 /// After a success the old content of the other two is lost.
 ///
 /// Fails with R1 (`Damaged`) if the content is not the file of version 1 and pass 0 of a tree of
 /// the grammar; the offset is as for `run_pass`. Fails with P2 (`TooDeep`) if it encodes no tree
-/// of at most `MOST_LEVELS` (256) levels, and with P3 (`TooManyNodes`) if it encodes no tree of at
-/// most `MOST_RECORDS` (65,536) stored nodes. Fails with D1 (`Device`) if a call of a device
+/// of at most `MAX_OLD_LEVELS` (256) levels, and with P3 (`TooManyNodes`) if it encodes no tree of at
+/// most `MAX_RECORDS` (65,536) stored nodes. Fails with D1 (`Device`) if a call of a device
 /// failed, and with `NoMemory` if memory cannot be allocated. Fails with R1 and an offset in the
 /// content of the second device, or with P2, if that does not return the bytes written to it; an
 /// honest device does. After a failure the second and the third device have their old content, or a
@@ -278,11 +278,11 @@ pub fn upgrade<D: Device, E: Device, F: Device>(
         (LeavesBeginning 1 (E.content mid.old) (E.content mid.new)) }
     ensures content { LeavesContent (D.is_honest old.new) (D.content old.old) (D.content old.new) }
     // D1 only if the number of failures rose on one of the three
-    ensures devices { ThreeLast D.is_honest D.failures old.old old.new
+    ensures devices { ThreePersist D.is_honest D.failures old.old old.new
         E.is_honest E.failures mid.old mid.new F.is_honest F.failures to.old to.new
         (IsErrOf result RunFault.Device) }
 {
-    bring(alloc, grammar, old, mid)?;
+    convert(alloc, grammar, old, mid)?;
     let count = turn(alloc, mid, to, 0, &Stored { grammar })?;
     Ok(count)
 }
@@ -296,7 +296,7 @@ fn put_record<E: Device>(
     writer: &mut Writer,
     to: &mut E,
 ) -> Result<(), RunFault>
-    requires few { length values.now ≤ version_two.most_values }
+    requires few { length values.now ≤ version_two.max_values }
     requires well { All IsWell values.now }
     requires room { writer.old.written < 2 ^ 64 - 1 }
     requires whole { writer.old.is_broken ≡ false }
@@ -306,7 +306,7 @@ fn put_record<E: Device>(
         (E.content to.old) (E.content to.new)) }
     ensures left { IfErr result (LeavesFrames (E.is_honest to.new)
         (E.content to.old) (E.content to.new)) }
-    ensures want { IfErr result IsWant }
+    ensures resource { IfErr result IsResourceFault }
     ensures persists { Persists (E.is_honest to.old) (E.is_honest to.new)
         (E.failures to.old) (E.failures to.new) (IsErrOf result RunFault.Device) }
 {

@@ -1,15 +1,15 @@
 //! Attributes, by the numbers of their symbols and their own, and by their names.
 
 ghost use Rattle.std.specs.Prelude.{◌≡◌, ◌≤◌, ◌↔◌, IfOk, IfSome, IsTrue, Some, length, slice_get};
-ghost use Rattle.ag_grammar.specs.grammars.Accepted.{most_symbols};
+ghost use Rattle.ag_grammar.specs.grammars.Accepted.{max_symbols};
 ghost use Rattle.ag_grammar.specs.grammars.AttributeGrammar.{attribute_names};
 ghost use Rattle.plan_reasons.specs.Names.{IsAttributeNamed, IsSymbolNamed};
 
-use ag_grammar::limits::MOST_ATTRIBUTES;
+use ag_grammar::limits::MAX_ATTRIBUTES;
 use ag_grammar::{Grammar, Symbol};
 use ag_value::{NoMemory, Text};
 use message_texts::Parts;
-use message_texts::display::{MAX_NAMED, Plain};
+use message_texts::display::{MAX_NAMED, PlainText};
 use std::alloc::{AllocError, Global};
 use std::fmt;
 
@@ -29,7 +29,7 @@ impl fmt::Display for AttributeName<'_> {
             return Ok(());
         };
         match symbol.attribute_name(self.attribute.1) {
-            Some(name) => write!(f, "{}.{}", Plain(symbol.name.as_str()), Plain(name)),
+            Some(name) => write!(f, "{}.{}", PlainText(symbol.name.as_str()), PlainText(name)),
             None => Ok(()),
         }
     }
@@ -49,7 +49,7 @@ impl fmt::Display for OccurrenceName<'_> {
             return Ok(());
         };
         match symbol.attribute_name(self.attribute.1) {
-            Some(name) => write!(f, "${}.{}", self.place, Plain(name)),
+            Some(name) => write!(f, "${}.{}", self.place, PlainText(name)),
             None => Ok(()),
         }
     }
@@ -85,7 +85,7 @@ pub fn attribute_named<'a>(grammar: &Grammar, name: &'a str) -> Result<Attribute
 
 /// Returns the number of the symbol of this name.
 fn symbol_number(symbols: &[Symbol], name: &str) -> Option<u16>
-    requires { length symbols.now ≤ most_symbols }
+    requires { length symbols.now ≤ max_symbols }
     ensures { IfSome result (λ s. IsSymbolNamed symbols.now s name.now) }
 {
     for (number, symbol) in symbols.iter().enumerate() {
@@ -110,7 +110,7 @@ fn has_name(symbol: &Symbol, attr: u16, name: &str) -> bool
 fn attribute_number(symbol: &Symbol, name: &str) -> Option<u16>
     ensures { IfSome result (λ a. slice_get (attribute_names symbol.now) a ≡ Some name.now) }
 {
-    for attr in 0..MOST_ATTRIBUTES {
+    for attr in 0..MAX_ATTRIBUTES {
         if has_name(symbol, attr as u16, name) {
             return Some(attr as u16);
         }
@@ -120,7 +120,7 @@ fn attribute_number(symbol: &Symbol, name: &str) -> Option<u16>
 
 /// Returns the attributes of the symbols of a grammar, in declared order.
 pub(crate) fn attributes_of(alloc: Global, symbols: &[Symbol]) -> Result<Vec<Attribute>, NoMemory>
-    requires { length symbols.now ≤ most_symbols }
+    requires { length symbols.now ≤ max_symbols }
 {
     let mut attributes = Vec::new(alloc);
     for (number, symbol) in symbols.iter().enumerate() {
@@ -135,7 +135,7 @@ fn put_attributes(
     number: u16,
     symbol: &Symbol,
 ) -> Result<(), NoMemory> {
-    for attr in 0..MOST_ATTRIBUTES {
+    for attr in 0..MAX_ATTRIBUTES {
         if symbol.attribute_name(attr as u16).is_some() {
             attributes.push((number, attr as u16))?;
         }
@@ -155,13 +155,13 @@ impl NameFault<'_> {
             NameFault::NoDot => write!(
                 parts.found,
                 "expected an attribute such as `S.out`, found `{}`",
-                Plain(name)
+                PlainText(name)
             ),
             NameFault::NoSymbol(symbol) => {
                 write!(
                     parts.found,
                     "the grammar has no symbol `{}`, its symbols are",
-                    Plain(symbol)
+                    PlainText(symbol)
                 )?;
                 write_symbols(&mut parts.found, grammar.symbols())
             }
@@ -175,7 +175,7 @@ impl NameFault<'_> {
 /// Writes the names of symbols with a space before each, at most the first twelve.
 fn write_symbols(out: &mut String, symbols: &[Symbol]) -> Result<(), AllocError> {
     for symbol in symbols.iter().take(MAX_NAMED) {
-        write!(out, " {}", Plain(symbol.name.as_str()))?;
+        write!(out, " {}", PlainText(symbol.name.as_str()))?;
     }
     match symbols.len().saturating_sub(MAX_NAMED) {
         0 => Ok(()),
@@ -193,7 +193,7 @@ fn write_attributes(
     let Some(symbol) = grammar.symbols().get(usize::from(number)) else {
         return Ok(());
     };
-    let (owner, missing) = (Plain(symbol.name.as_str()), Plain(name));
+    let (owner, missing) = (PlainText(symbol.name.as_str()), PlainText(name));
     write!(
         out,
         "the symbol {owner} has no attribute `{missing}`, it has"
@@ -208,7 +208,7 @@ fn write_attributes(
 /// Writes names, with a space before each.
 fn write_names(out: &mut String, names: &[Text]) -> Result<(), AllocError> {
     for name in names {
-        write!(out, " {}", Plain(name.as_str()))?;
+        write!(out, " {}", PlainText(name.as_str()))?;
     }
     Ok(())
 }

@@ -6,7 +6,7 @@ use crate::links::{Geometry, Link};
 use ag_grammar::Direction;
 use ag_value::NoMemory;
 use message_texts::Position;
-use message_texts::display::Plain;
+use message_texts::display::PlainText;
 use std::alloc::AllocError;
 
 impl Explanation<'_> {
@@ -24,7 +24,7 @@ impl Explanation<'_> {
             attribute: link.used,
         };
         let Position { line, column } = self.position_of(link.strike);
-        let name = Plain(self.source.name);
+        let name = PlainText(self.source.name);
         write!(
             out,
             "  {computed}: `{target}` ({name}:{line}:{column}) uses `{argument}` ({used}), "

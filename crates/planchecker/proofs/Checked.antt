@@ -10,7 +10,7 @@ use Rattle.ag_grammar.specs.declared.grammar.Production.{Production}
 use Rattle.ag_grammar.specs.declared.grammar.Symbol.{Symbol}
 use Rattle.ag_grammar.specs.grammars.AttributeGrammar.{Grammar, symbol_kinds}
 use Rattle.ag_grammar.specs.grammars.Passes.{Passes, IsLegal}
-use Rattle.ag_grammar.specs.grammars.Accepted.{most_passes}
+use Rattle.ag_grammar.specs.grammars.Accepted.{max_passes}
 use Rattle.passassign.specs.Rows.{passes_of, IsGreatest}
 use Rattle.passcode.specs.declared.instr.Instr.{Instr}
 use Rattle.passcode.specs.Agreement.{Agrees, IsListFor}
@@ -21,7 +21,7 @@ use Rattle.planchecker.specs.Agreeing.{AreListsFor, IsFirstDisagreement, IsFirst
 use Rattle.planchecker.specs.First.{EachAt}
 use Rattle.planchecker.specs.Legality.{AreAllowed}
 use Rattle.planchecker.specs.Shapes.{AreLists, AreRows, IsRow}
-use Rattle.planchecker.proofs.Loops.{Front}
+use Rattle.planchecker.proofs.Loops.{Prefix}
 
 pub legal_of : (g : Grammar) (rows : List (List ℕ)) → HasNumbers g rows → EachAt (λ i. AreAllowed (passes_of rows)) g.productions
     → IsLegal g (passes_of rows)
@@ -70,10 +70,10 @@ lists_in_shape g rows code n greatest shape =
     record { productions_are = shape.lists.productions; lists = λ i row e. shape.lists.lists i row e ∙ same }
 
 -- a pass number in an assignment of the right shape
-most_of : (g : Grammar) (rows : List (List ℕ)) → HasNumbers g rows → (n : ℕ) → IsGreatest n rows → n ≤ most_passes
+most_of : (g : Grammar) (rows : List (List ℕ)) → HasNumbers g rows → (n : ℕ) → IsGreatest n rows → n ≤ max_passes
 most_of g rows numbers n greatest = go greatest.there
   where
-    go : (n ≡ 0) ⊎ ((row : List ℕ) × Has rows row × Has row n) → n ≤ most_passes
+    go : (n ≡ 0) ⊎ ((row : List ℕ) × Has rows row × Has row n) → n ≤ max_passes
     go (inl e) = omega arith
     go (inr (row, at, has)) =
         let lt = slice_get_within rows at.0 row at.1 in
@@ -102,7 +102,7 @@ pub few_lists : (g : Grammar) (rows : List (List ℕ)) (code : Lists) (i : ℕ) 
 few_lists g rows code i xs shape same = elim (cases_lt i (length code)) [
   | inl lt ↦ (
       let len = shape.lists.lists i (lists_of code i) (slice_get-get_or code i [] lt) in
-      let most : shape.lists.passes ≤ most_passes = most_of g rows shape.numbers shape.lists.passes shape.lists.greatest in
+      let most : shape.lists.passes ≤ max_passes = most_of g rows shape.numbers shape.lists.passes shape.lists.greatest in
       let rows_len = length-map xs (λ (w : Vec Instr). w.items) in
       let both : length (row_of xs) ≡ length (lists_of code i) = ap length same in
       omega arith)
@@ -140,16 +140,16 @@ pub rows_len : (rows : List (Vec (Vec Instr))) → length (rows_of rows) ≡ len
 rows_len rows = length-map rows (λ (w : Vec (Vec Instr)). row_of w.items)
 
 pub first_production_of : (m : Passes) (productions : List Production) (code : Lists) (p : ℕ) (q : Production) (k n : ℕ)
-    → slice_get productions p ≡ Some q → Front (λ i q. AreListsFor m q (lists_of code i)) productions p
+    → slice_get productions p ≡ Some q → Prefix (λ i q. AreListsFor m q (lists_of code i)) productions p
     → IsFirstList m q (lists_of code p) k n
     → IsFirstDisagreement m productions code p k n
 first_production_of m productions code p q k n is before list = record {
   production = q;
-  stands = is;
+  occurs = is;
   first = record {
     member = q;
-    stands = is;
-    not_so = λ h. list.first.not_so (h (k - 1) list.first.member list.first.stands);
+    occurs = is;
+    not_so = λ h. list.first.not_so (h (k - 1) list.first.member list.first.occurs);
     before = before;
   };
   list = list;

@@ -20,8 +20,8 @@ use Rattle.passcode.proofs.States.{MayRunTo, index_runs, kept, runs_by_index, st
 use Rattle.passcode.proofs.Marks.{read_in, read_within}
 use Rattle.std.proofs.lemmas.Bool.{cases_eq}
 use Rattle.planchecker.specs.Agreeing.{BeginsAs, CanBegin, IsFirstWrong}
-use Rattle.planchecker.specs.Following.{IsOnWay, RunsRule, state_of}
-use Rattle.planchecker.specs.declared.following.Node.{Node}
+use Rattle.planchecker.specs.Following.{IsOnPath, RunsRule, state_of}
+use Rattle.planchecker.specs.declared.following.NodeState.{NodeState}
 
 -- a list continues after its first n instructions in another way
 begins_as : (xs zs : List Instr) (n : ℕ) → BeginsAs n xs (take n xs ++ zs)
@@ -58,11 +58,11 @@ number_run q s instr.End r = ((λ h. inl h), (λ h. absurd h), λ h. h)
 number_run q s (instr.Set j a n) r = (split n s r, (λ e. (0, ap Some e)), λ h. (suc h.0, h.1))
 number_run q s (instr.Def a n) r = (split n s r, (λ e. (0, ap Some e)), λ h. (suc h.0, h.1))
 
-pub run_in_front : (q : Production) (r : ℕ) (xs : List Instr) (s : State) (n : ℕ) → Has (state_at q s xs n).done r → Has s.done r
+pub leading_run : (q : Production) (r : ℕ) (xs : List Instr) (s : State) (n : ℕ) → Has (state_at q s xs n).done r → Has s.done r
     ⊎ ((i : ℕ) × (x : Instr) × (i < n) × (slice_get xs i ≡ Some x) × RunsRule x r)
-run_in_front q r xs s zero h = inl h
-run_in_front q r [] s (suc n) h = inl h
-run_in_front q r (y ∷ xs) s (suc n) h = elim (run_in_front q r xs (after q s y) n h) [
+leading_run q r xs s zero h = inl h
+leading_run q r [] s (suc n) h = inl h
+leading_run q r (y ∷ xs) s (suc n) h = elim (leading_run q r xs (after q s y) n h) [
   | inl now ↦ elim ((number_run q s y r).0 now) [ inl was ↦ inl was | inr here ↦ inr (0, y, omega arith, refl, here) ]
   | inr (i, x, less, at, runs) ↦ inr (suc i, x, omega arith, at, runs)
 ]
@@ -72,13 +72,13 @@ stays_run q r xs s zero h = h
 stays_run q r [] s (suc n) h = h
 stays_run q r (y ∷ xs) s (suc n) h = stays_run q r xs (after q s y) n ((number_run q s y r).2 h)
 
-pub front_is_run : (q : Production) (r : ℕ) (xs : List Instr) (s : State) (n i : ℕ) (x : Instr) → i < n → slice_get xs i ≡ Some x
+pub prefix_is_run : (q : Production) (r : ℕ) (xs : List Instr) (s : State) (n i : ℕ) (x : Instr) → i < n → slice_get xs i ≡ Some x
     → RunsRule x r → Has (state_at q s xs n).done r
-front_is_run q r xs s zero i x less at runs = absurd (omega arith)
-front_is_run q r [] s (suc n) i x less at runs = absurd (let bad : ⊥ = cc in bad)
-front_is_run q r (y ∷ xs) s (suc n) zero x less at runs = let same : x ≡ y = cc in
+prefix_is_run q r xs s zero i x less at runs = absurd (omega arith)
+prefix_is_run q r [] s (suc n) i x less at runs = absurd (let bad : ⊥ = cc in bad)
+prefix_is_run q r (y ∷ xs) s (suc n) zero x less at runs = let same : x ≡ y = cc in
     stays_run q r xs (after q s y) n ((number_run q s y r).1 (subst (λ z. RunsRule z r) same runs))
-front_is_run q r (y ∷ xs) s (suc n) (suc i) x less at runs = front_is_run q r xs (after q s y) n i x (omega arith) at runs
+prefix_is_run q r (y ∷ xs) s (suc n) (suc i) x less at runs = prefix_is_run q r xs (after q s y) n i x (omega arith) at runs
 
 module _ (m : Passes) (q : Production) (k : ℕ) where
   -- instructions that were followed and others that run after them are a list that runs
@@ -116,10 +116,10 @@ module _ (m : Passes) (q : Production) (k : ℕ) (xs : List Instr) (n : ℕ) (ma
       omega arith
 
 -- a node in the state before its index meets its invariant
-pub on_way : (node : Node) → node.phase ≡ (state_of node).phase → node.turn ≡ (state_of node).turn
+pub on_way : (node : NodeState) → node.phase ≡ (state_of node).phase → node.turn ≡ (state_of node).turn
     → node.index ≤ length node.list.now → node.children ≡ arity node.course.production.now → (m : Passes)
     → IsPlanned m node.course.production.now → (k : ℕ) → MayRunTo m node.course.production.now k start node.list.now node.index
-    → IsOnWay node
+    → IsOnPath node
 on_way node phase turn within children m planned k may =
     let most = planned.places in
     let read = few_read m node.course.production.now k node.list.now node.index may node.phase node.turn phase turn in

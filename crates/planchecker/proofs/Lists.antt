@@ -11,7 +11,7 @@ use Rattle.passcode.specs.Agreement.{IsListFor}
 use Rattle.passcode.specs.Rows.{row_of}
 use Rattle.planchecker.specs.Agreeing.{CanBegin, IsFirstList, IsFirstWrong}
 use Rattle.planchecker.specs.First.{IsFirstNot}
-use Rattle.planchecker.proofs.Loops.{Front}
+use Rattle.planchecker.proofs.Loops.{Prefix}
 
 -- a list of a row, as it is read
 pub list_is : (lists : List (Vec Instr)) (i : ℕ) (v : Vec Instr) (xs : List Instr) → i < length lists → v ≡ get_or lists i v
@@ -34,15 +34,15 @@ not_list m q k xs n wrong list = go wrong.wrong
     go (inr h) = h.1 list
 
 pub first_list_of : (m : Passes) (q : Production) (lists : List (List Instr)) (i : ℕ) (xs : List Instr) (n : ℕ)
-    → slice_get lists i ≡ Some xs → Front (λ i. IsListFor m q (i + 1)) lists i → IsFirstWrong m q (i + 1) xs n
+    → slice_get lists i ≡ Some xs → Prefix (λ i. IsListFor m q (i + 1)) lists i → IsFirstWrong m q (i + 1) xs n
     → IsFirstList m q lists (i + 1) n
 first_list_of m q lists i xs n is before wrong =
     let same : i ≡ i + 1 - 1 = omega arith in
     record {
       list = xs;
       positive = omega arith;
-      stands = subst (λ j. slice_get lists j ≡ Some xs) same is;
+      occurs = subst (λ j. slice_get lists j ≡ Some xs) same is;
       first = subst (IsFirstNot (λ i. IsListFor m q (i + 1)) lists) same
-          (record { member = xs; stands = is; not_so = not_list m q (i + 1) xs n wrong; before = before });
+          (record { member = xs; occurs = is; not_so = not_list m q (i + 1) xs n wrong; before = before });
       wrong = wrong;
     }

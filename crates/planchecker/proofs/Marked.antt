@@ -3,7 +3,7 @@ use Rattle.std.proofs.Common.{ℕ, ◌≡◌, ◌<◌, ◌≤◌, ◌⊎◌, ◌
 use Rattle.std.proofs.Math.ListN.{replicate, set, length-replicate, get_or-replicate}
 use Rattle.std.proofs.lemmas.Bool.{cases_eq, cases_lt, false≢true}
 use Rattle.std.proofs.lemmas.List.{get_or_past, get_or-set_same, get_or-set_other}
-use Rattle.ag_grammar.specs.grammars.Accepted.{most_attributes, most_symbols}
+use Rattle.ag_grammar.specs.grammars.Accepted.{max_attributes, max_symbols}
 use Rattle.passassign.specs.Tables.{slot_of, is_marked}
 use Rattle.passassign.proofs.slots.Linked.{slot_same}
 use Rattle.planchecker.specs.Marking.{IsMarked}
@@ -15,7 +15,7 @@ none_marked n k e = elim (cases_lt k n) [
       (sym (get_or_past (replicate n false) k false (subst (λ m. m ≤ k) (sym (length-replicate n false)) le)) ∙ e)
 ]
 
-pub mark_more : (slots : List Bool) (symbol attr : ℕ) → symbol < most_symbols → attr < most_attributes
+pub mark_more : (slots : List Bool) (symbol attr : ℕ) → symbol < max_symbols → attr < max_attributes
     → slot_of symbol attr < length slots → (s a : ℕ) → IsMarked (record { slots = set slots (slot_of symbol attr) true }) s a
     ↔ (IsMarked (record { slots = slots }) s a ⊎ ((symbol ≡ s) × (attr ≡ a)))
 mark_more slots symbol attr ls la within s a = elim (cases_eq (slot_of s a) (slot_of symbol attr)) [
@@ -29,8 +29,8 @@ mark_more slots symbol attr ls la within s a = elim (cases_eq (slot_of s a) (slo
             (get_or-set_same slots (slot_of symbol attr) true false within),
       )
       | inr e ↦ (
-        subst (λ s. s < most_symbols) e.0 ls,
-        subst (λ a. a < most_attributes) e.1 la,
+        subst (λ s. s < max_symbols) e.0 ls,
+        subst (λ a. a < max_attributes) e.1 la,
         subst (λ k. is_marked (set slots (slot_of symbol attr) true) k ≡ true) (sym same)
             (get_or-set_same slots (slot_of symbol attr) true false within),
       )

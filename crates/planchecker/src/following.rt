@@ -3,17 +3,17 @@
 ghost use Rattle.std.specs.Prelude.{ℕ, ◌≡◌, ◌<◌, ◌≤◌, ◌↔◌, IsTrue, Some, length, slice_get};
 ghost use Rattle.ag_grammar.specs.Lists.{Has};
 ghost use Rattle.ag_grammar.specs.declared.grammar.Target.{Target as TheTarget};
-ghost use Rattle.ag_grammar.specs.grammars.Accepted.{most_passes, most_rules};
+ghost use Rattle.ag_grammar.specs.grammars.Accepted.{max_passes, max_rules};
 ghost use Rattle.ag_grammar.specs.grammars.Passes.{HasPass};
 ghost use Rattle.passassign.specs.Rows.{passes_of};
 ghost use Rattle.passcode.specs.Agreement.{IsRuleAt};
-ghost use Rattle.passcode.specs.Course.{AreGiven, IsAtHand, IsTurnOf, IsVisited, MayGive};
+ghost use Rattle.passcode.specs.Course.{AreGiven, IsAvailable, IsTurnOf, IsVisited, MayGive};
 ghost use Rattle.passcode.specs.Course.{MayRun, after, arity, place_of, run_count};
 ghost use Rattle.passcode.specs.Limits.{IsPlanned};
 ghost use Rattle.passcode.specs.Rows.{row_of};
 ghost use Rattle.passcode.specs.declared.instr.Instr.TheVariants as instr;
 ghost use Rattle.planchecker.specs.Agreeing.{IsListWrongOrNone, IsWrongOrNone};
-ghost use Rattle.planchecker.specs.Following.{IsOnWay, RunsRule, state_of};
+ghost use Rattle.planchecker.specs.Following.{IsOnPath, RunsRule, state_of};
 
 use ag_grammar::{Direction, Item, Production, Target};
 use passassign::Assignment;
@@ -21,7 +21,7 @@ use passcode::{Course, Instr, Phase, arity, is_same};
 
 /// The state of a node in a list of instructions, of which it has run those before an index.
 #[derive(Clone, Copy)]
-pub(crate) struct Node<'a> {
+pub(crate) struct NodeState<'a> {
     pub course: Course<'a>,
     pub children: usize,
     pub list: &'a [Instr],
@@ -48,10 +48,10 @@ fn runs_rule(one: Instr, number: u16) -> bool
     }
 }
 
-impl Node<'_> {
+impl NodeState<'_> {
     /// Returns the place of the child that the pass visits after `turn` others.
     fn place(&self, turn: usize) -> u16
-        requires way { IsOnWay self.now }
+        requires way { IsOnPath self.now }
         requires within { turn < self.now.children }
         ensures { result ≡ place_of self.now.course.production.now self.now.course.pass turn }
     {
@@ -60,7 +60,7 @@ impl Node<'_> {
 
     /// Returns whether the node is in a phase, and this is the place of the child whose turn it is.
     fn is_turn_of(&self, phase: Phase, place: u16) -> bool
-        requires { IsOnWay self.now }
+        requires { IsOnPath self.now }
         ensures { IsTrue result ↔ IsTurnOf self.now.course.production.now self.now.course.pass
             (state_of self.now) phase place }
     {
@@ -69,7 +69,7 @@ impl Node<'_> {
 
     /// Returns whether the rule with a number was run.
     fn was_run(&self, number: u16) -> bool
-        requires { IsOnWay self.now }
+        requires { IsOnPath self.now }
         ensures { IsTrue result ↔ Has (state_of self.now).done number }
     {
         for index in 0..self.index {
@@ -82,7 +82,7 @@ impl Node<'_> {
 
     /// Returns the number of children in which the pass has run.
     fn run_count(&self) -> usize
-        requires { IsOnWay self.now }
+        requires { IsOnPath self.now }
         ensures count { result ≡ run_count self.now.phase self.now.turn }
         ensures within { result ≤ self.now.children }
     {
@@ -96,7 +96,7 @@ impl Node<'_> {
 
     /// Returns whether the pass has run in the child at a place.
     fn is_visited(&self, place: u16) -> bool
-        requires { IsOnWay self.now }
+        requires { IsOnPath self.now }
         ensures { IsTrue result ↔ IsVisited self.now.course.production.now self.now.course.pass
             (run_count self.now.phase self.now.turn) place }
     {
@@ -111,8 +111,8 @@ impl Node<'_> {
     /// Returns whether an attribute at a place is available: it is of an earlier pass, or of this
     /// one at the left side or at a child in which the pass has run.
     fn is_at_hand(&self, target: Target) -> bool
-        requires { IsOnWay self.now }
-        ensures { IsTrue result ↔ IsAtHand (passes_of self.now.course.assignment.now)
+        requires { IsOnPath self.now }
+        ensures { IsTrue result ↔ IsAvailable (passes_of self.now.course.assignment.now)
             self.now.course.production.now self.now.course.pass (state_of self.now) target }
     {
         let Some(pass) = self.course.pass_of(target) else {
@@ -126,8 +126,8 @@ impl Node<'_> {
 
     /// Returns whether all arguments of a rule are available.
     fn are_at_hand(&self, arguments: &[Target]) -> bool
-        requires { IsOnWay self.now }
-        ensures { IsTrue result ↔ ((o : TheTarget) → Has arguments.now o → IsAtHand
+        requires { IsOnPath self.now }
+        ensures { IsTrue result ↔ ((o : TheTarget) → Has arguments.now o → IsAvailable
             (passes_of self.now.course.assignment.now) self.now.course.production.now
             self.now.course.pass (state_of self.now) o) }
     {
@@ -141,7 +141,7 @@ impl Node<'_> {
 
     /// Returns whether the rule with a number may compute an attribute at a place.
     fn may_give(&self, target: Target, number: u16) -> bool
-        requires { IsOnWay self.now }
+        requires { IsOnPath self.now }
         ensures { IsTrue result ↔ MayGive (passes_of self.now.course.assignment.now)
             self.now.course.production.now self.now.course.pass (state_of self.now)
             target.place target.attr number }
@@ -159,7 +159,7 @@ impl Node<'_> {
 
     /// Returns whether a rule was run, or its target is not of the pass.
     fn is_given(&self, number: u16, target: Target) -> bool
-        requires { IsOnWay self.now }
+        requires { IsOnPath self.now }
         ensures { IsTrue result ↔ (HasPass (passes_of self.now.course.assignment.now)
             self.now.course.production.now target self.now.course.pass
             → Has (state_of self.now).done number) }
@@ -169,7 +169,7 @@ impl Node<'_> {
 
     /// Returns whether each rule of the pass with a target at a place was run.
     fn are_given(&self, place: u16) -> bool
-        requires { IsOnWay self.now }
+        requires { IsOnPath self.now }
         ensures { IsTrue result ↔ AreGiven (passes_of self.now.course.assignment.now)
             self.now.course.production.now self.now.course.pass (state_of self.now) place }
     {
@@ -183,7 +183,7 @@ impl Node<'_> {
 
     /// Returns whether each rule of the pass was run.
     fn are_all_given(&self) -> bool
-        requires { IsOnWay self.now }
+        requires { IsOnPath self.now }
         ensures { IsTrue result ↔ ((j : ℕ) → AreGiven (passes_of self.now.course.assignment.now)
             self.now.course.production.now self.now.course.pass (state_of self.now) j) }
     {
@@ -197,7 +197,7 @@ impl Node<'_> {
 
     /// Returns whether `End` may come next.
     fn may_end(&self) -> bool
-        requires { IsOnWay self.now }
+        requires { IsOnPath self.now }
         ensures { IsTrue result ↔ MayRun (passes_of self.now.course.assignment.now)
             self.now.course.production.now self.now.course.pass (state_of self.now) instr.End }
     {
@@ -211,7 +211,7 @@ impl Node<'_> {
 
     /// Returns whether an instruction may come next.
     fn may_run(&self, one: Instr) -> bool
-        requires { IsOnWay self.now }
+        requires { IsOnPath self.now }
         ensures { IsTrue result ↔ MayRun (passes_of self.now.course.assignment.now)
             self.now.course.production.now self.now.course.pass (state_of self.now) one }
     {
@@ -231,7 +231,7 @@ impl Node<'_> {
 
     /// Returns the phase after an instruction.
     fn phase_after(&self, one: Instr) -> Phase
-        requires { IsOnWay self.now }
+        requires { IsOnPath self.now }
         ensures { result ≡ (after self.now.course.production.now (state_of self.now) one).phase }
     {
         match one {
@@ -254,7 +254,7 @@ impl Node<'_> {
 
     /// Returns the number of complete children after an instruction.
     fn turn_after(&self, one: Instr) -> usize
-        requires { IsOnWay self.now }
+        requires { IsOnPath self.now }
         ensures { result ≡ (after self.now.course.production.now (state_of self.now) one).turn }
     {
         match one {
@@ -283,7 +283,7 @@ fn first_wrong(course: &Course, list: &[Instr]) -> Option<usize>
     let mut phase = Phase::Between;
     let mut turn = 0;
     for index in 0..list.len() {
-        let node = Node {
+        let node = NodeState {
             course: *course,
             children,
             list,
@@ -311,7 +311,7 @@ pub(crate) fn first_list(
     lists: &[Vec<Instr>],
 ) -> Option<(u16, usize)>
     requires planned { IsPlanned (passes_of assignment.now) production.now }
-    requires few { length lists.now ≤ most_passes }
+    requires few { length lists.now ≤ max_passes }
     ensures { IsListWrongOrNone (passes_of assignment.now) production.now (row_of lists.now) result }
 {
     for (index, list) in lists.iter().enumerate() {

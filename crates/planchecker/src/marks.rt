@@ -1,29 +1,29 @@
 //! Marks of attributes, in a table of fixed size, which takes no memory of the heap.
 
 ghost use Rattle.std.specs.Prelude.{ℕ, ◌≡◌, ◌<◌, ◌⊎◌, ◌↔◌, IsTrue, length};
-ghost use Rattle.ag_grammar.specs.grammars.Accepted.{most_attributes, most_symbols};
-ghost use Rattle.passassign.specs.Tables.{most_slots};
+ghost use Rattle.ag_grammar.specs.grammars.Accepted.{max_attributes, max_symbols};
+ghost use Rattle.passassign.specs.Tables.{max_slots};
 ghost use Rattle.planchecker.specs.Marking.{IsMarked};
 
-use ag_grammar::limits::{MOST_ATTRIBUTES, MOST_SYMBOLS};
+use ag_grammar::limits::{MAX_ATTRIBUTES, MAX_SYMBOLS};
 
 /// The number of attributes that a grammar may have.
-const MOST_SLOTS: usize = MOST_SYMBOLS * MOST_ATTRIBUTES;
+const MAX_SLOTS: usize = MAX_SYMBOLS * MAX_ATTRIBUTES;
 
 /// Marks of attributes, by the numbers of their symbols and their own.
 #[derive(Drop)]
 pub(crate) struct Marks {
-    pub slots: [bool; MOST_SLOTS],
+    pub slots: [bool; MAX_SLOTS],
 }
 
 impl Marks {
     /// Returns a table in which no attribute is marked.
     pub(crate) fn new() -> Marks
         ensures none { (s a : ℕ) → IsMarked result s a → ⊥ }
-        ensures full { length result.slots ≡ most_slots }
+        ensures full { length result.slots ≡ max_slots }
     {
         Marks {
-            slots: [false; MOST_SLOTS],
+            slots: [false; MAX_SLOTS],
         }
     }
 
@@ -31,20 +31,18 @@ impl Marks {
     pub(crate) fn has(&self, symbol: usize, attr: usize) -> bool
         ensures { IsTrue result ↔ IsMarked self.now symbol attr }
     {
-        symbol < MOST_SYMBOLS
-            && attr < MOST_ATTRIBUTES
-            && self.slots[symbol * MOST_ATTRIBUTES + attr]
+        symbol < MAX_SYMBOLS && attr < MAX_ATTRIBUTES && self.slots[symbol * MAX_ATTRIBUTES + attr]
     }
 
     /// Marks an attribute.
     pub(crate) fn mark(&mut self, symbol: usize, attr: usize)
-        requires symbol { symbol < most_symbols }
-        requires attr { attr < most_attributes }
-        requires full { length self.old.slots ≡ most_slots }
+        requires symbol { symbol < max_symbols }
+        requires attr { attr < max_attributes }
+        requires full { length self.old.slots ≡ max_slots }
         ensures marked { (s a : ℕ) → IsMarked self.new s a
             ↔ (IsMarked self.old s a ⊎ ((symbol ≡ s) × (attr ≡ a))) }
-        ensures full { length self.new.slots ≡ most_slots }
+        ensures full { length self.new.slots ≡ max_slots }
     {
-        self.slots[symbol * MOST_ATTRIBUTES + attr] = true;
+        self.slots[symbol * MAX_ATTRIBUTES + attr] = true;
     }
 }

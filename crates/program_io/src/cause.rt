@@ -2,7 +2,7 @@
 
 use ag_value::Value;
 use aggen::{Fault, Translator};
-use messages::{Report, Source};
+use messages::{FaultReport, Source};
 use std::alloc::Global;
 use treefile::Device;
 use value_reasons::ErrorTranslation;
@@ -48,7 +48,7 @@ impl Translated<'_> {
 }
 
 /// Returns a report with what is said of the cause, or as it is if memory for that is refused.
-pub fn with_cause(mut report: Report, cause: Option<String>) -> Report {
+pub fn with_cause(mut report: FaultReport, cause: Option<String>) -> FaultReport {
     let Some(cause) = cause else {
         return report;
     };

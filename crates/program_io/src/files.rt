@@ -3,7 +3,7 @@
 use ag_job::JobFault;
 use aggen::{Fault, Translator, bytes_of, source_of};
 use command_line::InputPath;
-use messages::{Report, Source};
+use messages::{FaultReport, Source};
 use std::alloc::Global;
 use std::rt::Files;
 
@@ -13,7 +13,7 @@ pub fn read_input<R: Files + Input>(
     rt: &R,
     alloc: Global,
     input: InputPath<'_>,
-) -> Result<Vec<u8>, Report> {
+) -> Result<Vec<u8>, FaultReport> {
     let bytes = match input {
         InputPath::Standard => bytes_of(alloc, rt.reader()),
         InputPath::File(path) => source_of(rt, alloc, path),
@@ -25,11 +25,11 @@ pub fn read_input<R: Files + Input>(
 }
 
 /// Returns the report of a fault of reading an input.
-pub fn report_of_input(alloc: Global, fault: Fault, input: InputPath<'_>) -> Report {
+pub fn report_of_input(alloc: Global, fault: Fault, input: InputPath<'_>) -> FaultReport {
     match (fault, input) {
-        (Fault::File, InputPath::Standard) => Report::new(alloc, Fault::Job(JobFault::Read)),
-        (fault, InputPath::Standard) => Report::new(alloc, fault),
-        (fault, InputPath::File(path)) => Report::of_file(alloc, fault, path),
+        (Fault::File, InputPath::Standard) => FaultReport::new(alloc, Fault::Job(JobFault::Read)),
+        (fault, InputPath::Standard) => FaultReport::new(alloc, fault),
+        (fault, InputPath::File(path)) => FaultReport::of_file(alloc, fault, path),
     }
 }
 
@@ -38,16 +38,16 @@ pub fn read_translator<R: Files + Input>(
     rt: &R,
     alloc: Global,
     grammar: InputPath<'_>,
-) -> Result<Translator, Report> {
+) -> Result<Translator, FaultReport> {
     let bytes = read_input(rt, alloc, grammar)?;
     build_translator(alloc, Source::new(grammar.name(), bytes.as_slice()))
 }
 
 /// Returns the translator of the grammar in a text.
-pub fn build_translator(alloc: Global, grammar: Source<'_>) -> Result<Translator, Report> {
+pub fn build_translator(alloc: Global, grammar: Source<'_>) -> Result<Translator, FaultReport> {
     match Translator::build(alloc, grammar.bytes) {
         Ok(translator) => Ok(translator),
-        Err(fault) => Err(Report::of_grammar(alloc, Fault::from(fault), grammar)),
+        Err(fault) => Err(FaultReport::of_grammar(alloc, Fault::from(fault), grammar)),
     }
 }
 
@@ -57,8 +57,8 @@ pub fn report_of_sentence(
     fault: Fault,
     translator: &Translator,
     sentence: Source<'_>,
-) -> Report {
-    Report::of_sentence(
+) -> FaultReport {
+    FaultReport::of_sentence(
         alloc,
         fault,
         translator.grammar(),

@@ -3,19 +3,19 @@
 #![tactic(auto)]
 
 mod cause;
-mod clashes;
 mod files;
 mod output;
+mod overlaps;
 mod paths;
 mod same_file;
 mod system_faults;
 
 pub use cause::{Translated, with_cause};
-pub use clashes::{WORK_FILES, check_output, check_outputs, check_tree};
 pub use files::{
     build_translator, read_input, read_translator, report_of_input, report_of_sentence,
 };
 pub use output::write_file;
+pub use overlaps::{WORK_FILES, check_output, check_outputs, check_tree};
 pub use paths::path_in;
 pub use same_file::FileId;
 pub use system_faults::fault_or;

@@ -5,7 +5,7 @@ use crate::same_file::FileId;
 use crate::system_faults::fault_or;
 use aggen::Fault;
 use agoutput::write_bytes;
-use messages::Report;
+use messages::FaultReport;
 use std::alloc::Global;
 use std::fs::{self, OpenFile, OpenOptions, Permissions};
 use std::io::{self, ErrorKind};
@@ -28,11 +28,11 @@ pub fn write_file<R: Files + Print>(
     alloc: Global,
     path: &str,
     bytes: &[u8],
-) -> Result<(), Report> {
+) -> Result<(), FaultReport> {
     match put(rt, alloc, path, bytes) {
         Ok(()) => Ok(()),
-        Err(Fault::NoMemory) => Err(Report::new(alloc, Fault::NoMemory)),
-        Err(fault) => Err(Report::new(alloc, fault).with_file(alloc, path)),
+        Err(Fault::NoMemory) => Err(FaultReport::new(alloc, Fault::NoMemory)),
+        Err(fault) => Err(FaultReport::new(alloc, fault).with_file(alloc, path)),
     }
 }
 

@@ -8,7 +8,7 @@ ghost use Rattle.backreader.specs.BackState.{IsOver};
 ghost use Rattle.treefile.specs.devices.Device.{WhenHonest};
 
 use backreader::Back;
-use noted_file::Record;
+use noted_file::CallRecord;
 use std::alloc::{AllocError, Global};
 use std::process::ExitCode;
 use std::rt::{Env, Files};
@@ -24,7 +24,7 @@ fn main(rt: HostRuntime) -> ExitCode {
             Err(_) => ExitCode::from(1),
         },
         Err(fault) => {
-            let _told = eprintln!(rt; "{fault:?}");
+            let _answer = eprintln!(rt; "{fault:?}");
             ExitCode::from(status(fault))
         }
     }
@@ -60,7 +60,7 @@ fn run<R: Env + Eprint + Files + AllocGlobal>(rt: &R, alloc: Global) -> Result<u
     let Some(path) = words.get(if is_old { 2 } else { 1 }) else {
         return Err(FrameFault::Device);
     };
-    match FileDevice::existing(rt, alloc, path.as_str(), Record::new()) {
+    match FileDevice::existing(rt, alloc, path.as_str(), CallRecord::new()) {
         Ok(mut device) => records(rt, alloc, version, &mut device),
         Err(_) => Err(FrameFault::Device),
     }
@@ -79,7 +79,7 @@ fn records<R: Eprint, D: Device>(
             Ok(Some(_)) => {}
             Ok(None) => return Ok(back.records()),
             Err(FrameFault::NoMemory) => {
-                let _told = eprintln!(rt; "NoMemory in back");
+                let _answer = eprintln!(rt; "NoMemory in back");
                 if back.back(device)?.is_none() {
                     return Ok(back.records());
                 }
@@ -101,7 +101,7 @@ fn start_twice<R: Eprint, D: Device>(
 {
     match start(alloc, version, device) {
         Err(FrameFault::NoMemory) => {
-            let _told = eprintln!(rt; "NoMemory in start");
+            let _answer = eprintln!(rt; "NoMemory in start");
             start(alloc, version, device)
         }
         started => started,

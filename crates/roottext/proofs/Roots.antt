@@ -22,21 +22,21 @@ use Rattle.passrun.specs.passing.Places.{copies}
 use Rattle.passrun.proofs.course.Ahead.{no_record}
 use Rattle.passrun.proofs.Recorded.{copies_counted, copies_well}
 use Rattle.passrun.proofs.places.Slots.{get_left}
-use Rattle.treefile.specs.ways.Awaited.{IsNodeRecord}
-use Rattle.treefile.specs.ways.Ending.{Told, last_body_of, version_two_usable}
+use Rattle.treefile.specs.framing.ExpectedRecords.{IsNodeRecord}
+use Rattle.treefile.specs.framing.Ending.{ReadsAs, last_body_of, version_two_usable}
 use Rattle.treefile.specs.records.Records.{IsFileOfTree, copies_of, node_body, values_up_to}
 use Rattle.treefile.proofs.records.Copies.{are_copies}
 use Rattle.treefile.specs.records.TreeFile.{version_two}
 use Rattle.treefile.specs.declared.reading.FrameFault.{FrameFault}
 use Rattle.treefile.specs.declared.reading.FrameFault.TheVariants as frame_fault
-use Rattle.treefile.proofs.ways.Files.{damaged_at_end}
+use Rattle.treefile.proofs.framing.Files.{damaged_at_end}
 use Rattle.treefile.proofs.records.Fitting.{fits_version_two}
-use Rattle.treefile.proofs.ways.Root.{root_is_last, values_are_whole}
+use Rattle.treefile.proofs.framing.Root.{root_is_last, values_are_whole}
 use Rattle.treefile.proofs.records.Spelled.{same_node}
 use Rattle.roottext.specs.declared.fault.OutFault.{OutFault}
 use Rattle.roottext.specs.declared.fault.OutFault.TheVariants as out_fault
 use Rattle.roottext.specs.Faults.{out_fault_of}
-use Rattle.roottext.specs.Roots.{EndsWithNoRoot, EndsWithRoot, FindsText, FindsValue, IsRootRecord, TellsRoot}
+use Rattle.roottext.specs.Roots.{EndsWithNoRoot, EndsWithRoot, FindsText, FindsValue, IsRootRecord, MatchesRoot}
 
 -- no attribute of a symbol is of a later pass than the greatest
 pub at_most : (rows : List (List ℕ)) (last s : ℕ) → AreAtMost last rows → Each (λ p. p ≤ last) (passes_of rows s)
@@ -55,8 +55,8 @@ out_pass g m a legal out =
     let within : a < length s.syn = slice_get_within s.syn a out_name out.2 in
     let whole : length (m g.start) ≡ length (symbol_kinds (Some s)) = legal.whole g.start ∙ ap (λ o. length (symbol_kinds o)) out.1 in
     let parts = length-append (map (λ (n : List ℕ). Synthesized) s.syn) (map (λ (n : List ℕ). Inherited) s.inh) in
-    let front = length-map s.syn (λ (n : List ℕ). Synthesized) in
-    let less : a < length (m g.start) = omega (arith, whole, parts, front, within) in
+    let prefix = length-map s.syn (λ (n : List ℕ). Synthesized) in
+    let less : a < length (m g.start) = omega (arith, whole, parts, prefix, within) in
     (get_or (m g.start) a 0, slice_get-get_or (m g.start) a 0 less)
 
 -- the start symbol has an `out`
@@ -88,7 +88,7 @@ record_of : (g : Grammar) (rows : List (List ℕ)) (code : Lists) (last p : ℕ)
 record_of g rows code last p body new read =
     let c = setting_of g (rows, code) (last + 1) in
     let xs = stored_items read.production.items in
-    record { production = read.there; left = read.left; well = λ i n e le. read.well i; copies = copies c (last + 1 - 1) xs read.table; are_copies = (copies_counted c (last + 1 - 1) xs read.table, copies_well c (last + 1 - 1) xs read.table read.table_well); stands = read.same }
+    record { production = read.there; left = read.left; well = λ i n e le. read.well i; copies = copies c (last + 1 - 1) xs read.table; are_copies = (copies_counted c (last + 1 - 1) xs read.table, copies_well c (last + 1 - 1) xs read.table read.table_well); occurs = read.same }
 
 -- the record that was read is the root's, with the value at the number of `out`
 pub root_read : (g : Grammar) (rows : List (List ℕ)) (code : Lists) (last a p : ℕ) (body : List ℕ) (new : List Value) (x : Value) → IsPlan g rows code → IsGreatest last rows → IsOut g a → IsNodeRead (setting_of g (rows, code) (last + 1)) g.start p body [] new → x ≡ get_or new a x → IsRootRecord g rows body x
@@ -138,7 +138,7 @@ root_of_tree g rows code last (node p ts) v content accepted plan fits is =
       p,
       fits.0,
       root_is_last version_two g m last p ts v content version_two_usable usable.1 fits is,
-      record { production = fits.1; left = fits.2; well = subst (λ ps. WellAt (λ n. n ≤ last) ps (v []) (v [])) passes is.well.0; copies = copies_of g m last ts (children v); are_copies = are_copies g m last true (stored_items fits.0.items) ts (children v) fits.3 is.texts.1 is.well.1; stands = refl },
+      record { production = fits.1; left = fits.2; well = subst (λ ps. WellAt (λ n. n ≤ last) ps (v []) (v [])) passes is.well.0; copies = copies_of g m last ts (children v); are_copies = are_copies g m last true (stored_items fits.0.items) ts (children v) fits.3 is.texts.1 is.well.1; occurs = refl },
     )
 
 -- the value that a content ends with is the translation of the tree whose file it is
@@ -166,29 +166,29 @@ tree_is_found g rows code last t v content accepted plan greatest fits is =
     )
 
 -- The result for any content is the translation if it is the file of a tree.
-pub found_tells_root : (g : Grammar) (rows : List (List ℕ)) (code : Lists) (content : List ℕ) (r : Result (List ℕ) OutFault) → IsAccepted g → IsPlan g rows code → FindsText g rows content r → TellsRoot g rows content r
-found_tells_root g rows code content (Ok text) accepted plan found last greatest t v fits is = found_is_translation g rows code last t v content (Text text) accepted plan greatest fits is found
-found_tells_root g rows code content (Err (out_fault.NoText x)) accepted plan found last greatest t v fits is = (found_is_translation g rows code last t v content x accepted plan greatest fits is found.0, found.1)
-found_tells_root g rows code content (Err out_fault.NotATreeFile) accepted plan found last greatest t v fits is =
+pub found_matches_root : (g : Grammar) (rows : List (List ℕ)) (code : Lists) (content : List ℕ) (r : Result (List ℕ) OutFault) → IsAccepted g → IsPlan g rows code → FindsText g rows content r → MatchesRoot g rows content r
+found_matches_root g rows code content (Ok text) accepted plan found last greatest t v fits is = found_is_translation g rows code last t v content (Text text) accepted plan greatest fits is found
+found_matches_root g rows code content (Err (out_fault.NoText x)) accepted plan found last greatest t v fits is = (found_is_translation g rows code last t v content x accepted plan greatest fits is found.0, found.1)
+found_matches_root g rows code content (Err out_fault.NotATreeFile) accepted plan found last greatest t v fits is =
     let tree = root_of_tree g rows code last t v content accepted plan fits is in
     let both : Ok tree.0 ≡ Err frame_fault.NotATreeFile = sym tree.3 ∙ found in
     cc
-found_tells_root g rows code content (Err (out_fault.Damaged at)) accepted plan found last greatest t v fits is =
+found_matches_root g rows code content (Err (out_fault.Damaged at)) accepted plan found last greatest t v fits is =
     let tree = tree_is_found g rows code last t v content accepted plan greatest fits is in
     found.none tree.0 tree.1
-found_tells_root g rows code content (Err out_fault.Device) accepted plan found last greatest t v fits is = tt
-found_tells_root g rows code content (Err out_fault.NoMemory) accepted plan found last greatest t v fits is = tt
+found_matches_root g rows code content (Err out_fault.Device) accepted plan found last greatest t v fits is = tt
+found_matches_root g rows code content (Err out_fault.NoMemory) accepted plan found last greatest t v fits is = tt
 
 -- The fault if a content has no last body,
-pub body_refused : {A : Type 0} (g : Grammar) (rows : List (List ℕ)) (content : List ℕ) (view : A → List ℕ) (e : FrameFault) → Told view (Err e) (last_body_of version_two content) → FindsValue g rows content (Err e)
-body_refused g rows content view frame_fault.NotATreeFile told = told
-body_refused g rows content view (frame_fault.Damaged at) told = record {
-  end = damaged_at_end version_two content at told;
-  begins = λ other. let both : Err (frame_fault.Damaged at) ≡ Err frame_fault.NotATreeFile = sym told ∙ other in cc;
-  none = λ x found. let both : Ok found.body ≡ Err (frame_fault.Damaged at) = sym found.last ∙ told in cc;
+pub body_refused : {A : Type 0} (g : Grammar) (rows : List (List ℕ)) (content : List ℕ) (view : A → List ℕ) (e : FrameFault) → ReadsAs view (Err e) (last_body_of version_two content) → FindsValue g rows content (Err e)
+body_refused g rows content view frame_fault.NotATreeFile exact = exact
+body_refused g rows content view (frame_fault.Damaged at) exact = record {
+  end = damaged_at_end version_two content at exact;
+  begins = λ other. let both : Err (frame_fault.Damaged at) ≡ Err frame_fault.NotATreeFile = sym exact ∙ other in cc;
+  none = λ x found. let both : Ok found.body ≡ Err (frame_fault.Damaged at) = sym found.last ∙ exact in cc;
 }
-body_refused g rows content view frame_fault.Device told = tt
-body_refused g rows content view frame_fault.NoMemory told = tt
+body_refused g rows content view frame_fault.Device exact = tt
+body_refused g rows content view frame_fault.NoMemory exact = tt
 
 -- and if its last body is not the root's record.
 pub no_root_at_end : (g : Grammar) (rows : List (List ℕ)) (content body : List ℕ) (at : ℕ) → at ≡ length content → last_body_of version_two content ≡ Ok body → ((x : Value) → IsRootRecord g rows body x → ⊥) → EndsWithNoRoot g rows content at

@@ -8,8 +8,8 @@ use Rattle.ag_grammar.specs.grammars.AttributeGrammar.{Grammar}
 use Rattle.ag_grammar.specs.grammars.Solution.{IsTranslation, Valuation}
 use Rattle.ag_grammar.specs.grammars.Tree.{IsTreeOf, Tree}
 use Rattle.passassign.specs.Rows.{IsGreatest, passes_of}
-use Rattle.treefile.specs.ways.Awaited.{IsNodeRecord}
-use Rattle.treefile.specs.ways.Ending.{last_body_of}
+use Rattle.treefile.specs.framing.ExpectedRecords.{IsNodeRecord}
+use Rattle.treefile.specs.framing.Ending.{last_body_of}
 use Rattle.treefile.specs.records.Records.{IsFileOfTree}
 use Rattle.treefile.specs.records.TreeFile.{version_two}
 use Rattle.treefile.specs.declared.reading.FrameFault.{FrameFault}
@@ -80,5 +80,5 @@ IsRootText g v (Err out_fault.Device) = Unit {0}
 IsRootText g v (Err out_fault.NoMemory) = Unit {0}
 
 -- this holds for each tree and values whose file of the last pass the content is
-abbrev pub TellsRoot : Grammar → List (List ℕ) → List ℕ → Result (List ℕ) OutFault → Type 0
-TellsRoot g rows content result = (last : ℕ) → IsGreatest last rows → (t : Tree) (v : Valuation) → IsTreeOf g t → IsFileOfTree version_two g (passes_of rows) last t v content → IsRootText g v result
+abbrev pub MatchesRoot : Grammar → List (List ℕ) → List ℕ → Result (List ℕ) OutFault → Type 0
+MatchesRoot g rows content result = (last : ℕ) → IsGreatest last rows → (t : Tree) (v : Valuation) → IsTreeOf g t → IsFileOfTree version_two g (passes_of rows) last t v content → IsRootText g v result

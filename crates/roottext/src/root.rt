@@ -8,7 +8,7 @@ ghost use Rattle.ag_grammar.specs.grammars.Accepted.{IsAccepted, IsOut, out_name
 ghost use Rattle.planchecker.specs.Plans.{IsPlan};
 ghost use Rattle.treefile.specs.devices.Device.{LeavesContent, Persists, WhenHonest};
 ghost use Rattle.roottext.specs.Roots.{FindsText, FindsValue, IsRootRecord, IsWellText};
-ghost use Rattle.roottext.specs.Roots.{TellsRoot};
+ghost use Rattle.roottext.specs.Roots.{MatchesRoot};
 
 use crate::fault::OutFault;
 use ag_carried::Carried;
@@ -60,13 +60,13 @@ fn read_out(
         (x : TheValue) → IsRootRecord grammar.now plan.now.0 body.now x → ⊥ }
     ensures well { IfOk result (λ v. IsWell v) }
 {
-    let behind = plan.assignment().passes() + 1;
+    let following = plan.assignment().passes() + 1;
     let mut values = Vec::new(alloc);
     read_node(
         alloc,
         grammar,
         plan,
-        behind,
+        following,
         grammar.start(),
         body,
         &mut values,
@@ -149,7 +149,7 @@ pub fn root_text<D: Device>(
         (FindsText grammar.now plan.now.0 (D.content device.old) result) }
     // For the file of a tree: the translation, or O1 with it.
     ensures root { WhenHonest (D.is_honest device.new)
-        (TellsRoot grammar.now plan.now.0 (D.content device.old) result) }
+        (MatchesRoot grammar.now plan.now.0 (D.content device.old) result) }
     // on any device
     ensures well { IfOk result IsWellText }
     ensures content { LeavesContent (D.is_honest device.new)

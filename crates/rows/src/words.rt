@@ -55,11 +55,11 @@ pub fn parts<'a>(alloc: Global, text: &'a str, mark: &str) -> Result<Vec<&'a str
     }
     let mut rest = text;
     for _ in 0..text.len() {
-        let Some((part, behind)) = rest.split_once(mark) else {
+        let Some((part, following)) = rest.split_once(mark) else {
             break;
         };
         found.push(part)?;
-        rest = behind;
+        rest = following;
     }
     found.push(rest)?;
     Ok(found)

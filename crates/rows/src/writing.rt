@@ -18,7 +18,7 @@ pub fn write_on(alloc: Global, text: &mut String, verb: &str, rest: &str) -> Res
         "chars" => write_chars(text, bytes_of(alloc, rest)?.as_slice())?,
         "times" => write_times(alloc, text, rest)?,
         "twice" => write_twice(alloc, text, rest)?,
-        "front" => write_in_front(alloc, text, rest)?,
+        "front" => write_before(alloc, text, rest)?,
         _ => return Ok(false),
     }
     Ok(true)
@@ -40,7 +40,7 @@ fn write_twice(alloc: Global, text: &mut String, rest: &str) -> Result<(), Alloc
 }
 
 /// Inserts a text before the current text.
-fn write_in_front(alloc: Global, text: &mut String, rest: &str) -> Result<(), AllocError> {
+fn write_before(alloc: Global, text: &mut String, rest: &str) -> Result<(), AllocError> {
     let so_far = String::from_str(alloc, text.as_str())?;
     text.clear();
     text.push_str(rest)?;

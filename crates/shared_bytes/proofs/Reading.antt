@@ -20,8 +20,8 @@ sum_taken n m xs =
     sym (take-append-drop n (take (n + m) xs)) ∙ (ap (λ (t : List ℕ). t ++ drop n (take (n + m) xs)) (take-take n (n + m) xs (omega arith)) ∙ ap (λ (t : List ℕ). take n xs ++ t) (drop-take n m xs))
 
 -- what comes after a piece
-pub behind_piece : (place : ℕ) (content piece rest : List ℕ) → drop place content ≡ piece ++ rest → drop (place + length piece) content ≡ rest
-behind_piece place content piece rest e = sym (drop-drop (length piece) place content) ∙ (ap (λ (t : List ℕ). drop (length piece) t) e ∙ drop_at piece rest (length piece) refl)
+pub after_piece : (place : ℕ) (content piece rest : List ℕ) → drop place content ≡ piece ++ rest → drop (place + length piece) content ≡ rest
+after_piece place content piece rest e = sym (drop-drop (length piece) place content) ∙ (ap (λ (t : List ℕ). drop (length piece) t) e ∙ drop_at piece rest (length piece) refl)
 
 -- a piece has none of the bytes that come next
 pub none_read : (place at done n : ℕ) (content out : List ℕ) → HasRead place at done content out → (done < length out → place ≤ at + done → place + n ≤ at + done) → HasRead (place + n) at done content out
@@ -36,10 +36,10 @@ some_read place at done skip count k content out piece rest x h e here n le is s
     let size : length x ≡ count = ap length is ∙ length-take-le count (drop skip piece) (omega arith) in
     let written : length (put_mid done k out x) ≡ length out = length_written done k x out (same ∙ sym size) (omega (arith, h.within)) in
     let a : take (done + count) (put_mid done k out x) ≡ take done out ++ x = take-put_mid done k out x (done + count) (omega arith) h.within in
-    let behind : drop done (drop at content) ≡ drop skip piece ++ rest =
+    let following : drop done (drop at content) ≡ drop skip piece ++ rest =
     drop-drop done at content ∙ (ap (λ i. drop i content) here ∙ (sym (drop-drop skip place content) ∙ (ap (λ (t : List ℕ). drop skip t) e ∙ drop-append-le skip piece rest le))) in
     let part : take count (drop done (drop at content)) ≡ x =
-    ap (λ (t : List ℕ). take count t) behind ∙ (take-append-le count (drop skip piece) rest (omega arith) ∙ sym is) in
+    ap (λ (t : List ℕ). take count t) following ∙ (take-append-le count (drop skip piece) rest (omega arith) ∙ sym is) in
     let b : take (done + count) (drop at content) ≡ take done out ++ x =
     sum_taken done count (drop at content) ∙ (ap (λ (t : List ℕ). t ++ take count (drop done (drop at content))) (sym h.same) ∙ ap (λ (t : List ℕ). take done out ++ t) part) in
     record {
@@ -69,7 +69,7 @@ pub record IsTurn (base at from place : ℕ) (own content : List ℕ) (g : Splic
   pub own_part : drop place content ≡ take (g.own - base - from) (drop from own) ++ (g.bytes ++ spliced g.own (drop (g.own - base) own) rest)
   pub splice_at : place + length (take (g.own - base - from) (drop from own)) ≡ g.at - at
   pub splice_part : drop (g.at - at) content ≡ g.bytes ++ spliced g.own (drop (g.own - base) own) rest
-  pub behind : drop ((g.at - at) + length g.bytes) content ≡ spliced g.own (drop (g.own - base) own) rest
+  pub following : drop ((g.at - at) + length g.bytes) content ≡ spliced g.own (drop (g.own - base) own) rest
 
 pub turn : (base at from place total : ℕ) (own content : List ℕ) (gs : List Splice) (g : Splice) (rest : List Splice) → gs ≡ g ∷ rest
     → AreSplices (base + from) (at + place) (base + length own) total gs → drop place content ≡ spliced (base + from) (drop from own) gs
@@ -89,7 +89,7 @@ turn base at from place total own content gs g rest e splices is =
     ∙ ap (λ (t : List ℕ). t ++ (g.bytes ++ spliced g.own (drop (g.own - base) own) rest)) a) in
     let splice_at : place + length (take (g.own - base - from) (drop from own)) ≡ g.at - at = omega (arith, h.0, h.2) in
     let splice_part : drop (g.at - at) content ≡ g.bytes ++ spliced g.own (drop (g.own - base) own) rest =
-    ap (λ i. drop i content) (sym splice_at) ∙ behind_piece place content (take (g.own - base - from) (drop from own)) (g.bytes ++ spliced g.own (drop (g.own - base) own) rest) own_part in
+    ap (λ i. drop i content) (sym splice_at) ∙ after_piece place content (take (g.own - base - from) (drop from own)) (g.bytes ++ spliced g.own (drop (g.own - base) own) rest) own_part in
     record {
       from_here = omega (arith, h.0);
       forward = omega (arith, h.0);
@@ -98,5 +98,5 @@ turn base at from place total own content gs g rest e splices is =
       own_part = own_part;
       splice_at = splice_at;
       splice_part = splice_part;
-      behind = behind_piece (g.at - at) content g.bytes (spliced g.own (drop (g.own - base) own) rest) splice_part;
+      following = after_piece (g.at - at) content g.bytes (spliced g.own (drop (g.own - base) own) rest) splice_part;
     }

@@ -12,7 +12,7 @@ spliced_length base at end total own (g ∷ gs) h e =
     let rest : length (drop (g.own - base) own) ≡ length own - (g.own - base) = length-drop (g.own - base) own in
     let more : (g.at + length g.bytes) + length (spliced g.own (drop (g.own - base) own) gs) ≡ total =
     spliced_length g.own (g.at + length g.bytes) end total (drop (g.own - base) own) gs h.3 (omega (arith, h.0, h.1)) in
-    let front : length (take (g.own - base) own) ≡ g.own - base = length-take-le (g.own - base) own (omega (arith, h.0, h.1)) in
+    let prefix : length (take (g.own - base) own) ≡ g.own - base = length-take-le (g.own - base) own (omega (arith, h.0, h.1)) in
     simp (length-append) (omega (arith, h.0, h.1, h.2))
 
 -- own bytes at the end
@@ -51,12 +51,12 @@ splices_more base at end total [] g h e f = (omega arith, omega arith, omega ari
 splices_more base at end total (x ∷ gs) g h e f = (h.0, h.1, h.2, splices_more x.own (x.at + length x.bytes) end total gs g h.3 e f)
 
 -- a cut is not before the first own byte
-pub cut_behind : (base at end total : ℕ) (gs : List Splice) (k o pos : ℕ) → AreSplices base at end total gs → CutAt base at gs k o pos → base ≤ o
-cut_behind base at end total [] zero o pos h c = c.0
-cut_behind base at end total (g ∷ gs) zero o pos h c = c.0
-cut_behind base at end total [] (suc k) o pos h c = absurd c
-cut_behind base at end total (g ∷ gs) (suc k) o pos h c =
-    let more : g.own ≤ o = cut_behind g.own (g.at + length g.bytes) end total gs k o pos h.3 c in omega (arith, h.0)
+pub cut_after : (base at end total : ℕ) (gs : List Splice) (k o pos : ℕ) → AreSplices base at end total gs → CutAt base at gs k o pos → base ≤ o
+cut_after base at end total [] zero o pos h c = c.0
+cut_after base at end total (g ∷ gs) zero o pos h c = c.0
+cut_after base at end total [] (suc k) o pos h c = absurd c
+cut_after base at end total (g ∷ gs) (suc k) o pos h c =
+    let more : g.own ≤ o = cut_after g.own (g.at + length g.bytes) end total gs k o pos h.3 c in omega (arith, h.0)
 
 -- the splices before a cut, and those after it
 pub splices_before : (base at end total : ℕ) (gs : List Splice) (k o pos : ℕ) → AreSplices base at end total gs → CutAt base at gs k o pos → AreSplices base at o pos (take k gs)
@@ -64,13 +64,13 @@ splices_before base at end total [] zero o pos h c = c
 splices_before base at end total (g ∷ gs) zero o pos h c = (c.0, c.1)
 splices_before base at end total [] (suc k) o pos h c = absurd c
 splices_before base at end total (g ∷ gs) (suc k) o pos h c =
-    (h.0, cut_behind g.own (g.at + length g.bytes) end total gs k o pos h.3 c, h.2, splices_before g.own (g.at + length g.bytes) end total gs k o pos h.3 c)
+    (h.0, cut_after g.own (g.at + length g.bytes) end total gs k o pos h.3 c, h.2, splices_before g.own (g.at + length g.bytes) end total gs k o pos h.3 c)
 
-pub splices_behind : (base at end total : ℕ) (gs : List Splice) (k o pos : ℕ) → AreSplices base at end total gs → CutAt base at gs k o pos → o ≤ end → AreSplices o pos end total (drop k gs)
-splices_behind base at end total [] zero o pos h c le = (le, omega (arith, h.0, h.1, c.0, c.1))
-splices_behind base at end total (g ∷ gs) zero o pos h c le = (c.2, h.1, omega (arith, h.0, h.2, c.0, c.1, c.2), h.3)
-splices_behind base at end total [] (suc k) o pos h c le = absurd c
-splices_behind base at end total (g ∷ gs) (suc k) o pos h c le = splices_behind g.own (g.at + length g.bytes) end total gs k o pos h.3 c le
+pub splices_after : (base at end total : ℕ) (gs : List Splice) (k o pos : ℕ) → AreSplices base at end total gs → CutAt base at gs k o pos → o ≤ end → AreSplices o pos end total (drop k gs)
+splices_after base at end total [] zero o pos h c le = (le, omega (arith, h.0, h.1, c.0, c.1))
+splices_after base at end total (g ∷ gs) zero o pos h c le = (c.2, h.1, omega (arith, h.0, h.2, c.0, c.1, c.2), h.3)
+splices_after base at end total [] (suc k) o pos h c le = absurd c
+splices_after base at end total (g ∷ gs) (suc k) o pos h c le = splices_after g.own (g.at + length g.bytes) end total gs k o pos h.3 c le
 
 take_sum : (n m : ℕ) (xs : List ℕ) → take (n + m) xs ≡ take n xs ++ take m (drop n xs)
 take_sum n m xs =
@@ -87,7 +87,7 @@ cut_splices base at end total own (g ∷ gs) zero o pos h e c le =
     let b : drop (g.own - base) own ≡ drop (g.own - o) (drop (o - base) own) = ap (λ i. drop i own) n ∙ sym (drop-drop (g.own - o) (o - base) own) in
     rw (a, b) (simp append_assoc)
 cut_splices base at end total own (g ∷ gs) (suc k) o pos h e c le =
-    let behind : g.own ≤ o = cut_behind g.own (g.at + length g.bytes) end total gs k o pos h.3 c in
+    let following : g.own ≤ o = cut_after g.own (g.at + length g.bytes) end total gs k o pos h.3 c in
     let n : o - base ≡ (g.own - base) + (o - g.own) = omega (arith, h.0) in
     let a : take (g.own - base) (take (o - base) own) ≡ take (g.own - base) own = take-take (g.own - base) (o - base) own (omega arith) in
     let b : drop (g.own - base) (take (o - base) own) ≡ take (o - g.own) (drop (g.own - base) own) = ap (λ i. drop (g.own - base) (take i own)) n ∙ drop-take (g.own - base) (o - g.own) own in
@@ -111,9 +111,9 @@ cut_next base at (y ∷ gs) zero o pos g lt is le e next =
 cut_next base at (y ∷ gs) (suc j) o pos g lt is le e next =
     cut_next y.own (y.at + length y.bytes) gs j o pos g (omega arith) is le e (λ x more there. next x (omega arith) there)
 
-pub cut_behind_splice : (base at : ℕ) (gs : List Splice) (k o pos start : ℕ) (g : Splice) → 1 ≤ k → k ≤ length gs → g ≡ get_or gs (k - 1) g → start ≡ g.at + length g.bytes → g.own ≤ o
+pub cut_after_splice : (base at : ℕ) (gs : List Splice) (k o pos start : ℕ) (g : Splice) → 1 ≤ k → k ≤ length gs → g ≡ get_or gs (k - 1) g → start ≡ g.at + length g.bytes → g.own ≤ o
     → pos ≡ start + (o - g.own) → ((x : Splice) → k < length gs → x ≡ get_or gs k x → o ≤ x.own) → CutAt base at gs k o pos
-cut_behind_splice base at gs k o pos start g one few is begins le e next =
+cut_after_splice base at gs k o pos start g one few is begins le e next =
     let n : k ≡ suc (k - 1) = omega arith in
     subst (λ (i : ℕ). CutAt base at gs i o pos) (sym n)
     (cut_next base at gs (k - 1) o pos g (omega arith) is le (e ∙ ap (λ (t : ℕ). t + (o - g.own)) begins)
@@ -179,14 +179,14 @@ splices_within base at end total [] h = omega (arith, h.1)
 splices_within base at end total (g ∷ gs) h = let more = splices_within g.own (g.at + length g.bytes) end total gs h.3 in omega (arith, h.2)
 
 -- where a list is cut after a prefix that is known
-pub prefix_cut : (whole front rest x : List ℕ) → whole ≡ front ++ rest → length front ≡ length x → take (length x) whole ≡ x → whole ≡ x ++ rest
-prefix_cut whole front rest x e l t = e ∙ ap (λ (ys : List ℕ). ys ++ rest) (sym (take_at front rest (length x) l) ∙ (ap (λ (ys : List ℕ). take (length x) ys) (sym e) ∙ t))
+pub prefix_cut : (whole prefix rest x : List ℕ) → whole ≡ prefix ++ rest → length prefix ≡ length x → take (length x) whole ≡ x → whole ≡ x ++ rest
+prefix_cut whole prefix rest x e l t = e ∙ ap (λ (ys : List ℕ). ys ++ rest) (sym (take_at prefix rest (length x) l) ∙ (ap (λ (ys : List ℕ). take (length x) ys) (sym e) ∙ t))
 
 -- where a list is cut inside a prefix that is known
-pub prefix_cut_inside : (whole front rest own x : List ℕ) (n : ℕ) → whole ≡ front ++ rest → length front ≡ n → take (length own) whole ≡ own → n ≤ length own → take n own ≡ x → whole ≡ x ++ rest
-prefix_cut_inside whole front rest own x n e l t le is =
+pub prefix_cut_inside : (whole prefix rest own x : List ℕ) (n : ℕ) → whole ≡ prefix ++ rest → length prefix ≡ n → take (length own) whole ≡ own → n ≤ length own → take n own ≡ x → whole ≡ x ++ rest
+prefix_cut_inside whole prefix rest own x n e l t le is =
     let a : take n whole ≡ take n own = sym (take-take n (length own) whole le) ∙ ap (λ (ys : List ℕ). take n ys) t in
-    let b : front ≡ x = sym (take_at front rest n l) ∙ (ap (λ (ys : List ℕ). take n ys) (sym e) ∙ (a ∙ is)) in
+    let b : prefix ≡ x = sym (take_at prefix rest n l) ∙ (ap (λ (ys : List ℕ). take n ys) (sym e) ∙ (a ∙ is)) in
     e ∙ ap (λ (ys : List ℕ). ys ++ rest) b
 
 -- the own bytes before a splice and the splice are copied

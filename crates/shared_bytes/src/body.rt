@@ -39,7 +39,7 @@ impl<'a> Model for Body<'a> {
 /// Returns the number of the own byte at `offset`, if own bytes `from` to `end` are at `start` and the
 /// following offsets. Returns `None` if none of these is there.
 fn own_from(from: usize, start: u64, end: usize, offset: u64) -> Option<usize>
-    ensures behind { IfSome result (λ own. from ≤ own) }
+    ensures following { IfSome result (λ own. from ≤ own) }
     ensures at { IfSome result (λ own. offset ≡ start + (own - from)) }
     ensures within { IfSome result (λ own. own ≤ end) }
 {
@@ -192,8 +192,8 @@ impl<'a> Body<'a> {
         let place = at.checked_add(offset)?;
         let middle = own_at(splices, base, at, base + own.len(), place, count)?;
         let (own, own_behind) = own.split_at(middle - base);
-        let (splices, splices_behind) = splices.split_at(count);
-        let front = Body {
+        let (splices, splices_after) = splices.split_at(count);
+        let prefix = Body {
             own,
             splices,
             base,
@@ -202,12 +202,12 @@ impl<'a> Body<'a> {
         };
         let rest = Body {
             own: own_behind,
-            splices: splices_behind,
+            splices: splices_after,
             base: middle,
             at: place,
             end,
         };
-        Some((front, rest))
+        Some((prefix, rest))
     }
 
     /// Lends the encoding of the shared value with which the body begins, if it begins with one.

@@ -8,7 +8,7 @@ use ag_carried::Encoded;
 
 /// A slice of `size` bytes is filled from offset `at` on, and has `done` of them. Returns which part of
 /// the `len` bytes at offset `place` comes next, by its index and length, or `None` if none of them does.
-fn lacking(place: u64, len: usize, at: u64, done: usize, size: usize) -> Option<(usize, usize)>
+fn shortfall(place: u64, len: usize, at: u64, done: usize, size: usize) -> Option<(usize, usize)>
     requires within { done ≤ size }
     requires room { at + size < 2 ^ 64 }
     ensures here { IfSome result (λ part. at + done ≡ place + part.0) }
@@ -38,7 +38,7 @@ pub(crate) fn copy_own(piece: &[u8], place: u64, at: u64, done: usize, out: &mut
         → HasRead place at done content out.old
         → HasRead (place + length piece.now) at result content out.new }
 {
-    let Some((skip, count)) = lacking(place, piece.len(), at, done, out.len()) else {
+    let Some((skip, count)) = shortfall(place, piece.len(), at, done, out.len()) else {
         return done;
     };
     out[done..done + count].copy_from_slice(&piece[skip..skip + count]);
@@ -60,7 +60,7 @@ pub(crate) fn copy_shared(
         → HasRead place at done content out.old
         → HasRead (place + length piece.now) at result content out.new }
 {
-    let Some((skip, count)) = lacking(place, piece.len(), at, done, out.len()) else {
+    let Some((skip, count)) = shortfall(place, piece.len(), at, done, out.len()) else {
         return done;
     };
     piece.copy_part(skip, &mut out[done..done + count]);

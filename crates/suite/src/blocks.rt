@@ -83,9 +83,9 @@ pub(crate) fn file_of_lengths(
     Ok(bytes)
 }
 
-/// Returns the bytes of `front`, and after them this number of frames of 7 bytes.
-fn file_of_frames(alloc: Global, front: &[u8], frames: u32) -> Result<Vec<u8>, AllocError> {
-    let mut bytes = Vec::from_slice(alloc, front)?;
+/// Returns the bytes of `prefix`, and after them this number of frames of 7 bytes.
+fn file_of_frames(alloc: Global, prefix: &[u8], frames: u32) -> Result<Vec<u8>, AllocError> {
+    let mut bytes = Vec::from_slice(alloc, prefix)?;
     for _frame in 0..frames {
         bytes.extend_from_slice(&[0, 0, 7, 0, 0, 0, 3])?;
     }
@@ -120,9 +120,9 @@ fn lent_at_last(
     match lent(back, device, at) {
         Err(FrameFault::NoMemory) => match lent(back, device, at) {
             Ok(Some(length)) if length <= FITS => Err(FrameFault::NoMemory),
-            told => told,
+            answer => answer,
         },
-        told => told,
+        answer => answer,
     }
 }
 
@@ -138,12 +138,12 @@ fn tell(
         FileVersion::One => Back::start_old(alloc, &mut device),
         FileVersion::Two => Back::start(alloc, &mut device),
     };
-    tell_bodies(&mut started?, &mut device, lines)
+    write_bodies(&mut started?, &mut device, lines)
 }
 
 /// Writes the lengths of the bodies that a reader lends, and its next result, in a line. At most 10
 /// results are written.
-fn tell_bodies(
+fn write_bodies(
     back: &mut Back,
     device: &mut CountingDevice,
     lines: &mut String,
@@ -155,8 +155,8 @@ fn tell_bodies(
                 at = at.saturating_sub(length.saturating_add(4));
                 write!(lines, "{length} ")?;
             }
-            told => {
-                writeln!(lines, "{told:?}")?;
+            answer => {
+                writeln!(lines, "{answer:?}")?;
                 return Ok(());
             }
         }
@@ -166,27 +166,27 @@ fn tell_bodies(
 
 /// Writes a line with the number of bodies that a reader lends, the first result that is not a body
 /// of 3 bytes, and the number of reads of the device.
-fn tell_frames(alloc: Global, bytes: Vec<u8>, lines: &mut String) -> Result<(), Fail> {
+fn write_frames(alloc: Global, bytes: Vec<u8>, lines: &mut String) -> Result<(), Fail> {
     let mut device = device_of(bytes);
     let mut back = Back::start(alloc, &mut device)?;
-    let told = last_answer(&mut back, &mut device);
+    let answer = last_answer(&mut back, &mut device);
     let (records, reads) = (back.records(), device.reads);
-    writeln!(lines, "{records} {told:?} {reads}")?;
+    writeln!(lines, "{records} {answer:?} {reads}")?;
     Ok(())
 }
 
 /// Returns the first result of a reader that is not a body of 3 bytes, or the last one of 100,000.
 fn last_answer(back: &mut Back, device: &mut CountingDevice) -> Result<Option<usize>, FrameFault> {
     let mut at = device.memory.bytes().len();
-    let mut told = Ok(Some(3));
+    let mut answer = Ok(Some(3));
     for _call in 0..100_000 {
-        if told != Ok(Some(3)) {
+        if answer != Ok(Some(3)) {
             break;
         }
-        told = lent(back, device, at);
+        answer = lent(back, device, at);
         at = at.saturating_sub(7);
     }
-    told
+    answer
 }
 
 #[test]
@@ -205,7 +205,7 @@ fn names_of_many_letters(rt: HostRuntime) -> Result<(), Fail> {
 }
 
 #[test]
-fn frames_at_the_front_of_the_buffer(rt: HostRuntime) -> Result<(), Fail> {
+fn frames_at_the_prefix_of_the_buffer(rt: HostRuntime) -> Result<(), Fail> {
     let alloc = rt.alloc();
     let mut lines = String::new(alloc);
     for length in [2087, 2088, 2091, 2092, 2093, 2096, 2097] {
@@ -274,10 +274,10 @@ fn one_read_for_a_block(rt: HostRuntime) -> Result<(), Fail> {
     let mut lines = String::new(alloc);
     for frames in [0, 1, 584, 585, 586, 1170, 1171, 65_536] {
         let bytes = file_of_frames(alloc, b"AGT2\0\0", frames)?;
-        tell_frames(alloc, bytes, &mut lines)?;
+        write_frames(alloc, bytes, &mut lines)?;
     }
     let odd = file_of_frames(alloc, b"AGT2\0\0\x07", 2000)?;
-    tell_frames(alloc, odd, &mut lines)?;
+    write_frames(alloc, odd, &mut lines)?;
     assert_eq!(rt;
         lines.as_str(),
         "0 Ok(None) 1\n1 Ok(None) 2\n584 Ok(None) 2\n585 Ok(None) 2\n586 Ok(None) 3\n\

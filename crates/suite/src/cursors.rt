@@ -1,17 +1,17 @@
 //! Tests of cursors: over the tokens of a text, and at a character that begins no token.
 
-use ag_expr::{Cursor, Punctuation, Token, unescaped};
+use ag_expr::{Cursor, GrammarToken, Punctuation, unescaped};
 use std::test::Fail;
 
 #[test]
 fn tokens_one_by_one(rt: HostRuntime) -> Result<(), Fail> {
     let mut cursor = Cursor::new("\tlet a = \"b\\n\" ;");
     for (token, at) in [
-        (Token::Name("let"), 1),
-        (Token::Name("a"), 5),
-        (Token::Punctuation(Punctuation::Equal), 7),
-        (Token::Text("b\\n"), 9),
-        (Token::Punctuation(Punctuation::Semicolon), 15),
+        (GrammarToken::Name("let"), 1),
+        (GrammarToken::Name("a"), 5),
+        (GrammarToken::Punctuation(Punctuation::Equal), 7),
+        (GrammarToken::Text("b\\n"), 9),
+        (GrammarToken::Punctuation(Punctuation::Semicolon), 15),
     ] {
         assert_eq!(rt; cursor.peek(), Some(token));
         assert_eq!(rt; cursor.offset(), at);
@@ -27,7 +27,7 @@ fn tokens_one_by_one(rt: HostRuntime) -> Result<(), Fail> {
 
 /// Checks that `bump` does not move a cursor where no token begins.
 #[test]
-fn no_token_in_front(rt: HostRuntime) -> Result<(), Fail> {
+fn leading_no_token(rt: HostRuntime) -> Result<(), Fail> {
     let mut cursor = Cursor::new("a @ b");
     cursor.bump();
     cursor.bump();

@@ -4,7 +4,7 @@ use crate::screen::Screen;
 use crate::translations::Translating;
 use aggen::{Fault, status};
 use command_line::{BatchPaths, InputPath, name_of};
-use messages::{Report, Source};
+use messages::{FaultReport, Source};
 use program_io::{build_translator, check_outputs, fault_or, path_in, read_input};
 use std::alloc::{AllocError, Global};
 use std::fs;
@@ -21,12 +21,12 @@ pub fn run_all<'a, R: Files + Input + Print + Eprint + Clock>(
     alloc: Global,
     paths: &'a BatchPaths<'a>,
     screen: Screen,
-) -> Result<ExitCode, Report> {
+) -> Result<ExitCode, FaultReport> {
     let outputs = match output_paths(alloc, paths) {
         Ok(outputs) => outputs,
-        Err(_) => return Err(Report::new(alloc, Fault::NoMemory)),
+        Err(_) => return Err(FaultReport::new(alloc, Fault::NoMemory)),
     };
-    check_clashes(rt, alloc, paths, outputs.as_slice())?;
+    check_overlaps(rt, alloc, paths, outputs.as_slice())?;
     check_folder(rt, alloc, paths.folder)?;
     let text = read_input(rt, alloc, paths.grammar)?;
     let grammar = Source::new(paths.grammar.name(), text.as_slice());
@@ -64,12 +64,12 @@ fn output_paths(alloc: Global, paths: &BatchPaths<'_>) -> Result<Vec<String>, Al
 }
 
 /// Fails if one of the translations' files is the grammar or a sentence.
-fn check_clashes<R: Files>(
+fn check_overlaps<R: Files>(
     rt: &R,
     alloc: Global,
     paths: &BatchPaths<'_>,
     outputs: &[String],
-) -> Result<(), Report> {
+) -> Result<(), FaultReport> {
     check_outputs(rt, alloc, paths.sentences.as_slice(), outputs)?;
     match paths.grammar {
         InputPath::File(path) => check_outputs(rt, alloc, &[path], outputs),
@@ -78,13 +78,13 @@ fn check_clashes<R: Files>(
 }
 
 /// Fails with F1 if `path` is not a folder, and if memory is refused.
-fn check_folder<R: Files>(rt: &R, alloc: Global, path: &str) -> Result<(), Report> {
+fn check_folder<R: Files>(rt: &R, alloc: Global, path: &str) -> Result<(), FaultReport> {
     let fault = match fs::metadata(rt, path) {
         Ok(found) if found.is_dir() => return Ok(()),
         Ok(_) => Fault::File,
         Err(error) => fault_or(&error, Fault::File),
     };
-    Err(Report::of_file(alloc, fault, path))
+    Err(FaultReport::of_file(alloc, fault, path))
 }
 
 /// Reads a sentence, translates it, and writes the translation to the file at `output`. A report names the
@@ -93,7 +93,7 @@ fn translate<R: Files + Input + Print + Eprint + Clock>(
     translating: &Translating<'_, R>,
     path: &str,
     output: &str,
-) -> Result<(), Report> {
+) -> Result<(), FaultReport> {
     let alloc = translating.alloc;
     let bytes = read_input(translating.rt, alloc, InputPath::File(path))?;
     let sentence = Source::new(path, bytes.as_slice());
@@ -104,7 +104,7 @@ fn translate<R: Files + Input + Print + Eprint + Clock>(
 }
 
 /// Returns a report with the name of the sentence that it is about. That of refused memory names no file.
-fn with_sentence(alloc: Global, mut report: Report, path: &str) -> Report {
+fn with_sentence(alloc: Global, mut report: FaultReport, path: &str) -> FaultReport {
     if matches!(report.number, Fault::NoMemory) {
         return report;
     }
@@ -112,7 +112,7 @@ fn with_sentence(alloc: Global, mut report: Report, path: &str) -> Report {
         return report.with_file(alloc, path);
     }
     if matches!(report.number, Fault::File | Fault::Device | Fault::Write) {
-        let named = Report::new(alloc, Fault::File).with_file(alloc, path);
+        let named = FaultReport::new(alloc, Fault::File).with_file(alloc, path);
         if let Some(name) = &named.file {
             let written = write!(report.parts.found, "for the sentence {}", name.as_str());
             return report.or_bare(written);

@@ -7,8 +7,8 @@ use ag_job::{ReadFault, read_front};
 use aggen::{Fault, Translator};
 use aggen_files::{WorkFiles, evaluate_file};
 use command_line::{EvalPaths, InputPath};
-use messages::{Report, Source};
-use noted_file::Record;
+use messages::{FaultReport, Source};
+use noted_file::CallRecord;
 use program_io::{
     Translated, build_translator, check_output, check_tree, read_input, report_of_input,
     with_cause, write_file,
@@ -25,7 +25,7 @@ pub fn evaluate<R: Files + Input + Print + Eprint + Clock>(
     alloc: Global,
     paths: &EvalPaths<'_>,
     screen: Screen,
-) -> Result<(), Report> {
+) -> Result<(), FaultReport> {
     if let Some(folder) = paths.work {
         check_tree(rt, alloc, paths.tree, folder)?;
     }
@@ -63,24 +63,24 @@ struct Evaluating<'a, R> {
 
 impl<R: Files + Input + Print + Eprint + Clock> Evaluating<'_, R> {
     /// Translates the tree, and writes the translation to the file at `path`.
-    fn write(&self, path: &str) -> Result<(), Report> {
+    fn write(&self, path: &str) -> Result<(), FaultReport> {
         let mut text = Vec::new(self.alloc);
         self.run(&mut text).map_err(of_buffer)?;
         write_file(self.rt, self.alloc, path, text.as_slice())
     }
 
     /// Opens the tree file, or reads it from standard input, translates its tree, and writes the translation.
-    fn run<W: Write>(&self, out: &mut W) -> Result<(), Report> {
+    fn run<W: Write>(&self, out: &mut W) -> Result<(), FaultReport> {
         match self.paths.tree {
             InputPath::File(path) => {
-                match FileDevice::existing(self.rt, self.alloc, path, Record::new()) {
+                match FileDevice::existing(self.rt, self.alloc, path, CallRecord::new()) {
                     Ok(mut tree) => self.run_file(&mut tree, out),
-                    Err(fault) => Err(Report::of_file(self.alloc, Fault::from(fault), path)),
+                    Err(fault) => Err(FaultReport::of_file(self.alloc, Fault::from(fault), path)),
                 }
             }
             InputPath::Standard => match read_front(self.alloc, self.rt.reader(), u64::MAX) {
                 Ok(bytes) => self.run_device(&mut MemDevice::from_bytes(bytes), out),
-                Err(ReadFault::NoMemory) => Err(Report::new(self.alloc, Fault::NoMemory)),
+                Err(ReadFault::NoMemory) => Err(FaultReport::new(self.alloc, Fault::NoMemory)),
                 Err(ReadFault::Read) => {
                     Err(report_of_input(self.alloc, Fault::File, self.paths.tree))
                 }
@@ -93,7 +93,7 @@ impl<R: Files + Input + Print + Eprint + Clock> Evaluating<'_, R> {
         &self,
         tree: &mut FileDevice<R::File>,
         out: &mut W,
-    ) -> Result<(), Report> {
+    ) -> Result<(), FaultReport> {
         if self.paths.work.is_some() || self.screen.shows_progress() {
             return self.run_device(tree, out);
         }
@@ -104,7 +104,11 @@ impl<R: Files + Input + Print + Eprint + Clock> Evaluating<'_, R> {
     }
 
     /// Translates the tree on a device, and writes the translation.
-    fn run_device<T: Device, W: Write>(&self, tree: &mut T, out: &mut W) -> Result<(), Report> {
+    fn run_device<T: Device, W: Write>(
+        &self,
+        tree: &mut T,
+        out: &mut W,
+    ) -> Result<(), FaultReport> {
         let evaluated = match self.screen.progress(self.rt, self.translator, 1) {
             Some(progress) => {
                 let mut text = Vec::new(self.alloc);
@@ -155,11 +159,17 @@ impl<R: Files + Input + Print + Eprint + Clock> Evaluating<'_, R> {
 
     /// Opens the tree files in a folder.
     fn open_work(&self, folder: &str) -> Result<WorkFiles<R::File>, Fault> {
-        WorkFiles::open(self.rt, self.alloc, folder, Record::new(), Record::new())
+        WorkFiles::open(
+            self.rt,
+            self.alloc,
+            folder,
+            CallRecord::new(),
+            CallRecord::new(),
+        )
     }
 
     /// Returns the report of a fault. It names the folder if a tree file there can't be opened, read or written.
-    fn report_of<T: Device>(&self, fault: Fault, tree: &mut T) -> Report {
+    fn report_of<T: Device>(&self, fault: Fault, tree: &mut T) -> FaultReport {
         let is_of_folder = match fault {
             Fault::File => true,
             Fault::Device => tree.len().is_ok(),
@@ -168,8 +178,8 @@ impl<R: Files + Input + Print + Eprint + Clock> Evaluating<'_, R> {
         let name = self.paths.tree.name();
         let cause = self.cause_of(&fault, tree);
         let report = match self.paths.work {
-            Some(folder) if is_of_folder => Report::of_file(self.alloc, fault, folder),
-            _ => Report::of_tree(self.alloc, fault, self.translator.grammar(), tree, name),
+            Some(folder) if is_of_folder => FaultReport::of_file(self.alloc, fault, folder),
+            _ => FaultReport::of_tree(self.alloc, fault, self.translator.grammar(), tree, name),
         };
         with_cause(report, cause)
     }

@@ -4,7 +4,7 @@ use crate::progress::Progress;
 use aggen::{Fault, Translator};
 use command_line::{Color, Messages};
 use message_texts::Location;
-use messages::{Position, Report};
+use messages::{FaultReport, Position};
 use std::alloc::Global;
 use std::rt::{Clock, Env};
 
@@ -74,7 +74,7 @@ impl Screen {
 
     /// Prints a message on standard error, in one line. That of a refusal is not printed if messages are off.
     /// Whether it could be printed is not said: the status shows which kind of failure it was.
-    pub fn print<R: Eprint>(self, rt: &R, alloc: Global, report: &Report) {
+    pub fn print<R: Eprint>(self, rt: &R, alloc: Global, report: &FaultReport) {
         if self.is_quiet && !matches!(report.number, Fault::Usage) {
             return;
         }
@@ -107,7 +107,7 @@ fn is_dumb<R: Env + AllocGlobal>(rt: &R) -> bool {
 }
 
 /// Returns the line of a report with its number and its place marked. None if memory is refused.
-fn marked_line(alloc: Global, report: &Report) -> Option<String> {
+fn marked_line(alloc: Global, report: &FaultReport) -> Option<String> {
     let line = report.to_string(alloc).ok()?;
     let fault = report.number.to_string(alloc).ok()?;
     let (fault, rest) = parts_at(line.as_str(), fault.len());
@@ -129,7 +129,7 @@ fn number_len(fault: &str) -> usize {
 }
 
 /// Returns the offset of a report's place in what follows its fault: after ` (`, or at the end.
-fn place_start(report: &Report, rest: &str) -> usize {
+fn place_start(report: &FaultReport, rest: &str) -> usize {
     match (report.location, &report.file) {
         (Location::At(_), _) => 2,
         (_, Some(file)) => rest.len().saturating_sub(file.len()),
@@ -139,7 +139,7 @@ fn place_start(report: &Report, rest: &str) -> usize {
 
 /// Returns the number of bytes of a report's place: a file with line and column, or a file alone. None if
 /// memory is refused.
-fn place_len(alloc: Global, report: &Report) -> Option<usize> {
+fn place_len(alloc: Global, report: &FaultReport) -> Option<usize> {
     match (report.location, &report.file) {
         (Location::At(Position { line, column }), Some(file)) => {
             let place = format!(in alloc; "{}:{line}:{column}", file.as_str()).ok()?;

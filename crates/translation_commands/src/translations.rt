@@ -10,8 +10,8 @@ use aggen::{Fault, Translator};
 use aggen_files::WorkFiles;
 use agoutput::write_bytes;
 use command_line::RunPaths;
-use messages::{Report, Source};
-use noted_file::Record;
+use messages::{FaultReport, Source};
+use noted_file::CallRecord;
 use program_io::{
     Translated, build_translator, check_output, read_input, report_of_sentence, with_cause,
     write_file,
@@ -29,7 +29,7 @@ pub fn run_files<R: Files + Input + Print + Eprint + Clock>(
     alloc: Global,
     paths: &RunPaths<'_>,
     screen: Screen,
-) -> Result<(), Report> {
+) -> Result<(), FaultReport> {
     if let Some(path) = paths.output {
         check_output(
             rt,
@@ -63,10 +63,10 @@ pub fn run_input<R: Files + Input + Print + Eprint + Clock>(
     rt: &R,
     alloc: Global,
     screen: Screen,
-) -> Result<(), Report> {
+) -> Result<(), FaultReport> {
     match Job::read(alloc, rt.reader()) {
         Ok(job) => run_job(rt, alloc, &job, screen),
-        Err(fault) => Err(Report::new(alloc, Fault::from(fault))),
+        Err(fault) => Err(FaultReport::new(alloc, Fault::from(fault))),
     }
 }
 
@@ -76,7 +76,7 @@ fn run_job<R: Files + Print + Eprint + Clock>(
     alloc: Global,
     job: &Job,
     screen: Screen,
-) -> Result<(), Report> {
+) -> Result<(), FaultReport> {
     let (grammar, sentence) = Source::of_job(job.grammar(), job.sentence());
     let translator = build_translator(alloc, grammar)?;
     let translating = Translating::in_memory(&*rt, alloc, &translator, grammar, screen);
@@ -122,14 +122,14 @@ impl<'a, R> Translating<'a, R> {
 
 impl<R: Files + Print + Eprint + Clock> Translating<'_, R> {
     /// Translates a sentence, and writes the translation to the file at `path`.
-    pub fn write(&self, sentence: Source<'_>, path: &str) -> Result<(), Report> {
+    pub fn write(&self, sentence: Source<'_>, path: &str) -> Result<(), FaultReport> {
         let mut text = Vec::new(self.alloc);
         self.run(sentence, &mut text).map_err(of_buffer)?;
         write_file(self.rt, self.alloc, path, text.as_slice())
     }
 
     /// Translates a sentence, and writes the translation.
-    fn run<W: Write>(&self, sentence: Source<'_>, out: &mut W) -> Result<(), Report> {
+    fn run<W: Write>(&self, sentence: Source<'_>, out: &mut W) -> Result<(), FaultReport> {
         let mut cause = None;
         let translated = match self.screen.progress(self.rt, self.translator, 0) {
             Some(progress) => self.run_shown(sentence, &progress, out, &mut cause),
@@ -138,7 +138,7 @@ impl<R: Files + Print + Eprint + Clock> Translating<'_, R> {
         match (translated, self.work) {
             (Ok(()), _) => Ok(()),
             (Err(fault @ (Fault::File | Fault::Device)), Some(folder)) => {
-                Err(Report::of_file(self.alloc, fault, folder))
+                Err(FaultReport::of_file(self.alloc, fault, folder))
             }
             (Err(fault), _) => {
                 let report = report_of_sentence(self.alloc, fault, self.translator, sentence);
@@ -254,7 +254,13 @@ impl<R: Files + Print + Eprint + Clock> Translating<'_, R> {
 
     /// Opens the tree files in a folder.
     fn open_work(&self, folder: &str) -> Result<WorkFiles<R::File>, Fault> {
-        WorkFiles::open(self.rt, self.alloc, folder, Record::new(), Record::new())
+        WorkFiles::open(
+            self.rt,
+            self.alloc,
+            folder,
+            CallRecord::new(),
+            CallRecord::new(),
+        )
     }
 }
 
@@ -292,7 +298,7 @@ pub fn write_translation<W: Write>(
 }
 
 /// Returns the report of a translation into memory, where a write fails only if memory is refused.
-pub fn of_buffer(mut report: Report) -> Report
+pub fn of_buffer(mut report: FaultReport) -> FaultReport
     ensures { result.number ≢ Fault.Write }
 {
     if matches!(report.number, Fault::Write) {

@@ -3,8 +3,8 @@
 use aggen::{Fault, Translator};
 use aggen_files::{parse_to_file, upgrade_file};
 use command_line::{ParsePaths, UpgradePaths};
-use messages::{ConvertedPaths, Report, Source};
-use noted_file::Record;
+use messages::{ConvertedPaths, FaultReport, Source};
+use noted_file::CallRecord;
 use program_io::{read_input, read_translator, report_of_sentence};
 use std::alloc::Global;
 use std::io;
@@ -17,7 +17,7 @@ pub fn parse_file<R: Files + Input + Print>(
     rt: &R,
     alloc: Global,
     paths: &ParsePaths<'_>,
-) -> Result<(), Report> {
+) -> Result<(), FaultReport> {
     let translator = read_translator(rt, alloc, paths.grammar)?;
     parse_file_with(rt, alloc, &translator, paths)
 }
@@ -28,12 +28,12 @@ fn parse_file_with<R: Files + Input + Print>(
     alloc: Global,
     translator: &Translator,
     paths: &ParsePaths<'_>,
-) -> Result<(), Report> {
+) -> Result<(), FaultReport> {
     let bytes = read_input(rt, alloc, paths.sentence)?;
     let sentence = Source::new(paths.sentence.name(), bytes.as_slice());
     match write_tree(rt, alloc, translator, sentence.bytes, paths.tree) {
         Ok(()) => Ok(()),
-        Err(fault @ (Fault::File | Fault::Device)) => Err(Report::of_file(
+        Err(fault @ (Fault::File | Fault::Device)) => Err(FaultReport::of_file(
             alloc, fault, paths.tree,
         )),
         Err(fault) => Err(report_of_sentence(alloc, fault, translator, sentence)),
@@ -49,7 +49,7 @@ fn write_tree<R: Files + Print>(
     sentence: &[u8],
     path: &str,
 ) -> Result<(), Fault> {
-    let mut tree = FileDevice::create(rt, alloc, path, Record::new())?;
+    let mut tree = FileDevice::create(rt, alloc, path, CallRecord::new())?;
     let mut out = io::writer(rt);
     match parse_to_file(alloc, translator, sentence, &mut tree, &mut out) {
         Ok(_) => Ok(()),
@@ -63,7 +63,7 @@ pub fn convert_file<R: Files + Input + Print>(
     rt: &R,
     alloc: Global,
     paths: &UpgradePaths<'_>,
-) -> Result<(), Report> {
+) -> Result<(), FaultReport> {
     let translator = read_translator(rt, alloc, paths.grammar)?;
     convert_file_with(rt, alloc, &translator, paths)
 }
@@ -74,10 +74,10 @@ fn convert_file_with<R: Files + Print>(
     alloc: Global,
     translator: &Translator,
     paths: &UpgradePaths<'_>,
-) -> Result<(), Report> {
-    match FileDevice::existing(rt, alloc, paths.old, Record::new()) {
+) -> Result<(), FaultReport> {
+    match FileDevice::existing(rt, alloc, paths.old, CallRecord::new()) {
         Ok(mut old) => convert_tree(rt, alloc, translator, &mut old, paths),
-        Err(fault) => Err(Report::of_file(alloc, Fault::from(fault), paths.old)),
+        Err(fault) => Err(FaultReport::of_file(alloc, Fault::from(fault), paths.old)),
     }
 }
 
@@ -88,7 +88,7 @@ fn convert_tree<R: Files + Print>(
     translator: &Translator,
     old: &mut FileDevice<R::File>,
     paths: &UpgradePaths<'_>,
-) -> Result<(), Report> {
+) -> Result<(), FaultReport> {
     match write_converted(rt, alloc, translator, old, paths.tree) {
         Ok(()) => Ok(()),
         Err(fault) => {
@@ -96,7 +96,7 @@ fn convert_tree<R: Files + Print>(
                 old: paths.old,
                 new: paths.tree,
             };
-            Err(Report::of_old_tree(alloc, fault, translator.grammar(), old, paths))
+            Err(FaultReport::of_old_tree(alloc, fault, translator.grammar(), old, paths))
         }
     }
 }
@@ -110,7 +110,7 @@ fn write_converted<R: Files + Print>(
     old: &mut FileDevice<R::File>,
     path: &str,
 ) -> Result<(), Fault> {
-    let mut tree = FileDevice::create(rt, alloc, path, Record::new())?;
+    let mut tree = FileDevice::create(rt, alloc, path, CallRecord::new())?;
     let mut out = io::writer(rt);
     match upgrade_file(alloc, translator, old, &mut tree, &mut out) {
         Ok(_) => Ok(()),

@@ -42,7 +42,7 @@ fn sentence(alloc: Global) -> Result<String, AllocError> {
 }
 
 /// Returns the number of frames that were read, and the number of appends after the first `before`.
-fn frames_told(alloc: Global, bytes: u64, puts: u64, before: u64) -> Result<String, AllocError> {
+fn frames_answer(alloc: Global, bytes: u64, puts: u64, before: u64) -> Result<String, AllocError> {
     let (read, put) = (bytes / FRAME, puts.saturating_sub(before));
     format!(in alloc; "{read} read, {put} put")
 }
@@ -73,15 +73,15 @@ fn translated(alloc: Global, translator: &Translator) -> Result<String, Mistake>
     let puts = Cell::new(0);
     let mut a = CountingDevice::new(alloc, &puts);
     let mut b = CountingDevice::new(alloc, &puts);
-    let told = translate(alloc, translator, &mut a, &mut b)?;
+    let answer = translate(alloc, translator, &mut a, &mut b)?;
     // the parser appends a header and each node, and the pass appends a header
-    let frames = frames_told(alloc, a.bytes, puts.get(), NODES + 2)?;
+    let frames = frames_answer(alloc, a.bytes, puts.get(), NODES + 2)?;
     let by_blocks = is_by_blocks(&a);
-    Ok(format!(in alloc; "{told}; {frames}; by blocks: {by_blocks}")?)
+    Ok(format!(in alloc; "{answer}; {frames}; by blocks: {by_blocks}")?)
 }
 
 /// Builds the translator and translates the sentence.
-pub fn blocks_of_translate_told(alloc: Global) -> Result<String, Mistake> {
+pub fn blocks_of_translate_answer(alloc: Global) -> Result<String, Mistake> {
     let translator = translator(alloc, GROUPS)?;
     translated(alloc, &translator)
 }
@@ -194,11 +194,11 @@ fn run_thrice(alloc: Global, translator: &Translator, plan: &Plan) -> Result<Str
     parse(alloc, translator, &mut a)?;
     // each pass appends a header
     let before = puts.get().saturating_add(3);
-    let told = run(alloc, translator.grammar(), plan, &mut a, &mut b)?;
+    let answer = run(alloc, translator.grammar(), plan, &mut a, &mut b)?;
     let bytes = a.bytes.saturating_add(b.bytes);
-    let frames = frames_told(alloc, bytes, puts.get(), before)?;
+    let frames = frames_answer(alloc, bytes, puts.get(), before)?;
     let by_blocks = is_by_blocks(&a) && is_by_blocks(&b);
-    Ok(format!(in alloc; "{told}; {frames}; by blocks: {by_blocks}")?)
+    Ok(format!(in alloc; "{answer}; {frames}; by blocks: {by_blocks}")?)
 }
 
 /// Runs three passes by the plan whose first two passes have no rules.
@@ -208,7 +208,7 @@ fn run_by_plan(alloc: Global, translator: &Translator) -> Result<String, Mistake
 }
 
 /// Builds the translator and runs three passes.
-pub fn blocks_of_passes_told(alloc: Global) -> Result<String, Mistake> {
+pub fn blocks_of_passes_answer(alloc: Global) -> Result<String, Mistake> {
     let translator = translator(alloc, GROUPS)?;
     run_by_plan(alloc, &translator)
 }

@@ -31,7 +31,7 @@ fn fault(text: &str) -> Result<Fault, Mistake> {
 }
 
 /// Returns the exit status of a fault.
-pub fn status_told(alloc: Global, text: &str) -> Result<String, Mistake> {
+pub fn status_answer(alloc: Global, text: &str) -> Result<String, Mistake> {
     Ok(status(&fault(text)?).to_string(alloc)?)
 }
 
@@ -41,6 +41,6 @@ pub fn message(alloc: Global, fault: &Fault) -> Result<String, Mistake> {
 }
 
 /// Returns the message of the fault that a text names.
-pub fn message_told(alloc: Global, text: &str) -> Result<String, Mistake> {
+pub fn message_answer(alloc: Global, text: &str) -> Result<String, Mistake> {
     message(alloc, &fault(text)?)
 }

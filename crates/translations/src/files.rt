@@ -13,7 +13,7 @@ fn shown(alloc: Global, file: &MemDevice, out: &[u8]) -> Result<String, AllocErr
 
 /// Returns the file of the value of an expression, and the line that `show_value` prints. Fails with `Unfit` if
 /// `show_value` fails.
-pub fn file_told(alloc: Global, text: &str) -> Result<String, Mistake> {
+pub fn file_exact(alloc: Global, text: &str) -> Result<String, Mistake> {
     let mut device = MemDevice::new(alloc);
     let mut out = Vec::new(alloc);
     match show_value(alloc, text, &mut device, &mut out) {
@@ -23,7 +23,7 @@ pub fn file_told(alloc: Global, text: &str) -> Result<String, Mistake> {
 }
 
 /// Returns the number of bytes that `bytes_of` reads from a reader of the text. Fails with `Unfit` if it fails.
-pub fn source_told(alloc: Global, text: &str) -> Result<String, Mistake> {
+pub fn source_answer(alloc: Global, text: &str) -> Result<String, Mistake> {
     match bytes_of(alloc, text.as_bytes()) {
         Ok(bytes) => Ok(format!(in alloc; "{} bytes", bytes.len())?),
         Err(_) => Err(Mistake::Unfit),

@@ -1,10 +1,10 @@
 //! The verbs of questions about translators, faults and files.
 
-use crate::blocks::{blocks_of_passes_told, blocks_of_translate_told};
-use crate::faults::{message_told, status_told};
-use crate::files::{file_told, source_told};
-use crate::reports::{evaluate_told, job_told, translate_told};
-use crate::translators::{grammar_of_told, parse_tree_told};
+use crate::blocks::{blocks_of_passes_answer, blocks_of_translate_answer};
+use crate::faults::{message_answer, status_answer};
+use crate::files::{file_exact, source_answer};
+use crate::reports::{evaluate_answer, job_answer, translate_answer};
+use crate::translators::{grammar_of_answer, parse_tree_answer};
 use rows::sheet::Questions;
 use rows::words::Mistake;
 use rows::written::Written;
@@ -24,17 +24,17 @@ impl Questions for Translations {
     ) -> Result<String, Mistake> {
         let (grammar, text) = (written.grammar.as_str(), written.text_or(rest));
         match verb {
-            "grammar-of" => grammar_of_told(alloc, grammar),
-            "parse-tree" => parse_tree_told(alloc, grammar, text),
-            "translate" => translate_told(alloc, grammar, text),
-            "evaluate" => evaluate_told(alloc, grammar, text),
-            "job" => job_told(alloc, text),
-            "blocks-of-translate" => blocks_of_translate_told(alloc),
-            "blocks-of-passes" => blocks_of_passes_told(alloc),
-            "file" => file_told(alloc, text),
-            "source" => source_told(alloc, text),
-            "status" => status_told(alloc, rest),
-            "message" => message_told(alloc, rest),
+            "grammar-of" => grammar_of_answer(alloc, grammar),
+            "parse-tree" => parse_tree_answer(alloc, grammar, text),
+            "translate" => translate_answer(alloc, grammar, text),
+            "evaluate" => evaluate_answer(alloc, grammar, text),
+            "job" => job_answer(alloc, text),
+            "blocks-of-translate" => blocks_of_translate_answer(alloc),
+            "blocks-of-passes" => blocks_of_passes_answer(alloc),
+            "file" => file_exact(alloc, text),
+            "source" => source_answer(alloc, text),
+            "status" => status_answer(alloc, rest),
+            "message" => message_answer(alloc, rest),
             _ => Err(Mistake::Misspelt),
         }
     }

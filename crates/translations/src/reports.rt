@@ -8,7 +8,7 @@ use std::alloc::{AllocError, Global};
 use treefile::MemDevice;
 
 /// Returns a text, quoted, or only its length in bytes if it has more than 64.
-fn text_told(alloc: Global, text: &str) -> Result<String, AllocError> {
+fn text_answer(alloc: Global, text: &str) -> Result<String, AllocError> {
     if text.len() > 64 {
         return format!(in alloc; "{} bytes", text.len());
     }
@@ -16,11 +16,11 @@ fn text_told(alloc: Global, text: &str) -> Result<String, AllocError> {
 }
 
 /// Returns a report and the text that was written. Fails with `Unfit` if that is not UTF-8.
-fn report_told(alloc: Global, report: &Report, out: &[u8]) -> Result<String, Mistake> {
+fn report_answer(alloc: Global, report: &Report, out: &[u8]) -> Result<String, Mistake> {
     let Ok(text) = str::from_utf8(out) else {
         return Err(Mistake::Unfit);
     };
-    let text = text_told(alloc, text)?;
+    let text = text_answer(alloc, text)?;
     Ok(format!(in alloc;
         "{text}, {} nodes, {} passes, {} rules, {} read, {} written, last {:?}",
         report.nodes, report.passes, report.evals, report.read, report.written, report.last
@@ -28,50 +28,50 @@ fn report_told(alloc: Global, report: &Report, out: &[u8]) -> Result<String, Mis
 }
 
 /// Returns a root value that is not a text.
-fn value_told(alloc: Global, value: &Value) -> Result<String, Mistake> {
+fn value_exact(alloc: Global, value: &Value) -> Result<String, Mistake> {
     let shown = show(alloc, value)?;
     Ok(format!(in alloc; "no text: {shown}")?)
 }
 
 /// Returns the result of a translation: the written text with its report, or the fault.
-fn ending_told(
+fn ending_answer(
     alloc: Global,
     ended: &Result<Report, Fault>,
     out: &[u8],
 ) -> Result<String, Mistake> {
     match ended {
-        Ok(report) => report_told(alloc, report, out),
-        Err(Fault::NoText(value)) => value_told(alloc, value),
+        Ok(report) => report_answer(alloc, report, out),
+        Err(Fault::NoText(value)) => value_exact(alloc, value),
         Err(fault) => printed(alloc, fault),
     }
 }
 
 /// Translates a sentence.
-pub fn translate_told(alloc: Global, text: &str, sentence: &str) -> Result<String, Mistake> {
+pub fn translate_answer(alloc: Global, text: &str, sentence: &str) -> Result<String, Mistake> {
     let translator = translator(alloc, text)?;
     let mut a = MemDevice::new(alloc);
     let mut b = MemDevice::new(alloc);
     let mut out = Vec::new(alloc);
     let ended = translator.translate(sentence.as_bytes(), &mut a, &mut b, &mut out);
-    ending_told(alloc, &ended, out.as_slice())
+    ending_answer(alloc, &ended, out.as_slice())
 }
 
 /// Translates a job.
-pub fn job_told(alloc: Global, text: &str) -> Result<String, Mistake> {
+pub fn job_answer(alloc: Global, text: &str) -> Result<String, Mistake> {
     let mut a = MemDevice::new(alloc);
     let mut b = MemDevice::new(alloc);
     let mut out = Vec::new(alloc);
     let ended = run_job(alloc, text.as_bytes(), &mut out, &mut a, &mut b);
-    ending_told(alloc, &ended, out.as_slice())
+    ending_answer(alloc, &ended, out.as_slice())
 }
 
 /// Translates the tree whose file is the given content.
-pub fn evaluate_told(alloc: Global, text: &str, content: &str) -> Result<String, Mistake> {
+pub fn evaluate_answer(alloc: Global, text: &str, content: &str) -> Result<String, Mistake> {
     let mut tree = MemDevice::from_bytes(bytes_of(alloc, content)?);
     let translator = translator(alloc, text)?;
     let mut a = MemDevice::new(alloc);
     let mut b = MemDevice::new(alloc);
     let mut out = Vec::new(alloc);
     let ended = translator.evaluate_tree(&mut tree, &mut a, &mut b, &mut out);
-    ending_told(alloc, &ended, out.as_slice())
+    ending_answer(alloc, &ended, out.as_slice())
 }

@@ -7,7 +7,7 @@ use std::alloc::Global;
 use treefile::MemDevice;
 
 /// Returns `accepted`, or the fault of a grammar's text.
-pub fn grammar_of_told(alloc: Global, text: &str) -> Result<String, Mistake> {
+pub fn grammar_of_answer(alloc: Global, text: &str) -> Result<String, Mistake> {
     match grammar_of(alloc, text.as_bytes()) {
         Ok(_) => Ok(String::from_str(alloc, "accepted")?),
         Err(fault) => printed(alloc, &fault),
@@ -23,7 +23,7 @@ pub fn translator(alloc: Global, text: &str) -> Result<Translator, Mistake> {
 }
 
 /// Returns the number of stored nodes and the tree's file of a sentence, or the fault's message.
-pub fn parse_tree_told(alloc: Global, text: &str, sentence: &str) -> Result<String, Mistake> {
+pub fn parse_tree_answer(alloc: Global, text: &str, sentence: &str) -> Result<String, Mistake> {
     match Translator::build(alloc, text.as_bytes()) {
         Ok(translator) => parsed(alloc, &translator, sentence),
         Err(fault) => message(alloc, &Fault::from(fault)),

@@ -8,9 +8,9 @@ use crate::work_folder::TreePath;
 use aggen::{Fault, Translator};
 use agoutput::write_text;
 use command_line::{ExplainWords, NodeWords, PlaceInSentence};
-use message_texts::display::Plain;
-use messages::{Position, Report, Source};
-use noted_file::Record;
+use message_texts::display::PlainText;
+use messages::{FaultReport, Position, Source};
+use noted_file::CallRecord;
 use program_io::{build_translator, read_input};
 use std::alloc::{AllocError, Global};
 use std::io;
@@ -30,7 +30,7 @@ pub fn explain_tree<R: Files + Input + Print>(
     rt: &R,
     alloc: Global,
     words: &ExplainWords<'_>,
-) -> Result<(), Report> {
+) -> Result<(), FaultReport> {
     let bytes = read_input(rt, alloc, words.grammar)?;
     let source = Source::new(words.grammar.name(), bytes.as_slice());
     let translator = build_translator(alloc, source)?;
@@ -39,7 +39,7 @@ pub fn explain_tree<R: Files + Input + Print>(
         Ok(path) => path,
         Err(_) => return Err(no_memory(alloc)),
     };
-    match FileDevice::existing(rt, alloc, path.as_str(), Record::new()) {
+    match FileDevice::existing(rt, alloc, path.as_str(), CallRecord::new()) {
         Ok(mut tree) => {
             let explaining = Explaining {
                 translator: &translator,
@@ -50,7 +50,7 @@ pub fn explain_tree<R: Files + Input + Print>(
             };
             explaining.run(rt, alloc, words, &mut tree)
         }
-        Err(fault) => Err(Report::of_file(alloc, Fault::from(fault), path.as_str())),
+        Err(fault) => Err(FaultReport::of_file(alloc, Fault::from(fault), path.as_str())),
     }
 }
 
@@ -59,7 +59,7 @@ fn read_sentence<R: Files + Input>(
     rt: &R,
     alloc: Global,
     node: NodeWords<'_>,
-) -> Result<Vec<u8>, Report> {
+) -> Result<Vec<u8>, FaultReport> {
     match node {
         NodeWords::At(place) => read_input(rt, alloc, place.sentence),
         NodeWords::None | NodeWords::Path(_) => Ok(Vec::new(alloc)),
@@ -67,7 +67,7 @@ fn read_sentence<R: Files + Input>(
 }
 
 /// Returns the places of the path of the node; none if the node is named otherwise, or not at all.
-fn places_of_path(alloc: Global, node: NodeWords<'_>) -> Result<Vec<u16>, Report> {
+fn places_of_path(alloc: Global, node: NodeWords<'_>) -> Result<Vec<u16>, FaultReport> {
     match node {
         NodeWords::Path(path) => places_of(alloc, Some(path)),
         NodeWords::None | NodeWords::At(_) => Ok(Vec::new(alloc)),
@@ -93,7 +93,7 @@ impl Explaining<'_> {
         alloc: Global,
         words: &ExplainWords<'_>,
         device: &mut D,
-    ) -> Result<(), Report> {
+    ) -> Result<(), FaultReport> {
         // a text that is not a path is refused before the tree file is read
         let given = places_of_path(alloc, words.node)?;
         let index = read_index(alloc, self.translator, self.path, device)?;
@@ -129,7 +129,7 @@ impl Explaining<'_> {
         place: PlaceInSentence<'_>,
         index: &TreeIndex,
         device: &mut D,
-    ) -> Result<Vec<u16>, Report> {
+    ) -> Result<Vec<u16>, FaultReport> {
         let tree = TreeSentence {
             translator: self.translator,
             tree: self.path,
@@ -151,7 +151,7 @@ impl Explaining<'_> {
         words: &ExplainWords<'_>,
         index: &TreeIndex,
         node: u32,
-    ) -> Result<(), Report> {
+    ) -> Result<(), FaultReport> {
         let (grammar, plan) = (self.translator.grammar(), self.translator.plan());
         let last = plan.assignment().passes();
         if words.errors && index.pass() != last {
@@ -216,7 +216,7 @@ impl Explaining<'_> {
         if !self.is_chosen {
             return Ok(());
         }
-        let path = Plain(self.path);
+        let path = PlainText(self.path);
         let passes = self.translator.plan().assignment().passes();
         writeln!(out, "{path}  pass {pass} of {passes}")
     }

@@ -1,11 +1,11 @@
 //! Tree files that are read with an index, for `show` and `explain`.
 
-use ag_grammar::limits::MOST_ATTRIBUTES;
+use ag_grammar::limits::MAX_ATTRIBUTES;
 use ag_grammar::{Grammar, Item};
 use ag_value::NoMemory;
 use aggen::{Fault, Translator};
-use message_texts::display::Plain;
-use messages::Report;
+use message_texts::display::PlainText;
+use messages::FaultReport;
 use passrun::RunFault;
 use std::alloc::{AllocError, Global};
 use tree_index::{FileFormat, NodePath, PathFault, TreeFault, TreeIndex};
@@ -21,7 +21,7 @@ pub fn read_index<D: Device>(
     translator: &Translator,
     path: &str,
     device: &mut D,
-) -> Result<TreeIndex, Report> {
+) -> Result<TreeIndex, FaultReport> {
     match TreeIndex::read(alloc, translator.grammar(), translator.plan(), device) {
         Ok(index) => Ok(index),
         Err(fault) => Err(report_of_tree(alloc, ShowFault::Tree(fault), path)),
@@ -29,14 +29,14 @@ pub fn read_index<D: Device>(
 }
 
 /// Returns the report of a fault of reading the tree file of this name, or of printing.
-pub fn report_of_tree(alloc: Global, fault: ShowFault, path: &str) -> Report {
+pub fn report_of_tree(alloc: Global, fault: ShowFault, path: &str) -> FaultReport {
     let number = match fault {
         ShowFault::Tree(fault) => fault_of(fault),
         ShowFault::Write => Fault::Write,
         ShowFault::NoMemory => Fault::NoMemory,
     };
     let is_damaged = matches!(number, Fault::Run(_));
-    let mut report = Report::of_file(alloc, number, path);
+    let mut report = FaultReport::of_file(alloc, number, path);
     if is_damaged {
         let written = report.parts.help.push_str(AGAIN);
         return report.or_bare(written);
@@ -45,12 +45,12 @@ pub fn report_of_tree(alloc: Global, fault: ShowFault, path: &str) -> Report {
 }
 
 /// Returns the report of refused memory.
-pub fn no_memory(alloc: Global) -> Report {
-    Report::new(alloc, Fault::NoMemory)
+pub fn no_memory(alloc: Global) -> FaultReport {
+    FaultReport::new(alloc, Fault::NoMemory)
 }
 
 /// Returns the places of a path, none if there is no path. Fails if the text is not a path.
-pub fn places_of(alloc: Global, path: Option<&str>) -> Result<Vec<u16>, Report> {
+pub fn places_of(alloc: Global, path: Option<&str>) -> Result<Vec<u16>, FaultReport> {
     let Some(text) = path else {
         return Ok(Vec::new(alloc));
     };
@@ -62,19 +62,19 @@ pub fn places_of(alloc: Global, path: Option<&str>) -> Result<Vec<u16>, Report> 
 }
 
 /// Returns the report of a text that is not a path.
-fn not_a_path(alloc: Global, text: &str) -> Report {
-    let mut report = Report::new(alloc, Fault::Usage);
+fn not_a_path(alloc: Global, text: &str) -> FaultReport {
+    let mut report = FaultReport::new(alloc, Fault::Usage);
     let written = write!(
         report.parts.found,
         "expected a path such as `/`, `/2/1` or `/1*897/2`, found `{}`",
-        Plain(text)
+        PlainText(text)
     );
     report.or_bare(written)
 }
 
 /// Returns the report of a path at whose end there is no node: how far it goes, and the children there.
-pub fn no_node(alloc: Global, grammar: &Grammar, index: &TreeIndex, places: &[u16]) -> Report {
-    let mut report = Report::new(alloc, Fault::Usage);
+pub fn no_node(alloc: Global, grammar: &Grammar, index: &TreeIndex, places: &[u16]) -> FaultReport {
+    let mut report = FaultReport::new(alloc, Fault::Usage);
     let written = describe_missing(alloc, &mut report.parts.found, grammar, index, places);
     report.or_bare(written)
 }
@@ -110,8 +110,8 @@ fn describe_missing(
 }
 
 /// Returns the report of a file that is not of the last pass.
-pub fn describe_last_pass(alloc: Global, pass: u16, last: u16) -> Report {
-    let mut report = Report::new(alloc, Fault::Usage);
+pub fn describe_last_pass(alloc: Global, pass: u16, last: u16) -> FaultReport {
+    let mut report = FaultReport::new(alloc, Fault::Usage);
     let written = write!(
         report.parts.found,
         "`--errors` needs a tree file of the last pass, {last}, this one is of pass {pass}"
@@ -120,8 +120,8 @@ pub fn describe_last_pass(alloc: Global, pass: u16, last: u16) -> Report {
 }
 
 /// Returns the report of the name of an attribute that an item does not have, with the names that it has.
-pub fn no_attribute(alloc: Global, format: &FileFormat<'_>, item: Item, name: &str) -> Report {
-    let mut report = Report::new(alloc, Fault::Usage);
+pub fn no_attribute(alloc: Global, format: &FileFormat<'_>, item: Item, name: &str) -> FaultReport {
+    let mut report = FaultReport::new(alloc, Fault::Usage);
     let written = describe_attributes(&mut report.parts.found, format, item, name);
     report.or_bare(written)
 }
@@ -137,10 +137,14 @@ fn describe_attributes(
         grammar: format.grammar,
         item,
     };
-    write!(out, "{owner} has no attribute `{}`, it has", Plain(name))?;
-    for attr in 0..MOST_ATTRIBUTES as u16 {
+    write!(
+        out,
+        "{owner} has no attribute `{}`, it has",
+        PlainText(name)
+    )?;
+    for attr in 0..MAX_ATTRIBUTES as u16 {
         if let Some(name) = format.attribute_name(item, attr) {
-            write!(out, " {}", Plain(name))?;
+            write!(out, " {}", PlainText(name))?;
         }
     }
     Ok(())

@@ -2,13 +2,13 @@
 
 use crate::indexed::{no_memory, report_of_tree};
 use ag_grammar::Terminal;
-use ag_grammar::limits::{MOST_TEXT_BYTES, TEXT};
+use ag_grammar::limits::{MAX_TEXT_BYTES, TEXT};
 use ag_scan::{Sentence, Token, Tokens, scan};
 use ag_value::{NoMemory, Value};
 use aggen::{Fault, Translator};
 use message_texts::Location;
-use message_texts::display::Plain;
-use messages::{Position, Report, Source};
+use message_texts::display::PlainText;
+use messages::{FaultReport, Position, Source};
 use program_io::report_of_sentence;
 use std::alloc::{AllocError, Global};
 use tree_index::{FileFormat, TokenCounts, TokenRange, TokenWalk, TreeFault, TreeIndex, TreeToken};
@@ -50,7 +50,7 @@ impl TreeSentence<'_> {
         alloc: Global,
         position: Position,
         device: &mut D,
-    ) -> Result<Vec<u16>, Report> {
+    ) -> Result<Vec<u16>, FaultReport> {
         let grammar = self.translator.grammar();
         match scan(alloc, grammar, self.sentence.bytes) {
             Ok(scanned) => self.node_in(alloc, &scanned, position, device),
@@ -68,7 +68,7 @@ impl TreeSentence<'_> {
         scanned: &Sentence<'_>,
         position: Position,
         device: &mut D,
-    ) -> Result<Vec<u16>, Report> {
+    ) -> Result<Vec<u16>, FaultReport> {
         let Some(at) = offset_of(self.sentence.text(), position) else {
             return Err(self.no_place(alloc, position));
         };
@@ -96,12 +96,12 @@ impl TreeSentence<'_> {
         alloc: Global,
         mut tokens: Tokens<'_>,
         device: &mut D,
-    ) -> Result<(), Report> {
+    ) -> Result<(), FaultReport> {
         let grammar = self.translator.grammar();
         let Ok(mut walk) = TokenWalk::new(alloc, grammar, self.index) else {
             return Err(no_memory(alloc));
         };
-        for _ in 0..=MOST_TEXT_BYTES {
+        for _ in 0..=MAX_TEXT_BYTES {
             let of_sentence = tokens.ahead();
             let of_tree = match self.next_of_tree(alloc, &mut walk, device) {
                 Ok(token) => token,
@@ -177,8 +177,8 @@ impl TreeSentence<'_> {
     }
 
     /// Returns the report of a position that the sentence does not have.
-    fn no_place(self, alloc: Global, position: Position) -> Report {
-        let mut report = Report::new(alloc, Fault::Usage).with_file(alloc, self.sentence.name);
+    fn no_place(self, alloc: Global, position: Position) -> FaultReport {
+        let mut report = FaultReport::new(alloc, Fault::Usage).with_file(alloc, self.sentence.name);
         let found = &mut report.parts.found;
         let written = write_no_place(found, self.sentence.text(), position);
         report.or_bare(written)
@@ -190,13 +190,13 @@ impl TreeSentence<'_> {
         alloc: Global,
         of_sentence: Option<Token<'_>>,
         of_tree: &Option<TokenText>,
-    ) -> Report {
+    ) -> FaultReport {
         let at = match of_sentence {
             Some(token) => token.at as usize,
             None => self.sentence.bytes.len(),
         };
         let location = Location::At(self.sentence.position(at));
-        let mut report = Report::new(alloc, Fault::Usage).with_location(
+        let mut report = FaultReport::new(alloc, Fault::Usage).with_location(
             alloc,
             location,
             self.sentence.name,
@@ -208,7 +208,7 @@ impl TreeSentence<'_> {
 }
 
 /// Returns the report of a tree that is not that of the sentence, with what to do.
-fn with_help(mut report: Report) -> Report {
+fn with_help(mut report: FaultReport) -> FaultReport {
     let written = report.parts.help.push_str(OTHER_SENTENCE);
     report.or_bare(written)
 }
@@ -223,12 +223,12 @@ fn write_other_token(
         Some(token) => write!(
             out,
             "expected `{}`, the next token of the tree",
-            Plain(token.text.as_str())
+            PlainText(token.text.as_str())
         )?,
         None => out.push_str("expected the end, as in the tree")?,
     }
     match of_sentence {
-        Some(token) => write!(out, ", found `{}`", Plain(token.lex)),
+        Some(token) => write!(out, ", found `{}`", PlainText(token.lex)),
         None => out.push_str(", found the end of the sentence"),
     }
 }
@@ -291,7 +291,7 @@ fn offset_of(text: &str, position: Position) -> Option<usize> {
 /// Returns the number of the token at an offset of a sentence, or those of both tokens around it. Returns
 /// `None` before the first token and after the last one.
 fn range_at(mut tokens: Tokens<'_>, at: usize) -> Option<TokenRange> {
-    for number in 0..=MOST_TEXT_BYTES as u32 {
+    for number in 0..=MAX_TEXT_BYTES as u32 {
         let token = tokens.ahead()?;
         let start = token.at as usize;
         if at < start {

@@ -4,8 +4,8 @@ use crate::indexed::{no_memory, no_node, places_of, read_index, report_of_tree};
 use ag_grammar::Grammar;
 use aggen::{Fault, Translator};
 use command_line::ShowWords;
-use messages::Report;
-use noted_file::Record;
+use messages::FaultReport;
+use noted_file::CallRecord;
 use program_io::read_translator;
 use std::alloc::Global;
 use std::io;
@@ -20,11 +20,11 @@ pub fn show_tree<R: Files + Input + Print>(
     rt: &R,
     alloc: Global,
     words: &ShowWords<'_>,
-) -> Result<(), Report> {
+) -> Result<(), FaultReport> {
     let translator = read_translator(rt, alloc, words.grammar)?;
-    match FileDevice::existing(rt, alloc, words.tree, Record::new()) {
+    match FileDevice::existing(rt, alloc, words.tree, CallRecord::new()) {
         Ok(mut tree) => show_device(rt, alloc, &translator, words, &mut tree),
-        Err(fault) => Err(Report::of_file(alloc, Fault::from(fault), words.tree)),
+        Err(fault) => Err(FaultReport::of_file(alloc, Fault::from(fault), words.tree)),
     }
 }
 
@@ -35,7 +35,7 @@ fn show_device<R: Print, D: Device>(
     translator: &Translator,
     words: &ShowWords<'_>,
     device: &mut D,
-) -> Result<(), Report> {
+) -> Result<(), FaultReport> {
     let grammar = translator.grammar();
     let places = places_of(alloc, words.node)?;
     let only = selection_of(alloc, grammar, words.only.as_slice())?;
@@ -66,13 +66,17 @@ fn show_device<R: Print, D: Device>(
 }
 
 /// Returns the attributes of these names. Fails if the grammar has no such attribute.
-fn selection_of(alloc: Global, grammar: &Grammar, names: &[&str]) -> Result<Vec<Selected>, Report> {
+fn selection_of(
+    alloc: Global,
+    grammar: &Grammar,
+    names: &[&str],
+) -> Result<Vec<Selected>, FaultReport> {
     let mut selection = Vec::new(alloc);
     for name in names {
         match selected_in(grammar, name) {
             Ok(selected) => selection.push(selected).map_err(|_| no_memory(alloc))?,
             Err(fault) => {
-                let mut report = Report::new(alloc, Fault::Usage);
+                let mut report = FaultReport::new(alloc, Fault::Usage);
                 let written = fault.describe(&mut report.parts, grammar, name);
                 return Err(report.or_bare(written));
             }

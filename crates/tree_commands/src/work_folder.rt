@@ -1,7 +1,7 @@
 //! The tree file of a folder that `run --work` wrote.
 
 use ag_value::NoMemory;
-use noted_file::Record;
+use noted_file::CallRecord;
 use program_io::{FileId, WORK_FILES, path_in};
 use std::alloc::Global;
 use std::rt::Files;
@@ -49,7 +49,7 @@ impl<'a> TreePath<'a> {
 
 /// Returns one more than the pass of the tree file at `path`; 0 if there is none. Fails if memory is refused.
 fn passes_at<R: Files>(rt: &R, alloc: Global, path: &str) -> Result<u32, NoMemory> {
-    let Ok(mut tree) = FileDevice::existing(rt, alloc, path, Record::new()) else {
+    let Ok(mut tree) = FileDevice::existing(rt, alloc, path, CallRecord::new()) else {
         return Ok(0);
     };
     match pass_of_file(alloc, &mut tree) {

@@ -63,9 +63,9 @@ before_length : (g : Grammar) (xs ys : List Subtree) → count_before g (map kin
 before_length g [] ys = none_before g (map kind_at ys)
 before_length g (x ∷ xs) ys = let later = before_length g xs ys in omega arith
 
-before_front : (g : Grammar) (xs ys : List Subtree) (n : ℕ) → length xs ≡ n → count_before g (map kind_at (xs ++ ys)) n
+before_prefix : (g : Grammar) (xs ys : List Subtree) (n : ℕ) → length xs ≡ n → count_before g (map kind_at (xs ++ ys)) n
     ≡ own_counts g xs
-before_front g xs ys n is = subst (λ (i : ℕ). count_before g (map kind_at (xs ++ ys)) i ≡ own_counts g xs) is
+before_prefix g xs ys n is = subst (λ (i : ℕ). count_before g (map kind_at (xs ++ ys)) i ≡ own_counts g xs) is
     (before_length g xs ys)
 
 -- those of a subtree
@@ -75,18 +75,18 @@ pub subtree_tokens : (g : Grammar) (k : ℕ) (t : Tree) (v : Valuation) (index :
 subtree_tokens g k t v index number tree w has s =
     let d = back_from k in
     let below = nodes_of d tree w in
-    let kinds : index.kinds.items ≡ map kind_at (s.front ++ (below ++ s.others)) = has.kinds ∙ ap (map kind_at) s.split in
-    let again : index.kinds.items ≡ map kind_at ((s.front ++ below) ++ s.others) = kinds
-    ∙ sym (ap (map kind_at) (append_assoc s.front below s.others)) in
-    let long = length-append s.front below in
+    let kinds : index.kinds.items ≡ map kind_at (s.prefix ++ (below ++ s.others)) = has.kinds ∙ ap (map kind_at) s.split in
+    let again : index.kinds.items ≡ map kind_at ((s.prefix ++ below) ++ s.others) = kinds
+    ∙ sym (ap (map kind_at) (append_assoc s.prefix below s.others)) in
+    let long = length-append s.prefix below in
     let count = nodes_length d tree w in
     let at = s.at in
-    let first : count_before g index.kinds.items number ≡ own_counts g s.front =
-    ap (λ (ks : List NodeKind). count_before g ks number) kinds ∙ before_front g s.front (below ++ s.others) number at in
-    let last : count_before g index.kinds.items (number + node_count tree) ≡ own_counts g (s.front ++ below) =
+    let first : count_before g index.kinds.items number ≡ own_counts g s.prefix =
+    ap (λ (ks : List NodeKind). count_before g ks number) kinds ∙ before_prefix g s.prefix (below ++ s.others) number at in
+    let last : count_before g index.kinds.items (number + node_count tree) ≡ own_counts g (s.prefix ++ below) =
     ap (λ (ks : List NodeKind). count_before g ks (number + node_count tree)) again
-    ∙ before_front g (s.front ++ below) s.others (number + node_count tree) (omega arith) in
-    let together = own_append g s.front below in
+    ∙ before_prefix g (s.prefix ++ below) s.others (number + node_count tree) (omega arith) in
+    let together = own_append g s.prefix below in
     let of_tree = own_tree g d tree w in
     omega arith
 
@@ -126,7 +126,7 @@ ends_within k t v number tree w s =
     let d = back_from k in
     let below = nodes_of d tree w in
     let all = ap length s.split in
-    let first = length-append s.front (below ++ s.others) in
+    let first = length-append s.prefix (below ++ s.others) in
     let second = length-append below s.others in
     let count = nodes_length d tree w in
     let whole = nodes_length d t v in

@@ -13,7 +13,7 @@ use Rattle.ag_grammar.specs.grammars.Passes.{Passes, nth}
 use Rattle.ag_grammar.specs.grammars.Solution.{Valuation, children}
 use Rattle.ag_grammar.specs.grammars.Tree.{Fits, Forest, Tree, leaf, node, node_count}
 use Rattle.treefile.specs.records.TreeFile.{version_two}
-use Rattle.treefile.specs.ways.Backward.{next_before}
+use Rattle.treefile.specs.framing.Backward.{next_before}
 use Rattle.tree_index.specs.Nodes.{AreEnds, HasChild, HasCount, HasItem, HasLater, HasNodes, IsIndexOf, IsKidOf, StandAt, StandsAt, Subtree, back_from, end_of, in_order, kids, kind_at, kind_in, nodes_in, nodes_of, nodes_of_all, record_at, record_of, size_at, size_of}
 use Rattle.tree_index.specs.declared.index.NodeKind.{NodeKind}
 use Rattle.tree_index.specs.declared.index.NodeKind.TheVariants as kind
@@ -31,56 +31,56 @@ after_front xs x ys n is = subst (λ (i : ℕ). slice_get (xs ++ x ∷ ys) i ≡
 -- a subtree stands where its node does
 pub first_of : (d : Direction) (nodes : List Subtree) (n : ℕ) (t : Tree) (v : Valuation) → StandsAt d nodes n t v
     → slice_get nodes n ≡ Some (record { tree = t; values = v })
-first_of d nodes n (leaf c x) v s = ap (λ (ns : List Subtree). slice_get ns n) s.split ∙ after_front s.front _ _ n s.at
-first_of d nodes n (node p ts) v s = ap (λ (ns : List Subtree). slice_get ns n) s.split ∙ after_front s.front _ _ n s.at
+first_of d nodes n (leaf c x) v s = ap (λ (ns : List Subtree). slice_get ns n) s.split ∙ after_front s.prefix _ _ n s.at
+first_of d nodes n (node p ts) v s = ap (λ (ns : List Subtree). slice_get ns n) s.split ∙ after_front s.prefix _ _ n s.at
 
 -- the root is the first node
-pub root_stands : (d : Direction) (t : Tree) (v : Valuation) → StandsAt d (nodes_of d t v) 0 t v
-root_stands d t v = record { front = []; others = []; split = sym (append-nil (nodes_of d t v)); at = refl }
+pub root_occurs : (d : Direction) (t : Tree) (v : Valuation) → StandsAt d (nodes_of d t v) 0 t v
+root_occurs d t v = record { prefix = []; others = []; split = sym (append-nil (nodes_of d t v)); at = refl }
 
 -- after a node come its children,
-kids_stand : (d : Direction) (nodes : List Subtree) (n : ℕ) (p : ℕ) (ts : Forest) (v : Valuation)
+kids_occur : (d : Direction) (nodes : List Subtree) (n : ℕ) (p : ℕ) (ts : Forest) (v : Valuation)
     → StandsAt d nodes n (node p ts) v → StandAt d nodes (n + 1) (in_order d (kids ts (children v)))
-kids_stand d nodes n p ts v s =
+kids_occur d nodes n p ts v s =
     let top : Subtree = record { tree = node p ts; values = v } in
     let all = nodes_of_all d ts (children v) in
-    let long = length-append s.front (top ∷ []) in
+    let long = length-append s.prefix (top ∷ []) in
     let at = s.at in
     record {
-      front = s.front ++ top ∷ [];
+      prefix = s.prefix ++ top ∷ [];
       others = s.others;
-      split = s.split ∙ sym (append_assoc s.front (top ∷ []) (all ++ s.others))
-          ∙ ap (λ (ns : List Subtree). (s.front ++ top ∷ []) ++ (ns ++ s.others)) (sym (kids_nodes d ts (children v)));
+      split = s.split ∙ sym (append_assoc s.prefix (top ∷ []) (all ++ s.others))
+          ∙ ap (λ (ns : List Subtree). (s.prefix ++ top ∷ []) ++ (ns ++ s.others)) (sym (kids_nodes d ts (children v)));
       at = omega arith;
     }
 
 -- after a child those that come later,
-next_stand : (d : Direction) (nodes : List Subtree) (n : ℕ) (kid : Subtree) (later : List Subtree)
+next_occur : (d : Direction) (nodes : List Subtree) (n : ℕ) (kid : Subtree) (later : List Subtree)
     → StandAt d nodes n (kid ∷ later) → StandAt d nodes (n + node_count kid.tree) later
-next_stand d nodes n kid later s =
+next_occur d nodes n kid later s =
     let below = nodes_of d kid.tree kid.values in
     let others = nodes_in d later in
-    let long = length-append s.front below in
+    let long = length-append s.prefix below in
     let count = nodes_length d kid.tree kid.values in
     let at = s.at in
     record {
-      front = s.front ++ below;
+      prefix = s.prefix ++ below;
       others = s.others;
-      split = s.split ∙ ap (λ (ns : List Subtree). s.front ++ ns) (append_assoc below others s.others)
-          ∙ sym (append_assoc s.front below (others ++ s.others));
+      split = s.split ∙ ap (λ (ns : List Subtree). s.prefix ++ ns) (append_assoc below others s.others)
+          ∙ sym (append_assoc s.prefix below (others ++ s.others));
       at = omega arith;
     }
 
 -- and the first of them stands there.
-pub first_stands : (d : Direction) (nodes : List Subtree) (n : ℕ) (kid : Subtree) (later : List Subtree)
+pub first_occurs : (d : Direction) (nodes : List Subtree) (n : ℕ) (kid : Subtree) (later : List Subtree)
     → StandAt d nodes n (kid ∷ later) → StandsAt d nodes n kid.tree kid.values
-first_stands d nodes n kid later s =
+first_occurs d nodes n kid later s =
     let below = nodes_of d kid.tree kid.values in
     let others = nodes_in d later in
     record {
-      front = s.front;
+      prefix = s.prefix;
       others = others ++ s.others;
-      split = s.split ∙ ap (λ (ns : List Subtree). s.front ++ ns) (append_assoc below others s.others);
+      split = s.split ∙ ap (λ (ns : List Subtree). s.prefix ++ ns) (append_assoc below others s.others);
       at = s.at;
     }
 
@@ -102,7 +102,7 @@ size_there k t v index n tree w has s =
 
 -- no child comes before the first,
 pub later_first : (index : TreeIndex) (number : ℕ) → HasLater index number 0 (number + 1)
-later_first index number k t v p ts w has few s = kids_stand (back_from k) (nodes_of (back_from k) t v) number p ts w s
+later_first index number k t v p ts w has few s = kids_occur (back_from k) (nodes_of (back_from k) t v) number p ts w s
 
 -- and one more before the next.
 pub later_next : (index : TreeIndex) (number before child size : ℕ) → size_of index child ≡ Some size
@@ -116,14 +116,14 @@ later_next index number before child size is later k t v p ts w has few s =
     let one_more : suc before ≡ before + 1 = omega arith in
     let there : drop before ordered ≡ found.0 ∷ drop (before + 1) ordered = drop_there ordered before found.0 found.1
     ∙ ap (λ (n : ℕ). found.0 ∷ drop n ordered) one_more in
-    let stand : StandAt d nodes child (found.0 ∷ drop (before + 1) ordered) = subst (StandAt d nodes child) there
+    let occur : StandAt d nodes child (found.0 ∷ drop (before + 1) ordered) = subst (StandAt d nodes child) there
     (later k t v p ts w has (omega arith) s) in
-    let first = first_stands d nodes child found.0 (drop (before + 1) ordered) stand in
+    let first = first_occurs d nodes child found.0 (drop (before + 1) ordered) occur in
     let both : Some (node_count found.0.tree) ≡ Some size = sym
     (size_there k t v index child found.0.tree found.0.values has first) ∙ is in
     let same : node_count found.0.tree ≡ size = cc in
     subst (λ (n : ℕ). StandAt d nodes (child + n) (drop (before + 1) ordered)) same
-    (next_stand d nodes child found.0 (drop (before + 1) ordered) stand)
+    (next_occur d nodes child found.0 (drop (before + 1) ordered) occur)
 
 kid_at : (g : Grammar) (index : TreeIndex) (number count place before child : ℕ) (k : ℕ) (t : Tree) (v : Valuation) (x : Item)
     (tree : Tree) (w : Valuation) (what : Option NodeKind) → what ≡ Some (kind_at (record { tree = tree; values = w }))
@@ -150,7 +150,7 @@ kid_at g index number count place before child k t v (item.Symbol y) (node p ts)
     let found = is_there (in_order d ks) before (omega arith) in
     let kid = found.0 in
     let there = drop_there (in_order d ks) before kid found.1 in
-    let stand : StandAt d nodes child (kid ∷ drop (suc before) (in_order d ks)) = subst (StandAt d nodes child) there
+    let occur : StandAt d nodes child (kid ∷ drop (suc before) (in_order d ks)) = subst (StandAt d nodes child) there
     (later k t v p ts w has (omega arith) s) in
     let turned : nth d (length ks) before ≡ place - 1 = ap (λ n. nth d n before) (long ∙ sym many)
     ∙ ap (λ z. nth (back_from z) count before) (sym has.pass) ∙ turn in
@@ -159,7 +159,7 @@ kid_at g index number count place before child k t v (item.Symbol y) (node p ts)
       counted = omega arith;
       kid = kid;
       there = ap (slice_get ks) (sym turned) ∙ ordered_at d ks before kid found.1;
-      stands = first_stands d nodes child kid (drop (suc before) (in_order d ks)) stand;
+      occurs = first_occurs d nodes child kid (drop (suc before) (in_order d ks)) occur;
     }
 
 pub child_is : (g : Grammar) (index : TreeIndex) (number count place before child : ℕ) → HasCount g (kind_in index number) count

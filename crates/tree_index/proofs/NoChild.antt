@@ -12,7 +12,7 @@ use Rattle.tree_index.specs.Nodes.{HasCount, HasLater, HasNoChild, HasNoLater, H
 use Rattle.tree_index.specs.declared.index.NodeKind.{NodeKind}
 use Rattle.tree_index.specs.declared.index.TreeIndex.{TreeIndex}
 use Rattle.tree_index.proofs.Children.{drop_there, is_there, kids_length, nodes_length, order_length}
-use Rattle.tree_index.proofs.Kids.{first_stands, kind_there, later_first, size_there}
+use Rattle.tree_index.proofs.Kids.{first_occurs, kind_there, later_first, size_there}
 
 -- a subtree ends within the nodes
 ends_within : (d : Direction) (nodes : List Subtree) (n : ℕ) (kid : Subtree) (later : List Subtree)
@@ -21,7 +21,7 @@ ends_within d nodes n kid later s =
     let below = nodes_of d kid.tree kid.values in
     let others = nodes_in d later in
     let all = ap length s.split in
-    let first = length-append s.front ((below ++ others) ++ s.others) in
+    let first = length-append s.prefix ((below ++ others) ++ s.others) in
     let second = length-append (below ++ others) s.others in
     let third = length-append below others in
     let count = nodes_length d kid.tree kid.values in
@@ -58,7 +58,7 @@ child_within index number before child k t v p ts w later has less s =
     let count = nodes_length d t v in (
       node_count next.0.tree,
       size_there k t v index child next.0.tree next.0.values has
-          (first_stands d nodes child next.0 next.1 next.2),
+          (first_occurs d nodes child next.0 next.1 next.2),
       omega arith,
     )
 

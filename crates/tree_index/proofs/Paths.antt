@@ -8,7 +8,7 @@ use Rattle.ag_grammar.specs.grammars.Solution.{Valuation, children, rest}
 use Rattle.ag_grammar.specs.grammars.Tree.{Fits, FitsAll, Forest, Tree, leaf, more, node, none}
 use Rattle.tree_index.specs.Nodes.{HasChild, HasNoChild, HasNoNodeAt, HasNodeAt, IsAtEndOf, IsKidOf, StandsAt, Subtree, back_from, child_in, kids, nodes_of}
 use Rattle.tree_index.specs.declared.index.TreeIndex.{TreeIndex}
-use Rattle.tree_index.proofs.Kids.{root_stands}
+use Rattle.tree_index.proofs.Kids.{root_occurs}
 
 -- a child is a tree of some item
 kid_item : (g : Grammar) (xs : List Item) (ts : Forest) (vs : ℕ → Valuation) (i : ℕ) (kid : Subtree) → FitsAll g xs ts
@@ -55,13 +55,13 @@ pub kid_in : (d : Direction) (nodes : List Subtree) (t : Tree) (v : Valuation) (
     → IsKidOf d nodes t v place number → (child : Subtree) × (child_in t v place ≡ Some child)
     × StandsAt d nodes number child.tree child.values
 kid_in d nodes (leaf c x) v place number is = absurd is
-kid_in d nodes (node p ts) v place number is = (is.kid, ap (child_in (node p ts) v) is.counted ∙ is.there, is.stands)
+kid_in d nodes (node p ts) v place number is = (is.kid, ap (child_in (node p ts) v) is.counted ∙ is.there, is.occurs)
 
 pub root_at : (g : Grammar) (index : TreeIndex) → HasNodeAt g index [] 0
 root_at g index k t v has tree = record {
   found = record { tree = t; values = v };
   there = refl;
-  numbered = root_stands (back_from k) t v;
+  numbered = root_occurs (back_from k) t v;
 }
 
 pub child_at_end : (g : Grammar) (index : TreeIndex) (places : List ℕ) (number place child : ℕ) → HasNodeAt g index places number
@@ -88,12 +88,12 @@ one_at_end (place ∷ places) t v a b (c, there, further) (d, also, other) =
     one_at_end places c.tree c.values a b further (subst (λ (z : Subtree). IsAtEndOf places z.tree z.values b) same other)
 
 -- on the way to a node there is a child at each place
-on_the_way : (front : List ℕ) (place : ℕ) (others : List ℕ) (t : Tree) (v : Valuation) (found : Subtree)
-    → IsAtEndOf (front ++ place ∷ others) t v found → (above : Subtree) × (child : Subtree) × IsAtEndOf front t v above
+on_the_way : (prefix : List ℕ) (place : ℕ) (others : List ℕ) (t : Tree) (v : Valuation) (found : Subtree)
+    → IsAtEndOf (prefix ++ place ∷ others) t v found → (above : Subtree) × (child : Subtree) × IsAtEndOf prefix t v above
     × (child_in above.tree above.values place ≡ Some child)
 on_the_way [] place others t v found (child, there, further) = (record { tree = t; values = v }, child, refl, there)
-on_the_way (p ∷ front) place others t v found (kid, there, further) =
-    let later = on_the_way front place others kid.tree kid.values found further in
+on_the_way (p ∷ prefix) place others t v found (kid, there, further) =
+    let later = on_the_way prefix place others kid.tree kid.values found further in
     (later.0, later.1, (kid, there, later.2), later.3)
 
 split_at : (places : List ℕ) (i : ℕ) → i < length places → (others : List ℕ)

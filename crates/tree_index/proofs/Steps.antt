@@ -12,7 +12,7 @@ use Rattle.ag_grammar.specs.declared.grammar.Item.{Item}
 use Rattle.ag_grammar.specs.declared.grammar.Production.{Production}
 use Rattle.ag_grammar.specs.declared.grammar.Terminal.{Terminal}
 use Rattle.ag_grammar.specs.declared.grammar.Terminal.TheVariants.{Literal, Class}
-use Rattle.ag_grammar.specs.declared.limits.TheConstants.{MOST_NODES}
+use Rattle.ag_grammar.specs.declared.limits.TheConstants.{MAX_NODES}
 use Rattle.ag_grammar.specs.grammars.Accepted.{IsAccepted}
 use Rattle.ag_grammar.specs.grammars.AttributeGrammar.{Grammar, IsProduction, item_at, stored_items}
 use Rattle.ag_grammar.specs.grammars.Passes.{IsLegal, Passes, direction_of, nth, other}
@@ -23,23 +23,23 @@ use Rattle.treefile.specs.declared.reading.FrameFault.TheVariants.{NotATreeFile}
 use Rattle.treefile.specs.records.Orders.{postfix, prefix}
 use Rattle.treefile.specs.records.Records.{IsFileOfTree, bodies_of}
 use Rattle.treefile.specs.records.TreeFile.{frame, version_two}
-use Rattle.treefile.specs.ways.Backward.{ReadsBack, before_frame, next_before, pass_in, pass_of}
-use Rattle.treefile.specs.ways.Ending.{is_tree_file, version_two_usable}
-use Rattle.treefile.proofs.ways.Backward.{pass_of_file}
+use Rattle.treefile.specs.framing.Backward.{ReadsBack, before_frame, next_before, pass_in, pass_of}
+use Rattle.treefile.specs.framing.Ending.{is_tree_file, version_two_usable}
+use Rattle.treefile.proofs.framing.Backward.{pass_of_file}
 use Rattle.treefile.proofs.records.Fitting.{fits_version_two, numbered}
 use Rattle.treefile.proofs.records.Records.{file_back}
 use Rattle.tree_index.specs.Nodes.{AreEnds, IsIndexIn, IsIndexOf, Subtree, back_from, in_order, kids, kind_at, nodes_in, nodes_of, nodes_of_all, record_at, size_at}
-use Rattle.tree_index.specs.Reading.{AreEnding, AreOpen, AreSizes, BeginsRecord, ComesNext, Family, HasAdded, HasClosed, HasComeTo, HasFetched, HasOpened, IsBegun, IsComing, IsOpened, IsOpenNumber, IsSoFar, in_four_bytes, nodes_to_come, to_come}
+use Rattle.tree_index.specs.Reading.{AreEnding, AreOpen, AreSizes, BeginsRecord, IsNextRecord, Family, HasAdded, HasClosed, HasComeTo, HasFetched, HasOpened, IsBegun, IsPending, IsOpened, IsOpenNumber, IsSoFar, in_four_bytes, nodes_to_come, upcoming}
 use Rattle.tree_index.specs.declared.index.NodeKind.{NodeKind}
 use Rattle.tree_index.specs.declared.index.NodeKind.TheVariants as kind
 use Rattle.tree_index.specs.declared.index.TreeIndex.{TreeIndex}
 use Rattle.tree_index.specs.declared.reading.Fetched.{Fetched}
-use Rattle.tree_index.specs.declared.reading.OpenNode.{OpenNode}
+use Rattle.tree_index.specs.declared.reading.OpenRecord.{OpenRecord}
 use Rattle.backreader.specs.BackState.{BackState}
 use Rattle.tree_index.proofs.Children.{drop_there, is_there, kid_fits, kids_length, kids_nodes, nodes_length, nodes_length_all, order_length, ordered_at, records_of_nodes}
 
 -- an open node of which one child more was visited
-abbrev pub moved : OpenNode → OpenNode
+abbrev pub moved : OpenRecord → OpenRecord
 moved o = record o { visited = o.visited + 1 }
 
 -- one more record ends at an offset
@@ -58,11 +58,11 @@ ends_length content (x ∷ ends) [] a = elim a [ ]
 ends_length content (x ∷ ends) (b ∷ bodies) a = ap suc (ends_length content ends bodies a.1)
 
 -- the number of an open node, or of one that is open below it
-number_or : (i : ℕ) (o : OpenNode) (os : List OpenNode) → IsOpenNumber i (o ∷ os) → (i ≡ o.number → ⊥) → IsOpenNumber i os
+number_or : (i : ℕ) (o : OpenRecord) (os : List OpenRecord) → IsOpenNumber i (o ∷ os) → (i ≡ o.number → ⊥) → IsOpenNumber i os
 number_or i o os h n = elim h [ inl a ↦ absurd (n a) | inr b ↦ b ]
 
 -- a size more, that of the node which comes next
-sizes_more : (all so_far : List ℕ) (s : ℕ) (os : List OpenNode) → AreSizes all so_far os
+sizes_more : (all so_far : List ℕ) (s : ℕ) (os : List OpenRecord) → AreSizes all so_far os
     → (get_or all (length so_far) 0 ≡ s) ⊎ IsOpenNumber (length so_far) os → AreSizes all (so_far ++ s ∷ []) os
 sizes_more all so_far s os sizes last i less = elim (cases_eq i (length so_far)) [
   | inl same ↦ elim last [
@@ -79,7 +79,7 @@ sizes_more all so_far s os sizes last i less = elim (cases_eq i (length so_far))
 ]
 
 -- a node is closed: it gets its size
-sizes_closed : (all so_far : List ℕ) (o : OpenNode) (os : List OpenNode) (s : ℕ) → get_or all o.number 0 ≡ s
+sizes_closed : (all so_far : List ℕ) (o : OpenRecord) (os : List OpenRecord) (s : ℕ) → get_or all o.number 0 ≡ s
     → AreSizes all so_far (o ∷ os) → AreSizes all (set so_far o.number s) os
 sizes_closed all so_far o os s is sizes i less =
     let long = length-set so_far o.number s in
@@ -100,12 +100,12 @@ same_body content at body another e h = let both : ◌≡◌ {A = Result (Option
     (Ok (Some another)) = sym e ∙ h in cc
 
 -- the size of the node that comes next
-size_next : (nodes read coming : List Subtree) (s : Subtree) → nodes ≡ read ++ s ∷ coming
+size_next : (nodes read pending : List Subtree) (s : Subtree) → nodes ≡ read ++ s ∷ pending
     → get_or (map size_at nodes) (length read) 0 ≡ size_at s
-size_next nodes read coming s all =
+size_next nodes read pending s all =
     ap (λ (ns : List Subtree). get_or (map size_at ns) (length read) 0) all
-    ∙ ap (λ (ns : List ℕ). get_or ns (length read) 0) (map-append size_at read (s ∷ coming))
-    ∙ get_or_at (map size_at read) (size_at s) (map size_at coming) 0 (length read) (length-map read size_at)
+    ∙ ap (λ (ns : List ℕ). get_or ns (length read) 0) (map-append size_at read (s ∷ pending))
+    ∙ get_or_at (map size_at read) (size_at s) (map size_at pending) 0 (length read) (length-map read size_at)
 
 -- a number that fits four bytes
 four_bytes : (count number n : ℕ) → number ≡ in_four_bytes count → count ≡ n → n < 4294967296 → number ≡ n
@@ -131,11 +131,11 @@ module _ (g : Grammar) (m : Passes) (k : ℕ) (t : Tree) (v : Valuation) (conten
   R = record_at g m k
 
   -- a node more is in the index
-  begun_more : (records : ℕ) (os now : List OpenNode) (index new : TreeIndex) (s : Subtree) (coming : List Subtree) (end : ℕ)
-      → IsBegun g m k t v content records os index (s ∷ coming) → HasAdded end (kind_at s) index new
-      → next_before version_two content end ≡ Ok (Some (R s)) → records < MOST_NODES
-      → AreSizes sizes_of (index.sizes.items ++ 1 ∷ []) now → IsBegun g m k t v content (records + 1) now new coming
-  begun_more records os now index new s coming end b added found less sizes =
+  begun_more : (records : ℕ) (os now : List OpenRecord) (index new : TreeIndex) (s : Subtree) (pending : List Subtree) (end : ℕ)
+      → IsBegun g m k t v content records os index (s ∷ pending) → HasAdded end (kind_at s) index new
+      → next_before version_two content end ≡ Ok (Some (R s)) → records < MAX_NODES
+      → AreSizes sizes_of (index.sizes.items ++ 1 ∷ []) now → IsBegun g m k t v content (records + 1) now new pending
+  begun_more records os now index new s pending end b added found less sizes =
       let in_index = length-append index.sizes.items (1 ∷ []) in
       let in_read = length-append b.read (s ∷ []) in
       let now_long = ap length added.sizes in
@@ -143,7 +143,7 @@ module _ (g : Grammar) (m : Passes) (k : ℕ) (t : Tree) (v : Valuation) (conten
       let counted = b.counted in
       record {
         read = b.read ++ s ∷ [];
-        all = b.all ∙ sym (append_assoc b.read (s ∷ []) coming);
+        all = b.all ∙ sym (append_assoc b.read (s ∷ []) pending);
         pass = added.pass ∙ b.pass;
         ends = subst (λ (es : List ℕ). AreEnds content es (map R (b.read ++ s ∷ []))) (sym added.ends)
             (subst (AreEnds content (index.ends.items ++ end ∷ [])) (sym (map-append R b.read (s ∷ [])))
@@ -157,9 +157,9 @@ module _ (g : Grammar) (m : Passes) (k : ℕ) (t : Tree) (v : Valuation) (conten
       }
 
   -- the record of a token was read
-  token_at : (at records number : ℕ) (a : Terminal) (os : List OpenNode) (index new : TreeIndex) (body : List ℕ) (tree : Tree)
+  token_at : (at records number : ℕ) (a : Terminal) (os : List OpenRecord) (index new : TreeIndex) (body : List ℕ) (tree : Tree)
       (w : Valuation) (fs : List Family) → BeginsRecord g (item.Terminal a) body number
-      → HasAdded at (kind.Token number) index new → next_before version_two content at ≡ Ok (Some body) → records < MOST_NODES
+      → HasAdded at (kind.Token number) index new → next_before version_two content at ≡ Ok (Some body) → records < MAX_NODES
       → Fits g (item.Terminal a) tree → AreOpen g os fs → IsBegun g m k t v content records os index
       (nodes_of D tree w ++ nodes_to_come D os fs) → AreEnding D sizes_of (records + node_count tree) os fs
       → ReadsBack version_two content at (map R (nodes_of D tree w ++ nodes_to_come D os fs))
@@ -184,19 +184,19 @@ module _ (g : Grammar) (m : Passes) (k : ℕ) (t : Tree) (v : Valuation) (conten
             left.1;
       }
 
-  pub token : (at records number : ℕ) (a : Terminal) (os : List OpenNode) (index new : TreeIndex) (body : List ℕ)
+  pub token : (at records number : ℕ) (a : Terminal) (os : List OpenRecord) (index new : TreeIndex) (body : List ℕ)
       → BeginsRecord g (item.Terminal a) body number → HasAdded at (kind.Token number) index new
-      → next_before version_two content at ≡ Ok (Some body) → records < MOST_NODES
-      → IsComing g m k t v content at records (item.Terminal a) os index
+      → next_before version_two content at ≡ Ok (Some body) → records < MAX_NODES
+      → IsPending g m k t v content at records (item.Terminal a) os index
       → IsSoFar g m k t v content (before_frame at body) (records + 1) os new
   token at records number a os index new body begins added found less c = token_at at records number a os index new body c.tree
       c.values c.families begins added found less c.fits c.fit c.begun c.ending c.left
 
   -- the record of a node was read
-  enter_at : (at records number symbol : ℕ) (o : OpenNode) (os : List OpenNode) (index new : TreeIndex) (body : List ℕ)
+  enter_at : (at records number symbol : ℕ) (o : OpenRecord) (os : List OpenRecord) (index new : TreeIndex) (body : List ℕ)
       (tree : Tree) (w : Valuation) (fs : List Family) → IsAccepted g → BeginsRecord g (item.Symbol symbol) body number
       → HasAdded at (kind.Node number) index new → IsOpened g index number o → next_before version_two content at ≡ Ok (Some body)
-      → records < MOST_NODES
+      → records < MAX_NODES
       → Fits g (item.Symbol symbol) tree → AreOpen g os fs → IsBegun g m k t v content records os index
       (nodes_of D tree w ++ nodes_to_come D os fs) → AreEnding D sizes_of (records + node_count tree) os fs
       → ReadsBack version_two content at (map R (nodes_of D tree w ++ nodes_to_come D os fs))
@@ -219,9 +219,9 @@ module _ (g : Grammar) (m : Passes) (k : ℕ) (t : Tree) (v : Valuation) (conten
       let added_s : HasAdded at (kind_at s) index new = subst (λ (n : ℕ). HasAdded at (kind.Node n) index new) production added in
       let size : get_or sizes_of (length b.read) 0 ≡ node_count (node r ts) = size_next (nodes_of D t v) b.read _ s b.all in
       let f : Family = record { trees = ts; values = children w } in
-      let below : nodes_in D (to_come D o f) ≡ nodes_of_all D ts (children w) = ap
+      let below : nodes_in D (upcoming D o f) ≡ nodes_of_all D ts (children w) = ap
       (λ n. nodes_in D (drop n (in_order D (kids ts (children w))))) opened.visited ∙ kids_nodes D ts (children w) in
-      let below_long : length (nodes_in D (to_come D o f)) ≡ node_counts ts = ap length below
+      let below_long : length (nodes_in D (upcoming D o f)) ≡ node_counts ts = ap length below
       ∙ nodes_length_all D ts (children w) in
       let entries = ends_length content index.ends.items (map R b.read) b.ends in
       let mapped = length-map b.read R in
@@ -241,26 +241,26 @@ module _ (g : Grammar) (m : Passes) (k : ℕ) (t : Tree) (v : Valuation) (conten
             (sizes_more sizes_of index.sizes.items 1 (o ∷ os) sizes_open (inr (inl last))));
         ending = (omega arith, omega arith, subst (λ n. AreEnding D sizes_of n os fs) (omega arith) ending);
         left = subst (λ (z : List ℕ). ReadsBack version_two content (before_frame at z)
-            (map R (nodes_in D (to_come D o f) ++ rest))) (sym same)
+            (map R (nodes_in D (upcoming D o f) ++ rest))) (sym same)
             (subst (λ (ns : List Subtree). ReadsBack version_two content (before_frame at (R s)) (map R (ns ++ rest))) (sym below)
             left.1);
       }
 
-  pub enter : (at records number symbol : ℕ) (o : OpenNode) (os : List OpenNode) (index new : TreeIndex) (body : List ℕ)
+  pub enter : (at records number symbol : ℕ) (o : OpenRecord) (os : List OpenRecord) (index new : TreeIndex) (body : List ℕ)
       → IsAccepted g → BeginsRecord g (item.Symbol symbol) body number → HasAdded at (kind.Node number) index new
-      → IsOpened g index number o → next_before version_two content at ≡ Ok (Some body) → records < MOST_NODES
-      → IsComing g m k t v content at records (item.Symbol symbol) os index
+      → IsOpened g index number o → next_before version_two content at ≡ Ok (Some body) → records < MAX_NODES
+      → IsPending g m k t v content at records (item.Symbol symbol) os index
       → IsSoFar g m k t v content (before_frame at body) (records + 1) (o ∷ os) new
   enter at records number symbol o os index new body accepted begins added opened found less c = enter_at at records number symbol
       o os index new body c.tree c.values c.families accepted begins added opened found less c.fits c.fit c.begun c.ending c.left
 
   -- the next child of an open node comes
-  visit_at : (at records : ℕ) (o : OpenNode) (os : List OpenNode) (x : Item) (index : TreeIndex) (fs : List Family)
+  visit_at : (at records : ℕ) (o : OpenRecord) (os : List OpenRecord) (x : Item) (index : TreeIndex) (fs : List Family)
       → o.visited < o.children → ((q : Production) → IsProduction g o.production q
       → slice_get (stored_items q.items) (nth D o.children o.visited) ≡ Some x) → AreOpen g (o ∷ os) fs
       → IsBegun g m k t v content records (o ∷ os) index (nodes_to_come D (o ∷ os) fs) → AreEnding D sizes_of records (o ∷ os) fs
       → ReadsBack version_two content at (map R (nodes_to_come D (o ∷ os) fs))
-      → IsComing g m k t v content at records x (moved o ∷ os) index
+      → IsPending g m k t v content at records x (moved o ∷ os) index
   visit_at at records o os x index [] less is fit b ending left = elim fit [ ]
   visit_at at records o os x index (f ∷ fs) less is fit b ending left =
       let ks = kids f.trees f.values in
@@ -274,15 +274,15 @@ module _ (g : Grammar) (m : Passes) (k : ℕ) (t : Tree) (v : Valuation) (conten
       let here : slice_get ks (nth D o.children o.visited) ≡ Some kid = ap (λ n. slice_get ks (nth D n o.visited))
       (many ∙ sym long) ∙ place in
       let one_more : suc o.visited ≡ o.visited + 1 = omega arith in
-      let others = nodes_in D (to_come D (moved o) f) in
+      let others = nodes_in D (upcoming D (moved o) f) in
       let below = nodes_of D kid.tree kid.values in
       let rest = nodes_to_come D os fs in
-      let rest_is : to_come D o f ≡ kid ∷ to_come D (moved o) f = drop_there (in_order D ks) o.visited kid found.1
+      let rest_is : upcoming D o f ≡ kid ∷ upcoming D (moved o) f = drop_there (in_order D ks) o.visited kid found.1
       ∙ ap (λ (n : ℕ). kid ∷ drop n (in_order D ks)) one_more in
-      let nodes_are : nodes_in D (to_come D o f) ≡ below ++ others = ap (nodes_in D) rest_is in
-      let coming : nodes_in D (to_come D o f) ++ rest ≡ below ++ (others ++ rest) = ap (λ (ns : List Subtree). ns ++ rest)
+      let nodes_are : nodes_in D (upcoming D o f) ≡ below ++ others = ap (nodes_in D) rest_is in
+      let pending : nodes_in D (upcoming D o f) ++ rest ≡ below ++ (others ++ rest) = ap (λ (ns : List Subtree). ns ++ rest)
       nodes_are ∙ append_assoc below others rest in
-      let count : length (nodes_in D (to_come D o f)) ≡ node_count kid.tree + length others = ap length nodes_are
+      let count : length (nodes_in D (upcoming D o f)) ≡ node_count kid.tree + length others = ap length nodes_are
       ∙ length-append below others ∙ ap (λ n. n + length others) (nodes_length D kid.tree kid.values) in
       let ends = ending.0 in
       let before = ending.1 in
@@ -295,7 +295,7 @@ module _ (g : Grammar) (m : Passes) (k : ℕ) (t : Tree) (v : Valuation) (conten
         fit = fit;
         begun = record {
           read = b.read;
-          all = b.all ∙ ap (λ (ns : List Subtree). b.read ++ ns) coming;
+          all = b.all ∙ ap (λ (ns : List Subtree). b.read ++ ns) pending;
           pass = b.pass;
           ends =
               b.ends;
@@ -306,16 +306,16 @@ module _ (g : Grammar) (m : Passes) (k : ℕ) (t : Tree) (v : Valuation) (conten
           few = b.few;
         };
         ending = (omega arith, omega arith, subst (λ n. AreEnding D sizes_of n os fs) (omega arith) ending.2);
-        left = subst (λ (ns : List Subtree). ReadsBack version_two content at (map R ns)) coming left;
+        left = subst (λ (ns : List Subtree). ReadsBack version_two content at (map R ns)) pending left;
       }
 
-  pub visit : (at records : ℕ) (o : OpenNode) (os : List OpenNode) (x : Item) (index : TreeIndex) → o.visited < o.children
+  pub visit : (at records : ℕ) (o : OpenRecord) (os : List OpenRecord) (x : Item) (index : TreeIndex) → o.visited < o.children
       → ((q : Production) → IsProduction g o.production q → slice_get (stored_items q.items) (nth D o.children o.visited) ≡ Some
-      x) → IsSoFar g m k t v content at records (o ∷ os) index → IsComing g m k t v content at records x (moved o ∷ os) index
+      x) → IsSoFar g m k t v content at records (o ∷ os) index → IsPending g m k t v content at records x (moved o ∷ os) index
   visit at records o os x index less is s = visit_at at records o os x index s.families less is s.fit s.begun s.ending s.left
 
   -- an open node without children to come is closed
-  leave_at : (at records : ℕ) (o : OpenNode) (os : List OpenNode) (index new : TreeIndex) (fs : List Family)
+  leave_at : (at records : ℕ) (o : OpenRecord) (os : List OpenRecord) (index new : TreeIndex) (fs : List Family)
       → o.children ≤ o.visited → HasClosed o.number index new → AreOpen g (o ∷ os) fs
       → IsBegun g m k t v content records (o ∷ os) index (nodes_to_come D (o ∷ os) fs) → AreEnding D sizes_of records (o ∷ os) fs
       → ReadsBack version_two content at (map R (nodes_to_come D (o ∷ os) fs)) → IsSoFar g m k t v content at records os new
@@ -326,11 +326,11 @@ module _ (g : Grammar) (m : Passes) (k : ℕ) (t : Tree) (v : Valuation) (conten
       in
       let ordered = order_length D ks in
       let many = fit.3 in
-      let nothing : to_come D o f ≡ [] = drop_all o.visited (in_order D ks) (omega arith) in
+      let nothing : upcoming D o f ≡ [] = drop_all o.visited (in_order D ks) (omega arith) in
       let rest = nodes_to_come D os fs in
-      let below : nodes_in D (to_come D o f) ≡ [] = ap (nodes_in D) nothing in
-      let coming : nodes_in D (to_come D o f) ++ rest ≡ rest = ap (λ (ns : List Subtree). ns ++ rest) below in
-      let none_below : length (nodes_in D (to_come D o f)) ≡ 0 = ap length below in
+      let below : nodes_in D (upcoming D o f) ≡ [] = ap (nodes_in D) nothing in
+      let pending : nodes_in D (upcoming D o f) ++ rest ≡ rest = ap (λ (ns : List Subtree). ns ++ rest) below in
+      let none_below : length (nodes_in D (upcoming D o f)) ≡ 0 = ap length below in
       let ends = ending.0 in
       let counted = b.counted in
       let was_long = b.long in
@@ -345,7 +345,7 @@ module _ (g : Grammar) (m : Passes) (k : ℕ) (t : Tree) (v : Valuation) (conten
         fit = fit.4;
         begun = record {
           read = b.read;
-          all = b.all ∙ ap (λ (ns : List Subtree). b.read ++ ns) coming;
+          all = b.all ∙ ap (λ (ns : List Subtree). b.read ++ ns) pending;
           pass = closed.pass ∙ b.pass;
           ends = subst (λ (es : List ℕ). AreEnds content es (map R b.read)) (sym closed.ends) b.ends;
           kinds = closed.kinds ∙ b.kinds;
@@ -357,10 +357,10 @@ module _ (g : Grammar) (m : Passes) (k : ℕ) (t : Tree) (v : Valuation) (conten
           few = b.few;
         };
         ending = subst (λ n. AreEnding D sizes_of n os fs) (omega arith) ending.2;
-        left = subst (λ (ns : List Subtree). ReadsBack version_two content at (map R ns)) coming left;
+        left = subst (λ (ns : List Subtree). ReadsBack version_two content at (map R ns)) pending left;
       }
 
-  pub leave : (at records : ℕ) (o : OpenNode) (os : List OpenNode) (index new : TreeIndex) → o.children ≤ o.visited
+  pub leave : (at records : ℕ) (o : OpenRecord) (os : List OpenRecord) (index new : TreeIndex) → o.children ≤ o.visited
       → HasClosed o.number index new → IsSoFar g m k t v content at records (o ∷ os) index
       → IsSoFar g m k t v content at records os new
   leave at records o os index new done closed s = leave_at at records o os index new s.families done closed s.fit s.begun s.ending
@@ -386,7 +386,7 @@ module _ (g : Grammar) (m : Passes) (k : ℕ) (t : Tree) (v : Valuation) (conten
   -- the root comes first
   pub begin : (at : ℕ) (index : TreeIndex) → IsAccepted g → IsLegal g m → IsTreeOf g t
       → IsFileOfTree version_two g m k t v content → at ≡ length content → index.pass ≡ k → index.ends.items ≡ []
-      → index.kinds.items ≡ [] → index.sizes.items ≡ [] → IsComing g m k t v content at 0 (item.Symbol g.start) [] index
+      → index.kinds.items ≡ [] → index.sizes.items ≡ [] → IsPending g m k t v content at 0 (item.Symbol g.start) [] index
   begin at index accepted legal tree is end pass ends kinds sizes =
       let nodes = nodes_of D t v in
       let back : ReadsBack version_two content (length content) (prefix D (bodies_of version_two g m k t v)) = file_back
@@ -417,20 +417,20 @@ module _ (g : Grammar) (m : Passes) (k : ℕ) (t : Tree) (v : Valuation) (conten
 
 -- the same of other names for the same
 so_far_same : (g : Grammar) (m : Passes) (k : ℕ) (t : Tree) (v : Valuation) (content : List ℕ) (at at2 records records2 : ℕ)
-    (os os2 : List OpenNode) (index : TreeIndex) → at2 ≡ at → records2 ≡ records → os2 ≡ os
+    (os os2 : List OpenRecord) (index : TreeIndex) → at2 ≡ at → records2 ≡ records → os2 ≡ os
     → IsSoFar g m k t v content at records os index → IsSoFar g m k t v content at2 records2 os2 index
 so_far_same g m k t v content at at2 records records2 os os2 index a b c s =
     subst (λ (z : ℕ). IsSoFar g m k t v content z records2 os2 index) (sym a)
     (subst (λ (z : ℕ). IsSoFar g m k t v content at z os2 index) (sym b)
-    (subst (λ (z : List OpenNode). IsSoFar g m k t v content at records z index) (sym c) s))
+    (subst (λ (z : List OpenRecord). IsSoFar g m k t v content at records z index) (sym c) s))
 
 -- a record was read, of an item
 reads_item : (g : Grammar) (content : List ℕ) (old new : BackState) (x : Item) (number : ℕ) (body : List ℕ)
-    (before now : List OpenNode) (index_old index_new : TreeIndex) → BeginsRecord g x body number
+    (before now : List OpenRecord) (index_old index_new : TreeIndex) → BeginsRecord g x body number
     → HasOpened g x old.progress.at number index_old index_new before now
-    → next_before version_two content old.progress.at ≡ Ok (Some body) → old.progress.records < MOST_NODES
+    → next_before version_two content old.progress.at ≡ Ok (Some body) → old.progress.records < MAX_NODES
     → new.progress.at ≡ before_frame old.progress.at body → new.progress.records ≡ old.progress.records + 1
-    → ComesNext g content old x (reverse before) index_old → HasComeTo g content new (reverse now) index_new
+    → IsNextRecord g content old x (reverse before) index_old → HasComeTo g content new (reverse now) index_new
 reads_item g content old new (item.Terminal a) number body before now index_old index_new begins (added, same) found few at
     records next m k t v small legal tree file =
     so_far_same g m k t v content _ _ _ _ _ _ index_new at records (ap reverse same)
@@ -443,9 +443,9 @@ reads_item g content old new (item.Symbol s) number body before now index_old in
     opened.accepted begins added opened found few (next m k t v small legal tree file))
 
 pub reads : (g : Grammar) (content : List ℕ) (honest : Bool) (old new : BackState) (x : Item) (fetched : Fetched)
-    (before now : List OpenNode) (index_old index_new : TreeIndex) → HasFetched g honest content x old new fetched
+    (before now : List OpenRecord) (index_old index_new : TreeIndex) → HasFetched g honest content x old new fetched
     → HasOpened g fetched.item fetched.end fetched.number index_old index_new before now → honest ≡ true
-    → ComesNext g content old x (reverse before) index_old → HasComeTo g content new (reverse now) index_new
+    → IsNextRecord g content old x (reverse before) index_old → HasComeTo g content new (reverse now) index_new
 reads g content honest old new x fetched before now index_old index_new f opened is next =
     let at_end : HasOpened g fetched.item old.progress.at fetched.number index_old index_new before now = subst
     (λ (z : ℕ). HasOpened g fetched.item z fetched.number index_old index_new before now) f.end opened in
@@ -461,29 +461,29 @@ pass_is content pass true e = cc
 pass_is content pass false e = absurd (let bad : ⊥ = cc in bad)
 
 -- at the end of a file the root comes next
-pub begins_reading : (g : Grammar) (content : List ℕ) (back : BackState) (start : ℕ) (os : List OpenNode) (index : TreeIndex)
+pub begins_reading : (g : Grammar) (content : List ℕ) (back : BackState) (start : ℕ) (os : List OpenRecord) (index : TreeIndex)
     → IsAccepted g → back.progress.at ≡ length content → back.progress.records ≡ 0
     → pass_in version_two content ≡ Ok back.progress.pass → start ≡ g.start → os ≡ [] → index.pass ≡ back.progress.pass
     → index.ends.items ≡ [] → index.kinds.items ≡ [] → index.sizes.items ≡ []
-    → ComesNext g content back (item.Symbol start) os index
-begins_reading g content back start os index accepted end fresh told symbol nothing pass ends kinds sizes m k t v small legal tree
+    → IsNextRecord g content back (item.Symbol start) os index
+begins_reading g content back start os index accepted end fresh exact symbol nothing pass ends kinds sizes m k t v small legal tree
     file =
-    let stands : pass_of content ≡ k = ap pass_of file.stands
+    let occurs : pass_of content ≡ k = ap pass_of file.occurs
     ∙ pass_of_file version_two k (flat_map frame (postfix (direction_of k) (bodies_of version_two g m k t v)))
     version_two_usable small in
-    let same : back.progress.pass ≡ k = sym (pass_is content back.progress.pass (is_tree_file version_two content) told)
-    ∙ stands in
-    subst (λ (z : ℕ). IsComing g m k t v content back.progress.at z (item.Symbol start) os index) (sym fresh)
-    (subst (λ (z : ℕ). IsComing g m k t v content back.progress.at 0 (item.Symbol z) os index) (sym symbol)
-    (subst (λ (z : List OpenNode). IsComing g m k t v content back.progress.at 0 (item.Symbol g.start) z index) (sym nothing)
+    let same : back.progress.pass ≡ k = sym (pass_is content back.progress.pass (is_tree_file version_two content) exact)
+    ∙ occurs in
+    subst (λ (z : ℕ). IsPending g m k t v content back.progress.at z (item.Symbol start) os index) (sym fresh)
+    (subst (λ (z : ℕ). IsPending g m k t v content back.progress.at 0 (item.Symbol z) os index) (sym symbol)
+    (subst (λ (z : List OpenRecord). IsPending g m k t v content back.progress.at 0 (item.Symbol g.start) z index) (sym nothing)
     (begin g m k t v content back.progress.at index accepted legal tree file end (pass ∙ same) ends kinds sizes)))
 
 -- the next child comes, in the direction of the pass
-pub visits : (g : Grammar) (content : List ℕ) (back : BackState) (pass : ℕ) (o : OpenNode) (os : List OpenNode) (x : Item)
+pub visits : (g : Grammar) (content : List ℕ) (back : BackState) (pass : ℕ) (o : OpenRecord) (os : List OpenRecord) (x : Item)
     (index : TreeIndex) → index.pass ≡ pass → o.visited < o.children
     → ((q : Production) → IsProduction g o.production q → slice_get (stored_items q.items)
     (nth (back_from pass) o.children o.visited) ≡ Some x) → HasComeTo g content back (o ∷ os) index
-    → ComesNext g content back x (moved o ∷ os) index
+    → IsNextRecord g content back x (moved o ∷ os) index
 visits g content back pass o os x index of_pass less is come m k t v small legal tree file =
     let so_far = come m k t v small legal tree file in
     let same : pass ≡ k = sym of_pass ∙ so_far.begun.pass in
@@ -492,7 +492,7 @@ visits g content back pass o os x index of_pass less is come m k t v small legal
     (is q there)) so_far
 
 -- an open node is closed
-pub leaves : (g : Grammar) (content : List ℕ) (old new : BackState) (o : OpenNode) (os now : List OpenNode)
+pub leaves : (g : Grammar) (content : List ℕ) (old new : BackState) (o : OpenRecord) (os now : List OpenRecord)
     (index_old index_new : TreeIndex) → new ≡ old → now ≡ os → o.children ≤ o.visited → HasClosed o.number index_old index_new
     → HasComeTo g content old (o ∷ os) index_old → HasComeTo g content new now index_new
 leaves g content old new o os now index_old index_new same nodes done closed come m k t v small legal tree file =
@@ -502,11 +502,11 @@ leaves g content old new o os now index_old index_new same nodes done closed com
     (come m k t v small legal tree file))
 
 -- all was read
-pub ends_reading : (g : Grammar) (content : List ℕ) (back : BackState) (os : List OpenNode) (index : TreeIndex) → os ≡ []
+pub ends_reading : (g : Grammar) (content : List ℕ) (back : BackState) (os : List OpenRecord) (index : TreeIndex) → os ≡ []
     → HasComeTo g content back os index → IsIndexIn g content index
 ends_reading g content back os index nothing come m k t v small legal tree file =
     end g m k t v content back.progress.at back.progress.records index
-    (subst (λ (z : List OpenNode). IsSoFar g m k t v content back.progress.at back.progress.records z index) nothing
+    (subst (λ (z : List OpenRecord). IsSoFar g m k t v content back.progress.at back.progress.records z index) nothing
     (come m k t v small legal tree file))
 
 -- the item of the child that is visited next

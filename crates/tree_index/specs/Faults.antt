@@ -3,12 +3,12 @@ use Rattle.ag_value.specs.declared.fault.ValueFault.{ValueFault}
 use Rattle.ag_value.specs.declared.fault.ValueFault.TheVariants as value_fault
 use Rattle.treefile.specs.declared.reading.FrameFault.{FrameFault}
 use Rattle.treefile.specs.declared.reading.FrameFault.TheVariants as frame_fault
-use Rattle.tree_index.specs.declared.fault.RecordFault.{RecordFault}
-use Rattle.tree_index.specs.declared.fault.RecordFault.TheVariants as record_fault
+use Rattle.tree_index.specs.declared.fault.ShapeFault.{ShapeFault}
+use Rattle.tree_index.specs.declared.fault.ShapeFault.TheVariants as record_fault
 use Rattle.tree_index.specs.declared.fault.TreeFault.{TreeFault}
 use Rattle.tree_index.specs.declared.fault.TreeFault.TheVariants as tree_fault
 
-abbrev pub record_fault_of : ValueFault → RecordFault
+abbrev pub record_fault_of : ValueFault → ShapeFault
 record_fault_of value_fault.Malformed = record_fault.Damaged
 record_fault_of value_fault.NoMemory = record_fault.NoMemory
 

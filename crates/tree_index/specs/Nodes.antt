@@ -12,7 +12,7 @@ use Rattle.ag_grammar.specs.grammars.Solution.{Valuation, children, rest}
 use Rattle.ag_grammar.specs.grammars.Tree.{Fits, Forest, IsTreeOf, Tree, leaf, node, node_count, none, more}
 use Rattle.treefile.specs.records.Records.{IsFileOfTree, copies_of, node_body, token_body}
 use Rattle.treefile.specs.records.TreeFile.{version_two}
-use Rattle.treefile.specs.ways.Backward.{next_before}
+use Rattle.treefile.specs.framing.Backward.{next_before}
 use Rattle.tree_index.specs.declared.index.NodeKind.{NodeKind}
 use Rattle.tree_index.specs.declared.index.NodeKind.TheVariants as kind
 use Rattle.tree_index.specs.declared.index.TreeIndex.{TreeIndex}
@@ -125,17 +125,17 @@ HasCount g (Some (kind.Node p)) count = (q : Production) → IsProduction g p q 
 
 -- The nodes of a subtree are in a list of nodes from a number on.
 pub record StandsAt (d : Direction) (nodes : List Subtree) (number : ℕ) (t : Tree) (v : Valuation) : Type 0 where
-  pub front : List Subtree
+  pub prefix : List Subtree
   pub others : List Subtree
-  pub split : nodes ≡ front ++ (nodes_of d t v ++ others)
-  pub at : length front ≡ number
+  pub split : nodes ≡ prefix ++ (nodes_of d t v ++ others)
+  pub at : length prefix ≡ number
 
 -- those of some subtrees, one after the other
 pub record StandAt (d : Direction) (nodes : List Subtree) (number : ℕ) (subtrees : List Subtree) : Type 0 where
-  pub front : List Subtree
+  pub prefix : List Subtree
   pub others : List Subtree
-  pub split : nodes ≡ front ++ (nodes_in d subtrees ++ others)
-  pub at : length front ≡ number
+  pub split : nodes ≡ prefix ++ (nodes_in d subtrees ++ others)
+  pub at : length prefix ≡ number
 
 -- The number is that of the child at a place, which counts from 1, of a node with these children.
 pub record IsKid (d : Direction) (nodes : List Subtree) (ts : Forest) (v : Valuation) (place number : ℕ) : Type 0 where
@@ -143,7 +143,7 @@ pub record IsKid (d : Direction) (nodes : List Subtree) (ts : Forest) (v : Valua
   pub counted : place ≡ suc index
   pub kid : Subtree
   pub there : slice_get (kids ts (children v)) index ≡ Some kid
-  pub stands : StandsAt d nodes number kid.tree kid.values
+  pub occurs : StandsAt d nodes number kid.tree kid.values
 
 abbrev pub IsKidOf : Direction → List Subtree → Tree → Valuation → ℕ → ℕ → Type 0
 IsKidOf d nodes (leaf c x) v place number = ⊥

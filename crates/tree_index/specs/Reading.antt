@@ -5,7 +5,7 @@ use Rattle.ag_grammar.specs.declared.grammar.Item.{Item}
 use Rattle.ag_grammar.specs.declared.grammar.Item.TheVariants as item
 use Rattle.ag_grammar.specs.declared.grammar.Production.{Production}
 use Rattle.ag_grammar.specs.declared.grammar.Terminal.TheVariants.{Literal, Class}
-use Rattle.ag_grammar.specs.declared.limits.TheConstants.{MOST_NODES}
+use Rattle.ag_grammar.specs.declared.limits.TheConstants.{MAX_NODES}
 use Rattle.ag_grammar.specs.grammars.Accepted.{IsAccepted}
 use Rattle.ag_grammar.specs.grammars.AttributeGrammar.{Grammar, IsProduction, stored_items}
 use Rattle.ag_grammar.specs.grammars.Passes.{Passes}
@@ -15,13 +15,13 @@ use Rattle.backreader.specs.BackState.{BackState}
 use Rattle.treefile.specs.declared.body.Kind.TheVariants.{Node, Token}
 use Rattle.treefile.specs.devices.Device.{WhenHonest}
 use Rattle.treefile.specs.records.TreeFile.{body_from, version_two}
-use Rattle.treefile.specs.ways.Backward.{ReadsBack, before_frame, next_before}
+use Rattle.treefile.specs.framing.Backward.{ReadsBack, before_frame, next_before}
 use Rattle.tree_index.specs.Nodes.{AreEnds, OfEach, Subtree, back_from, in_order, kids, kind_at, nodes_in, nodes_of, record_at, size_at}
 use Rattle.tree_index.specs.declared.index.NodeKind.{NodeKind}
 use Rattle.tree_index.specs.declared.index.NodeKind.TheVariants as kind
 use Rattle.tree_index.specs.declared.index.TreeIndex.{TreeIndex}
 use Rattle.tree_index.specs.declared.reading.Fetched.{Fetched}
-use Rattle.tree_index.specs.declared.reading.OpenNode.{OpenNode}
+use Rattle.tree_index.specs.declared.reading.OpenRecord.{OpenRecord}
 
 -- A body begins as the record of an item, with this number of a production or a class.
 abbrev pub BeginsRecord : Grammar → Item → List ℕ → ℕ → Type 0
@@ -39,7 +39,7 @@ pub record HasFetched (g : Grammar) (honest : Bool) (content : List ℕ) (x : It
   pub begins : BeginsRecord g x body fetched.number
   pub end : fetched.end ≡ old.progress.at
   pub now : new.progress.at ≡ before_frame old.progress.at body
-  pub few : old.progress.records < MOST_NODES
+  pub few : old.progress.records < MAX_NODES
   pub counted : new.progress.records ≡ old.progress.records + 1
 
 -- A node was added to an index.
@@ -61,7 +61,7 @@ pub record HasClosed (number : ℕ) (old new : TreeIndex) : Type 0 where
   pub sizes : new.sizes.items ≡ set old.sizes.items number (in_four_bytes (length old.sizes.items - number))
 
 -- A node of a production of an accepted grammar was opened.
-pub record IsOpened (g : Grammar) (index : TreeIndex) (production : ℕ) (open_node : OpenNode) : Type 0 where
+pub record IsOpened (g : Grammar) (index : TreeIndex) (production : ℕ) (open_node : OpenRecord) : Type 0 where
   pub accepted : IsAccepted g
   pub number : open_node.number ≡ in_four_bytes (length index.ends.items)
   pub production_is : open_node.production ≡ production
@@ -69,8 +69,8 @@ pub record IsOpened (g : Grammar) (index : TreeIndex) (production : ℕ) (open_n
   pub visited : open_node.visited ≡ 0
 
 -- A record of an item was added to the index, and its node was opened if it is one of a production.
-abbrev pub HasOpened : Grammar → Item → ℕ → ℕ → TreeIndex → TreeIndex → List OpenNode → List OpenNode → Type 0
-HasOpened g (item.Symbol s) end number old new open_old open_new = (o : OpenNode) × HasAdded end (kind.Node number) old new
+abbrev pub HasOpened : Grammar → Item → ℕ → ℕ → TreeIndex → TreeIndex → List OpenRecord → List OpenRecord → Type 0
+HasOpened g (item.Symbol s) end number old new open_old open_new = (o : OpenRecord) × HasAdded end (kind.Node number) old new
     × IsOpened g old number o × (open_new ≡ open_old ++ o ∷ [])
 HasOpened g (item.Terminal a) end number old new open_old open_new = HasAdded end (kind.Token number) old new
     × (open_new ≡ open_old)
@@ -81,17 +81,17 @@ pub record Family : Type 0 where
   pub values : ℕ → Valuation
 
 -- those that are not visited yet, in the order of the reading
-abbrev pub to_come : Direction → OpenNode → Family → List Subtree
-to_come d o f = drop o.visited (in_order d (kids f.trees f.values))
+abbrev pub upcoming : Direction → OpenRecord → Family → List Subtree
+upcoming d o f = drop o.visited (in_order d (kids f.trees f.values))
 
 -- the nodes that are to come below open nodes, the innermost of which comes first
-abbrev pub nodes_to_come : Direction → List OpenNode → List Family → List Subtree
+abbrev pub nodes_to_come : Direction → List OpenRecord → List Family → List Subtree
 nodes_to_come d [] fs = []
 nodes_to_come d (o ∷ os) [] = []
-nodes_to_come d (o ∷ os) (f ∷ fs) = nodes_in d (to_come d o f) ++ nodes_to_come d os fs
+nodes_to_come d (o ∷ os) (f ∷ fs) = nodes_in d (upcoming d o f) ++ nodes_to_come d os fs
 
 -- Open nodes are of their productions, and their children are trees of the items.
-abbrev pub AreOpen : Grammar → List OpenNode → List Family → Type 0
+abbrev pub AreOpen : Grammar → List OpenRecord → List Family → Type 0
 AreOpen g [] [] = Unit {0}
 AreOpen g [] (f ∷ fs) = ⊥
 AreOpen g (o ∷ os) [] = ⊥
@@ -99,37 +99,37 @@ AreOpen g (o ∷ os) (f ∷ fs) = (q : Production) × IsProduction g o.productio
     × (o.children ≡ length (stored_items q.items)) × AreOpen g os fs
 
 -- Where the nodes end that are open after n nodes were read, by the sizes of all nodes: with what is to come below them.
-abbrev pub AreEnding : Direction → List ℕ → ℕ → List OpenNode → List Family → Type 0
+abbrev pub AreEnding : Direction → List ℕ → ℕ → List OpenRecord → List Family → Type 0
 AreEnding d sizes n [] fs = Unit {0}
 AreEnding d sizes n (o ∷ os) [] = ⊥
-AreEnding d sizes n (o ∷ os) (f ∷ fs) = (o.number + get_or sizes o.number 0 ≡ n + length (nodes_in d (to_come d o f)))
-    × (o.number < n) × AreEnding d sizes (n + length (nodes_in d (to_come d o f))) os fs
+AreEnding d sizes n (o ∷ os) (f ∷ fs) = (o.number + get_or sizes o.number 0 ≡ n + length (nodes_in d (upcoming d o f)))
+    × (o.number < n) × AreEnding d sizes (n + length (nodes_in d (upcoming d o f))) os fs
 
 -- the number of an open node
-abbrev pub IsOpenNumber : ℕ → List OpenNode → Type 0
+abbrev pub IsOpenNumber : ℕ → List OpenRecord → Type 0
 IsOpenNumber i [] = ⊥
 IsOpenNumber i (o ∷ os) = (i ≡ o.number) ⊎ IsOpenNumber i os
 
 -- The sizes so far are those of the nodes, except those of open nodes.
-abbrev pub AreSizes : List ℕ → List ℕ → List OpenNode → Type 0
+abbrev pub AreSizes : List ℕ → List ℕ → List OpenRecord → Type 0
 AreSizes sizes so_far os = (i : ℕ) → i < length so_far → (get_or so_far i 0 ≡ get_or sizes i 0) ⊎ IsOpenNumber i os
 
 -- The index of the nodes that were read, in front of those that are to come.
 pub record IsBegun (g : Grammar) (m : Passes) (k : ℕ) (t : Tree) (v : Valuation) (content : List ℕ) (records : ℕ)
-    (os : List OpenNode) (index : TreeIndex) (coming : List Subtree) : Type 0 where
+    (os : List OpenRecord) (index : TreeIndex) (pending : List Subtree) : Type 0 where
   pub read : List Subtree
-  pub all : nodes_of (back_from k) t v ≡ read ++ coming
+  pub all : nodes_of (back_from k) t v ≡ read ++ pending
   pub pass : index.pass ≡ k
   pub ends : AreEnds content index.ends.items (map (record_at g m k) read)
   pub kinds : index.kinds.items ≡ map kind_at read
   pub long : length index.sizes.items ≡ length read
   pub sizes : AreSizes (map size_at (nodes_of (back_from k) t v)) index.sizes.items os
   pub counted : length read ≡ records
-  pub few : records ≤ MOST_NODES
+  pub few : records ≤ MAX_NODES
 
 -- The reading of a tree has come so far.
 pub record IsSoFar (g : Grammar) (m : Passes) (k : ℕ) (t : Tree) (v : Valuation) (content : List ℕ) (at records : ℕ)
-    (os : List OpenNode) (index : TreeIndex) : Type 0 where
+    (os : List OpenRecord) (index : TreeIndex) : Type 0 where
   pub families : List Family
   pub fit : AreOpen g os families
   pub begun : IsBegun g m k t v content records os index (nodes_to_come (back_from k) os families)
@@ -137,8 +137,8 @@ pub record IsSoFar (g : Grammar) (m : Passes) (k : ℕ) (t : Tree) (v : Valuatio
   pub left : ReadsBack version_two content at (map (record_at g m k) (nodes_to_come (back_from k) os families))
 
 -- It comes to a tree of an item next, below open nodes.
-pub record IsComing (g : Grammar) (m : Passes) (k : ℕ) (t : Tree) (v : Valuation) (content : List ℕ) (at records : ℕ) (x : Item)
-    (os : List OpenNode) (index : TreeIndex) : Type 0 where
+pub record IsPending (g : Grammar) (m : Passes) (k : ℕ) (t : Tree) (v : Valuation) (content : List ℕ) (at records : ℕ) (x : Item)
+    (os : List OpenRecord) (index : TreeIndex) : Type 0 where
   pub tree : Tree
   pub values : Valuation
   pub fits : Fits g x tree
@@ -151,10 +151,10 @@ pub record IsComing (g : Grammar) (m : Passes) (k : ℕ) (t : Tree) (v : Valuati
       (nodes_of (back_from k) tree values ++ nodes_to_come (back_from k) os families))
 
 -- So it is of each tree and values whose file of a pass the content is.
-abbrev pub HasComeTo : Grammar → List ℕ → BackState → List OpenNode → TreeIndex → Type 0
+abbrev pub HasComeTo : Grammar → List ℕ → BackState → List OpenRecord → TreeIndex → Type 0
 HasComeTo g content back os index = OfEach (λ m k t v. IsSoFar g m k t v content back.progress.at back.progress.records os index)
     g content
 
-abbrev pub ComesNext : Grammar → List ℕ → BackState → Item → List OpenNode → TreeIndex → Type 0
-ComesNext g content back x os index = OfEach (λ m k t v. IsComing g m k t v content back.progress.at back.progress.records x os
+abbrev pub IsNextRecord : Grammar → List ℕ → BackState → Item → List OpenRecord → TreeIndex → Type 0
+IsNextRecord g content back x os index = OfEach (λ m k t v. IsPending g m k t v content back.progress.at back.progress.records x os
     index) g content

@@ -5,7 +5,7 @@ ghost use Rattle.tree_index.specs.Nodes.{HasChild, LeadsToNode};
 
 use crate::index::{NodeKind, TreeIndex};
 use crate::tokens::TokenCounts;
-use ag_grammar::limits::MOST_DEPTH;
+use ag_grammar::limits::MAX_DEPTH;
 use ag_grammar::{Grammar, Item, Terminal};
 use ag_value::NoMemory;
 use std::alloc::Global;
@@ -58,7 +58,7 @@ impl TreeIndex {
         let mut node = 0u32;
         let mut range = range;
         // a tree that was read has no more levels
-        for _level in 0..MOST_DEPTH {
+        for _level in 0..MAX_DEPTH {
             let Some(step) = self.covering_child(grammar, counts, node, range) else {
                 return Ok(places);
             };

@@ -9,20 +9,20 @@ use treefile::FrameFault;
 
 /// Why a record was not read.
 #[derive(Clone, Copy, Debug, PartialEq, Eq)]
-pub(crate) enum RecordFault {
+pub(crate) enum ShapeFault {
     /// The body is not a record of the expected item.
     Damaged,
     /// Memory was refused.
     NoMemory,
 }
 
-impl From<ValueFault> for RecordFault {
+impl From<ValueFault> for ShapeFault {
     ghost from_gives = { λ fault e. e ≡ record_fault_of fault };
 
-    fn from(fault: ValueFault) -> RecordFault {
+    fn from(fault: ValueFault) -> ShapeFault {
         match fault {
-            ValueFault::Malformed => RecordFault::Damaged,
-            ValueFault::NoMemory => RecordFault::NoMemory,
+            ValueFault::Malformed => ShapeFault::Damaged,
+            ValueFault::NoMemory => ShapeFault::NoMemory,
         }
     }
 }
@@ -34,9 +34,9 @@ pub enum TreeFault {
     /// tree file, 4 if the plan does not have its pass, else the end of the first record from the end of the
     /// file that shows it, or the offset at which one should end.
     Damaged(u64),
-    /// P2: the tree has more than `MOST_DEPTH` levels.
+    /// P2: the tree has more than `MAX_DEPTH` levels.
     TooDeep,
-    /// P3: the tree has more than `MOST_NODES` records.
+    /// P3: the tree has more than `MAX_NODES` records.
     TooManyNodes,
     /// D1: a call of the device failed.
     Device,

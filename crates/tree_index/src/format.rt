@@ -6,11 +6,11 @@ ghost use Rattle.treefile.specs.devices.Device.{LeavesContent, Persists};
 ghost use Rattle.tree_index.specs.Reading.{BeginsRecord};
 
 use crate::bodies::body_before;
-use crate::fault::{RecordFault, TreeFault};
+use crate::fault::{ShapeFault, TreeFault};
 use crate::layout::{copied_passes, count_up_to, passes_of};
 use crate::records::{read_text, read_values, split_record};
 use ag_carried::Carried;
-use ag_grammar::limits::MOST_ATTRIBUTES;
+use ag_grammar::limits::MAX_ATTRIBUTES;
 use ag_grammar::{Grammar, Item, Production, Terminal};
 use planchecker::Plan;
 use std::alloc::Global;
@@ -94,7 +94,7 @@ impl<'a> FileFormat<'a> {
 
     /// Returns whether an item has an attribute of this name.
     pub fn has_attribute(&self, item: Item, name: &str) -> bool {
-        for attr in 0..MOST_ATTRIBUTES as u16 {
+        for attr in 0..MAX_ATTRIBUTES as u16 {
             if self.attribute_name(item, attr) == Some(name) {
                 return true;
             }
@@ -110,11 +110,11 @@ impl<'a> FileFormat<'a> {
         item: Item,
         body: &[u8],
         row: &mut Vec<Carried>,
-    ) -> Result<u16, RecordFault>
+    ) -> Result<u16, ShapeFault>
         ensures begins { IfOk result (λ number. BeginsRecord self.now.grammar.now item body.now number) }
     {
         let Some((number, spellings)) = split_record(self.grammar, item, body) else {
-            return Err(RecordFault::Damaged);
+            return Err(ShapeFault::Damaged);
         };
         match (item, self.production(number)) {
             (Item::Symbol(_), Some(production)) => {
@@ -133,7 +133,7 @@ impl<'a> FileFormat<'a> {
         production: &Production,
         spellings: &[u8],
         row: &mut Vec<Carried>,
-    ) -> Result<(), RecordFault> {
+    ) -> Result<(), ShapeFault> {
         let own = self.own_width(Item::Symbol(production.left));
         let mut rest = read_values(alloc, own, spellings, row)?;
         for item in production.items.as_slice() {
@@ -142,7 +142,7 @@ impl<'a> FileFormat<'a> {
         if rest.is_empty() {
             Ok(())
         } else {
-            Err(RecordFault::Damaged)
+            Err(ShapeFault::Damaged)
         }
     }
 
@@ -164,8 +164,8 @@ impl<'a> FileFormat<'a> {
         let mut row = Vec::new(alloc);
         match self.read_into(alloc, item, body.as_slice(), &mut row) {
             Ok(number) => Ok(NodeRecord { number, row }),
-            Err(RecordFault::Damaged) => Err(TreeFault::Damaged(end)),
-            Err(RecordFault::NoMemory) => Err(TreeFault::NoMemory),
+            Err(ShapeFault::Damaged) => Err(TreeFault::Damaged(end)),
+            Err(ShapeFault::NoMemory) => Err(TreeFault::NoMemory),
         }
     }
 

@@ -204,7 +204,7 @@ fn stored_among(items: &[Item]) -> u16
 {
     let mut count = 0;
     for item in items {
-        if item.has_place() {
+        if item.is_stored_child() {
             count += 1;
         }
     }

@@ -1,6 +1,6 @@
 //! Paths from the root of a tree to its nodes.
 
-use ag_grammar::limits::MOST_DEPTH;
+use ag_grammar::limits::MAX_DEPTH;
 use ag_value::NoMemory;
 use std::alloc::Global;
 use std::fmt;
@@ -121,7 +121,7 @@ fn run_of(part: &str) -> Option<Run> {
         None => (number_in(part)?, 1),
     };
     let place = u16::try_from(place).ok()?;
-    if place == 0 || count == 0 || MOST_DEPTH as u32 <= count {
+    if place == 0 || count == 0 || MAX_DEPTH as u32 <= count {
         return None;
     }
     Some(Run { place, count })

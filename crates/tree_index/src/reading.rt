@@ -7,15 +7,15 @@ ghost use Rattle.ag_grammar.specs.grammars.AttributeGrammar.{IsProduction, store
 ghost use Rattle.ag_grammar.specs.grammars.Passes.{nth};
 ghost use Rattle.treefile.specs.devices.Device.{LeavesContent, Persists, WhenHonest};
 ghost use Rattle.tree_index.specs.Nodes.{IsIndexIn, back_from};
-ghost use Rattle.tree_index.specs.Reading.{BeginsRecord, ComesNext, HasComeTo, HasClosed, HasFetched, HasOpened};
+ghost use Rattle.tree_index.specs.Reading.{BeginsRecord, IsNextRecord, HasComeTo, HasClosed, HasFetched, HasOpened};
 ghost use Rattle.tree_index.specs.Ready.{IsReady};
 
-use crate::fault::{RecordFault, TreeFault};
+use crate::fault::{ShapeFault, TreeFault};
 use crate::format::FileFormat;
 use crate::index::{NodeKind, TreeIndex, child_count};
 use crate::records::split_record;
 use ag_carried::Carried;
-use ag_grammar::limits::{MOST_DEPTH, MOST_NODES};
+use ag_grammar::limits::{MAX_DEPTH, MAX_NODES};
 use ag_grammar::{Direction, Grammar, Item, Production};
 use backreader::Back;
 use planchecker::Plan;
@@ -26,11 +26,11 @@ use treefile::Device;
 const PASS_OFFSET: u64 = 4;
 
 /// The greatest number of turns to an open node: one for each node below it, and one to leave it.
-const MAX_TURNS: u32 = 2 * MOST_NODES + 1;
+const MAX_TURNS: u32 = 2 * MAX_NODES + 1;
 
 /// An open node: its record was read, and the records of some of its children were not.
 #[derive(Clone, Copy)]
-pub(crate) struct OpenNode {
+pub(crate) struct OpenRecord {
     /// Its number in the index.
     number: u32,
     /// The number of its production.
@@ -85,7 +85,7 @@ impl Mode<'_> {
         item: Item,
         body: &[u8],
         values: &mut Vec<Carried>,
-    ) -> Result<u16, RecordFault>
+    ) -> Result<u16, ShapeFault>
         ensures begins { IfOk result (λ number. BeginsRecord self.now.format.grammar.now
             item body.now number) }
     {
@@ -94,7 +94,7 @@ impl Mode<'_> {
         }
         match split_record(self.format.grammar, item, body) {
             Some((number, _)) => Ok(number),
-            None => Err(RecordFault::Damaged),
+            None => Err(ShapeFault::Damaged),
         }
     }
 
@@ -115,7 +115,7 @@ impl Mode<'_> {
     }
 
     /// Returns the record that is expected next at a node with a child that was not visited.
-    fn expected_child(&self, node: OpenNode) -> Option<Expected>
+    fn expected_child(&self, node: OpenRecord) -> Option<Expected>
         ensures { IfSome result (λ expected. (q : TheProduction)
             → IsProduction self.now.format.grammar.now node.production q
             → slice_get (stored_items q.items) (nth (back_from self.now.format.pass)
@@ -153,7 +153,7 @@ fn fetch<D: Device>(
     ensures persists { Persists (D.is_honest device.old) (D.is_honest device.new)
         (D.failures device.old) (D.failures device.new) (IsErrOf result TreeFault.Device) }
 {
-    if back.records() >= u64::from(MOST_NODES) {
+    if back.records() >= u64::from(MAX_NODES) {
         return Err(TreeFault::TooManyNodes);
     }
     let end = back.end();
@@ -181,8 +181,8 @@ fn fetch<D: Device>(
             end,
             row,
         }),
-        Err(RecordFault::Damaged) => Err(TreeFault::Damaged(end)),
-        Err(RecordFault::NoMemory) => Err(TreeFault::NoMemory),
+        Err(ShapeFault::Damaged) => Err(TreeFault::Damaged(end)),
+        Err(ShapeFault::NoMemory) => Err(TreeFault::NoMemory),
     }
 }
 
@@ -192,7 +192,7 @@ pub(crate) struct Reading {
     pub(crate) back: Back,
     pub(crate) index: TreeIndex,
     /// The open nodes, from the root down.
-    pub(crate) nodes: Vec<OpenNode>,
+    pub(crate) nodes: Vec<OpenRecord>,
     /// The rows of the open nodes.
     pub(crate) values: Vec<Carried>,
 }
@@ -206,7 +206,7 @@ impl Reading {
         device: &mut D,
     ) -> Result<(), TreeFault>
         requires ready { IsReady (D.is_honest device.old) (D.content device.old) self.old.back }
-        requires next { WhenHonest (D.is_honest device.old) (ComesNext mode.now.format.grammar.now
+        requires next { WhenHonest (D.is_honest device.old) (IsNextRecord mode.now.format.grammar.now
             (D.content device.old) self.old.back expected.item (reverse self.old.nodes.items) self.old.index) }
         ensures ready { OnOk result (IsReady (D.is_honest device.new) (D.content device.old)
             self.new.back) }
@@ -219,7 +219,7 @@ impl Reading {
         ensures persists { Persists (D.is_honest device.old) (D.is_honest device.new)
             (D.failures device.old) (D.failures device.new) (IsErrOf result TreeFault.Device) }
     {
-        if self.nodes.len() >= MOST_DEPTH {
+        if self.nodes.len() >= MAX_DEPTH {
             return Err(TreeFault::TooDeep);
         }
         let (back, values) = (&mut self.back, &mut self.values);
@@ -257,7 +257,7 @@ impl Reading {
             return Ok(());
         };
         let number = self.index.add(fetched.end, NodeKind::Node(fetched.number))?;
-        let node = OpenNode {
+        let node = OpenRecord {
             number,
             production: fetched.number,
             children: child_count(grammar, fetched.number),
@@ -271,7 +271,7 @@ impl Reading {
     }
 
     /// Closes a node that was taken from the open ones.
-    fn close(&mut self, node: OpenNode)
+    fn close(&mut self, node: OpenRecord)
         ensures closed { HasClosed node.number self.old.index self.new.index }
         ensures nodes { self.new.nodes ≡ self.old.nodes }
         ensures back { self.new.back ≡ self.old.back }
@@ -284,7 +284,7 @@ impl Reading {
     fn turn<D: Device>(
         &mut self,
         mode: &Mode<'_>,
-        node: OpenNode,
+        node: OpenRecord,
         device: &mut D,
     ) -> Result<(), TreeFault>
         requires ready { IsReady (D.is_honest device.old) (D.content device.old) self.old.back }
@@ -309,7 +309,7 @@ impl Reading {
         let Some(expected) = mode.expected_child(node) else {
             return Err(TreeFault::Damaged(self.back.end()));
         };
-        let visited = OpenNode {
+        let visited = OpenRecord {
             visited: node.visited + 1,
             ..node
         };

@@ -3,9 +3,9 @@
 ghost use Rattle.std.specs.Prelude.{IfSome};
 ghost use Rattle.tree_index.specs.Reading.{BeginsRecord};
 
-use crate::fault::RecordFault;
+use crate::fault::ShapeFault;
 use ag_carried::Carried;
-use ag_grammar::limits::MOST_TOKEN_BYTES;
+use ag_grammar::limits::MAX_TOKEN_BYTES;
 use ag_grammar::{Grammar, Item, Terminal};
 use ag_value::Value;
 use std::alloc::Global;
@@ -47,12 +47,12 @@ pub(crate) fn read_values<'b>(
     count: usize,
     bytes: &'b [u8],
     row: &mut Vec<Carried>,
-) -> Result<&'b [u8], RecordFault> {
+) -> Result<&'b [u8], ShapeFault> {
     let mut rest = bytes;
     for _ in 0..count {
         let (value, length) = Carried::read(alloc, rest)?;
         let Ok(()) = row.push(value) else {
-            return Err(RecordFault::NoMemory);
+            return Err(ShapeFault::NoMemory);
         };
         rest = &rest[length..];
     }
@@ -65,13 +65,13 @@ pub(crate) fn read_text(
     alloc: Global,
     spelling: &[u8],
     row: &mut Vec<Carried>,
-) -> Result<(), RecordFault> {
+) -> Result<(), ShapeFault> {
     let (value, length) = Carried::read(alloc, spelling)?;
     if length != spelling.len() || !is_token_text(&value) {
-        return Err(RecordFault::Damaged);
+        return Err(ShapeFault::Damaged);
     }
     let Ok(()) = row.push(value) else {
-        return Err(RecordFault::NoMemory);
+        return Err(ShapeFault::NoMemory);
     };
     Ok(())
 }
@@ -79,7 +79,7 @@ pub(crate) fn read_text(
 /// Returns whether a value is a text that a token may have.
 fn is_token_text(value: &Carried) -> bool {
     match value.as_value() {
-        Some(Value::Text(text)) => text.as_str().len() <= MOST_TOKEN_BYTES,
+        Some(Value::Text(text)) => text.as_str().len() <= MAX_TOKEN_BYTES,
         _ => false,
     }
 }

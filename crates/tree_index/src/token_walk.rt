@@ -1,13 +1,13 @@
 //! The tokens of a tree in the order of the sentence.
 
 use crate::index::{NodeKind, TreeIndex};
-use ag_grammar::limits::MOST_NODES;
+use ag_grammar::limits::MAX_NODES;
 use ag_grammar::{Grammar, Item, Terminal};
 use ag_value::NoMemory;
 use std::alloc::Global;
 
 /// The greatest number of turns to an open node between two tokens: one for each child, and one to leave it.
-const MAX_TURNS: u32 = 2 * MOST_NODES + 1;
+const MAX_TURNS: u32 = 2 * MAX_NODES + 1;
 
 /// A token of a tree.
 #[derive(Clone, Copy, Debug, PartialEq, Eq)]
@@ -20,7 +20,7 @@ pub enum TreeToken {
 
 /// A node whose tokens are visited: the next item of its production, and the number of children before it.
 #[derive(Clone, Copy)]
-struct OpenNode {
+struct OpenRecord {
     node: u32,
     item: usize,
     children: u16,
@@ -43,7 +43,7 @@ pub struct TokenWalk<'a> {
     grammar: &'a Grammar,
     index: &'a TreeIndex,
     /// The open nodes, from the root down.
-    nodes: Vec<OpenNode>,
+    nodes: Vec<OpenRecord>,
 }
 
 impl<'a> TokenWalk<'a> {
@@ -86,7 +86,7 @@ impl<'a> TokenWalk<'a> {
     /// Opens a node of which nothing was visited.
     fn open(&mut self, node: u32) -> Result<(), NoMemory> {
         Ok(
-            self.nodes.push(OpenNode {
+            self.nodes.push(OpenRecord {
                 node,
                 item: 0,
                 children: 0,
@@ -95,7 +95,7 @@ impl<'a> TokenWalk<'a> {
     }
 
     /// Opens a node again after a token of it was visited.
-    fn pass(&mut self, open: OpenNode, token: TreeToken) -> Result<(), NoMemory> {
+    fn pass(&mut self, open: OpenRecord, token: TreeToken) -> Result<(), NoMemory> {
         match token {
             TreeToken::Literal(_) => self.go_on(open, 0),
             TreeToken::Word(_) => self.go_on(open, 1),
@@ -103,9 +103,9 @@ impl<'a> TokenWalk<'a> {
     }
 
     /// Opens a node again after its next item, in which there are `children` children.
-    fn go_on(&mut self, open: OpenNode, children: u16) -> Result<(), NoMemory> {
+    fn go_on(&mut self, open: OpenRecord, children: u16) -> Result<(), NoMemory> {
         Ok(
-            self.nodes.push(OpenNode {
+            self.nodes.push(OpenRecord {
                 node: open.node,
                 item: open.item.saturating_add(1),
                 children: open.children.saturating_add(children),
@@ -114,7 +114,7 @@ impl<'a> TokenWalk<'a> {
     }
 
     /// Returns what follows at the next item of a node.
-    fn next_of(&self, open: OpenNode) -> Next {
+    fn next_of(&self, open: OpenRecord) -> Next {
         let Some(NodeKind::Node(number)) = self.index.kind(open.node) else {
             return Next::Nothing;
         };

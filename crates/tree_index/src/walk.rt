@@ -19,7 +19,7 @@ pub struct NodeVisit {
 
 /// A node that was visited, and not yet all of its children.
 #[derive(Clone, Copy)]
-struct OpenNode {
+struct OpenRecord {
     node: u32,
     children: u16,
     /// The number of children that were visited.
@@ -35,7 +35,7 @@ pub struct SentenceWalk<'a> {
     /// The greatest level that is visited.
     depth: u32,
     first: Option<u32>,
-    nodes: Vec<OpenNode>,
+    nodes: Vec<OpenRecord>,
     path: NodePath,
 }
 
@@ -81,7 +81,7 @@ impl<'a> SentenceWalk<'a> {
         } else {
             0
         };
-        self.nodes.push(OpenNode {
+        self.nodes.push(OpenRecord {
             node,
             children,
             visited: 0,
@@ -112,11 +112,11 @@ impl<'a> SentenceWalk<'a> {
     }
 
     /// Returns the next child of a node, which was taken from the list.
-    fn visit_child(&mut self, node: OpenNode) -> Result<Option<u32>, NoMemory>
+    fn visit_child(&mut self, node: OpenRecord) -> Result<Option<u32>, NoMemory>
         requires { node.visited < node.children }
     {
         let place = node.visited + 1;
-        self.nodes.push(OpenNode {
+        self.nodes.push(OpenRecord {
             visited: place,
             ..node
         })?;

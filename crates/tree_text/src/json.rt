@@ -4,7 +4,7 @@ use crate::names::{ItemName, ProductionText};
 use crate::printing::{ShownNode, TreeText};
 use ag_carried::Carried;
 use ag_grammar::Item;
-use ag_grammar::limits::MOST_ATTRIBUTES;
+use ag_grammar::limits::MAX_ATTRIBUTES;
 use ag_value::{ErrorCode, NoMemory, Text, Value};
 use std::alloc::Global;
 use tree_index::NodePath;
@@ -30,7 +30,7 @@ impl TreeText<'_> {
         self.write_kind_fields(alloc, out, shown)?;
         out.push_str(", \"values\": {")?;
         let mut is_first = true;
-        for attr in 0..MOST_ATTRIBUTES as u16 {
+        for attr in 0..MAX_ATTRIBUTES as u16 {
             if self.write_member(out, shown, attr, is_first)? {
                 is_first = false;
             }

@@ -4,7 +4,7 @@ use crate::names::{ItemName, ProductionText};
 use crate::printing::{ShownNode, TreeText};
 use crate::shown::write_value;
 use ag_grammar::Item;
-use ag_grammar::limits::MOST_ATTRIBUTES;
+use ag_grammar::limits::MAX_ATTRIBUTES;
 use ag_value::NoMemory;
 use std::alloc::Global;
 use tree_index::NodePath;
@@ -27,7 +27,7 @@ impl TreeText<'_> {
         }
         write!(out, "{path}  ")?;
         self.write_kind(out, shown)?;
-        for attr in 0..MOST_ATTRIBUTES as u16 {
+        for attr in 0..MAX_ATTRIBUTES as u16 {
             self.write_attribute(alloc, out, shown, attr)?;
         }
         self.write_left_out(out, shown)?;

@@ -1,7 +1,7 @@
 //! The names of items and productions.
 
 use ag_grammar::{Grammar, Item, Production, Terminal};
-use message_texts::display::Plain;
+use message_texts::display::PlainText;
 use message_texts::terminals::class_name;
 use std::fmt;
 
@@ -16,13 +16,13 @@ impl fmt::Display for ItemName<'_> {
     fn fmt<W: fmt::Write>(&self, f: &mut fmt::Formatter<W>) -> fmt::Result {
         match self.item {
             Item::Symbol(number) => match self.grammar.symbols().get(usize::from(number)) {
-                Some(symbol) => write!(f, "{}", Plain(symbol.name.as_str())),
+                Some(symbol) => write!(f, "{}", PlainText(symbol.name.as_str())),
                 None => Ok(()),
             },
             Item::Terminal(Terminal::Class(number)) => f.write_str(class_name(number)),
             Item::Terminal(Terminal::Literal(number)) => {
                 match self.grammar.literals().get(usize::from(number)) {
-                    Some(literal) => write!(f, "\"{}\"", Plain(literal.as_str())),
+                    Some(literal) => write!(f, "\"{}\"", PlainText(literal.as_str())),
                     None => Ok(()),
                 }
             }

@@ -6,7 +6,7 @@ ghost use Rattle.treefile.specs.devices.Device.{LeavesContent, Persists};
 use crate::fault::ShowFault;
 use crate::selection::Selected;
 use ag_grammar::Item;
-use ag_grammar::limits::{MOST_ATTRIBUTES, MOST_NODES};
+use ag_grammar::limits::{MAX_ATTRIBUTES, MAX_NODES};
 use ag_value::NoMemory;
 use agoutput::write_text;
 use std::alloc::Global;
@@ -56,7 +56,7 @@ impl TreeText<'_> {
 
     /// Returns whether a node is printed: if attributes are selected, only one that has such an attribute.
     fn is_printed(&self, item: Item) -> bool {
-        for attr in 0..MOST_ATTRIBUTES as u16 {
+        for attr in 0..MAX_ATTRIBUTES as u16 {
             if self.is_selected(item, attr) && self.format.attribute_name(item, attr).is_some() {
                 return true;
             }
@@ -125,7 +125,7 @@ pub fn write_tree<D: Device, W: Write>(
 {
     walk.set_depth(text.depth);
     let mut buffer = String::new(alloc);
-    for _node in 0..MOST_NODES {
+    for _node in 0..MAX_NODES {
         let Some(visit) = walk.next()? else {
             break;
         };

@@ -2,7 +2,7 @@
 
 use ag_carried::Carried;
 use ag_value::{NoMemory, Text, Value, show};
-use message_texts::display::Plain;
+use message_texts::display::PlainText;
 use std::alloc::Global;
 
 /// Writes the first `width` characters of a value as text, and `..` after them if there are more; the whole
@@ -50,10 +50,10 @@ fn first_characters(text: &str, count: usize) -> &str {
 /// `width` is 0.
 fn write_first(out: &mut String, text: &str, width: usize) -> Result<(), NoMemory> {
     if width == 0 {
-        return Ok(write!(out, "{}", Plain(text))?);
+        return Ok(write!(out, "{}", PlainText(text))?);
     }
     let first = first_characters(text, width);
-    write!(out, "{}", Plain(first))?;
+    write!(out, "{}", PlainText(first))?;
     if first.len() < text.len() {
         out.push_str("..")?;
     }

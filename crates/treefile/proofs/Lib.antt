@@ -2,7 +2,7 @@ mod Lending
 pub mod records
 pub mod Run
 pub mod SameFile
-pub mod ways
+pub mod framing
 pub mod WorkedFiles
 pub mod WorkedRecords
-pub mod WorkedWay
+pub mod WorkedReading

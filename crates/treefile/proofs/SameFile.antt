@@ -54,7 +54,7 @@ module _ (version : Version) (g : Grammar) (m : Passes) (k : ℕ) where
 
 pub same_file : SameFileLaw
 same_file version g m k t u w content s is = record {
-  stands = is.stands ∙ ap (λ b. file version k (postfix (direction_of k) b)) (same_bodies version g m k t u w s);
+  occurs = is.occurs ∙ ap (λ b. file version k (postfix (direction_of k) b)) (same_bodies version g m k t u w s);
   texts = same_texts g m k t u w s is.texts;
   well = each_well g m k t u w s is.well;
 }

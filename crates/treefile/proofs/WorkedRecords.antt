@@ -17,7 +17,7 @@ use Rattle.ag_grammar.proofs.grammars.samples.NumberSample.{fits as sample_fits}
 use Rattle.ag_grammar.proofs.grammars.Running.{sample_ran}
 use Rattle.ag_grammar.proofs.grammars.samples.TokenSample.{fits as token_fits, text as token_text}
 use Rattle.ag_grammar.proofs.values.Wells.{formed, well_text}
-use Rattle.treefile.specs.ways.Ending.{last_body_of, version_one_usable}
+use Rattle.treefile.specs.framing.Ending.{last_body_of, version_one_usable}
 use Rattle.treefile.specs.records.Listed.{AreSpelled, BeginsNoValue, HasRead, IsListedRecord}
 use Rattle.treefile.specs.records.OneTree.{IsNumbered, IsRecorded}
 use Rattle.treefile.specs.records.Records.{FitsVersion, IsFileOfTree, node_body}
@@ -26,7 +26,7 @@ use Rattle.treefile.specs.records.TreeFile.{version_one}
 use Rattle.treefile.specs.Worked.{binary, binary_passes, file_of_x_x, iffy_passes, pass_2_of_one, production_of, record_of_n, record_of_t, spelled_number, tree_of_one, values_of_one, values_of_t}
 use Rattle.treefile.proofs.records.Listing.{value_is_missing}
 use Rattle.treefile.proofs.records.OneTree.{one_file, text_same}
-use Rattle.treefile.proofs.ways.Root.{root_is_last}
+use Rattle.treefile.proofs.framing.Root.{root_is_last}
 use Rattle.treefile.proofs.WorkedFiles.{worked_2}
 
 -- a number below 2^63 is well
@@ -91,11 +91,11 @@ one_well k = (
 pub one_recorded : (k : ℕ) → IsRecorded binary binary_passes k (item.Symbol 0) tree_of_one values_of_one
 one_recorded k = record { fits = one_fits; texts = one_texts; well = one_well k }
 
-one_stands : IsFileOfTree version_one binary binary_passes 2 tree_of_one values_of_one pass_2_of_one
-one_stands = record { stands = sym worked_2; texts = one_texts; well = one_well 2 }
+one_occurs : IsFileOfTree version_one binary binary_passes 2 tree_of_one values_of_one pass_2_of_one
+one_occurs = record { occurs = sym worked_2; texts = one_texts; well = one_well 2 }
 
 pub one_alone : (t : Tree) (v : Valuation) → IsTreeOf binary t → IsFileOfTree version_one binary binary_passes 2 t v pass_2_of_one → (tree_of_one ≡ t) × Same (λ p. p ≤ 2) binary binary_passes tree_of_one values_of_one v
-one_alone t v tree is = one_file version_one binary binary_passes 2 tree_of_one t values_of_one v pass_2_of_one version_one_usable binary_fits binary_numbered one_fits tree one_stands is
+one_alone t v tree is = one_file version_one binary binary_passes 2 tree_of_one t values_of_one v pass_2_of_one version_one_usable binary_fits binary_numbered one_fits tree one_occurs is
 
 pub iffy_recorded : IsRecorded token_sample iffy_passes 0 (item.Symbol 0) token_tree (token_values iffy)
 iffy_recorded = record {
@@ -126,7 +126,7 @@ well_of_a s i (suc a) x y = well_number i y
 -- the files of `x x`
 sample_file : (k : ℕ) → IsFileOfTree version_one sample sample_passes k sample_tree (sample_values 2) (file_of_x_x k)
 sample_file k = record {
-  stands = refl;
+  occurs = refl;
   texts = (sample_ran (sample_values 2)).texts;
   well = ((λ a p is le. well_number 2 (omega arith)), (((λ a p is le. well_of_a 2 1 a (omega arith) (omega arith)), tt), (((λ a p is le. well_of_a 1 0 a (omega arith) (omega arith)), tt), tt)));
 }
@@ -163,7 +163,7 @@ number_well : All IsWell number
 number_well = All-cons IsWell (Num (pos 65536)) [] (well_number 65536 (omega arith)) (All-nil IsWell)
 
 pub t_listed : IsListedRecord version_one binary binary_passes 1 3 record_of_t 4 (production_of 3 []) (Num (pos 65536) ∷ [])
-t_listed = record { production = refl; left = refl; count = refl; well = number_well; stands = simp spellings }
+t_listed = record { production = refl; left = refl; count = refl; well = number_well; occurs = simp spellings }
 
 pub number_spelled : AreSpelled 1 spelled_number
 number_spelled = (number, refl, number_well, simp spellings)
@@ -187,4 +187,4 @@ number_alone = value_is_missing (spelled_number ++ 9 ∷ []) number (9 ∷ []) 2
 pub root_of_one : last_body_of version_one pass_2_of_one ≡ Ok record_of_n
 root_of_one =
     let bytes : node_body version_one binary binary_passes 2 0 (values_of_one []) [] ≡ record_of_n = simp spellings in
-    root_is_last version_one binary binary_passes 2 0 _ values_of_one pass_2_of_one version_one_usable binary_fits one_fits one_stands ∙ ap Ok bytes
+    root_is_last version_one binary binary_passes 2 0 _ values_of_one pass_2_of_one version_one_usable binary_fits one_fits one_occurs ∙ ap Ok bytes

@@ -11,9 +11,9 @@ use Rattle.ag_grammar.specs.grammars.AttributeGrammar.{Grammar, stored_items}
 use Rattle.ag_grammar.specs.grammars.Passes.{Passes, IsLegal, direction_of, nth, other}
 use Rattle.ag_grammar.specs.grammars.Solution.{Same, SameAt, Valuation, children}
 use Rattle.ag_grammar.specs.grammars.Tree.{Forest, Tree, IsTreeOf, node}
-use Rattle.treefile.specs.ways.Awaited.{AreThere, Awaits, Breaks, Child, HasNoTree, HasNoTreeWithin, IsNodeRecord, IsOnTheWay, IsRecordOf, IsTooLarge, ToCome, before_others, root_to_come, children_with_copies, unvisited}
-use Rattle.treefile.specs.ways.Backward.{before_frame, next_before, pass_of}
-use Rattle.treefile.specs.ways.Ending.{IsUsable, is_tree_file, last_body_of}
+use Rattle.treefile.specs.framing.ExpectedRecords.{AreThere, Expects, Breaks, Child, HasNoTree, HasNoTreeWithin, IsNodeRecord, ReadSoFar, IsRecordOf, IsTooLarge, Pending, before_others, pending_root, children_with_copies, remaining_of}
+use Rattle.treefile.specs.framing.Backward.{before_frame, next_before, pass_of}
+use Rattle.treefile.specs.framing.Ending.{IsUsable, is_tree_file, last_body_of}
 use Rattle.treefile.specs.records.Listed.{AreSpelled, BeginsNoValue, HasRead, IsListedRecord, count_up_to}
 use Rattle.treefile.specs.records.OneTree.{IsNumbered, IsRecorded}
 use Rattle.treefile.specs.records.Orders.{postfix, prefix}
@@ -28,13 +28,13 @@ OneNode = (version : Version) (g : Grammar) (m : Passes) (k s z p r : ℕ) (body
 
 -- A list begins with the records of at most one tree of an item, and of one valuation of it up to the pass:
 -- each node before its children, these in a direction.
-abbrev pub OneTreeInFront : Type 0
-OneTreeInFront = (version : Version) (g : Grammar) (m : Passes) (k : ℕ) (d : Direction) (x : Item) (t s : Tree) (u w : Valuation) (rest others : List (List ℕ)) → IsNumbered g → IsRecorded g m k x t u → IsRecorded g m k x s w → prefix d (bodies_of version g m k t u) ++ rest ≡ prefix d (bodies_of version g m k s w) ++ others → (t ≡ s) × Same (λ p. p ≤ k) g m t u w × (rest ≡ others)
+abbrev pub OneTreeBefore : Type 0
+OneTreeBefore = (version : Version) (g : Grammar) (m : Passes) (k : ℕ) (d : Direction) (x : Item) (t s : Tree) (u w : Valuation) (rest others : List (List ℕ)) → IsNumbered g → IsRecorded g m k x t u → IsRecorded g m k x s w → prefix d (bodies_of version g m k t u) ++ rest ≡ prefix d (bodies_of version g m k s w) ++ others → (t ≡ s) × Same (λ p. p ≤ k) g m t u w × (rest ≡ others)
 
 -- A list ends with the records of at most one tree of an item, and of one valuation of it up to the pass:
 -- each node after its children.
 abbrev pub OneTreeAtEnd : Type 0
-OneTreeAtEnd = (version : Version) (g : Grammar) (m : Passes) (k : ℕ) (d : Direction) (x : Item) (t s : Tree) (u w : Valuation) (front others : List (List ℕ)) → IsNumbered g → IsRecorded g m k x t u → IsRecorded g m k x s w → front ++ postfix d (bodies_of version g m k t u) ≡ others ++ postfix d (bodies_of version g m k s w) → (t ≡ s) × Same (λ p. p ≤ k) g m t u w × (front ≡ others)
+OneTreeAtEnd = (version : Version) (g : Grammar) (m : Passes) (k : ℕ) (d : Direction) (x : Item) (t s : Tree) (u w : Valuation) (leading others : List (List ℕ)) → IsNumbered g → IsRecorded g m k x t u → IsRecorded g m k x s w → leading ++ postfix d (bodies_of version g m k t u) ≡ others ++ postfix d (bodies_of version g m k s w) → (t ≡ s) × Same (λ p. p ≤ k) g m t u w × (leading ≡ others)
 
 -- A content is the file of pass k of at most one tree of the grammar, and of one valuation of it up to the
 -- pass.
@@ -85,37 +85,37 @@ abbrev pub BytesAreLeft : Type 0
 BytesAreLeft = (bytes : List ℕ) (vs : List Value) (rest : List ℕ) (n : ℕ) → HasRead bytes vs rest → length vs ≡ n → 0 < length rest → AreSpelled n bytes → ⊥
 
 -- At the end of a content the root is expected,
-abbrev pub WayBegins : Type 0
-WayBegins = (version : Version) (g : Grammar) (m : Passes) (k : ℕ) (content : List ℕ) → IsUsable version → FitsVersion version g m → IsOnTheWay version g m k content (length content) 0 (root_to_come g)
+abbrev pub ReadingBegins : Type 0
+ReadingBegins = (version : Version) (g : Grammar) (m : Passes) (k : ℕ) (content : List ℕ) → IsUsable version → FitsVersion version g m → ReadSoFar version g m k content (length content) 0 (pending_root g)
 
 -- and after a record of the first expected child its own children are, before the others.
-abbrev pub WayGoesOn : Type 0
-WayGoesOn = (version : Version) (g : Grammar) (m : Passes) (k : ℕ) (content body : List ℕ) (at count level : ℕ) (x : Child) (ys : List Child) (todo : ToCome) → IsNumbered g → IsOnTheWay version g m k content at count ((level, x) ∷ todo) → next_before version content at ≡ Ok (Some body) → IsRecordOf version g m k x body ys → IsOnTheWay version g m k content (before_frame at body) (suc count) (before_others (other (direction_of k)) (suc level) ys todo)
+abbrev pub ReadingContinues : Type 0
+ReadingContinues = (version : Version) (g : Grammar) (m : Passes) (k : ℕ) (content body : List ℕ) (at count level : ℕ) (x : Child) (ys : List Child) (todo : Pending) → IsNumbered g → ReadSoFar version g m k content at count ((level, x) ∷ todo) → next_before version content at ≡ Ok (Some body) → IsRecordOf version g m k x body ys → ReadSoFar version g m k content (before_frame at body) (suc count) (before_others (other (direction_of k)) (suc level) ys todo)
 
 -- After i visited members of a right side the next one is expected, and then the others of that right side;
-abbrev pub NextToCome : Type 0
-NextToCome = (d : Direction) (level i : ℕ) (xs : List Child) (x : Child) (todo : ToCome) → i < length xs → slice_get xs (nth d (length xs) i) ≡ Some x → before_others d level (unvisited d xs i) todo ≡ (level, x) ∷ before_others d level (unvisited d xs (suc i)) todo
+abbrev pub NextPending : Type 0
+NextPending = (d : Direction) (level i : ℕ) (xs : List Child) (x : Child) (todo : Pending) → i < length xs → slice_get xs (nth d (length xs) i) ≡ Some x → before_others d level (remaining_of d xs i) todo ≡ (level, x) ∷ before_others d level (remaining_of d xs (suc i)) todo
 
 -- before the first one all of them are, and after the last one none.
-abbrev pub AllToCome : Type 0
-AllToCome = (d : Direction) (level : ℕ) (xs : List Child) (todo : ToCome) → (unvisited d xs 0 ≡ xs) × (before_others d level (unvisited d xs (length xs)) todo ≡ todo)
+abbrev pub AllPending : Type 0
+AllPending = (d : Direction) (level : ℕ) (xs : List Child) (todo : Pending) → (remaining_of d xs 0 ≡ xs) × (before_others d level (remaining_of d xs (length xs)) todo ≡ todo)
 
 -- Bodies are expected exactly if they are the records of such trees.
-abbrev pub AwaitedAreThere : Type 0
-AwaitedAreThere = (version : Version) (g : Grammar) (m : Passes) (k deepest : ℕ) (d : Direction) (todo : ToCome) (bodies : List (List ℕ)) → Awaits version g m k d deepest todo bodies ↔ AreThere version g m k d deepest todo bodies
+abbrev pub ExpectedAreThere : Type 0
+ExpectedAreThere = (version : Version) (g : Grammar) (m : Passes) (k deepest : ℕ) (d : Direction) (todo : Pending) (bodies : List (List ℕ)) → Expects version g m k d deepest todo bodies ↔ AreThere version g m k d deepest todo bodies
 
 -- If nothing is expected and the content is the file of a tree, everything was read: the header ends there.
 abbrev pub WayEnds : Type 0
-WayEnds = (version : Version) (g : Grammar) (m : Passes) (k : ℕ) (content : List ℕ) (at count : ℕ) (t : Tree) (v : Valuation) → IsOnTheWay version g m k content at count [] → IsTreeOf g t → IsFileOfTree version g m k t v content → next_before version content at ≡ Ok None
+WayEnds = (version : Version) (g : Grammar) (m : Passes) (k : ℕ) (content : List ℕ) (at count : ℕ) (t : Tree) (v : Valuation) → ReadSoFar version g m k content at count [] → IsTreeOf g t → IsFileOfTree version g m k t v content → next_before version content at ≡ Ok None
 
 -- If the body found before an offset is not the expected one, the content is the file of no tree;
 abbrev pub WayBreaks : Type 0
-WayBreaks = (version : Version) (g : Grammar) (m : Passes) (k : ℕ) (content : List ℕ) (at count : ℕ) (todo : ToCome) → IsOnTheWay version g m k content at count todo → Breaks version g m k todo (next_before version content at) → HasNoTree version g m k content
+WayBreaks = (version : Version) (g : Grammar) (m : Passes) (k : ℕ) (content : List ℕ) (at count : ℕ) (todo : Pending) → ReadSoFar version g m k content at count todo → Breaks version g m k todo (next_before version content at) → HasNoTree version g m k content
 
 -- if a tree at too deep a level, or one record too many, is expected, it is the file of no tree within the
 -- limits;
-abbrev pub WayIsTooLong : Type 0
-WayIsTooLong = (version : Version) (g : Grammar) (m : Passes) (k : ℕ) (content : List ℕ) (at count level depth nodes : ℕ) (x : Child) (todo : ToCome) → IsOnTheWay version g m k content at count ((level, x) ∷ todo) → IsTooLarge depth nodes level count → HasNoTreeWithin depth nodes version g m k content
+abbrev pub ReadingIsTooLong : Type 0
+ReadingIsTooLong = (version : Version) (g : Grammar) (m : Passes) (k : ℕ) (content : List ℕ) (at count level depth nodes : ℕ) (x : Child) (todo : Pending) → ReadSoFar version g m k content at count ((level, x) ∷ todo) → IsTooLarge depth nodes level count → HasNoTreeWithin depth nodes version g m k content
 
 -- and it is the file of no tree if it does not begin as a tree file of the pass.
 abbrev pub NoFileHasNoTree : Type 0

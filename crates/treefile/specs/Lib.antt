@@ -2,5 +2,5 @@ pub mod devices
 pub mod Laws
 pub mod records
 pub mod Runs
-pub mod ways
+pub mod framing
 pub mod Worked

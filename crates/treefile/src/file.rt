@@ -5,11 +5,11 @@ ghost use Rattle.std.specs.Prelude.{Ok, Err, IfErr, IfOk, IsErrOf, OnErr, OnOk};
 ghost use Rattle.std.specs.Io.KnownBytes.{Appends, Keeps};
 ghost use Rattle.treefile.specs.devices.Appending.{AppendsToFile};
 ghost use Rattle.treefile.specs.devices.Device.{Appends as DeviceAppends, Clears, HasRisen, LeavesContent};
-ghost use Rattle.treefile.specs.devices.Device.{Persists, TakesNoMemory, WhenHonest, most_failures};
+ghost use Rattle.treefile.specs.devices.Device.{Persists, TakesNoMemory, WhenHonest, max_failures};
 ghost use Rattle.treefile.specs.devices.Files.{FilePersists, IsNew, StaysBroken, content_of, is_honest_of, taken};
 
 use crate::device::{Device, DeviceFault};
-use noted_file::{NotedFile, Record};
+use noted_file::{CallRecord, NotedFile};
 use std::alloc::Global;
 use std::fs::{OpenFile, OpenOptions};
 use std::io::{self, Read, Seek, Write};
@@ -89,7 +89,7 @@ impl<F> FileDevice<F> {
         ensures fault { result ≡ DeviceFault.Failed }
         ensures rest { self.new ≡ record self.old { failures = self.new.failures } }
         ensures kept { self.old.failures ≤ self.new.failures }
-        ensures bounded { self.new.failures ≤ most_failures }
+        ensures bounded { self.new.failures ≤ max_failures }
         ensures risen { HasRisen self.old.failures self.new.failures }
     {
         self.failed = self.failed.saturating_add(1);
@@ -181,12 +181,12 @@ impl<F: Read + Write + Seek + OpenFile> FileDevice<F> {
 impl<F: Read + Write + Seek + OpenFile> FileDevice<F> {
     /// Opens the file at `path` for reading and appending, and creates it if there is none. An
     /// existing content stays until `clear`. `before` is the record that the device continues:
-    /// `Record::new()`. Fails with F1 if the file can't be opened. Takes no memory.
+    /// `CallRecord::new()`. Fails with F1 if the file can't be opened. Takes no memory.
     pub fn create<Rt: Files<File = F>>(
         rt: &Rt,
         alloc: Global,
         path: &str,
-        before: Record,
+        before: CallRecord,
     ) -> Result<FileDevice<F>, FileFault>
         ensures { IfOk result (IsNew Access.Writing path.now before.events) }
     {
@@ -199,13 +199,13 @@ impl<F: Read + Write + Seek + OpenFile> FileDevice<F> {
     }
 
     /// Opens the file at `path` for reading only: `append` and `clear` fail. `before` is the record
-    /// that the device continues: `Record::new()`. Fails with F1 if the file can't be opened. Takes
+    /// that the device continues: `CallRecord::new()`. Fails with F1 if the file can't be opened. Takes
     /// no memory.
     pub fn existing<Rt: Files<File = F>>(
         rt: &Rt,
         alloc: Global,
         path: &str,
-        before: Record,
+        before: CallRecord,
     ) -> Result<FileDevice<F>, FileFault>
         ensures { IfOk result (IsNew Access.Reading path.now before.events) }
     {

@@ -3,8 +3,8 @@
 ghost use Rattle.std.specs.Prelude.{◌≡◌, ◌≤◌, ◌+◌, ◌-◌, ◌↔◌, length, slice_range, IfOk, IsErrOf};
 ghost use Rattle.std.specs.Prelude.{IsTrue, IsFalse, OnOk};
 ghost use Rattle.treefile.specs.devices.Device.{Appends, Clears, HasRisen, LeavesContent, TakesNoMemory};
-ghost use Rattle.treefile.specs.devices.Device.{WhenHonest, most_failures};
-ghost use Rattle.treefile.specs.devices.Fuse.{Burns, Fuse, FusePersists, failures_of};
+ghost use Rattle.treefile.specs.devices.Device.{WhenHonest, max_failures};
+ghost use Rattle.treefile.specs.devices.Fuse.{FuseEffect, Fuse, FusePersists, failures_of};
 
 use crate::device::{Device, DeviceFault};
 use std::marker::Model;
@@ -32,7 +32,7 @@ impl<D: Device> FuseDevice<D> {
     pub fn new(inner: D, k: u64) -> FuseDevice<D>
         ensures inner { result.inner ≡ inner }
         ensures left { result.left ≡ k }
-        ensures failures { D.failures inner ≤ most_failures →
+        ensures failures { D.failures inner ≤ max_failures →
             failures_of D.failures result ≡ D.failures inner }
     {
         FuseDevice {
@@ -50,20 +50,20 @@ impl<D: Device> FuseDevice<D> {
     }
 
     /// Counts a call, and returns whether it is the one that fails.
-    fn burns(&mut self) -> bool
+    fn count_call(&mut self) -> bool
         ensures inner { self.new.inner ≡ self.old.inner }
         ensures left { self.new.left ≡ self.old.left - 1 }
-        ensures burns { IsTrue result ↔ (self.old.left ≡ 1) }
+        ensures count_call { IsTrue result ↔ (self.old.left ≡ 1) }
         ensures kept { IsFalse result → self.new.failed ≡ self.old.failed }
         ensures counts { self.old.failed ≤ self.new.failed }
         ensures risen { IsTrue result → HasRisen self.old.failed self.new.failed }
     {
-        let burns = self.left == 1;
+        let count_call = self.left == 1;
         self.left = self.left.saturating_sub(1);
-        if burns {
+        if count_call {
             self.failed = self.failed.saturating_add(1);
         }
-        burns
+        count_call
     }
 }
 
@@ -84,9 +84,9 @@ impl<D: Device> Device for FuseDevice<D> {
         ensures persists { FusePersists D.is_honest D.failures self.old self.new
             (IsErrOf result DeviceFault.Failed) }
         ensures memory { TakesNoMemory result }
-        ensures fuse { Burns D.failures self.old self.new (IsErrOf result DeviceFault.Failed) }
+        ensures fuse { FuseEffect D.failures self.old self.new (IsErrOf result DeviceFault.Failed) }
     {
-        if self.burns() {
+        if self.count_call() {
             return Err(DeviceFault::Failed);
         }
         self.inner.len()
@@ -97,9 +97,9 @@ impl<D: Device> Device for FuseDevice<D> {
             (Appends bytes.now (D.content self.old.inner) (D.content self.new.inner) result) }
         ensures persists { FusePersists D.is_honest D.failures self.old self.new
             (IsErrOf result DeviceFault.Failed) }
-        ensures fuse { Burns D.failures self.old self.new (IsErrOf result DeviceFault.Failed) }
+        ensures fuse { FuseEffect D.failures self.old self.new (IsErrOf result DeviceFault.Failed) }
     {
-        if self.burns() {
+        if self.count_call() {
             return Err(DeviceFault::Failed);
         }
         self.inner.append(bytes)
@@ -116,9 +116,9 @@ impl<D: Device> Device for FuseDevice<D> {
         ensures persists { FusePersists D.is_honest D.failures self.old self.new
             (IsErrOf result DeviceFault.Failed) }
         ensures memory { TakesNoMemory result }
-        ensures fuse { Burns D.failures self.old self.new (IsErrOf result DeviceFault.Failed) }
+        ensures fuse { FuseEffect D.failures self.old self.new (IsErrOf result DeviceFault.Failed) }
     {
-        if self.burns() {
+        if self.count_call() {
             return Err(DeviceFault::Failed);
         }
         self.inner.read_at(at, out)
@@ -130,9 +130,9 @@ impl<D: Device> Device for FuseDevice<D> {
         ensures persists { FusePersists D.is_honest D.failures self.old self.new
             (IsErrOf result DeviceFault.Failed) }
         ensures memory { TakesNoMemory result }
-        ensures fuse { Burns D.failures self.old self.new (IsErrOf result DeviceFault.Failed) }
+        ensures fuse { FuseEffect D.failures self.old self.new (IsErrOf result DeviceFault.Failed) }
     {
-        if self.burns() {
+        if self.count_call() {
             return Err(DeviceFault::Failed);
         }
         self.inner.clear()

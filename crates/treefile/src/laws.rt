@@ -4,17 +4,17 @@ ghost use Rattle.std.specs.Prelude.{◌≡◌, ◌≤◌, ◌<◌, ◌^◌, ◌+
 ghost use Rattle.std.specs.Prelude.{Ok, Err, length, reverse, take, true};
 ghost use Rattle.ag_value.specs.Well.{IsWell};
 ghost use Rattle.ag_value.specs.declared.value.Value.{Value};
-ghost use Rattle.treefile.specs.ways.Backward.{ReadsBack, pass_of};
-ghost use Rattle.treefile.specs.ways.Ending.{IsBody, IsBodyBefore, IsBytes, IsUsable, body_before};
-ghost use Rattle.treefile.specs.ways.Ending.{greatest_body, header_bytes, is_tree_file, last_body_of};
-ghost use Rattle.treefile.specs.ways.Ending.{least_body};
+ghost use Rattle.treefile.specs.framing.Backward.{ReadsBack, pass_of};
+ghost use Rattle.treefile.specs.framing.Ending.{IsBody, IsBodyBefore, IsBytes, IsUsable, body_before};
+ghost use Rattle.treefile.specs.framing.Ending.{greatest_body, header_bytes, is_tree_file, last_body_of};
+ghost use Rattle.treefile.specs.framing.Ending.{least_body};
 ghost use Rattle.treefile.specs.records.TreeFile.{Version, body_of, file, frame};
 ghost use Rattle.treefile.specs.declared.body.Kind.{Kind};
 ghost use Rattle.treefile.specs.declared.reading.FrameFault.TheVariants.{Damaged};
 
 /// A content is a tree file exactly if it has room for a header and begins with the magic of the
 /// version.
-pub fn headers_are_told()
+pub fn headers_are_distinguished()
     ensures { (version : Version) (content : List ℕ) →
         (is_tree_file version content ≡ true)
         ↔ ((header_bytes ≤ length content)
@@ -26,7 +26,7 @@ pub fn headers_are_told()
 pub fn frames_are_read()
     ensures read { (version : Version) (content body : List ℕ) (at : ℕ) → IsUsable version →
         IsBodyBefore version content at body → body_before version content at ≡ Ok body }
-    ensures stands { (version : Version) (content body : List ℕ) (at : ℕ) → IsBytes content →
+    ensures occurs { (version : Version) (content body : List ℕ) (at : ℕ) → IsBytes content →
         at ≤ length content → body_before version content at ≡ Ok body →
         IsBodyBefore version content at body }
     ensures damaged { (version : Version) (content : List ℕ) (at : ℕ) → IsBytes content →
@@ -72,6 +72,6 @@ pub fn records_fit()
     ensures least { (kind : Kind) (number : ℕ) (values : List Value) →
         least_body ≤ length (body_of kind number values) }
     ensures greatest { (version : Version) (kind : Kind) (number : ℕ) (values : List Value) →
-        length values ≤ version.most_values → All IsWell values →
+        length values ≤ version.max_values → All IsWell values →
         length (body_of kind number values) ≤ greatest_body version }
 {}

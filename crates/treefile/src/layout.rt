@@ -1,10 +1,10 @@
 //! The versions of tree files, and the layout of their headers and frames.
 
 ghost use Rattle.std.specs.Prelude.{◌≡◌};
-ghost use Rattle.treefile.specs.ways.Ending.{greatest_body};
+ghost use Rattle.treefile.specs.framing.Ending.{greatest_body};
 ghost use Rattle.treefile.specs.records.TreeFile.{header, version_of, version_two};
 
-use ag_grammar::limits::{MOST_ATTRIBUTES, MOST_STORED};
+use ag_grammar::limits::{MAX_ATTRIBUTES, MAX_STORED};
 use ag_value::MAX_WEIGHT;
 
 /// The number of bytes of a header: four of the magic, and two of the pass number.
@@ -18,15 +18,15 @@ pub const LEAST_BODY: u64 = 3;
 
 /// The greatest number of values of a record: those of all attributes of its symbol, and as many
 /// for each child.
-pub const MOST_VALUES: usize = MOST_ATTRIBUTES + MOST_STORED * MOST_ATTRIBUTES;
+pub const MAX_VALUES: usize = MAX_ATTRIBUTES + MAX_STORED * MAX_ATTRIBUTES;
 
 /// The greatest number of bytes of a body of version 1: the least body, and the greatest values of
 /// all attributes of a symbol.
-const GREATEST_OLD_BODY: u64 = LEAST_BODY + MOST_ATTRIBUTES as u64 * MAX_WEIGHT;
+const GREATEST_OLD_BODY: u64 = LEAST_BODY + MAX_ATTRIBUTES as u64 * MAX_WEIGHT;
 
 /// The greatest number of bytes of a body of version 2: the least body, and the greatest values of
 /// a full record.
-const GREATEST_BODY: u64 = LEAST_BODY + MOST_VALUES as u64 * MAX_WEIGHT;
+const GREATEST_BODY: u64 = LEAST_BODY + MAX_VALUES as u64 * MAX_WEIGHT;
 
 /// A version of tree files.
 #[derive(Clone, Copy, Debug, PartialEq, Eq)]

@@ -18,14 +18,17 @@ pub use body::{Kind, split_body};
 pub use device::{Device, DeviceFault};
 pub use file::{FileDevice, FileFault};
 pub use fuse::FuseDevice;
-pub use laws::{files_are_read_back, frames_are_read, headers_are_told, last_is_read, records_fit};
-pub use layout::{FileVersion, HEADER_BYTES, LEAST_BODY, LENGTH_BYTES, MOST_VALUES};
+pub use laws::{
+    files_are_read_back, frames_are_read, headers_are_distinguished, last_is_read, records_fit,
+};
+pub use layout::{FileVersion, HEADER_BYTES, LEAST_BODY, LENGTH_BYTES, MAX_VALUES};
 pub use memory::MemDevice;
 pub use reading::{FrameFault, fits_before, last_body, pass_in, read_body};
 pub use shared::SharedDevice;
 pub use tree_laws::{
-    files_have_one_tree, first_files_are_one, lists_tell_trees, orders_turn_round,
-    passes_follow_files, records_are_read, records_tell_trees, refusals_are_true, root_is_last,
-    trees_are_read_back, ways_are_followed, worked_files, worked_records, worked_way,
+    files_have_one_tree, first_files_are_one, lists_determine_trees, orders_turn_round,
+    passes_follow_files, reading_is_followed, records_are_read, records_determine_trees,
+    refusals_are_true, root_is_last, trees_are_read_back, worked_files, worked_reading,
+    worked_records,
 };
 pub use writing::Writer;

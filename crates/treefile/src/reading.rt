@@ -3,11 +3,11 @@
 ghost use Rattle.std.specs.Prelude.{◌≡◌, ◌+◌, ◌<◌, ◌≤◌, ◌⊎◌, ◌^◌, length, take, IfErr, IfOk};
 ghost use Rattle.std.specs.Prelude.{IsErrOf, IsTrue, OnOk, nat_eq, slice_range};
 ghost use Rattle.std.specs.List.{starts_with};
-ghost use Rattle.treefile.specs.ways.Backward.{pass_in};
+ghost use Rattle.treefile.specs.framing.Backward.{pass_in};
 ghost use Rattle.treefile.specs.devices.Device.{LeavesContent, Persists, WhenHonest};
-ghost use Rattle.treefile.specs.ways.Ending.{IsBody, IsBytes, Told, body_before, fits_before, greatest_body};
-ghost use Rattle.treefile.specs.ways.Ending.{header_bytes, last_body_of, least_body};
-ghost use Rattle.treefile.specs.ways.Ending.{length_bytes, number_before};
+ghost use Rattle.treefile.specs.framing.Ending.{IsBody, IsBytes, ReadsAs, body_before, fits_before, greatest_body};
+ghost use Rattle.treefile.specs.framing.Ending.{header_bytes, last_body_of, least_body};
+ghost use Rattle.treefile.specs.framing.Ending.{length_bytes, number_before};
 ghost use Rattle.treefile.specs.devices.Faults.{frame_fault_of};
 ghost use Rattle.treefile.specs.records.TreeFile.{version_of, version_two};
 ghost use Rattle.treefile.specs.declared.reading.FrameFault.TheVariants as frame_fault;
@@ -54,12 +54,12 @@ impl From<AllocError> for FrameFault {
 ///
 /// Fails with B1 NotATreeFile if there are fewer than 6 bytes or the first four are not the
 /// version's, and with D1 Device if the call of the device failed.
-#[tactic(auto, unfolding(crate::specs::ways::Ending::is_tree_file))]
+#[tactic(auto, unfolding(crate::specs::framing::Ending::is_tree_file))]
 pub fn pass_in<D: Device>(version: FileVersion, device: &mut D, end: u64) -> Result<u16, FrameFault>
     requires { WhenHonest (D.is_honest device.old) (end ≡ length (D.content device.old)) }
     // The number and B1 agree with the content.
-    ensures told { WhenHonest (D.is_honest device.new)
-        (Told (λ pass. pass) result (pass_in (version_of version) (D.content device.old))) }
+    ensures exact { WhenHonest (D.is_honest device.new)
+        (ReadsAs (λ pass. pass) result (pass_in (version_of version) (D.content device.old))) }
     ensures bytes { WhenHonest (D.is_honest device.new)
         (OnOk result (IsBytes (take header_bytes (D.content device.old)))) }
     ensures room { OnOk result (header_bytes ≤ end) }
@@ -108,7 +108,7 @@ fn number_before<D: Device>(device: &mut D, at: u64) -> Result<u32, DeviceFault>
 
 /// Returns whether a frame with a body of `length` bytes may end at offset `at` in a file of a
 /// version. Takes no memory.
-#[tactic(auto, unfolding(crate::specs::ways::Ending::fits_before))]
+#[tactic(auto, unfolding(crate::specs::framing::Ending::fits_before))]
 pub fn fits_before(version: FileVersion, at: u64, length: u64) -> bool
     requires { length < 2 ^ 32 }
     ensures exact { result ≡ fits_before (version_of version) at length }
@@ -156,12 +156,12 @@ fn fill_from<D: Device>(
 /// 285,212,675 or greater than the number of bytes between the header and those four. Fails with D1
 /// Device if a call of the device failed, and with NoMemory if the body is longer than `body` has
 /// room for and memory is refused. After a failure `body` has arbitrary bytes.
-#[tactic(auto, unfolding(crate::specs::ways::Ending::body_before))]
+#[tactic(auto, unfolding(crate::specs::framing::Ending::body_before))]
 pub fn read_body<D: Device>(device: &mut D, at: u64, body: &mut Vec<u8>) -> Result<(), FrameFault>
     requires { WhenHonest (D.is_honest device.old) (at ≤ length (D.content device.old)) }
     // The body and B2 agree with the content.
     ensures exact { WhenHonest (D.is_honest device.new)
-        (Told (λ _. body.new.items) result (body_before version_two (D.content device.old) at)) }
+        (ReadsAs (λ _. body.new.items) result (body_before version_two (D.content device.old) at)) }
     // On any device: the body may be in a frame, and its frame fits before the offset.
     ensures body { OnOk result (IsBody version_two body.new.items) }
     ensures room { OnOk result (header_bytes + length body.new.items + length_bytes ≤ at) }
@@ -189,11 +189,11 @@ pub fn read_body<D: Device>(device: &mut D, at: u64, body: &mut Vec<u8>) -> Resu
 /// header, or if the number in the last four is below 3, above 285,212,675 or greater than the
 /// number of bytes between the header and those four. Fails with D1 Device if a call of the device
 /// failed. Takes memory for the body.
-#[tactic(auto, unfolding(crate::specs::ways::Ending::last_body_of))]
+#[tactic(auto, unfolding(crate::specs::framing::Ending::last_body_of))]
 pub fn last_body<D: Device>(alloc: Global, device: &mut D) -> Result<Vec<u8>, FrameFault>
     // The body, B1 and B2 agree with the content.
-    ensures told { WhenHonest (D.is_honest device.new)
-        (Told (λ body. body.items) result (last_body_of version_two (D.content device.old))) }
+    ensures exact { WhenHonest (D.is_honest device.new)
+        (ReadsAs (λ body. body.items) result (last_body_of version_two (D.content device.old))) }
     ensures content { LeavesContent (D.is_honest device.new)
         (D.content device.old) (D.content device.new) }
     // D1 only if the number of failures rose

@@ -2,7 +2,7 @@
 
 ghost use Rattle.std.specs.Prelude.{◌≡◌, ◌↔◌, ◌+◌, ◌-◌, ◌<◌, ◌≤◌, [], Ok, IfSome, IsTrue, drop, length};
 ghost use Rattle.std.specs.Int.{w32, from_be_bytes};
-ghost use Rattle.treefile.specs.ways.Ending.{IsBytes, body_before, length_bytes};
+ghost use Rattle.treefile.specs.framing.Ending.{IsBytes, body_before, length_bytes};
 ghost use Rattle.treefile.specs.records.TreeFile.{version_two};
 
 use crate::device::{Device, DeviceFault};
@@ -115,7 +115,7 @@ fn body_between(bytes: &SharedBytes, at: u64) -> Option<Body<'_>>
     }
     let whole = bytes.lend();
     let count = whole.splices_before(at);
-    let (frame, _behind) = whole.cut(at, count)?;
+    let (frame, _after) = whole.cut(at, count)?;
     let (rest, last) = frame.cut(at - LENGTH_BYTES, count)?;
     let length = number_of(&last)?;
     if !fits_before(FileVersion::Two, at, u64::from(length)) {

@@ -12,18 +12,18 @@ ghost use Rattle.ag_grammar.specs.grammars.Passes.{Passes, direction_of, other};
 ghost use Rattle.ag_grammar.specs.grammars.Sample.{iffy, sample, sample_passes, token_sample};
 ghost use Rattle.ag_grammar.specs.grammars.Sample.{token_tree, token_values};
 ghost use Rattle.ag_grammar.specs.grammars.Solution.{Same, Valuation};
-ghost use Rattle.ag_grammar.specs.grammars.Tree.{IsTreeOf, Tree, most_depth, most_nodes};
-ghost use Rattle.treefile.specs.ways.Awaited.{AreThere, Awaits, HasNoTree, HasNoTreeWithin};
-ghost use Rattle.treefile.specs.ways.Awaited.{IsNoRecord, IsOnTheWay, IsRecordOf, root_to_come};
-ghost use Rattle.treefile.specs.ways.Backward.{ReadsBack};
-ghost use Rattle.treefile.specs.ways.Ending.{IsBody, IsUsable, last_body_of};
+ghost use Rattle.ag_grammar.specs.grammars.Tree.{IsTreeOf, Tree, max_depth, max_nodes};
+ghost use Rattle.treefile.specs.framing.ExpectedRecords.{AreThere, Expects, HasNoTree, HasNoTreeWithin};
+ghost use Rattle.treefile.specs.framing.ExpectedRecords.{IsNoRecord, ReadSoFar, IsRecordOf, pending_root};
+ghost use Rattle.treefile.specs.framing.Backward.{ReadsBack};
+ghost use Rattle.treefile.specs.framing.Ending.{IsBody, IsUsable, last_body_of};
 ghost use Rattle.treefile.specs.records.FirstFile.{IsFirstFile, first_file};
-ghost use Rattle.treefile.specs.Laws.{AllToCome, AwaitedAreThere, BytesAreLeft, FitsAccepted};
-ghost use Rattle.treefile.specs.Laws.{GoesOnRun, ListedRecord, NextToCome, NoFileHasNoTree, OneNode};
-ghost use Rattle.treefile.specs.Laws.{OneReading, OneRecord, OneTreeAtEnd, OneTreeInFront};
+ghost use Rattle.treefile.specs.Laws.{AllPending, ExpectedAreThere, BytesAreLeft, FitsAccepted};
+ghost use Rattle.treefile.specs.Laws.{GoesOnRun, ListedRecord, NextPending, NoFileHasNoTree, OneNode};
+ghost use Rattle.treefile.specs.Laws.{OneReading, OneRecord, OneTreeAtEnd, OneTreeBefore};
 ghost use Rattle.treefile.specs.Laws.{RefusalGoesBack, RefusalWithinGoesBack, RootIsLast, SameFile};
-ghost use Rattle.treefile.specs.Laws.{StartsRun, ValueIsMissing, ValuesAreWhole, WayBegins};
-ghost use Rattle.treefile.specs.Laws.{WayBreaks, WayEnds, WayGoesOn, WayIsTooLong};
+ghost use Rattle.treefile.specs.Laws.{StartsRun, ValueIsMissing, ValuesAreWhole, ReadingBegins};
+ghost use Rattle.treefile.specs.Laws.{WayBreaks, WayEnds, ReadingContinues, ReadingIsTooLong};
 ghost use Rattle.treefile.specs.records.Listed.{AreSpelled, BeginsNoValue, HasRead, IsListedRecord};
 ghost use Rattle.treefile.specs.records.OneTree.{IsNumbered, IsRecorded};
 ghost use Rattle.treefile.specs.records.Orders.{BodyTree, IsRanked, postfix, prefix};
@@ -45,15 +45,15 @@ pub fn orders_turn_round()
 /// If each body determines the number of children of its node, a list begins with the prefix list
 /// of at most one tree, and ends with the postfix list of at most one. So no prefix list is a
 /// proper prefix of another, and a list is that of at most one tree.
-pub fn lists_tell_trees()
+pub fn lists_determine_trees()
     ensures begins { (rank : List ℕ → Option ℕ) (direction : Direction) (tree another : BodyTree)
         (rest others : List (List ℕ)) → IsRanked rank tree → IsRanked rank another →
         prefix direction tree ++ rest ≡ prefix direction another ++ others →
         (tree ≡ another) × (rest ≡ others) }
     ensures ends { (rank : List ℕ → Option ℕ) (direction : Direction) (tree another : BodyTree)
-        (front others : List (List ℕ)) → IsRanked rank tree → IsRanked rank another →
-        front ++ postfix direction tree ≡ others ++ postfix direction another →
-        (tree ≡ another) × (front ≡ others) }
+        (leading others : List (List ℕ)) → IsRanked rank tree → IsRanked rank another →
+        leading ++ postfix direction tree ≡ others ++ postfix direction another →
+        (tree ≡ another) × (leading ≡ others) }
 {}
 
 /// Each record of a tree's file has the length of a body, and the file is read back as the tree's
@@ -94,9 +94,9 @@ pub fn worked_files()
 /// A record determines its node's production and values. A list begins with the records of at most
 /// one tree of an item, and of one valuation of it, each node before its children; and it ends with
 /// those of at most one, each node after its children.
-pub fn records_tell_trees()
+pub fn records_determine_trees()
     ensures node { OneNode }
-    ensures front { OneTreeInFront }
+    ensures leading { OneTreeBefore }
     ensures end { OneTreeAtEnd }
 {}
 
@@ -125,13 +125,13 @@ pub fn passes_follow_files()
 /// children, which the record determines, one by one in the direction of the next pass. The
 /// expected bodies are the records of their trees. If nothing more is expected of the file of a
 /// tree, all of it was read.
-pub fn ways_are_followed()
+pub fn reading_is_followed()
     ensures one { OneRecord }
-    ensures begins { WayBegins }
-    ensures goes { WayGoesOn }
-    ensures next { NextToCome }
-    ensures all { AllToCome }
-    ensures there { AwaitedAreThere }
+    ensures begins { ReadingBegins }
+    ensures goes { ReadingContinues }
+    ensures next { NextPending }
+    ensures all { AllPending }
+    ensures there { ExpectedAreThere }
     ensures ends { WayEnds }
 {}
 
@@ -140,7 +140,7 @@ pub fn ways_are_followed()
 /// the limits of levels and nodes.
 pub fn refusals_are_true()
     ensures breaks { WayBreaks }
-    ensures long { WayIsTooLong }
+    ensures long { ReadingIsTooLong }
     ensures header { NoFileHasNoTree }
 {}
 
@@ -190,26 +190,26 @@ pub fn worked_records()
 /// after its record Q and then L, one level deeper. The bodies are those of a tree of three levels,
 /// and of none of two; nor is the file that of a tree of at most three nodes. A header alone is the
 /// file of no tree, nor is a file with only Q's record, nor is this one a file of pass 1.
-pub fn worked_way()
+pub fn worked_reading()
     ensures one { IsRecordOf version_one binary binary_passes 1 (item.Symbol 3, None)
         record_of_t [] }
     ensures token { IsRecordOf version_one token_sample iffy_passes 0
         (item.Terminal (Class 0), None) record_of_iffy [] }
     ensures none { IsNoRecord version_one binary binary_passes 0 (item.Symbol 0, None)
         (0 ∷ 0 ∷ 1 ∷ []) }
-    ensures awaited { Awaits version_one binary binary_passes 0 RightToLeft 3
-        (root_to_come binary) bodies_of_one }
+    ensures expected { Expects version_one binary binary_passes 0 RightToLeft 3
+        (pending_root binary) bodies_of_one }
     ensures there { AreThere version_one binary binary_passes 0 RightToLeft 3
-        (root_to_come binary) bodies_of_one }
-    ensures deep { Awaits version_one binary binary_passes 0 RightToLeft 2 (root_to_come binary)
+        (pending_root binary) bodies_of_one }
+    ensures deep { Expects version_one binary binary_passes 0 RightToLeft 2 (pending_root binary)
         bodies_of_one → ⊥ }
-    ensures begins { IsOnTheWay version_one binary binary_passes 0 pass_0_of_one 41 0
-        (root_to_come binary) }
-    ensures goes { IsOnTheWay version_one binary binary_passes 0 pass_0_of_one 34 1
+    ensures begins { ReadSoFar version_one binary binary_passes 0 pass_0_of_one 41 0
+        (pending_root binary) }
+    ensures goes { ReadSoFar version_one binary binary_passes 0 pass_0_of_one 34 1
         ((2, (item.Symbol 1, None)) ∷ (2, (item.Symbol 2, None)) ∷ []) }
-    ensures levels { HasNoTreeWithin 2 most_nodes version_one binary binary_passes 0
+    ensures levels { HasNoTreeWithin 2 max_nodes version_one binary binary_passes 0
         pass_0_of_one }
-    ensures nodes { HasNoTreeWithin most_depth 3 version_one binary binary_passes 0
+    ensures nodes { HasNoTreeWithin max_depth 3 version_one binary binary_passes 0
         pass_0_of_one }
     ensures header { HasNoTree version_one binary binary_passes 0 (header version_one 0) }
     ensures wrong { HasNoTree version_one binary binary_passes 0

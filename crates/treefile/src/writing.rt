@@ -5,10 +5,10 @@ ghost use Rattle.std.specs.Prelude.{true, false, All, IfOk, IfSome, IsErrOf, Ok,
 ghost use Rattle.std.specs.List.{flat_map};
 ghost use Rattle.ag_value.specs.Spelling.{spelling_of};
 ghost use Rattle.ag_value.specs.Well.{IsWell};
-ghost use Rattle.treefile.specs.devices.Device.{Appends, AppendsFront, LeavesContent, Persists};
+ghost use Rattle.treefile.specs.devices.Device.{Appends, AppendsPrefix, LeavesContent, Persists};
 ghost use Rattle.treefile.specs.devices.Device.{WhenHonest};
-ghost use Rattle.treefile.specs.ways.Ending.{IsBody};
-ghost use Rattle.treefile.specs.ways.Puts.{SettlesPut};
+ghost use Rattle.treefile.specs.framing.Ending.{IsBody};
+ghost use Rattle.treefile.specs.framing.Puts.{SettlesPut};
 ghost use Rattle.treefile.specs.records.TreeFile.{body_of, frame, header, version_two};
 
 use crate::body::Kind;
@@ -32,7 +32,7 @@ pub struct Writer {
 }
 
 impl Model for Writer {
-    ghost use Rattle.treefile.specs.ways.Writing.{Progress};
+    ghost use Rattle.treefile.specs.framing.Writing.{Progress};
 
     ghost Value = { Progress };
 
@@ -53,7 +53,7 @@ impl Writer {
         // D1: the old content of the device, or a prefix of the header
         ensures device { IsErrOf result DeviceFault.Failed → WhenHonest (D.is_honest device.new)
             ((D.content device.new ≡ D.content device.old)
-            ⊎ AppendsFront (header version_two pass) [] (D.content device.new)) }
+            ⊎ AppendsPrefix (header version_two pass) [] (D.content device.new)) }
         ensures memory { IsErrOf result DeviceFault.NoMemory →
             WhenHonest (D.is_honest device.new) (D.content device.new ≡ []) }
         ensures persists { Persists (D.is_honest device.old) (D.is_honest device.new)
@@ -86,7 +86,7 @@ impl Writer {
         number: u16,
         values: &[Value],
     ) -> Result<(), DeviceFault>
-        requires few { length values.now ≤ version_two.most_values }
+        requires few { length values.now ≤ version_two.max_values }
         requires well { All IsWell values.now }
         requires room { self.old.written < 2 ^ 64 - 1 }
         ensures frame { OnOk result
@@ -98,7 +98,7 @@ impl Writer {
 
         // D1: a prefix of the frame, and a broken writer
         ensures device { IsErrOf result DeviceFault.Failed → WhenHonest (D.is_honest device.new)
-            (AppendsFront (frame (body_of kind number values.now))
+            (AppendsPrefix (frame (body_of kind number values.now))
             (D.content device.old) (D.content device.new)) }
         ensures breaks { IsErrOf result DeviceFault.Failed →
             self.new ≡ record self.old { is_broken = true } }
@@ -120,23 +120,23 @@ impl Writer {
         }
         if values.is_empty() {
             let answer = device.append(&bare_frame(kind, number));
-            return self.settle(answer);
+            return self.finish_call(answer);
         }
         if let [Value::Num(only)] = values {
             let answer = device.append(&number_frame(kind, number, *only));
-            return self.settle(answer);
+            return self.finish_call(answer);
         }
         if let Some(frame) = pair_frame(kind, number, values) {
             let answer = device.append(&frame);
-            return self.settle(answer);
+            return self.finish_call(answer);
         }
         if let Some(frame) = triple_frame(kind, number, values) {
             let answer = device.append(&frame);
-            return self.settle(answer);
+            return self.finish_call(answer);
         }
         fill_frame(&mut self.buffer, kind, number, values)?;
         let answer = device.append(self.buffer.as_slice());
-        self.settle(answer)
+        self.finish_call(answer)
     }
 
     /// Appends the frame of a record of carried values, as `put` does with values. If some of them
@@ -149,7 +149,7 @@ impl Writer {
         number: u16,
         values: &[Carried],
     ) -> Result<(), DeviceFault>
-        requires few { length values.now ≤ version_two.most_values }
+        requires few { length values.now ≤ version_two.max_values }
         requires well { All IsWell values.now }
         requires room { self.old.written < 2 ^ 64 - 1 }
         ensures frame { OnOk result
@@ -161,7 +161,7 @@ impl Writer {
 
         // D1: a prefix of the frame, and a broken writer
         ensures device { IsErrOf result DeviceFault.Failed → WhenHonest (D.is_honest device.new)
-            (AppendsFront (frame (body_of kind number values.now))
+            (AppendsPrefix (frame (body_of kind number values.now))
             (D.content device.old) (D.content device.new)) }
         ensures breaks { IsErrOf result DeviceFault.Failed →
             self.new ≡ record self.old { is_broken = true } }
@@ -182,22 +182,22 @@ impl Writer {
         }
         if values.is_empty() {
             let answer = device.append(&bare_frame(kind, number));
-            return self.settle(answer);
+            return self.finish_call(answer);
         }
         if let Some(frame) = carried_number(kind, number, values) {
             let answer = device.append(&frame);
-            return self.settle(answer);
+            return self.finish_call(answer);
         }
         if let Some(frame) = carried_pair(kind, number, values) {
             let answer = device.append(&frame);
-            return self.settle(answer);
+            return self.finish_call(answer);
         }
         if let Some(frame) = carried_triple(kind, number, values) {
             let answer = device.append(&frame);
-            return self.settle(answer);
+            return self.finish_call(answer);
         }
         let answer = self.append_row(device, kind, number, values);
-        self.settle(answer)
+        self.finish_call(answer)
     }
 
     /// Appends the frame of a record of carried values by one call of the device: `append_parts` if
@@ -210,7 +210,7 @@ impl Writer {
         number: u16,
         values: &[Carried],
     ) -> Result<(), DeviceFault>
-        requires few { length values.now ≤ version_two.most_values }
+        requires few { length values.now ≤ version_two.max_values }
         requires well { All IsWell values.now }
         ensures writer { self.new ≡ self.old }
         ensures content { WhenHonest (D.is_honest device.new)
@@ -241,7 +241,7 @@ impl Writer {
 
         // D1: a prefix of the frame
         ensures device { IsErrOf result DeviceFault.Failed → WhenHonest (D.is_honest device.new)
-            (AppendsFront (frame body.now) (D.content device.old) (D.content device.new)) }
+            (AppendsPrefix (frame body.now) (D.content device.old) (D.content device.new)) }
 
         // NoMemory: nothing changes
         ensures memory { IsErrOf result DeviceFault.NoMemory →
@@ -257,13 +257,13 @@ impl Writer {
         self.buffer.extend_from_slice(body)?;
         close_frame(&mut self.buffer)?;
         let answer = device.append(self.buffer.as_slice());
-        self.settle(answer)
+        self.finish_call(answer)
     }
 
     /// Records the result of appending a frame: counts the frame, or marks the writer as broken
     /// after `Failed`. Returns the result.
     #[inline(always)]
-    fn settle(&mut self, answer: Result<(), DeviceFault>) -> Result<(), DeviceFault>
+    fn finish_call(&mut self, answer: Result<(), DeviceFault>) -> Result<(), DeviceFault>
         requires { self.old.written < 2 ^ 64 - 1 }
         ensures same { result ≡ answer }
         ensures counted { OnOk result (self.new ≡ record self.old { written = self.old.written + 1 }) }
@@ -381,7 +381,7 @@ fn fill_frame(
     number: u16,
     values: &[Value],
 ) -> Result<(), NoMemory>
-    requires few { length values.now ≤ version_two.most_values }
+    requires few { length values.now ≤ version_two.max_values }
     requires well { All IsWell values.now }
     ensures { OnOk result (buffer.new.items ≡ frame (body_of kind number values.now)) }
 {
@@ -485,7 +485,7 @@ fn fill_carried(
     number: u16,
     values: &[Carried],
 ) -> Result<(), NoMemory>
-    requires few { length values.now ≤ version_two.most_values }
+    requires few { length values.now ≤ version_two.max_values }
     requires well { All IsWell values.now }
     ensures { OnOk result (buffer.new.items ≡ frame (body_of kind number values.now)) }
 {
@@ -543,7 +543,7 @@ fn fill_parts(
     number: u16,
     values: &[Carried],
 ) -> Result<(), NoMemory>
-    requires few { length values.now ≤ version_two.most_values }
+    requires few { length values.now ≤ version_two.max_values }
     requires well { All IsWell values.now }
     ensures { OnOk result (parts.new ≡ frame (body_of kind number values.now)) }
 {

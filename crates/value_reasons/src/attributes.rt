@@ -6,11 +6,11 @@ ghost use Rattle.treefile.specs.devices.Device.{LeavesContent, Persists};
 use crate::explained::ExplainedTree;
 use crate::rule_at_node::RuleAtNode;
 use ag_carried::Carried;
-use ag_grammar::limits::MOST_ATTRIBUTES;
+use ag_grammar::limits::MAX_ATTRIBUTES;
 use ag_grammar::{Item, Target};
 use ag_value::{NoMemory, Value};
-use causes::{Cause, Start, find_cause, rule_for};
-use message_texts::display::Plain;
+use causes::{Cause, ChainStart, find_cause, rule_for};
+use message_texts::display::PlainText;
 use std::alloc::Global;
 use tree_index::{NodeKind, NodePath, NodeRecord, TreeFault};
 use tree_text::{ItemName, ProductionText, Selected, write_value};
@@ -60,7 +60,7 @@ impl<'a> ExplainedTree<'a> {
             return Ok(());
         };
         self.write_heading(out, question.places, item, &record)?;
-        for attr in 0..MOST_ATTRIBUTES as u16 {
+        for attr in 0..MAX_ATTRIBUTES as u16 {
             let selected = Selected { item, attr };
             if self.is_selected(selected, question.names) {
                 self.write_value_line(out, selected, &record, question.width)?;
@@ -117,7 +117,7 @@ impl<'a> ExplainedTree<'a> {
     ) -> Result<(), NoMemory> {
         let Selected { item, attr } = selected;
         let name = self.format.attribute_name(item, attr).unwrap_or("");
-        write!(out, "{}", Plain(name))?;
+        write!(out, "{}", PlainText(name))?;
         match (
             self.format.own_value(record, item, attr),
             self.format.pass_of(item, attr),
@@ -278,7 +278,7 @@ impl<'a> ExplainedTree<'a> {
         let Some(place) = self.rule_place(places, selected) else {
             return Ok(());
         };
-        let start = Start {
+        let start = ChainStart {
             places: place.places,
             target: place.target,
         };

@@ -7,7 +7,7 @@ use crate::explained::ExplainedTree;
 use crate::tokens::position_of_token;
 use ag_grammar::{Grammar, Target};
 use ag_value::{NoMemory, Text};
-use causes::{Cause, Start, find_cause, tokens_before};
+use causes::{Cause, ChainStart, find_cause, tokens_before};
 use message_texts::Source;
 use planchecker::Plan;
 use std::alloc::Global;
@@ -46,7 +46,7 @@ impl<'a> ErrorTranslation<'a> {
             (D.failures device.old) (D.failures device.new) (IsErrOf result TreeFault.Device) }
     {
         let index = TreeIndex::read_shape(alloc, self.grammar, self.plan, device)?;
-        let start = Start {
+        let start = ChainStart {
             places: &[],
             target: Target {
                 place: 0,

@@ -7,10 +7,10 @@ ghost use Rattle.ag_value.specs.Well.{IsWell};
 ghost use Rattle.treefile.specs.devices.Device.{LeavesContent, Persists};
 
 use crate::explained::ExplainedTree;
-use ag_grammar::limits::MOST_NODES;
+use ag_grammar::limits::MAX_NODES;
 use ag_value::{NoMemory, Value};
 use agoutput::write_text;
-use origins::{Record, RecordFault, Row, record_of};
+use origins::{DecodeFault, LastRecord, Row, record_of};
 use std::io::Write;
 use tree_index::{NodePath, SentenceWalk, TreeFault, body_before};
 use tree_text::ShowFault;
@@ -52,12 +52,12 @@ impl<'a> ExplainedTree<'a> {
         };
         let body = self.read_body(end, device)?;
         match record_of(self.alloc, grammar, item, body.as_slice()) {
-            Ok(Record::Node(number, values)) => {
+            Ok(LastRecord::Node(number, values)) => {
                 Ok(self.write_errors_among(out, path, number, values.as_slice())?)
             }
-            Ok(Record::Token) => Ok(0),
-            Err(RecordFault::Damaged) => Err(ShowFault::Tree(TreeFault::Damaged(end))),
-            Err(RecordFault::NoMemory) => Err(ShowFault::NoMemory),
+            Ok(LastRecord::Token) => Ok(0),
+            Err(DecodeFault::Damaged) => Err(ShowFault::Tree(TreeFault::Damaged(end))),
+            Err(DecodeFault::NoMemory) => Err(ShowFault::NoMemory),
         }
     }
 
@@ -130,7 +130,7 @@ pub fn write_errors<D: Device, W: Write>(
     let mut walk = SentenceWalk::new(tree.alloc, tree.format.grammar, tree.index);
     let mut buffer = String::new(tree.alloc);
     let mut count = 0u64;
-    for _node in 0..MOST_NODES {
+    for _node in 0..MAX_NODES {
         let Some(visit) = walk.next()? else {
             break;
         };

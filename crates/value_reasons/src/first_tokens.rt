@@ -4,10 +4,10 @@ ghost use Rattle.std.specs.Prelude.{IsErrOf};
 ghost use Rattle.treefile.specs.devices.Device.{LeavesContent, Persists};
 
 use crate::explained::ExplainedTree;
-use ag_grammar::limits::MOST_NODES;
+use ag_grammar::limits::MAX_NODES;
 use ag_grammar::{Item, Terminal};
 use ag_value::{NoMemory, Value};
-use message_texts::display::Plain;
+use message_texts::display::PlainText;
 use tree_index::{NodeKind, TreeFault};
 use treefile::Device;
 
@@ -54,7 +54,7 @@ impl<'a> ExplainedTree<'a> {
         let mut nodes = Vec::new(self.alloc);
         push(&mut nodes, node)?;
         let mut count = 0usize;
-        for _turn in 0..16 * MOST_NODES {
+        for _turn in 0..16 * MAX_NODES {
             if MAX_TOKENS <= count {
                 return Ok(());
             }
@@ -173,7 +173,7 @@ fn write_shortened(out: &mut String, text: &str, before: usize) -> Result<(), No
         Some((end, _)) => text.get(..end).unwrap_or(text),
         None => text,
     };
-    write!(out, "{}", Plain(first))?;
+    write!(out, "{}", PlainText(first))?;
     if first.len() < text.len() {
         out.push_str("..")?;
     }

@@ -4,7 +4,7 @@ use crate::explained::ExplainedTree;
 use ag_carried::Carried;
 use ag_grammar::{Production, Target};
 use ag_value::NoMemory;
-use message_texts::display::Plain;
+use message_texts::display::PlainText;
 use std::fmt;
 use tree_index::NodeRecord;
 
@@ -17,7 +17,7 @@ pub(crate) struct OccurrenceText<'a> {
 
 impl fmt::Display for OccurrenceText<'_> {
     fn fmt<W: fmt::Write>(&self, f: &mut fmt::Formatter<W>) -> fmt::Result {
-        write!(f, "${}.{}", self.place, Plain(self.name))
+        write!(f, "${}.{}", self.place, PlainText(self.name))
     }
 }
 
@@ -88,7 +88,7 @@ impl<'a> ExplainedTree<'a> {
             if number != 0 {
                 out.push_str(" ")?;
             }
-            write!(out, "{}", Plain(line.trim()))?;
+            write!(out, "{}", PlainText(line.trim()))?;
         }
         Ok(())
     }

@@ -3,7 +3,7 @@
 ghost use Rattle.std.specs.Prelude.{◌≡◌};
 ghost use Rattle.ag_value.specs.Well.{IsWell};
 ghost use Rattle.ag_grammar.specs.values.Arguments.{truth};
-ghost use Rattle.ag_grammar.specs.values.Operators.{compared, ordered};
+ghost use Rattle.ag_grammar.specs.values.Operators.{comparison_result, order_result};
 
 use ag_value::{ErrorCode, Value, same};
 
@@ -19,7 +19,7 @@ pub fn truth(holds: bool) -> Value
 pub fn equal(left: &Value, right: &Value) -> Value
     requires left { IsWell left.now }
     requires right { IsWell right.now }
-    ensures value { result ≡ compared left.now right.now }
+    ensures value { result ≡ comparison_result left.now right.now }
     ensures well { IsWell result }
 {
     truth(same(left, right))
@@ -27,7 +27,7 @@ pub fn equal(left: &Value, right: &Value) -> Value
 
 /// Computes `a < b`.
 pub fn less(left: &Value, right: &Value) -> Value
-    ensures value { result ≡ ordered left.now right.now }
+    ensures value { result ≡ order_result left.now right.now }
     ensures well { IsWell result }
 {
     match (left, right) {

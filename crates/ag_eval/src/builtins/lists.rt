@@ -10,7 +10,7 @@ ghost use Rattle.ag_grammar.specs.values.Arguments.{fault_of};
 ghost use Rattle.ag_grammar.specs.values.Fitting.{fit};
 ghost use Rattle.ag_grammar.specs.values.Texts.{is_text};
 ghost use Rattle.ag_eval.specs.Operands.{held_value};
-ghost use Rattle.ag_grammar.specs.values.Lists.{appended, concatenated, item_at, length_of, nth_of};
+ghost use Rattle.ag_grammar.specs.values.Lists.{append_result, concatenation, item_at, length_of, nth_of};
 
 use crate::measured::Measured;
 use crate::operand::Held;
@@ -43,7 +43,7 @@ fn count(length: usize) -> Value
 /// one. Takes memory for the growth.
 pub fn extend_list(left: Measured, right: Measured) -> Result<Measured, NoMemory>
     requires { is_text right ≡ false }
-    ensures { IfOk result (λ m. m ≡ concatenated left right) }
+    ensures { IfOk result (λ m. m ≡ concatenation left right) }
 {
     let weight = left.weight() + right.weight();
     let depth = left.depth().max(right.depth());
@@ -74,7 +74,7 @@ fn extended(
 /// Computes `append(l, v)`: the list is extended by the item. Takes memory for the growth.
 pub fn append(list: Measured, item: Measured) -> Result<Measured, NoMemory>
     requires { fault_of item ≡ None }
-    ensures { IfOk result (λ m. m ≡ appended list item) }
+    ensures { IfOk result (λ m. m ≡ append_result list item) }
 {
     let weight = list.weight() + item.weight();
     let depth = list.depth().max(item.depth() + 1);

@@ -3,7 +3,7 @@
 ghost use Rattle.std.specs.Prelude.{◌≡◌, ◌+ℤ◌, ◌-ℤ◌, ◌*ℤ◌, IfOk};
 ghost use Rattle.ag_value.specs.Well.{IsWell};
 ghost use Rattle.ag_grammar.specs.values.Numbers.{decimal_of, number_of, number_value, of_numbers};
-ghost use Rattle.ag_grammar.specs.values.Numbers.{quotient, remainder, spelled};
+ghost use Rattle.ag_grammar.specs.values.Numbers.{quotient, remainder, spelled_number};
 ghost use Rattle.ag_eval.specs.Operands.{scalar_value};
 
 use crate::scalar::Scalar;
@@ -149,7 +149,7 @@ pub fn number(value: &Value) -> Value
     let Value::Text(text) = value else {
         return Value::Fault(ErrorCode::Kind);
     };
-    match spelled(text.as_str()) {
+    match spelled_number(text.as_str()) {
         Some(number) => Value::Num(number),
         None => Value::Fault(ErrorCode::Number),
     }
@@ -157,8 +157,8 @@ pub fn number(value: &Value) -> Value
 
 /// Returns the number that a text spells, if it spells one.
 #[tactic(auto, using(crate::proofs::Spelled::parses))]
-fn spelled(text: &str) -> Option<i64>
-    ensures { result ≡ spelled text.now }
+fn spelled_number(text: &str) -> Option<i64>
+    ensures { result ≡ spelled_number text.now }
 {
     // the standard library also accepts a plus sign
     if text.starts_with('+') {

@@ -164,7 +164,7 @@ fn inserted(
     item: Value,
 ) -> Result<Items<(Text, Value)>, NoMemory>
     requires { index ≤ length pairs }
-    ensures { IfOk result (λ grown. grown ≡ insert pairs index (key.now, item)) }
+    ensures { IfOk result (λ growth_result. growth_result ≡ insert pairs index (key.now, item)) }
 {
     let mut pairs = pairs.into_vec();
     pairs.insert(index, (Text::from_str(alloc, key)?, item))?;

@@ -4,7 +4,7 @@ ghost use Rattle.std.specs.Prelude.{◌≡◌, ◌++◌, ◌-◌, ◌^◌, lengt
 ghost use Rattle.std.specs.List.{flat_map, join_by, list_all};
 ghost use Rattle.ag_value.specs.Well.{IsWell};
 ghost use Rattle.ag_grammar.specs.values.Fitting.{fit};
-ghost use Rattle.ag_grammar.specs.values.Lists.{concatenated};
+ghost use Rattle.ag_grammar.specs.values.Lists.{concatenation};
 ghost use Rattle.ag_grammar.specs.values.Texts.{bytes_of, is_text, joined_by, joined_texts};
 ghost use Rattle.ag_value.specs.declared.value.Value.TheVariants as value;
 
@@ -99,7 +99,7 @@ fn joined(alloc: Global, items: &[Value], separator: &str) -> Result<String, NoM
 /// Computes `a ++ b` if b is a text: the left argument is extended by it. Takes memory for the
 /// growth.
 pub fn extend_text(alloc: Global, left: Measured, right: &str) -> Result<Measured, NoMemory>
-    ensures { IfOk result (λ m. m ≡ concatenated left (value.Text right.now)) }
+    ensures { IfOk result (λ m. m ≡ concatenation left (value.Text right.now)) }
 {
     match left.into_value() {
         Value::Text(text) => extended(alloc, text, right),

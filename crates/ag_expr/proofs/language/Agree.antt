@@ -14,20 +14,20 @@ use Rattle.ag_grammar.specs.declared.syntax.occurrence.Occ.{Occ}
 use Rattle.ag_tokens.specs.Ending.{Ending}
 use Rattle.ag_tokens.specs.Ending as ending
 use Rattle.ag_expr.specs.language.Names.{Names}
-use Rattle.ag_tokens.specs.Placed.{Placed, Input, tokens}
+use Rattle.ag_tokens.specs.PlacedToken.{PlacedToken, Input, tokens}
 use Rattle.ag_tokens.specs.Words as syntax
 use Rattle.ag_tokens.specs.Words.{gives, one, ◌or◌, further}
-use Rattle.ag_expr.specs.language.Syntax.{spelled, operator_of, binary_operator, precedences, closer, takes_one, same_precedence, of_precedence, chained, new_name, call_in, operand_of, IsOther, IsChain, IsRanked, AreNone, IsTable, IsParenthesized, IsNext, AreSome, IsList, AreArguments, IsCall, IsLet, IsIf, IsAtom, IsWhole, IsExpr, IsExprIn}
+use Rattle.ag_expr.specs.language.Syntax.{spelled, operator_of, binary_operator, precedences, closer, takes_one, same_precedence, of_precedence, chain_of, new_name, call_in, operand_of, IsOther, IsChain, IsRanked, AreNone, IsTable, IsParenthesized, IsNext, AreSome, IsList, AreArguments, IsCall, IsLet, IsIf, IsAtom, IsWhole, IsExpr, IsExprIn}
 use Rattle.ag_tokens.specs.Parsing as reading
 use Rattle.ag_tokens.specs.Parsing.{pure, is_end, is_sign}
 use Rattle.ag_expr.specs.language.Reading.{expect, expr_of, refusal, Parser, is_call, is_operand, is_operator_of, begins, begins_atom, other_from, chain_from, ranked_from, none_from, table_from, parenthesized_from, next_from, items_from, some_from, list_from, unary_from, binary_from, put_from, arguments_from, call_from, let_from, if_from, atom_from, whole_from, expr_from, expr_in}
-use Rattle.ag_tokens.specs.Token.{Token, Sign, mark, word, sign_token}
-use Rattle.ag_expr.proofs.reading.Exact.{nowhere, Apart, then_exact, or_exact, further_exact, further_behind, further_then, then_starts, ends_exact, any_then, start_then, opened, shortens}
+use Rattle.ag_tokens.specs.GrammarToken.{GrammarToken, Sign, mark, word, sign_token}
+use Rattle.ag_expr.proofs.reading.Exact.{nowhere, Apart, then_exact, or_exact, further_exact, further_after, further_then, then_starts, ends_exact, any_then, start_then, opened, shortens}
 use Rattle.ag_expr.proofs.language.Manner.{Starts, Exact, First, token_exact, token_starts, sign_exact, sign_is, sign_first, or_first, starts_with}
 
 -- ---- precedences
 
-abbrev pub in_precedences : List Precedence → Token → Bool
+abbrev pub in_precedences : List Precedence → GrammarToken → Bool
 in_precedences [] t = false
 in_precedences (r ∷ rs) t = is_operator_of r t || in_precedences rs t
 
@@ -57,33 +57,33 @@ all_apart (r ∷ rs) h = let parts = and_parts (absent r rs) (distinct rs) h in 
 
 -- ---- chains
 
-pub other_exact : (k : Precedence) {stops : Token → Bool} {L : List Token → Node → Type 0} {l : Parser Node} → Exact stops L l → Exact stops (IsOther k L) (other_from k l)
+pub other_exact : (k : Precedence) {stops : GrammarToken → Bool} {L : List GrammarToken → Node → Type 0} {l : Parser Node} → Exact stops L l → Exact stops (IsOther k L) (other_from k l)
 unfolding other_from
 other_exact k x = any_then (token_exact (operator_of k)) (λ o. ends_exact (λ e. (o, e)) x)
 
-pub other_starts : (k : Precedence) (L : List Token → Node → Type 0) → Starts (is_operator_of k) (IsOther k L)
+pub other_starts : (k : Precedence) (L : List GrammarToken → Node → Type 0) → Starts (is_operator_of k) (IsOther k L)
 other_starts k L = then_starts (token_starts (operator_of k))
 
-chain_exact : (k : Precedence) {stops : Token → Bool} {L : List Token → Node → Type 0} {l : Parser Node} → Exact stops L l → Apart (is_operator_of k) stops → Exact (λ t. is_operator_of k t || stops t) (IsChain k L) (chain_from k l)
+chain_exact : (k : Precedence) {stops : GrammarToken → Bool} {L : List GrammarToken → Node → Type 0} {l : Parser Node} → Exact stops L l → Apart (is_operator_of k) stops → Exact (λ t. is_operator_of k t || stops t) (IsChain k L) (chain_from k l)
 unfolding chain_from
 chain_exact k {stops} {L} x away =
-    then_exact x (λ first. ends_exact (chained first) (further_exact (takes_one k) [] (other_exact k x) (other_starts k L) away)) (λ first. further_behind (takes_one k) [] (is_operator_of k) stops (chained first) (other_starts k L) away)
+    then_exact x (λ first. ends_exact (chain_of first) (further_exact (takes_one k) [] (other_exact k x) (other_starts k L) away)) (λ first. further_after (takes_one k) [] (is_operator_of k) stops (chain_of first) (other_starts k L) away)
 
-pub ranked_exact : {L : List Token → Node → Type 0} {l : Parser Node} → Exact nowhere L l → (ks : List Precedence) → AllApart ks → Exact (in_precedences ks) (IsRanked L ks) (ranked_from l ks)
+pub ranked_exact : {L : List GrammarToken → Node → Type 0} {l : Parser Node} → Exact nowhere L l → (ks : List Precedence) → AllApart ks → Exact (in_precedences ks) (IsRanked L ks) (ranked_from l ks)
 unfolding ranked_from
 ranked_exact x [] a = x
 ranked_exact x (k ∷ ks) a = chain_exact k (ranked_exact x ks a.1) a.0
 
-pub ranked_starts : {test : Token → Bool} {L : List Token → Node → Type 0} → Starts test L → (ks : List Precedence) → Starts test (IsRanked L ks)
+pub ranked_starts : {test : GrammarToken → Bool} {L : List GrammarToken → Node → Type 0} → Starts test L → (ks : List Precedence) → Starts test (IsRanked L ks)
 ranked_starts x [] = x
 ranked_starts x (k ∷ ks) = then_starts (ranked_starts x ks)
 
 -- ---- disjoint sets of tokens
 
-abbrev pub operators : Token → Bool
+abbrev pub operators : GrammarToken → Bool
 operators = in_precedences precedences
 
-sign_apart : (s : Sign) (stops : Token → Bool) → stops (sign_token s) ≡ false → Apart (is_sign s) stops
+sign_apart : (s : Sign) (stops : GrammarToken → Bool) → stops (sign_token s) ≡ false → Apart (is_sign s) stops
 sign_apart s stops no_stop t h = ap stops (sign_is s t h) ∙ no_stop
 
 -- a call is not an operand, since its name is reserved
@@ -100,12 +100,12 @@ table_exact : Exact nowhere IsTable table_from
 unfolding table_from
 table_exact = any_then (sign_exact (mark punctuation.OpenTable)) (λ u. ends_exact (λ u. node.EmptyTable) (sign_exact (mark punctuation.CloseTable)))
 
-module _ (listed : List Occ) (inner : Names → List Token → Node → Type 0) (read : Names → Parser Node) (x : (scope : Names) → First (begins listed scope) operators (inner scope) (read scope)) (scope : Names) where
+module _ (listed : List Occ) (inner : Names → List GrammarToken → Node → Type 0) (read : Names → Parser Node) (x : (scope : Names) → First (begins listed scope) operators (inner scope) (read scope)) (scope : Names) where
   comma : Apart (is_sign (mark punctuation.Comma)) operators
   comma = sign_apart (mark punctuation.Comma) operators refl
 
   -- an expression and the closing parenthesis of its form
-  closed : {R : List Token → Node → Type 0} {r : Parser Node} (f : Node → Node) → Exact operators R r
+  closed : {R : List GrammarToken → Node → Type 0} {r : Parser Node} (f : Node → Node) → Exact operators R r
       → Exact nowhere (syntax.◌>>=◌ R (λ e. syntax.◌>>◌ (spelled (mark punctuation.Close)) (gives (f e)))) (reading.◌>>=◌ r (λ e. reading.◌>>◌ (expect (mark punctuation.Close)) (pure (f e))))
   closed f y = start_then y (λ e. ends_exact (λ u. f e) (sign_exact (mark punctuation.Close))) (λ e. starts_with (mark punctuation.Close)) (sign_apart (mark punctuation.Close) operators refl)
 
@@ -189,7 +189,7 @@ other_shortens listed levels scope k =
 pub next_shortens : (listed : List Occ) (levels : ℕ) (scope : Names) (i j : Input) (a : Node) → next_from (expr_in listed levels) scope i ≡ Ok (a, j) → length j.left < length i.left
 next_shortens listed levels scope = shortens (next_exact listed (IsExprIn listed levels) (expr_in listed levels) (expr_first listed levels) scope) (next_starts listed (IsExprIn listed levels) (expr_in listed levels) (expr_first listed levels) scope)
 
-end_left : (e : Ending) (ps : List Placed) → is_end e ps ≡ true → (at : ℕ) × (e ≡ ending.EndsAt at) × (ps ≡ [])
+end_left : (e : Ending) (ps : List PlacedToken) → is_end e ps ≡ true → (at : ℕ) × (e ≡ ending.EndsAt at) × (ps ≡ [])
 end_left e ps h = grind arith
 
 -- tokens that are parsed to the end of a text are an expression
@@ -201,7 +201,7 @@ whole_is listed levels i j e h ends =
     (last.0, ap (λ (k : Input). k.ending) found.1 ∙ last.1, subst (λ us. IsExpr listed levels (tokens us) e) (sym all) found.2)
 
 -- and an expression is parsed to the end
-pub read_whole : (listed : List Occ) (levels at : ℕ) (ps : List Placed) (e : Node) → IsExpr listed levels (tokens ps) e → expr_of listed levels (record { left = ps; ending = ending.EndsAt at }) ≡ Ok (e, record { left = []; ending = ending.EndsAt at })
+pub read_whole : (listed : List Occ) (levels at : ℕ) (ps : List PlacedToken) (e : Node) → IsExpr listed levels (tokens ps) e → expr_of listed levels (record { left = ps; ending = ending.EndsAt at }) ≡ Ok (e, record { left = []; ending = ending.EndsAt at })
 unfolding expr_of
 read_whole listed levels at ps e is =
     let end : Input = record { left = []; ending = ending.EndsAt at } in
@@ -221,5 +221,5 @@ read_to_end listed levels i j e h =
     let ended : reading.and_then {A = Unit {0}} (if is_end one.0.1.ending one.0.1.left then Ok (tt {0}, one.0.1) else Err (refusal one.0.1)) (λ u. pure one.0.0) ≡ Ok (e, j) = one.2 in
     (grind arith, grind arith)
 
-pub exact : (listed : List Occ) (levels at : ℕ) (ps : List Placed) (e : Node) → (expr_of listed levels (record { left = ps; ending = ending.EndsAt at }) ≡ Ok (e, record { left = []; ending = ending.EndsAt at })) ↔ IsExpr listed levels (tokens ps) e
+pub exact : (listed : List Occ) (levels at : ℕ) (ps : List PlacedToken) (e : Node) → (expr_of listed levels (record { left = ps; ending = ending.EndsAt at }) ≡ Ok (e, record { left = []; ending = ending.EndsAt at })) ↔ IsExpr listed levels (tokens ps) e
 exact listed levels at ps e = (λ h. let all = read_to_end listed levels _ _ e h in (whole_is listed levels _ _ e all.0 all.1).2, read_whole listed levels at ps e)

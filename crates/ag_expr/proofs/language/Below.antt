@@ -15,34 +15,34 @@ use Rattle.ag_expr.specs.language.Names.{Names, last_from, number_in, is_reserve
 use Rattle.ag_expr.specs.language.Occurrences.{is_of, position_of}
 use Rattle.ag_tokens.specs.Words as syntax
 use Rattle.ag_tokens.specs.Words.{Many, none, more, further, gives, one, ◌or◌}
-use Rattle.ag_expr.specs.language.Syntax.{precedences, chained, operand_of, takes_one, IsOther, IsRanked, IsNext, IsList, AreArguments, IsLet, IsIf, IsAtom, IsWhole, IsExpr, IsExprIn}
-use Rattle.ag_tokens.specs.Token.{Token}
-use Rattle.ag_tokens.specs.Token as token
+use Rattle.ag_expr.specs.language.Syntax.{precedences, chain_of, operand_of, takes_one, IsOther, IsRanked, IsNext, IsList, AreArguments, IsLet, IsIf, IsAtom, IsWhole, IsExpr, IsExprIn}
+use Rattle.ag_tokens.specs.GrammarToken.{GrammarToken}
+use Rattle.ag_tokens.specs.GrammarToken as token
 use Rattle.ag_grammar.specs.expressions.Trees.{is_below}
 use Rattle.ag_expr.proofs.language.Numbered.{within}
 use Rattle.ag_grammar.proofs.expressions.Within.{Each, Within, both, rolled, in_chain, in_list, literal_within, occurrence_within}
 
 -- ---- properties of everything that a language relates to tokens
 
-pub record Holds {A : Type 0} (P : A → Type 0) (L : List Token → A → Type 0) : Type 0 where
-  pub of : (ts : List Token) (a : A) → L ts a → P a
+pub record Holds {A : Type 0} (P : A → Type 0) (L : List GrammarToken → A → Type 0) : Type 0 where
+  pub of : (ts : List GrammarToken) (a : A) → L ts a → P a
 
 abbrev Any : {A : Type 0} → A → Type 0
 Any a = Unit {0}
 
-any : {A : Type 0} {L : List Token → A → Type 0} → Holds Any L
+any : {A : Type 0} {L : List GrammarToken → A → Type 0} → Holds Any L
 any = record { of = λ ts a is. tt }
 
-then_holds : {A B : Type 0} {P : A → Type 0} {Q : B → Type 0} {R : List Token → A → Type 0} {S : A → List Token → B → Type 0} → Holds P R → ((a : A) → P a → Holds Q (S a)) → Holds Q (syntax.◌>>=◌ R S)
+then_holds : {A B : Type 0} {P : A → Type 0} {Q : B → Type 0} {R : List GrammarToken → A → Type 0} {S : A → List GrammarToken → B → Type 0} → Holds P R → ((a : A) → P a → Holds Q (S a)) → Holds Q (syntax.◌>>=◌ R S)
 then_holds x y = record { of = λ ts b (us, vs, a, e, is, later). (y a (x.of us a is)).of vs b later }
 
 gives_holds : {A : Type 0} (P : A → Type 0) (a : A) → P a → Holds P (gives a)
 gives_holds P a h = record { of = λ ts b (e, same). subst P (sym same) h }
 
-or_holds : {A : Type 0} {P : A → Type 0} {L M : List Token → A → Type 0} → Holds P L → Holds P M → Holds P (L or M)
+or_holds : {A : Type 0} {P : A → Type 0} {L M : List GrammarToken → A → Type 0} → Holds P L → Holds P M → Holds P (L or M)
 or_holds {A} {P} {L} {M} x y = record { of = one }
   where
-    one : (ts : List Token) (a : A) → (L or M) ts a → P a
+    one : (ts : List GrammarToken) (a : A) → (L or M) ts a → P a
     one ts a (inl is) = x.of ts a is
     one ts a (inr is) = y.of ts a is
 
@@ -50,17 +50,17 @@ each-append : {A : Type 0} (P : A → Type 0) (xs ys : List A) → Each P xs →
 each-append P [] ys h g = g
 each-append P (x ∷ xs) ys h g = (h.0, each-append P xs ys h.1 g)
 
-each_of : {A : Type 0} (P : A → Type 0) (L : List Token → A → Type 0) → Holds P L → (ts : List Token) (xs : List A) → Many L ts xs → Each P xs
+each_of : {A : Type 0} (P : A → Type 0) (L : List GrammarToken → A → Type 0) → Holds P L → (ts : List GrammarToken) (xs : List A) → Many L ts xs → Each P xs
 each_of P L x ts xs none = tt
 each_of P L x ts xs (more us vs y ys is others) = (x.of us y is, each_of P L x vs ys others)
 
-further_holds : {A : Type 0} (P : A → Type 0) (one : Bool) (found : List A) {L : List Token → A → Type 0} → Holds P L → Each P found → Holds (Each P) (further one found L)
+further_holds : {A : Type 0} (P : A → Type 0) (one : Bool) (found : List A) {L : List GrammarToken → A → Type 0} → Holds P L → Each P found → Holds (Each P) (further one found L)
 further_holds P one found {L} x h = record { of = λ ts all (xs, are, le, same). subst (Each P) (sym same) (each-append P found xs h (each_of P L x ts xs are)) }
 
 -- ---- trees
 
 module _ (n bound : ℕ) where
-  chained_within : (first : Node) (others : List (Operator × Node)) → Within n bound first → Each (λ p. Within n bound p.1) others → Within n bound (chained first others)
+  chained_within : (first : Node) (others : List (Operator × Node)) → Within n bound first → Each (λ p. Within n bound p.1) others → Within n bound (chain_of first others)
   chained_within first [] here all = here
   chained_within first (x ∷ xs) here all = in_chain n bound first (x ∷ xs) here all
 
@@ -91,27 +91,27 @@ module _ (listed : List Occ) where
       name false None h = tt
       name false (Some k) h = rolled n (length scope) (Node-F.Bound k) _ (node.rolls-Bound k) (lt-ltb k (length scope) h)
 
-      operand : (t : Token) → IfSome (operand_of listed scope t) (Within n (length scope))
+      operand : (t : GrammarToken) → IfSome (operand_of listed scope t) (Within n (length scope))
       operand (token.Number z) = literal_within n (length scope) _
       operand (token.Text bytes) = literal_within n (length scope) _
       operand (token.Name x) = name (is_reserved x) (number_in scope x) (subst (λ m. IfSome (number_in scope x) (λ k. k < m)) (omega arith) (last_below (λ y. bytes_eq y x) 0 None scope tt))
       operand (token.Occurrence place attr) = occurrence (position_of listed place attr) (within (is_of place attr) listed)
       operand (token.Punctuation m) = tt
 
-  other_within : (bound : ℕ) (k : Precedence) {L : List Token → Node → Type 0} → Holds (Within n bound) L → Holds (λ (p : Operator × Node). Within n bound p.1) (IsOther k L)
+  other_within : (bound : ℕ) (k : Precedence) {L : List GrammarToken → Node → Type 0} → Holds (Within n bound) L → Holds (λ (p : Operator × Node). Within n bound p.1) (IsOther k L)
   other_within bound k x = then_holds any (λ o h. then_holds x (λ e h. gives_holds (λ (p : Operator × Node). Within n bound p.1) (o, e) h))
 
-  ranked_within : (bound : ℕ) {L : List Token → Node → Type 0} → Holds (Within n bound) L → (ks : List Precedence) → Holds (Within n bound) (IsRanked L ks)
+  ranked_within : (bound : ℕ) {L : List GrammarToken → Node → Type 0} → Holds (Within n bound) L → (ks : List Precedence) → Holds (Within n bound) (IsRanked L ks)
   ranked_within bound x [] = x
   ranked_within bound x (k ∷ ks) =
       let inner = ranked_within bound x ks in
-      then_holds inner (λ first h. then_holds (further_holds (λ p. Within n bound p.1) (takes_one k) [] (other_within bound k inner) tt) (λ others all. gives_holds (Within n bound) (chained first others) (chained_within n bound first others h all)))
+      then_holds inner (λ first h. then_holds (further_holds (λ p. Within n bound p.1) (takes_one k) [] (other_within bound k inner) tt) (λ others all. gives_holds (Within n bound) (chain_of first others) (chained_within n bound first others h all)))
 
-  module _ (inner : Names → List Token → Node → Type 0) (x : (scope : Names) → Holds (Within n (length scope)) (inner scope)) (scope : Names) where
+  module _ (inner : Names → List GrammarToken → Node → Type 0) (x : (scope : Names) → Holds (Within n (length scope)) (inner scope)) (scope : Names) where
     abbrev W : Node → Type 0
     W = Within n (length scope)
 
-    last : (f : Node → Node) {L : List Token → Node → Type 0} {M : List Token → Unit {0} → Type 0} → Holds W L → ((e : Node) → W e → W (f e)) → Holds W (syntax.◌>>=◌ L (λ e. syntax.◌>>◌ M (gives (f e))))
+    last : (f : Node → Node) {L : List GrammarToken → Node → Type 0} {M : List GrammarToken → Unit {0} → Type 0} → Holds W L → ((e : Node) → W e → W (f e)) → Holds W (syntax.◌>>=◌ L (λ e. syntax.◌>>◌ M (gives (f e))))
     last f y keeps = then_holds y (λ e h. then_holds any (λ u h'. gives_holds W (f e) (keeps e h)))
 
     next_within : Holds W (IsNext inner scope)
@@ -148,5 +148,5 @@ module _ (listed : List Occ) where
   expr_within zero scope = record { of = λ ts e is. absurd is }
   expr_within (suc levels) scope = whole_within (IsExprIn listed levels) (expr_within levels) scope
 
-pub expr_below : (listed : List Occ) (levels : ℕ) (ts : List Token) (e : Node) → IsExpr listed levels ts e → is_below (length listed) e ≡ true
+pub expr_below : (listed : List Occ) (levels : ℕ) (ts : List GrammarToken) (e : Node) → IsExpr listed levels ts e → is_below (length listed) e ≡ true
 expr_below listed levels = (expr_within listed levels []).of

@@ -5,9 +5,9 @@ use Rattle.std.specs.Str.{chars}
 use Rattle.unicode_ident.proofs.IdentLemmas.{is_xid_start-ascii, is_xid_continue-ascii}
 use Rattle.ag_tokens.specs.declared.token.Punctuation.TheVariants as punctuation
 use Rattle.ag_tokens.specs.Ending as ending
-use Rattle.ag_tokens.specs.Placed.{Placed, tokens}
-use Rattle.ag_tokens.specs.Token.{Token}
-use Rattle.ag_tokens.specs.Token as token
+use Rattle.ag_tokens.specs.PlacedToken.{PlacedToken, tokens}
+use Rattle.ag_tokens.specs.GrammarToken.{GrammarToken}
+use Rattle.ag_tokens.specs.GrammarToken as token
 use Rattle.ag_tokens.specs.Tokens.{AreTokens}
 use Rattle.ag_tokens.specs.Left.{cut}
 use Rattle.ag_tokens.specs.Lexing.{token_from}
@@ -26,7 +26,7 @@ occurrence_is_cut = rw (is_xid_start-ascii 97 (lit< tt), is_xid_continue-ascii 9
 pub occurrence_and_number : AreTokens 0 (codes "$1.a + 2") (placed 0 (token.Occurrence 1 (codes "a")) ∷ placed 5 (token.Punctuation punctuation.Plus) ∷ placed 7 (token.Number (pos 2)) ∷ []) 8 []
 occurrence_and_number = let all = lexed (codes "$1.a + 2") _ 8 refl occurrence_is_cut in subst (AreTokens 0 _ _ 8) all.stops all.before
 
-sum_tokens : List Placed
+sum_tokens : List PlacedToken
 sum_tokens = placed 0 (token.Number (pos 2)) ∷ placed 2 (token.Punctuation punctuation.Plus) ∷ placed 4 (token.Number (pos 3)) ∷ placed 6 (token.Punctuation punctuation.Times) ∷ placed 8 (token.Number (pos 4)) ∷ []
 
 sum_is_cut : cut_at 9 (codes "2 + 3 * 4") ≡ record { left = sum_tokens; ending = ending.EndsAt 9 }

@@ -5,7 +5,7 @@ use Rattle.std.proofs.lemmas.List.Folds.{list_any-append}
 use Rattle.std.proofs.lemmas.Slice.Eq.{bytes_eq-Decides}
 use Rattle.std.specs.List.{list_any}
 use Rattle.ag_grammar.specs.declared.syntax.occurrence.Occ.{Occ}
-use Rattle.ag_expr.specs.language.Occurrences.{is_of, different, listed_with_all}
+use Rattle.ag_expr.specs.language.Occurrences.{is_of, distinct_occurrences, listed_with_all}
 
 abbrev pub is_listed : List Occ → Occ → Bool
 is_listed xs y = list_any (is_of y.place y.attr) xs
@@ -28,7 +28,7 @@ unlisted-new : (xs : List Occ) (x : Occ) (ys : List Occ) → unlisted xs (filter
 unlisted-new xs x [] = refl
 unlisted-new xs x (y ∷ ys) = let more = unlisted-new xs x ys in grind (arith, list_any-append, more)
 
-listed_is : (seen xs : List Occ) → listed_with_all seen xs ≡ seen ++ unlisted seen (different xs)
+listed_is : (seen xs : List Occ) → listed_with_all seen xs ≡ seen ++ unlisted seen (distinct_occurrences xs)
 listed_is seen [] = sym (append-nil seen)
 listed_is seen (x ∷ xs) =
     let here = listed_is seen xs in
@@ -39,5 +39,5 @@ none_listed : (ys : List Occ) → unlisted [] ys ≡ ys
 none_listed [] = refl
 none_listed (y ∷ ys) = ap (λ us. y ∷ us) (none_listed ys)
 
-pub listed_are_different : (xs : List Occ) → listed_with_all [] xs ≡ different xs
-listed_are_different xs = listed_is [] xs ∙ none_listed (different xs)
+pub listed_are_different : (xs : List Occ) → listed_with_all [] xs ≡ distinct_occurrences xs
+listed_are_different xs = listed_is [] xs ∙ none_listed (distinct_occurrences xs)

@@ -5,9 +5,9 @@ use Rattle.std.proofs.lemmas.Bool.Decides.{nat_tests}
 use Rattle.std.proofs.lemmas.Slice.Eq.{bytes_eq-Decides}
 use Rattle.ag_tokens.specs.contracts.token.Punctuation.{the_type}
 use Rattle.ag_tokens.specs.declared.token.Punctuation.{Punctuation}
-use Rattle.ag_tokens.specs.Placed.{Placed}
+use Rattle.ag_tokens.specs.PlacedToken.{PlacedToken}
 use Rattle.ag_tokens.specs.Parsing.{is_sign, same_mark, choose}
-use Rattle.ag_tokens.specs.Token.{Token, Sign, mark, word, sign_token}
+use Rattle.ag_tokens.specs.GrammarToken.{GrammarToken, Sign, mark, word, sign_token}
 use Rattle.ag_tokens.specs.Words as words
 use Rattle.ag_tokens.specs.Words.{one, ◌or◌}
 use Rattle.ag_expr.proofs.reading.Exact as theory
@@ -21,43 +21,43 @@ use Rattle.ag_expr.specs.language.Reading.{Parser, as_sign, expect, refusal, tok
 use Rattle.ag_expr.specs.language.Syntax.{spelled}
 
 -- the fault states of this token, which can begin an expression, that it is too deep
-abbrev is_deep : ExprFault → Placed → Bool
+abbrev is_deep : ExprFault → PlacedToken → Bool
 is_deep (fault.TooDeep at) p = at == p.at && begins_expression p.token
 is_deep _ p = false
 
-abbrev pub manner : Manner Token ExprFault
-manner = record { item = λ p. p.token; wrong = refusal; is_told = λ f. true; is_deep = is_deep }
+abbrev pub manner : Manner GrammarToken ExprFault
+manner = record { item = λ p. p.token; wrong = refusal; is_reported = λ f. true; is_deep = is_deep }
 
-pub deep_is : (f : ExprFault) (p : Placed) → is_deep f p ≡ true → (f ≡ fault.TooDeep p.at) × (begins_expression p.token ≡ true)
+pub deep_is : (f : ExprFault) (p : PlacedToken) → is_deep f p ≡ true → (f ≡ fault.TooDeep p.at) × (begins_expression p.token ≡ true)
 deep_is f p h = (grind (arith, nat_tests), grind arith)
 
-pub is_too_deep : (p : Placed) → begins_expression p.token ≡ true → is_deep (fault.TooDeep p.at) p ≡ true
+pub is_too_deep : (p : PlacedToken) → begins_expression p.token ≡ true → is_deep (fault.TooDeep p.at) p ≡ true
 is_too_deep p h = grind (arith, nat_tests)
 
-abbrev pub Exact : {A : Type 0} → (Token → Bool) → (List Token → A → Type 0) → Parser A → Type 0
+abbrev pub Exact : {A : Type 0} → (GrammarToken → Bool) → (List GrammarToken → A → Type 0) → Parser A → Type 0
 Exact = theory.Exact manner
 
-abbrev pub Starts : {A : Type 0} → (Token → Bool) → (List Token → A → Type 0) → Type 0
+abbrev pub Starts : {A : Type 0} → (GrammarToken → Bool) → (List GrammarToken → A → Type 0) → Type 0
 Starts = theory.Starts manner
 
-abbrev pub Steady : {A : Type 0} → (List Token → A → Type 0) → Parser A → Parser A → Type 0
+abbrev pub Steady : {A : Type 0} → (List GrammarToken → A → Type 0) → Parser A → Parser A → Type 0
 Steady = steady.Steady manner
 
 -- ---- one token
 
-pub token_exact : {A : Type 0} {stops : Token → Bool} (meaning : Token → Option A) → Exact stops (one meaning) (token_as meaning)
+pub token_exact : {A : Type 0} {stops : GrammarToken → Bool} (meaning : GrammarToken → Option A) → Exact stops (one meaning) (token_as meaning)
 token_exact meaning = one_exact (λ at. meaning) meaning (λ p. refl)
 
-pub token_starts : {A : Type 0} (meaning : Token → Option A) → Starts (λ t. is_some (meaning t)) (one meaning)
+pub token_starts : {A : Type 0} (meaning : GrammarToken → Option A) → Starts (λ t. is_some (meaning t)) (one meaning)
 token_starts meaning = one_starts meaning (λ p a h. rw h refl)
 
-pub token_steady : {A : Type 0} (meaning : Token → Option A) (w : Token) (v : A) → meaning w ≡ Some v → Steady (one meaning) (token_as meaning) (token_as meaning)
+pub token_steady : {A : Type 0} (meaning : GrammarToken → Option A) (w : GrammarToken) (v : A) → meaning w ≡ Some v → Steady (one meaning) (token_as meaning) (token_as meaning)
 token_steady meaning = one_steady (λ at. meaning) meaning (λ p. refl)
 
 -- ---- one sign
 
 -- a token that is a sign has the spelling of the sign
-pub sign_is : (s : Sign) (t : Token) → is_sign s t ≡ true → t ≡ sign_token s
+pub sign_is : (s : Sign) (t : GrammarToken) → is_sign s t ≡ true → t ≡ sign_token s
 sign_is s t h = grind (arith, mark_is, name_is)
   where
     mark_is : (m n : Punctuation) → same_mark n m ≡ true → n ≡ m
@@ -73,15 +73,15 @@ sign_same (word name) = (bytes_eq-Decides name name).1 refl
 means_sign : (s : Sign) → as_sign s (sign_token s) ≡ Some tt
 means_sign s = rw (sign_same s) refl
 
-spelled_is : (s : Sign) (ts : List Token) (a : Unit {0}) → one (as_sign s) ts a → spelled s ts a
+spelled_is : (s : Sign) (ts : List GrammarToken) (a : Unit {0}) → one (as_sign s) ts a → spelled s ts a
 spelled_is s ts a (t, e, means) = let is = sign_is s t in grind arith
 
-pub sign_exact : {stops : Token → Bool} (s : Sign) → Exact stops (spelled s) (expect s)
+pub sign_exact : {stops : GrammarToken → Bool} (s : Sign) → Exact stops (spelled s) (expect s)
 sign_exact {stops} s =
     let x = token_exact {stops = stops} (as_sign s) in
     record { sound = λ i j a h. let found = x.sound i j a h in (found.0, found.1, spelled_is s _ a found.2); complete = λ us j a is h. x.complete us j a (sign_token s, is, means_sign s) h }
 
-pub starts_with : {B : Type 0} {S : Unit {0} → List Token → B → Type 0} (s : Sign) → Starts (is_sign s) (words.◌>>=◌ (spelled s) S)
+pub starts_with : {B : Type 0} {S : Unit {0} → List GrammarToken → B → Type 0} (s : Sign) → Starts (is_sign s) (words.◌>>=◌ (spelled s) S)
 starts_with s = then_starts (record { leads = λ us a e. (one_starts {m = manner} (as_sign s) (λ p b h. grind arith)).leads us tt (sign_token s, e, means_sign s) })
 
 pub sign_steady : (s : Sign) → Steady (spelled s) (expect s) (expect s)
@@ -89,12 +89,12 @@ sign_steady s = wider_steady (spelled_is s) (token_steady (as_sign s) (sign_toke
 
 -- ---- a form by its first token
 
-pub record First {A : Type 0} (test stops : Token → Bool) (L : List Token → A → Type 0) (r : Parser A) : Type 0 where
+pub record First {A : Type 0} (test stops : GrammarToken → Bool) (L : List GrammarToken → A → Type 0) (r : Parser A) : Type 0 where
   pub starts : Starts test L
   pub exact : Exact stops L r
 
-pub sign_first : {B : Type 0} {stops : Token → Bool} {S : Unit {0} → List Token → B → Type 0} {r : Parser B} (s : Sign) → Exact stops (words.◌>>=◌ (spelled s) S) r → First (is_sign s) stops (words.◌>>=◌ (spelled s) S) r
+pub sign_first : {B : Type 0} {stops : GrammarToken → Bool} {S : Unit {0} → List GrammarToken → B → Type 0} {r : Parser B} (s : Sign) → Exact stops (words.◌>>=◌ (spelled s) S) r → First (is_sign s) stops (words.◌>>=◌ (spelled s) S) r
 sign_first s x = record { starts = starts_with s; exact = x }
 
-pub or_first : {A : Type 0} {test those stops : Token → Bool} {L M : List Token → A → Type 0} {l n : Parser A} → First test stops L l → First those stops M n → Apart test those → First (λ t. test t || those t) stops (L or M) (choose test l n)
+pub or_first : {A : Type 0} {test those stops : GrammarToken → Bool} {L M : List GrammarToken → A → Type 0} {l n : Parser A} → First test stops L l → First those stops M n → Apart test those → First (λ t. test t || those t) stops (L or M) (choose test l n)
 or_first x y apart = record { starts = or_starts x.starts y.starts; exact = or_exact x.exact y.exact x.starts y.starts apart }

@@ -102,7 +102,7 @@ follows_pushed numbers new listed kept pushed key number at attr none follows sa
 -- an occurrence whose place and name are not listed differs from each listed one
 pub pushed_apart : (listed kept pushed : List Occ) (place at : ℕ) (attr name : List ℕ) → list_any (is_of place attr) listed ≡ false → AreDifferent listed → kept ≡ listed → pushed ≡ kept ++ record { place = place; attr = name; at = at } ∷ [] → name ≡ attr
     → AreDifferent pushed
-pushed_apart listed kept pushed place at attr name none different same more is =
+pushed_apart listed kept pushed place at attr name none distinct_occurrences same more is =
     let one : Occ = record { place = place; attr = attr; at = at } in
     let apart : (x : Occ) → (is_of place attr x ≡ true → list_any (is_of place attr) listed ≡ true) → AreApart x one = λ x found here named. let same : is_of place attr x ≡ true = rw (here, named) (is_own place attr x.at) in let bad : true ≡ false = sym (found same) ∙ none in cc in
-    rw (more, same, is) (all_pairs_push AreApart listed one different (λ i d below. apart (get_or listed i d) (list_any_at (is_of place attr) listed i d below)))
+    rw (more, same, is) (all_pairs_push AreApart listed one distinct_occurrences (λ i d below. apart (get_or listed i d) (list_any_at (is_of place attr) listed i d below)))

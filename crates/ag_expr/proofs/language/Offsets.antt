@@ -19,16 +19,16 @@ use Rattle.ag_tokens.specs.Ending as ending
 use Rattle.ag_expr.specs.language.Expression.{begins_expression}
 use Rattle.ag_expr.specs.language.Laws.{RefusesAtTheFirst}
 use Rattle.ag_expr.specs.language.Names.{Names}
-use Rattle.ag_tokens.specs.Placed.{Placed, Input, tokens}
-use Rattle.ag_expr.specs.language.Offsets.{NoneGoesOn, IsToldFirst}
+use Rattle.ag_tokens.specs.PlacedToken.{PlacedToken, Input, tokens}
+use Rattle.ag_expr.specs.language.Offsets.{NoneGoesOn, IsReportedFirst}
 use Rattle.ag_tokens.specs.Parsing as reading
-use Rattle.ag_tokens.specs.Parsing.{front, front_of, front_is, sees, is_end, is_sign, choose}
+use Rattle.ag_tokens.specs.Parsing.{prefix, front_of, front_is, sees, is_end, is_sign, choose}
 use Rattle.ag_expr.specs.language.Reading.{token_as, Outcome, Parser, refusal, refusal_of, at_end, expect, is_operator_of, begins, begins_atom, other_from, chain_from, ranked_from, none_from, table_from, parenthesized_from, next_from, items_from, some_from, list_from, unary_from, binary_from, put_from, arguments_from, call_from, let_from, if_from, atom_from, whole_from, no_level_of, expr_from, expr_in, expr_of}
 use Rattle.ag_tokens.specs.Words as syntax
 use Rattle.ag_tokens.specs.Words.{gives, one, ◌or◌, none, further, IsFew}
-use Rattle.ag_expr.specs.language.Syntax.{spelled, operator_of, precedences, takes_one, chained, new_name, call_in, operand_of, IsOther, IsChain, IsRanked, AreNone, IsTable, IsParenthesized, IsNext, AreSome, IsList, AreArguments, IsCall, IsLet, IsIf, IsAtom, IsWhole, IsExpr, IsExprIn}
-use Rattle.ag_tokens.specs.Token.{Token, Sign, mark, word, sign_token}
-use Rattle.ag_tokens.specs.Token as token
+use Rattle.ag_expr.specs.language.Syntax.{spelled, operator_of, precedences, takes_one, chain_of, new_name, call_in, operand_of, IsOther, IsChain, IsRanked, AreNone, IsTable, IsParenthesized, IsNext, AreSome, IsList, AreArguments, IsCall, IsLet, IsIf, IsAtom, IsWhole, IsExpr, IsExprIn}
+use Rattle.ag_tokens.specs.GrammarToken.{GrammarToken, Sign, mark, word, sign_token}
+use Rattle.ag_tokens.specs.GrammarToken as token
 use Rattle.std.proofs.lemmas.List.{map-append}
 use Rattle.ag_expr.proofs.reading.Exact.{answered, before, nowhere, shortens}
 use Rattle.ag_expr.proofs.language.Manner.{Exact, First, Steady, manner, deep_is, is_too_deep, sign_is, sign_steady, token_steady}
@@ -38,21 +38,21 @@ use Rattle.ag_expr.proofs.reading.Steady.{Heads, first, first_of, same_front, th
 
 -- ---- chains
 
-an_operator : (k : Precedence) → (t : Token) × (o : Operator) × (operator_of k t ≡ Some o)
+an_operator : (k : Precedence) → (t : GrammarToken) × (o : Operator) × (operator_of k t ≡ Some o)
 an_operator precedence.Comparison = (token.Punctuation punctuation.Less, operator.Less, refl)
 an_operator precedence.Join = (token.Punctuation punctuation.Join, operator.Join, refl)
 an_operator precedence.Sum = (token.Punctuation punctuation.Plus, operator.Add, refl)
 an_operator precedence.Product = (token.Punctuation punctuation.Times, operator.Multiply, refl)
 
-other_steady : (k : Precedence) {L : List Token → Node → Type 0} {r q : Parser Node} → Steady L r q → Steady (IsOther k L) (other_from k r) (other_from k q)
+other_steady : (k : Precedence) {L : List GrammarToken → Node → Type 0} {r q : Parser Node} → Steady L r q → Steady (IsOther k L) (other_from k r) (other_from k q)
 unfolding other_from
 other_steady k x = let w = an_operator k in then_steady (token_steady (operator_of k) w.0 w.1 w.2) (λ o. ends_steady (λ e. (o, e)) x)
 
-chain_steady : (k : Precedence) {stops : Token → Bool} {L M : List Token → Node → Type 0} {r q : Parser Node} → Steady M r q → Exact stops L r → Exact stops M q → Steady (IsChain k M) (chain_from k r) (chain_from k q)
+chain_steady : (k : Precedence) {stops : GrammarToken → Bool} {L M : List GrammarToken → Node → Type 0} {r q : Parser Node} → Steady M r q → Exact stops L r → Exact stops M q → Steady (IsChain k M) (chain_from k r) (chain_from k q)
 unfolding chain_from
-chain_steady k {stops} {L} {M} x y z = then_steady x (λ first. ends_steady (chained first) (further_steady (takes_one k) (is_operator_of k) [] (other_steady k x) (shortens (other_exact k y) (other_starts k L)) (shortens (other_exact k z) (other_starts k M))))
+chain_steady k {stops} {L} {M} x y z = then_steady x (λ first. ends_steady (chain_of first) (further_steady (takes_one k) (is_operator_of k) [] (other_steady k x) (shortens (other_exact k y) (other_starts k L)) (shortens (other_exact k z) (other_starts k M))))
 
-ranked_steady : {L M : List Token → Node → Type 0} {r q : Parser Node} → Steady M r q → Exact nowhere L r → Exact nowhere M q → (ks : List Precedence) → AllApart ks → Steady (IsRanked M ks) (ranked_from r ks) (ranked_from q ks)
+ranked_steady : {L M : List GrammarToken → Node → Type 0} {r q : Parser Node} → Steady M r q → Exact nowhere L r → Exact nowhere M q → (ks : List Precedence) → AllApart ks → Steady (IsRanked M ks) (ranked_from r ks) (ranked_from q ks)
 unfolding ranked_from
 ranked_steady x y z [] a = x
 ranked_steady x y z (k ∷ ks) a = chain_steady k (ranked_steady x y z ks a.1) (ranked_exact y ks a.1) (ranked_exact z ks a.1)
@@ -68,10 +68,10 @@ unfolding table_from
 table_steady = then_steady (sign_steady (mark punctuation.OpenTable)) (λ u. ends_steady (λ u. node.EmptyTable) (sign_steady (mark punctuation.CloseTable)))
 
 module _ (listed : List Occ)
-    (inner outer : Names → List Token → Node → Type 0) (r q : Names → Parser Node)
+    (inner outer : Names → List GrammarToken → Node → Type 0) (r q : Names → Parser Node)
     (y : (scope : Names) → First (begins listed scope) operators (inner scope) (r scope)) (z : (scope : Names) → First (begins listed scope) operators (outer scope) (q scope))
     (x : (scope : Names) → Steady (outer scope) (r scope) (q scope)) (scope : Names) where
-  closed : {R : List Token → Node → Type 0} {s t : Parser Node} (m : Sign) (f : Node → Node) → Steady R s t
+  closed : {R : List GrammarToken → Node → Type 0} {s t : Parser Node} (m : Sign) (f : Node → Node) → Steady R s t
       → Steady (syntax.◌>>=◌ R (λ e. syntax.◌>>◌ (spelled m) (gives (f e)))) (reading.◌>>=◌ s (λ e. reading.◌>>◌ (expect m) (reading.pure (f e)))) (reading.◌>>=◌ t (λ e. reading.◌>>◌ (expect m) (reading.pure (f e))))
   closed m f s = then_steady s (λ e. ends_steady (λ u. f e) (sign_steady m))
 
@@ -124,13 +124,13 @@ module _ (listed : List Occ)
 
 -- ---- languages that have a word, and a word for each first token
 
-pub record Word {A : Type 0} (L : List Token → A → Type 0) : Type 0 where
-  pub ts : List Token
+pub record Word {A : Type 0} (L : List GrammarToken → A → Type 0) : Type 0 where
+  pub ts : List GrammarToken
   pub a : A
   pub is : L ts a
 
-pub record Covers {A : Type 0} (test : Token → Bool) (L : List Token → A → Type 0) : Type 0 where
-  pub from : (t : Token) → test t ≡ true → (rest : List Token) × (a : A) × L (t ∷ rest) a
+pub record Covers {A : Type 0} (test : GrammarToken → Bool) (L : List GrammarToken → A → Type 0) : Type 0 where
+  pub from : (t : GrammarToken) → test t ≡ true → (rest : List GrammarToken) × (a : A) × L (t ∷ rest) a
 
 gives_word : {A : Type 0} (a : A) → Word (gives a)
 gives_word a = record { ts = []; a = a; is = (refl, refl) }
@@ -138,42 +138,42 @@ gives_word a = record { ts = []; a = a; is = (refl, refl) }
 sign_word : (s : Sign) → Word (spelled s)
 sign_word s = record { ts = sign_token s ∷ []; a = tt; is = refl }
 
-then_word : {A B : Type 0} {R : List Token → A → Type 0} {S : A → List Token → B → Type 0} → Word R → ((a : A) → Word (S a)) → Word (syntax.◌>>=◌ R S)
+then_word : {A B : Type 0} {R : List GrammarToken → A → Type 0} {S : A → List GrammarToken → B → Type 0} → Word R → ((a : A) → Word (S a)) → Word (syntax.◌>>=◌ R S)
 then_word w v = let u = v w.a in record { ts = w.ts ++ u.ts; a = u.a; is = (w.ts, u.ts, w.a, refl, w.is, u.is) }
 
-further_word : {A : Type 0} (one : Bool) (found : List A) (L : List Token → A → Type 0) → Word (further one found L)
+further_word : {A : Type 0} (one : Bool) (found : List A) (L : List GrammarToken → A → Type 0) → Word (further one found L)
 further_word true found L = record { ts = []; a = found ++ []; is = ([], none, omega arith, refl) }
 further_word false found L = record { ts = []; a = found ++ []; is = ([], none, tt, refl) }
 
 sign_covers : (s : Sign) → Covers (is_sign s) (spelled s)
 sign_covers s = record { from = λ t h. ([], tt, ap (λ u. u ∷ []) (sign_is s t h)) }
 
-token_covers : {A : Type 0} (meaning : Token → Option A) → Covers (λ t. is_some (meaning t)) (one meaning)
+token_covers : {A : Type 0} (meaning : GrammarToken → Option A) → Covers (λ t. is_some (meaning t)) (one meaning)
 token_covers {A} meaning = record { from = λ t h. go t (meaning t) refl h }
   where
-    go : (t : Token) (o : Option A) → meaning t ≡ o → is_some o ≡ true → (rest : List Token) × (a : A) × one meaning (t ∷ rest) a
+    go : (t : GrammarToken) (o : Option A) → meaning t ≡ o → is_some o ≡ true → (rest : List GrammarToken) × (a : A) × one meaning (t ∷ rest) a
     go t (Some a) e h = ([], a, (t, refl, e))
     go t None e h = let bad : ⊥ = cc in absurd bad
 
-then_covers : {A B : Type 0} {test : Token → Bool} {R : List Token → A → Type 0} {S : A → List Token → B → Type 0} → Covers test R → ((a : A) → Word (S a)) → Covers test (syntax.◌>>=◌ R S)
+then_covers : {A B : Type 0} {test : GrammarToken → Bool} {R : List GrammarToken → A → Type 0} {S : A → List GrammarToken → B → Type 0} → Covers test R → ((a : A) → Word (S a)) → Covers test (syntax.◌>>=◌ R S)
 then_covers x v = record { from = λ t h. let one = x.from t h in let u = v one.1 in (one.0 ++ u.ts, u.a, (t ∷ one.0, u.ts, one.1, refl, one.2, u.is)) }
 
-or_covers : {A : Type 0} {these those : Token → Bool} {L M : List Token → A → Type 0} → Covers these L → Covers those M → Covers (λ t. these t || those t) (L or M)
+or_covers : {A : Type 0} {these those : GrammarToken → Bool} {L M : List GrammarToken → A → Type 0} → Covers these L → Covers those M → Covers (λ t. these t || those t) (L or M)
 or_covers {A} {these} {those} {L} {M} x y = record { from = λ t h. go t (these t) refl h }
   where
-    go : (t : Token) (b : Bool) → these t ≡ b → (b || those t) ≡ true → (rest : List Token) × (a : A) × (L or M) (t ∷ rest) a
+    go : (t : GrammarToken) (b : Bool) → these t ≡ b → (b || those t) ≡ true → (rest : List GrammarToken) × (a : A) × (L or M) (t ∷ rest) a
     go t true e h = let one = x.from t e in (one.0, one.1, inl one.2)
     go t false e h = let one = y.from t h in (one.0, one.1, inr one.2)
 
-ranked_covers : {test : Token → Bool} {L : List Token → Node → Type 0} → Covers test L → (ks : List Precedence) → Covers test (IsRanked L ks)
+ranked_covers : {test : GrammarToken → Bool} {L : List GrammarToken → Node → Type 0} → Covers test L → (ks : List Precedence) → Covers test (IsRanked L ks)
 ranked_covers x [] = x
-ranked_covers x (k ∷ ks) = then_covers (ranked_covers x ks) (λ first. then_word (further_word (takes_one k) [] _) (λ others. gives_word (chained first others)))
+ranked_covers x (k ∷ ks) = then_covers (ranked_covers x ks) (λ first. then_word (further_word (takes_one k) [] _) (λ others. gives_word (chain_of first others)))
 
-module _ (listed : List Occ) (inner : Names → List Token → Node → Type 0) (w : (scope : Names) → Word (inner scope)) (scope : Names) where
+module _ (listed : List Occ) (inner : Names → List GrammarToken → Node → Type 0) (w : (scope : Names) → Word (inner scope)) (scope : Names) where
   next_word : Word (IsNext inner scope)
   next_word = then_word (sign_word (mark punctuation.Comma)) (λ u. w scope)
 
-  closed_word : {R : List Token → Node → Type 0} (f : Node → Node) → Word R → Word (syntax.◌>>=◌ R (λ e. syntax.◌>>◌ (spelled (mark punctuation.Close)) (gives (f e))))
+  closed_word : {R : List GrammarToken → Node → Type 0} (f : Node → Node) → Word R → Word (syntax.◌>>=◌ R (λ e. syntax.◌>>◌ (spelled (mark punctuation.Close)) (gives (f e))))
   closed_word f v = then_word v (λ e. then_word (sign_word (mark punctuation.Close)) (λ u. gives_word (f e)))
 
   arguments_word : (c : Call) → Word (AreArguments inner scope c)
@@ -201,7 +201,7 @@ module _ (listed : List Occ) (inner : Names → List Token → Node → Type 0) 
   whole_covers : Covers (begins listed scope) (IsWhole inner scope listed)
   whole_covers = or_covers let_covers (or_covers if_covers (ranked_covers atom_covers precedences))
 
-ranked_word : (L : List Token → Node → Type 0) (ts : List Token) (e : Node) → L ts e → (ks : List Precedence) → IsRanked L ks ts e
+ranked_word : (L : List GrammarToken → Node → Type 0) (ts : List GrammarToken) (e : Node) → L ts e → (ks : List Precedence) → IsRanked L ks ts e
 ranked_word L ts e is [] = is
 ranked_word L ts e is (k ∷ ks) = (ts, [], e, sym (append-nil ts), ranked_word L ts e is ks, ([], [], [], refl, ([], none, few (takes_one k), refl), (refl, refl)))
   where
@@ -219,16 +219,16 @@ begun listed levels scope = whole_covers listed (IsExprIn listed (suc levels)) (
 
 -- ---- parsers that fail at their first token
 
-pub record Refuses {A : Type 0} (test : Token → Bool) (r : Parser A) : Type 0 where
+pub record Refuses {A : Type 0} (test : GrammarToken → Bool) (r : Parser A) : Type 0 where
   pub at : (k : Input) → sees test k ≡ false → r k ≡ Err (refusal k)
 
-token_refuses : {A : Type 0} (meaning : Token → Option A) → Refuses (λ t. is_some (meaning t)) (token_as meaning)
+token_refuses : {A : Type 0} (meaning : GrammarToken → Option A) → Refuses (λ t. is_some (meaning t)) (token_as meaning)
 token_refuses {A} meaning = record { at = λ k h. grind arith }
 
-choose_refuses : {A : Type 0} {these those : Token → Bool} {l m : Parser A} → Refuses those m → Refuses (λ t. these t || those t) (choose these l m)
+choose_refuses : {A : Type 0} {these those : GrammarToken → Bool} {l m : Parser A} → Refuses those m → Refuses (λ t. these t || those t) (choose these l m)
 choose_refuses {A} {these} {those} {l} {m} x = record { at = λ k h. let other = x.at k in grind arith }
 
-ranked_refuses : {test : Token → Bool} {l : Parser Node} → Refuses test l → (ks : List Precedence) → Refuses test (ranked_from l ks)
+ranked_refuses : {test : GrammarToken → Bool} {l : Parser Node} → Refuses test l → (ks : List Precedence) → Refuses test (ranked_from l ks)
 unfolding ranked_from chain_from
 ranked_refuses x [] = x
 ranked_refuses x (k ∷ ks) = record { at = λ i h. let one = (ranked_refuses x ks).at i h in rw one refl }
@@ -239,7 +239,7 @@ unfolding expr_in whole_from atom_from
 refused_first listed levels scope = choose_refuses (choose_refuses (ranked_refuses (choose_refuses (choose_refuses (choose_refuses (choose_refuses (token_refuses (operand_of listed scope)))))) precedences))
 
 -- a token that begins an expression with these occurrences and names can begin an expression in general
-begins_one : (listed : List Occ) (scope : Names) (t : Token) → begins listed scope t ≡ true → begins_expression t ≡ true
+begins_one : (listed : List Occ) (scope : Names) (t : GrammarToken) → begins listed scope t ≡ true → begins_expression t ≡ true
 begins_one listed scope t h = grind arith
 
 -- ---- by levels
@@ -255,7 +255,7 @@ above-sum d (suc n) = let e = above-sum d n in omega arith
 
 expr_steady : (listed : List Occ) (d n : ℕ) (scope : Names) → Steady (IsExprIn listed (above d n) scope) (expr_in listed n scope) (expr_in listed (above d n) scope)
 unfolding expr_in IsExprIn
-expr_steady listed d zero scope = record { at = λ i. record { ok = λ j a h. (let bad : ⊥ = cc in absurd bad); err = λ f told h. (let same : f ≡ no_level_of listed scope i.ending i.left = cc in go i.left i.ending f same) }; word = (number.ts, number.a, number.is) }
+expr_steady listed d zero scope = record { at = λ i. record { ok = λ j a h. (let bad : ⊥ = cc in absurd bad); err = λ f reported h. (let same : f ≡ no_level_of listed scope i.ending i.left = cc in go i.left i.ending f same) }; word = (number.ts, number.a, number.is) }
   where
     number : Word (IsExprIn listed (above d 0) scope)
     number = a_number listed (suc d) scope
@@ -263,7 +263,7 @@ expr_steady listed d zero scope = record { at = λ i. record { ok = λ j a h. (l
     stuck : (i : Input) (f : ExprFault) → f ≡ refusal i → sees (begins listed scope) i ≡ false → steady.Refused manner (IsExprIn listed (above d 0) scope) (expr_in listed 0 scope) (expr_in listed (above d 0) scope) i f
     stuck i f same unlike = record { us = []; j = i; cut = refl; rest = number.ts; a = number.a; begins = number.is; how = inl (same, λ k fr. (refused_first listed (suc d) scope).at k (same_front (begins listed scope) k.left i.left fr ∙ unlike)) }
 
-    go : (ps : List Placed) (e : Ending) (f : ExprFault) → f ≡ no_level_of listed scope e ps → steady.Refused manner (IsExprIn listed (above d 0) scope) (expr_in listed 0 scope) (expr_in listed (above d 0) scope) (record { left = ps; ending = e }) f
+    go : (ps : List PlacedToken) (e : Ending) (f : ExprFault) → f ≡ no_level_of listed scope e ps → steady.Refused manner (IsExprIn listed (above d 0) scope) (expr_in listed 0 scope) (expr_in listed (above d 0) scope) (record { left = ps; ending = e }) f
     go [] e f same = stuck (record { left = []; ending = e }) f same refl
     go (p ∷ ps) e f same = first (begins listed scope p.token) refl same
       where
@@ -298,18 +298,18 @@ one_outcome listed m n i j e h (Err f) is sure = let x = ((expr_steady listed m 
         let ok = ap (λ l. expr_from listed l i) (meet m n) ∙ up listed n m i j e h in
         let bad : ⊥ = cc in absurd bad
 
-abbrev placed : List Token → List Placed
+abbrev placed : List GrammarToken → List PlacedToken
 placed [] = []
 placed (t ∷ ts) = record { at = 0; token = t } ∷ placed ts
 
-tokens-placed : (ts : List Token) → tokens (placed ts) ≡ ts
+tokens-placed : (ts : List GrammarToken) → tokens (placed ts) ≡ ts
 tokens-placed [] = refl
 tokens-placed (t ∷ ts) = ap (λ us. t ∷ us) (tokens-placed ts)
 
-not_deep : (e : Ending) (ps : List Placed) (at : ℕ) → refusal_of e ps ≡ fault.TooDeep at → ⊥
+not_deep : (e : Ending) (ps : List PlacedToken) (at : ℕ) → refusal_of e ps ≡ fault.TooDeep at → ⊥
 not_deep e ps at h = let bad : ⊥ = grind arith in bad
 
-module _ (listed : List Occ) (n : ℕ) (us : List Placed) where
+module _ (listed : List Occ) (n : ℕ) (us : List PlacedToken) where
   -- if the parser succeeds, the tokens are not any other expression
   settled : (m : ℕ) (k : Input) (e : Node) → IsExpr listed m (tokens us ++ tokens k.left) e → (o : Outcome Node) → expr_from listed n (before us k) ≡ o → NotDeep o → o ≡ Ok (e, record { left = []; ending = k.ending })
   settled m k e is o read sure =
@@ -319,28 +319,28 @@ module _ (listed : List Occ) (n : ℕ) (us : List Placed) where
       one_outcome listed m n (before us k) end e (ap (λ ys. expr_from listed m (record { left = ys; ending = k.ending })) (sym (append-nil (us ++ k.left))) ∙ found) o read sure
 
   -- an expression that continues with a token; the offsets of the tokens after it are irrelevant
-  going_on : (p : Placed) (m : ℕ) (more : List Token) (e : Node) → IsExpr listed m ((tokens us ++ p.token ∷ []) ++ more) e → IsExpr listed m (tokens us ++ p.token ∷ tokens (placed more)) e
+  going_on : (p : PlacedToken) (m : ℕ) (more : List GrammarToken) (e : Node) → IsExpr listed m ((tokens us ++ p.token ∷ []) ++ more) e → IsExpr listed m (tokens us ++ p.token ∷ tokens (placed more)) e
   going_on p m more e is = subst (λ ts. IsExpr listed m ts e) (append_assoc (tokens us) (p.token ∷ []) more ∙ ap (λ ts. tokens us ++ p.token ∷ ts) (sym (tokens-placed more))) is
 
-  none_stuck : (ps : List Placed) (e : Ending) (f : ExprFault) → steady.Stuck manner (expr_from listed n) us (record { left = ps; ending = e }) f → NoneGoesOn listed (tokens us) e ps
+  none_stuck : (ps : List PlacedToken) (e : Ending) (f : ExprFault) → steady.Stuck manner (expr_from listed n) us (record { left = ps; ending = e }) f → NoneGoesOn listed (tokens us) e ps
   none_stuck [] e f stuck = λ at same m tree is.
       let k : Input = record { left = []; ending = e } in
-      let clash = settled m k tree (rw append-nil is) (Err (refusal k)) (stuck.1 k refl) (not_deep e []) in
+      let contradiction = settled m k tree (rw append-nil is) (Err (refusal k)) (stuck.1 k refl) (not_deep e []) in
       cc
   none_stuck (p ∷ ps) e f stuck = λ (m, more, tree, is).
       let k : Input = record { left = p ∷ placed more; ending = e } in
-      let clash = settled m k tree (going_on p m more tree is) (Err (refusal k)) (stuck.1 k refl) (not_deep e (p ∷ placed more)) in
+      let contradiction = settled m k tree (going_on p m more tree is) (Err (refusal k)) (stuck.1 k refl) (not_deep e (p ∷ placed more)) in
       cc
 
-  none_read : (ps : List Placed) (e : Ending) (tree : Node) → ((k : Input) → first k ≡ first_of ps → expr_from listed n (before us k) ≡ Ok (tree, k)) → is_end e ps ≡ false → NoneGoesOn listed (tokens us) e ps
+  none_read : (ps : List PlacedToken) (e : Ending) (tree : Node) → ((k : Input) → first k ≡ first_of ps → expr_from listed n (before us k) ≡ Ok (tree, k)) → is_end e ps ≡ false → NoneGoesOn listed (tokens us) e ps
   none_read [] e tree read open_end = λ at same m other is. let ends : is_end (ending.EndsAt at) [] ≡ false = subst (λ x. is_end x [] ≡ false) same open_end in cc
   none_read (p ∷ ps) e tree read open_end = λ (m, more, other, is).
       let k : Input = record { left = p ∷ placed more; ending = e } in
-      let clash = settled m k other (going_on p m more other is) (Ok (tree, k)) (read k refl) tt in
-      let same : p ∷ placed more ≡ [] = ap (λ (i : Input). i.left) (answered tree other k _ clash).1 in
+      let contradiction = settled m k other (going_on p m more other is) (Ok (tree, k)) (read k refl) tt in
+      let same : p ∷ placed more ≡ [] = ap (λ (i : Input). i.left) (answered tree other k _ contradiction).1 in
       cc
 
-headed : (t : Token) (ts : List Token) → Heads t ts → (more : List Token) × (ts ≡ t ∷ more)
+headed : (t : GrammarToken) (ts : List GrammarToken) → Heads t ts → (more : List GrammarToken) × (ts ≡ t ∷ more)
 headed t [] h = absurd h
 headed t (u ∷ us) h = (us, ap (λ x. x ∷ us) h)
 
@@ -348,7 +348,7 @@ pub refuses_at_the_first : RefusesAtTheFirst
 unfolding expr_of
 refuses_at_the_first listed levels i f h = go (expr_from listed levels i) refl h
   where
-    refused : (x : steady.Refused manner (IsExpr listed (above 0 levels)) (expr_from listed levels) (expr_from listed (above 0 levels)) i f) → steady.Stuck manner (expr_from listed (above 0 levels)) x.us x.j f ⊎ steady.Deep manner (expr_from listed levels) x.us x.j f x.rest → IsToldFirst listed levels i f
+    refused : (x : steady.Refused manner (IsExpr listed (above 0 levels)) (expr_from listed levels) (expr_from listed (above 0 levels)) i f) → steady.Stuck manner (expr_from listed (above 0 levels)) x.us x.j f ⊎ steady.Deep manner (expr_from listed levels) x.us x.j f x.rest → IsReportedFirst listed levels i f
     refused x (inl (says, stuck)) =
         let ends : i.ending ≡ x.j.ending = ap (λ (k : Input). k.ending) x.cut in
         inl (record {
@@ -361,14 +361,14 @@ refuses_at_the_first listed levels i f h = go (expr_from listed levels i) refl h
         })
     refused x (inr (p, ps, l, d, w, deep)) =
         let next = headed p.token x.rest w in
-        let told = deep_is f p d in
+        let reported = deep_is f p d in
         inr (record {
           before = x.us;
           first = p;
           rest = ps;
           cut = ap (λ (k : Input). k.left) x.cut ∙ ap (λ ys. x.us ++ ys) l;
-          says = told.0;
-          begins_one = told.1;
+          says = reported.0;
+          begins_one = reported.1;
           start = (above 0 levels, next.0, x.a, subst (λ ts. IsExpr listed (above 0 levels) ts x.a) (ap (λ ys. tokens x.us ++ ys) next.1 ∙ sym (append_assoc (tokens x.us) (p.token ∷ []) next.0)) x.begins);
           none = λ more tree is.
               let k : Input = record { left = p ∷ placed more; ending = i.ending } in
@@ -377,11 +377,11 @@ refuses_at_the_first listed levels i f h = go (expr_from listed levels i) refl h
               let found = (expr_exact listed levels []).complete (x.us ++ k.left) end tree whole refl in
               let other = deep k (ap first_of (sym l)) in
               let same = ap (λ ys. expr_from listed levels (record { left = ys; ending = i.ending })) (append-nil (x.us ++ k.left)) in
-              let clash = sym other.1 ∙ sym same ∙ found in
+              let contradiction = sym other.1 ∙ sym same ∙ found in
               cc;
         })
 
-    ended : (j : Input) (e : Node) → expr_from listed levels i ≡ Ok (e, j) → (b : Bool) → is_end j.ending j.left ≡ b → reading.and_then {A = Unit {0}} (if b then Ok (tt {0}, j) else Err (refusal j)) (λ u. reading.pure e) ≡ Err f → IsToldFirst listed levels i f
+    ended : (j : Input) (e : Node) → expr_from listed levels i ≡ Ok (e, j) → (b : Bool) → is_end j.ending j.left ≡ b → reading.and_then {A = Unit {0}} (if b then Ok (tt {0}, j) else Err (refusal j)) (λ u. reading.pure e) ≡ Err f → IsReportedFirst listed levels i f
     ended j e found true b h = let bad : ⊥ = cc in absurd bad
     ended j e found false b h =
         let x = ((expr_steady listed 0 levels []).at i).ok j e found in
@@ -396,6 +396,6 @@ refuses_at_the_first listed levels i f h = go (expr_from listed levels i) refl h
           none = subst (λ y. NoneGoesOn listed (tokens x.0) y j.left) (sym ends) (none_read listed (above 0 levels) x.0 j.left j.ending e (λ k h. (x.3 k h).1) b);
         })
 
-    go : (o : Outcome Node) → expr_from listed levels i ≡ o → reading.and_then o (λ e. reading.◌>>◌ at_end (reading.pure e)) ≡ Err f → IsToldFirst listed levels i f
+    go : (o : Outcome Node) → expr_from listed levels i ≡ o → reading.and_then o (λ e. reading.◌>>◌ at_end (reading.pure e)) ≡ Err f → IsReportedFirst listed levels i f
     go (Ok (e, j)) found h = ended j e found (is_end j.ending j.left) refl h
     go (Err g) found h = let same : g ≡ f = cc in let x = ((expr_steady listed 0 levels []).at i).err f refl (found ∙ ap Err same) in refused x x.how

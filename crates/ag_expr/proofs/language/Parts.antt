@@ -1,8 +1,8 @@
 -- Parts of an expression that are parsed one after the other, and one level more.
 use Rattle.std.proofs.Common.{◌≡◌, ◌≢◌, ℕ, zero, suc, ◌-◌, ◌<◌, Bool, true, false, List, [], ◌∷◌, ◌++◌, length, Result, Ok, Err, ap, sym, ◌∙◌, subst, arith}
 use Rattle.ag_tokens.specs.Parsing.{sees}
-use Rattle.ag_tokens.specs.Placed.{Input}
-use Rattle.ag_tokens.specs.Token.{Token}
+use Rattle.ag_tokens.specs.PlacedToken.{Input}
+use Rattle.ag_tokens.specs.GrammarToken.{GrammarToken}
 use Rattle.ag_expr.proofs.reading.Turns as turns
 use Rattle.ag_expr.proofs.reading.Turns.{Going}
 use Rattle.std.specs.Result.{IsErrAnd}
@@ -29,11 +29,11 @@ one_level (suc n) some old new r is = subst (λ k. Reads (λ all names. whole_fr
 
 -- A loop invariant: parts are parsed one after the other from the state `first`, and the parts found so far,
 -- with the further ones, are the whole.
-pub record Looping {A : Type 0} (single : Bool) (begins : Token → Bool) (item : List Occ → Names → Parser A) (whole : List Occ → Names → Parser (List A)) (first s : State) (found : List A) : Type 0 where
+pub record Looping {A : Type 0} (single : Bool) (begins : GrammarToken → Bool) (item : List Occ → Names → Parser A) (whole : List Occ → Names → Parser (List A)) (first s : State) (found : List A) : Type 0 where
   pub keeps : Keeps first s
   pub going : Going single begins (item (everything first) first.scope) found (input s) (whole (everything first) first.scope (input first))
 
-module _ {A : Type 0} (single : Bool) (begins : Token → Bool) (item : List Occ → Names → Parser A) (whole : List Occ → Names → Parser (List A)) (first s : State) (found : List A) (so_far : Looping single begins item whole first s found) where
+module _ {A : Type 0} (single : Bool) (begins : GrammarToken → Bool) (item : List Occ → Names → Parser A) (whole : List Occ → Names → Parser (List A)) (first s : State) (found : List A) (so_far : Looping single begins item whole first s found) where
   here : (o : Outcome A) → item (everything s) s.scope (input s) ≡ o → item (everything first) first.scope (input s) ≡ o
   here o is = ap (λ names. item (everything first) names (input s)) (sym so_far.keeps.names) ∙ ap (λ all. item all s.scope (input s)) (sym so_far.keeps.occurrences) ∙ is
 
@@ -41,7 +41,7 @@ module _ {A : Type 0} (single : Bool) (begins : Token → Bool) (item : List Occ
   stopped none = turns.stopped single begins _ found (input s) _ so_far.going none
 
   still : (t : State) → Keeps s t → Keeps first t
-  still t kept = record { occurrences = kept.occurrences ∙ so_far.keeps.occurrences; names = kept.names ∙ so_far.keeps.names; kind = kept.kind ∙ so_far.keeps.kind; behind = kept.behind ∙ so_far.keeps.behind }
+  still t kept = record { occurrences = kept.occurrences ∙ so_far.keeps.occurrences; names = kept.names ∙ so_far.keeps.names; kind = kept.kind ∙ so_far.keeps.kind; following = kept.following ∙ so_far.keeps.following }
 
   pub goes_on : single ≡ false → sees begins (input s) ≡ true → (t : State) (x : A) → item (everything s) s.scope (input s) ≡ Ok (x, input t) → Keeps s t → Looping single begins item whole first t (found ++ x ∷ [])
   goes_on more leads t x is kept = record {

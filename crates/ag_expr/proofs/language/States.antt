@@ -5,10 +5,10 @@ use Rattle.ag_tokens.specs.declared.fault.TokenFault.TheVariants as token_fault
 use Rattle.ag_tokens.specs.declared.token.Punctuation.TheVariants as punctuation
 use Rattle.ag_tokens.specs.Ending.{Ending}
 use Rattle.ag_tokens.specs.Left.{one_before}
-use Rattle.ag_tokens.specs.Parsing.{front, next, offset, is_end, is_sign, fault_of}
-use Rattle.ag_tokens.specs.Placed.{Placed, Input}
-use Rattle.ag_tokens.specs.Token.{Token, mark}
-use Rattle.ag_tokens.specs.Token as token
+use Rattle.ag_tokens.specs.Parsing.{prefix, next, offset, is_end, is_sign, fault_of}
+use Rattle.ag_tokens.specs.PlacedToken.{PlacedToken, Input}
+use Rattle.ag_tokens.specs.GrammarToken.{GrammarToken, mark}
+use Rattle.ag_tokens.specs.GrammarToken as token
 use Rattle.ag_expr.specs.declared.fault.ExprFault.{ExprFault}
 use Rattle.ag_expr.specs.declared.fault.ExprFault.TheVariants as fault
 use Rattle.ag_grammar.specs.declared.syntax.occurrence.Occ.{Occ}
@@ -17,22 +17,22 @@ use Rattle.ag_expr.specs.language.Reading.{begins, no_level_of, refusal}
 use Rattle.ag_expr.specs.language.State.{State, Keeps, PassesOther, begins_here, everything, from_end, input, is_occurrence, kept, no_level, passed}
 use Rattle.ag_expr.proofs.language.Numbered.{position_stays, has_number}
 
-abbrev pub is_semicolon : Token → Bool
+abbrev pub is_semicolon : GrammarToken → Bool
 is_semicolon = is_sign (mark punctuation.Semicolon)
 
 -- the next token is that of the cursor, unless it ends the tokens
-pub front_is : (s : State) → front (input s) ≡ kept s.is_statement (front s.tokens)
+pub front_is : (s : State) → prefix (input s) ≡ kept s.is_statement (prefix s.tokens)
 unfolding input
 front_is s = grind arith
 
 -- the fault for it
-abbrev pub told : Option TokenFault → ℕ → ExprFault
-told None at = fault.Unexpected at
-told (Some token_fault.Nothing) at = fault.NoToken at
-told (Some token_fault.TooLarge) at = fault.NumberTooLarge at
+abbrev pub reported : Option TokenFault → ℕ → ExprFault
+reported None at = fault.Unexpected at
+reported (Some token_fault.Nothing) at = fault.NoToken at
+reported (Some token_fault.TooLarge) at = fault.NumberTooLarge at
 
-pub told_is : (i : Input) (f : Option TokenFault) → f ≡ fault_of i.ending i.left → told f (offset i) ≡ refusal i
-told_is i f is = grind arith
+pub reported_is : (i : Input) (f : Option TokenFault) → f ≡ fault_of i.ending i.left → reported f (offset i) ≡ refusal i
+reported_is i f is = grind arith
 
 -- the fault is the same if the tokens end at a `;`
 pub refusal_is : (s : State) → refusal (input s) ≡ refusal s.tokens
@@ -40,47 +40,47 @@ unfolding input
 refusal_is s = grind arith
 
 -- whether the tokens end: at a `;` of a statement, or at the end of the text
-abbrev pub stops : Bool → Option Token → Bool → Bool
+abbrev pub stops : Bool → Option GrammarToken → Bool → Bool
 stops is_statement (Some t) ends = is_statement && is_semicolon t
 stops is_statement None ends = ends
 
-pub ends_is : (s : State) → is_end (input s).ending (input s).left ≡ stops s.is_statement (front s.tokens) (is_end s.tokens.ending s.tokens.left)
+pub ends_is : (s : State) → is_end (input s).ending (input s).left ≡ stops s.is_statement (prefix s.tokens) (is_end s.tokens.ending s.tokens.left)
 unfolding input
 ends_is s = grind arith
 
 -- there is a next token
-pub record Stands (s : State) (t : Token) : Type 0 where
+pub record HasToken (s : State) (t : GrammarToken) : Type 0 where
   pub is : input s ≡ one_before (offset s.tokens) t (input (passed s))
-  pub behind : from_end s.is_statement (next s.tokens) ≡ from_end s.is_statement s.tokens
+  pub following : from_end s.is_statement (next s.tokens) ≡ from_end s.is_statement s.tokens
 
-pub stands : (s : State) (t : Token) → front (input s) ≡ Some t → Stands s t
+pub occurs : (s : State) (t : GrammarToken) → prefix (input s) ≡ Some t → HasToken s t
 unfolding input
-stands s t h = record { is = grind arith; behind = grind arith }
+occurs s t h = record { is = grind arith; following = grind arith }
 
-pub some_token : (o : Option Token) → is_some o ≡ true → (t : Token) × (o ≡ Some t)
+pub some_token : (o : Option GrammarToken) → is_some o ≡ true → (t : GrammarToken) × (o ≡ Some t)
 some_token o h = grind arith
 
-module _ (s : State) (t : Token) (h : front (input s) ≡ Some t) where
+module _ (s : State) (t : GrammarToken) (h : prefix (input s) ≡ Some t) where
   pub passed_input : input (passed s) ≡ next (input s)
-  passed_input = sym (ap next (stands s t h).is)
+  passed_input = sym (ap next (occurs s t h).is)
 
   all_is : everything s ≡ listed_with_all s.listed (occurrence_in t (offset s.tokens) ++ all_occurrences (input (passed s)).left)
   unfolding everything
-  all_is = ap (λ (i : Input). listed_with_all s.listed (all_occurrences i.left)) (stands s t h).is
+  all_is = ap (λ (i : Input). listed_with_all s.listed (all_occurrences i.left)) (occurs s t h).is
 
   -- a token that is not an occurrence lists nothing
   pub passed_keeps : PassesOther s → Keeps s (passed s)
   unfolding everything
-  passed_keeps other = record { occurrences = sym (all_is ∙ ap (λ os. listed_with_all s.listed (os ++ all_occurrences (input (passed s)).left)) (none t (sym (ap is_occurrence h) ∙ other))); names = refl; kind = refl; behind = (stands s t h).behind }
+  passed_keeps other = record { occurrences = sym (all_is ∙ ap (λ os. listed_with_all s.listed (os ++ all_occurrences (input (passed s)).left)) (none t (sym (ap is_occurrence h) ∙ other))); names = refl; kind = refl; following = (occurs s t h).following }
     where
-      none : (t : Token) → is_occurrence (Some t) ≡ false → occurrence_in t (offset s.tokens) ≡ []
+      none : (t : GrammarToken) → is_occurrence (Some t) ≡ false → occurrence_in t (offset s.tokens) ≡ []
       none t h = grind arith
 
   -- whether an expression begins with the token is the same with all occurrences as in `begins_here`
   begins_same : begins (everything s) s.scope t ≡ begins_here s.scope t
   begins_same = go t all_is
     where
-      go : (t : Token) → everything s ≡ listed_with_all s.listed (occurrence_in t (offset s.tokens) ++ all_occurrences (input (passed s)).left) → begins (everything s) s.scope t ≡ begins_here s.scope t
+      go : (t : GrammarToken) → everything s ≡ listed_with_all s.listed (occurrence_in t (offset s.tokens) ++ all_occurrences (input (passed s)).left) → begins (everything s) s.scope t ≡ begins_here s.scope t
       go (token.Number n) all = refl
       go (token.Text bytes) all = refl
       go (token.Name name) all = refl
@@ -93,25 +93,25 @@ module _ (s : State) (t : Token) (h : front (input s) ≡ Some t) where
 
   -- the fault for the token if no level is left
   level_is : no_level s ≡ cond (begins_here s.scope t) (fault.TooDeep (offset s.tokens)) (fault.Unexpected (offset s.tokens))
-  level_is = ap (λ (i : Input). no_level_of (everything s) s.scope i.ending i.left) (stands s t h).is ∙ rw begins_same (grind arith)
+  level_is = ap (λ (i : Input). no_level_of (everything s) s.scope i.ending i.left) (occurs s t h).is ∙ rw begins_same (grind arith)
 
   pub too_deep : begins_here s.scope t ≡ true → no_level s ≡ fault.TooDeep (offset s.tokens)
   too_deep b = level_is ∙ rw b refl
 
   pub not_begun : begins_here s.scope t ≡ false → no_level s ≡ refusal (input s)
-  not_begun b = level_is ∙ rw b (sym (ap refusal (stands s t h).is))
+  not_begun b = level_is ∙ rw b (sym (ap refusal (occurs s t h).is))
 
-pub none_begun : (s : State) → front (input s) ≡ None → no_level s ≡ refusal (input s)
+pub none_begun : (s : State) → prefix (input s) ≡ None → no_level s ≡ refusal (input s)
 none_begun s h = grind arith
 
 -- an occurrence that is read is listed
-module _ (s : State) (p : ℕ) (attr : List ℕ) (listed : List Occ) (h : front (input s) ≡ Some (token.Occurrence p attr)) (is : listed ≡ listed_with s.listed (record { place = p; attr = attr; at = offset s.tokens })) where
+module _ (s : State) (p : ℕ) (attr : List ℕ) (listed : List Occ) (h : prefix (input s) ≡ Some (token.Occurrence p attr)) (is : listed ≡ listed_with s.listed (record { place = p; attr = attr; at = offset s.tokens })) where
   all_listed : everything s ≡ listed_with_all listed (all_occurrences (input (passed s)).left)
   all_listed = all_is s (token.Occurrence p attr) h ∙ ap (λ os. listed_with_all os (all_occurrences (input (passed s)).left)) (sym is)
 
   pub taken_keeps : Keeps s (record s { listed = listed; tokens = next s.tokens })
   unfolding everything input
-  taken_keeps = record { occurrences = sym all_listed; names = refl; kind = refl; behind = (stands s (token.Occurrence p attr) h).behind }
+  taken_keeps = record { occurrences = sym all_listed; names = refl; kind = refl; following = (occurs s (token.Occurrence p attr) h).following }
 
   pub taken_number : (k : ℕ) → position_of listed p attr ≡ Some k → position_of (everything s) p attr ≡ Some k
   taken_number k e = ap (λ os. position_of os p attr) all_listed ∙ position_stays listed p attr k (all_occurrences (input (passed s)).left) e
@@ -125,5 +125,5 @@ pub all_at_end : (s : State) → is_end (input s).ending (input s).left ≡ true
 unfolding everything
 all_at_end s h = ap (λ ps. listed_with_all s.listed (all_occurrences ps)) (none (input s).ending (input s).left h)
   where
-    none : (e : Ending) (ps : List Placed) → is_end e ps ≡ true → ps ≡ []
+    none : (e : Ending) (ps : List PlacedToken) → is_end e ps ≡ true → ps ≡ []
     none e ps h = grind arith

@@ -9,9 +9,9 @@ use Rattle.ag_tokens.specs.Ending.{Ending, offset_of}
 use Rattle.ag_tokens.specs.Ending as ending
 use Rattle.ag_expr.specs.language.Expression.{max_levels, ReadsAsExpr, ReadsAsNone, IsRefused, IsAt, Says, begins_expression}
 use Rattle.ag_expr.specs.language.State.{State, IsReadToEnd, start, input, everything}
-use Rattle.ag_expr.specs.language.Occurrences.{all_occurrences, different}
-use Rattle.ag_tokens.specs.Placed.{Placed, Input, tokens}
-use Rattle.ag_expr.specs.language.Offsets.{IsFirstOf, IsRead, IsReadFrom, IsToldFirst, answer_of, occurrences_of, read_from}
+use Rattle.ag_expr.specs.language.Occurrences.{all_occurrences, distinct_occurrences}
+use Rattle.ag_tokens.specs.PlacedToken.{PlacedToken, Input, tokens}
+use Rattle.ag_expr.specs.language.Offsets.{IsFirstOf, IsRead, IsReadFrom, IsReportedFirst, answer_of, occurrences_of, read_from}
 use Rattle.ag_tokens.specs.Parsing.{is_end}
 use Rattle.ag_expr.specs.language.Reading.{Outcome, expr_from, expr_in, expr_of, ending_fault, refusal, refusal_of}
 use Rattle.ag_expr.specs.language.Syntax.{IsExpr}
@@ -45,10 +45,10 @@ module _ (s : State) where
   refused_within (Ok x) e is h = absurd is
   refused_within (Err x) e is h = λ memory. rw (h (λ q. memory (ap Err (is ∙ q)))) (ap Err (sym is))
 
-  pub refused_behind : (r : Result (Node × List Occ) ExprFault) (e : ExprFault) (f : Node) (j : Input) → IsErrAnd r (λ x. x ≡ e) → expr_from (everything s) max_levels (input s) ≡ Ok (f, j) → is_end j.ending j.left ≡ false → e ≡ refusal j → IsReadToEnd s r
+  pub refused_after : (r : Result (Node × List Occ) ExprFault) (e : ExprFault) (f : Node) (j : Input) → IsErrAnd r (λ x. x ≡ e) → expr_from (everything s) max_levels (input s) ≡ Ok (f, j) → is_end j.ending j.left ≡ false → e ≡ refusal j → IsReadToEnd s r
   unfolding expr_of
-  refused_behind (Ok x) e f j is read more says = absurd is
-  refused_behind (Err x) e f j is read more says = λ memory. rw (read, more) (ap Err (sym (is ∙ says)))
+  refused_after (Ok x) e f j is read more says = absurd is
+  refused_after (Err x) e f j is read more says = λ memory. rw (read, more) (ap Err (sym (is ∙ says)))
 
   pub read_all : (f : Node) (j : Input) (listed : List Occ) → expr_from (everything s) max_levels (input s) ≡ Ok (f, j) → is_end j.ending j.left ≡ true → listed ≡ everything s → IsReadToEnd s (Ok (f, listed))
   read_all f j listed read ends same = λ memory. ap (answer_of (everything s)) (read_of (everything s) max_levels (input s) j f read ends) ∙ ap (λ os. Ok (f, os)) (sym same)
@@ -94,7 +94,7 @@ reads_as text (Ok x) utf8 is = reads_of text x utf8 is
 reads_as text (Err e) utf8 is = tt
 
 -- and the tokens of an expression are parsed to it
-pub spelled_back : (placed : List Placed) (at : ℕ) (x : Node × List Occ) → x.1 ≡ different (all_occurrences placed) → IsExpr x.1 max_levels (tokens placed) x.0 → read_from (record { left = placed; ending = ending.EndsAt at }) ≡ Ok x
+pub spelled_back : (placed : List PlacedToken) (at : ℕ) (x : Node × List Occ) → x.1 ≡ distinct_occurrences (all_occurrences placed) → IsExpr x.1 max_levels (tokens placed) x.0 → read_from (record { left = placed; ending = ending.EndsAt at }) ≡ Ok x
 spelled_back placed at x listed spells =
     let i : Input = record { left = placed; ending = ending.EndsAt at } in
     ap (λ os. answer_of os (expr_of os max_levels i)) (sym listed) ∙ ap (answer_of x.1) (read_whole x.1 max_levels at placed x.0 spells)
@@ -103,7 +103,7 @@ read_back : (text : List ℕ) (x : Node × List Occ) (reads : ReadsAsExpr text x
 read_back text x reads = spelled_back reads.placed (length text) x reads.listed reads.spells
 
 none_of : (text : List ℕ) (e : ExprFault) → e ≢ fault.NoMemory → IsRead text (Err e) → ReadsAsNone text
-none_of text e memory is x reads = let clash = sym (is _ reads.lexes (λ q. memory cc)) ∙ read_back text x reads in cc
+none_of text e memory is x reads = let contradiction = sym (is _ reads.lexes (λ q. memory cc)) ∙ read_back text x reads in cc
 
 pub refuses_of : (text : List ℕ) (r : Result (Node × List Occ) ExprFault) → IsRead text r → IfErr r (IsRefused text)
 refuses_of text (Ok x) is = tt
@@ -111,11 +111,11 @@ refuses_of text (Err fault.NoMemory) is = tt
 refuses_of text (Err e) is = none_of text _ (λ e. cc) is
 
 -- a fault of the parser is at the first token that cannot be accepted
-pub told_of : (i : Input) (e : ExprFault) → read_from i ≡ Err e → IsToldFirst (occurrences_of i) max_levels i e
-told_of i e is = refuses_at_the_first (occurrences_of i) max_levels i e (answered_fault (occurrences_of i) (expr_of (occurrences_of i) max_levels i) e is)
+pub reported_of : (i : Input) (e : ExprFault) → read_from i ≡ Err e → IsReportedFirst (occurrences_of i) max_levels i e
+reported_of i e is = refuses_at_the_first (occurrences_of i) max_levels i e (answered_fault (occurrences_of i) (expr_of (occurrences_of i) max_levels i) e is)
 
 first_fault : (text : List ℕ) (e : ExprFault) → IsRead text (Err e) → IsFirstOf text e
-first_fault text e is i lexes memory = told_of i e (is i lexes (λ q. memory cc))
+first_fault text e is i lexes memory = reported_of i e (is i lexes (λ q. memory cc))
 
 pub first_of : (text : List ℕ) (r : Result (Node × List Occ) ExprFault) → IsRead text r → IfErr r (IsFirstOf text)
 first_of text (Ok x) is = tt
@@ -123,12 +123,12 @@ first_of text (Err e) is = first_fault text e is
 
 -- ---- the token at the offset of a fault
 
-placed_inner : (us : List Placed) (p : Placed) (ps : List Placed) → all_within (us ++ p ∷ ps) ≡ true → is_within p.token ≡ true
+placed_inner : (us : List PlacedToken) (p : PlacedToken) (ps : List PlacedToken) → all_within (us ++ p ∷ ps) ≡ true → is_within p.token ≡ true
 placed_inner [] p ps h = grind arith
 placed_inner (u ∷ us) p ps h = let more = placed_inner us p ps in grind arith
 
 -- a token of the text is at its offset
-token_at : {from : ℕ} {cs : List ℕ} {qs : List Placed} {end : ℕ} {rest : List ℕ} → AreTokens from cs qs end rest → (us : List Placed) (p : Placed) (ps : List Placed) → qs ≡ us ++ p ∷ ps → (there : AnyTokenAt from cs p.at) × (there.token ≡ p.token)
+token_at : {from : ℕ} {cs : List ℕ} {qs : List PlacedToken} {end : ℕ} {rest : List ℕ} → AreTokens from cs qs end rest → (us : List PlacedToken) (p : PlacedToken) (ps : List PlacedToken) → qs ≡ us ++ p ∷ ps → (there : AnyTokenAt from cs p.at) × (there.token ≡ p.token)
 token_at (ended at cs) us p ps e = let bad : ⊥ = omega (arith, ap length e, length-append us (p ∷ ps)) in absurd bad
 token_at (separator at c cs qs end rest h are) us p ps e =
     let one = token_at are us p ps e in
@@ -139,7 +139,7 @@ token_at (separator at c cs qs end rest h are) us p ps e =
     )
 token_at (word at all w cs t qs end rest split is longest are) [] p ps e =
     let same : record { at = at; token = t } ≡ p = cc in
-    subst (λ (q : Placed). (there : AnyTokenAt at all q.at) × (there.token ≡ q.token)) same (record { word = w; token = t; rest = cs; reaches = record { placed = []; before = subst (λ ds. AreTokens at all [] at ds) split (ended at all) }; is = is; longest = longest }, refl)
+    subst (λ (q : PlacedToken). (there : AnyTokenAt at all q.at) × (there.token ≡ q.token)) same (record { word = w; token = t; rest = cs; reaches = record { placed = []; before = subst (λ ds. AreTokens at all [] at ds) split (ended at all) }; is = is; longest = longest }, refl)
 token_at (word at all w cs t qs end rest split is longest are) (u ∷ us) p ps e =
     let tail : qs ≡ us ++ p ∷ ps = cc in
     let one = token_at are us p ps tail in
@@ -150,14 +150,14 @@ token_at (word at all w cs t qs end rest split is longest are) (u ∷ us) p ps e
     )
 
 module _ (from : ℕ) (cs : List ℕ) (i : Input) (lexes : Lexes from cs i) where
-  pub stands_at : (us : List Placed) (p : Placed) (ps : List Placed) → i.left ≡ us ++ p ∷ ps → (there : TokenAt from cs p.at) × (there.0.token ≡ p.token)
+  pub stands_at : (us : List PlacedToken) (p : PlacedToken) (ps : List PlacedToken) → i.left ≡ us ++ p ∷ ps → (there : TokenAt from cs p.at) × (there.0.token ≡ p.token)
   stands_at us p ps cut = let one = token_at lexes.before us p ps cut in ((one.0, ap is_within one.1 ∙ placed_inner us p ps (sym (ap all_within cut) ∙ lexes.within)), one.1)
 
   -- the ending of the tokens is at its offset
   pub ends_at : Says from cs (ending_fault i.ending)
   ends_at = go i.left i.ending lexes
     where
-      go : (ps : List Placed) (e : Ending) → Lexes from cs (record { left = ps; ending = e }) → Says from cs (ending_fault e)
+      go : (ps : List PlacedToken) (e : Ending) → Lexes from cs (record { left = ps; ending = e }) → Says from cs (ending_fault e)
       go ps (ending.EndsAt at) is = inr (record { placed = ps; before = subst (AreTokens from cs ps at) is.stops is.before })
       go ps (ending.NoTokenAt at) is = by is.rest is.before is.stops
         where
@@ -166,26 +166,26 @@ module _ (from : ℕ) (cs : List ℕ) (i : Input) (lexes : Lexes from cs i) wher
           by (c ∷ rest) before none = record { first = c; rest = rest; reaches = record { placed = ps; before = before }; no_separator = none.0; no_token = none.1 }
       go ps (ending.TooLargeAt at) is =
           let t = is.stops in
-          (record { word = t.word; token = t.token; rest = t.behind; reaches = record { placed = ps; before = subst (AreTokens from cs ps at) t.split is.before }; is = t.is; longest = t.longest }, t.large)
+          (record { word = t.word; token = t.token; rest = t.following; reaches = record { placed = ps; before = subst (AreTokens from cs ps at) t.split is.before }; is = t.is; longest = t.longest }, t.large)
 
   -- A fault for a prefix of the tokens is right about the text, if that for the ending of the prefix is.
-  pub told_before : (part : Input) (behind : List Placed) → i.left ≡ part.left ++ behind → Says from cs (ending_fault part.ending) → (listed : List Occ) (levels : ℕ) (f : ExprFault) → IsToldFirst listed levels part f → Says from cs f
-  told_before part behind cut ends listed levels f told = go told
+  pub reported_before : (part : Input) (following : List PlacedToken) → i.left ≡ part.left ++ following → Says from cs (ending_fault part.ending) → (listed : List Occ) (levels : ℕ) (f : ExprFault) → IsReportedFirst listed levels part f → Says from cs f
+  reported_before part following cut ends listed levels f reported = go reported
     where
-      further : (us ps : List Placed) → part.left ≡ us ++ ps → i.left ≡ us ++ (ps ++ behind)
-      further us ps here = cut ∙ ap (λ qs. qs ++ behind) here ∙ append_assoc us ps behind
+      further : (us ps : List PlacedToken) → part.left ≡ us ++ ps → i.left ≡ us ++ (ps ++ following)
+      further us ps here = cut ∙ ap (λ qs. qs ++ following) here ∙ append_assoc us ps following
 
-      says : (us rest : List Placed) → part.left ≡ us ++ rest → Says from cs (refusal_of part.ending rest)
+      says : (us rest : List PlacedToken) → part.left ≡ us ++ rest → Says from cs (refusal_of part.ending rest)
       says us [] here = ends
-      says us (p ∷ ps) here = inl (stands_at us p (ps ++ behind) (further us (p ∷ ps) here)).0
+      says us (p ∷ ps) here = inl (stands_at us p (ps ++ following) (further us (p ∷ ps) here)).0
 
-      go : IsToldFirst listed levels part f → Says from cs f
+      go : IsReportedFirst listed levels part f → Says from cs f
       go (inl w) = subst (Says from cs) (sym w.says) (says w.before w.rest w.cut)
-      go (inr d) = let one = stands_at d.before d.first (d.rest ++ behind) (further d.before (d.first ∷ d.rest) d.cut) in subst (Says from cs) (sym d.says) (one.0, ap begins_expression one.1 ∙ d.begins_one)
+      go (inr d) = let one = stands_at d.before d.first (d.rest ++ following) (further d.before (d.first ∷ d.rest) d.cut) in subst (Says from cs) (sym d.says) (one.0, ap begins_expression one.1 ∙ d.begins_one)
 
   -- and the same for all tokens
-  pub told_at : (listed : List Occ) (levels : ℕ) (f : ExprFault) → IsToldFirst listed levels i f → Says from cs f
-  told_at = told_before i [] (sym (append-nil i.left)) ends_at
+  pub reported_at : (listed : List Occ) (levels : ℕ) (f : ExprFault) → IsReportedFirst listed levels i f → Says from cs f
+  reported_at = reported_before i [] (sym (append-nil i.left)) ends_at
 
 -- the fault `NoMemory` states nothing
 pub unless_memory : (from : ℕ) (cs : List ℕ) (e : ExprFault) → (e ≢ fault.NoMemory → Says from cs e) → Says from cs e
@@ -196,7 +196,7 @@ pub offsets_of : (text : List ℕ) (r : Result (Node × List Occ) ExprFault) →
 offsets_of text (Ok x) is = tt
 offsets_of text (Err e) is =
     let i = one_input (chars text) in
-    unless_memory 0 (chars text) e (λ memory. told_at 0 (chars text) i.0 i.1 (occurrences_of i.0) max_levels e (first_fault text e is i.0 i.1 memory))
+    unless_memory 0 (chars text) e (λ memory. reported_at 0 (chars text) i.0 i.1 (occurrences_of i.0) max_levels e (first_fault text e is i.0 i.1 memory))
 
 -- a text reads as at most one expression
 pub one_expression : (text : List ℕ) (one other : Node × List Occ) → ReadsAsExpr text one → ReadsAsExpr text other → one ≡ other

@@ -4,8 +4,8 @@ use Rattle.ag_tokens.specs.declared.token.Punctuation.TheVariants as punctuation
 use Rattle.ag_tokens.specs.Ending.{Ending}
 use Rattle.ag_tokens.specs.Ending as ending
 use Rattle.ag_tokens.specs.Parsing.{sees, is_sign, is_end, offset, next}
-use Rattle.ag_tokens.specs.Placed.{Placed, Input, tokens}
-use Rattle.ag_tokens.specs.Token.{Token, mark}
+use Rattle.ag_tokens.specs.PlacedToken.{PlacedToken, Input, tokens}
+use Rattle.ag_tokens.specs.GrammarToken.{GrammarToken, mark}
 use Rattle.ag_tokens.specs.Tokens.{Lexes}
 use Rattle.ag_tokens.proofs.Lexes.{same_input}
 use Rattle.ag_expr.specs.declared.fault.ExprFault.{ExprFault}
@@ -17,41 +17,41 @@ use Rattle.ag_expr.specs.language.Offsets.{answer_of, read_from}
 use Rattle.ag_expr.specs.language.Reading.{ending_fault, expr_from, expr_of, refusal}
 use Rattle.ag_expr.specs.language.State.{IsReadEnded, Keeps, State, everything, from_end, input, start, up_to}
 use Rattle.ag_expr.specs.language.Syntax.{IsExpr}
-use Rattle.ag_expr.specs.language.Until.{Ended, semicolon, first_semicolon, before_semicolon, behind_semicolon, from_semicolon, with_offset, or_fault, until_by, read_until_from, IsReadUntil, ReadsUntil, IsRefusedUntil, IsToldUntil, IsFirstUntil}
+use Rattle.ag_expr.specs.language.Until.{Ended, semicolon, first_semicolon, before_semicolon, after_semicolon, from_semicolon, with_offset, or_fault, until_by, read_until_from, IsReadUntil, ReadsUntil, IsRefusedUntil, IsReportedUntil, IsFirstUntil}
 use Rattle.ag_expr.proofs.language.Agree.{read_of}
 use Rattle.ag_expr.proofs.language.Listing.{listed_are_different}
 use Rattle.ag_expr.proofs.language.Manner.{sign_is}
 use Rattle.ag_expr.proofs.language.States.{all_at_end}
-use Rattle.ag_expr.proofs.language.Texts.{spells_of, spelled_back, told_of, stands_at, ends_at, told_before, told_at, unless_memory}
+use Rattle.ag_expr.proofs.language.Texts.{spells_of, spelled_back, reported_of, stands_at, ends_at, reported_before, reported_at, unless_memory}
 
 -- ---- the first semicolon
 
-abbrev is_semicolon : Token → Bool
+abbrev is_semicolon : GrammarToken → Bool
 is_semicolon = is_sign (mark punctuation.Semicolon)
 
 -- if there is a first semicolon, the tokens are those before it, the semicolon, and those after it
-pub split_first : (qs : List Placed) (at : ℕ) → first_semicolon qs ≡ Some at → (qs ≡ before_semicolon qs ++ semicolon at ∷ behind_semicolon qs) × (first_semicolon (before_semicolon qs) ≡ None)
+pub split_first : (qs : List PlacedToken) (at : ℕ) → first_semicolon qs ≡ Some at → (qs ≡ before_semicolon qs ++ semicolon at ∷ after_semicolon qs) × (first_semicolon (before_semicolon qs) ≡ None)
 split_first [] at h = let bad : ⊥ = cc in absurd bad
 split_first (q ∷ qs) at h = let more = split_first qs at in let is = sign_is (mark punctuation.Semicolon) q.token in (grind (arith, is), grind arith)
 
 -- and a semicolon after tokens without one is the first
-pub found_first : (us : List Placed) (at : ℕ) (ps : List Placed) → first_semicolon us ≡ None
-    → (first_semicolon (us ++ semicolon at ∷ ps) ≡ Some at) × (before_semicolon (us ++ semicolon at ∷ ps) ≡ us) × (behind_semicolon (us ++ semicolon at ∷ ps) ≡ ps)
+pub found_first : (us : List PlacedToken) (at : ℕ) (ps : List PlacedToken) → first_semicolon us ≡ None
+    → (first_semicolon (us ++ semicolon at ∷ ps) ≡ Some at) × (before_semicolon (us ++ semicolon at ∷ ps) ≡ us) × (after_semicolon (us ++ semicolon at ∷ ps) ≡ ps)
 found_first [] at ps none = (refl, refl, refl)
 found_first (u ∷ us) at ps none = let more = found_first us at ps in (grind arith, grind arith, grind arith)
 
 -- if there is none, all tokens are before it
-none_first : (qs : List Placed) → first_semicolon qs ≡ None → (before_semicolon qs ≡ qs) × (from_semicolon qs ≡ [])
+none_first : (qs : List PlacedToken) → first_semicolon qs ≡ None → (before_semicolon qs ≡ qs) × (from_semicolon qs ≡ [])
 none_first [] h = (refl, refl)
 none_first (q ∷ qs) h = let more = none_first qs in (grind arith, grind arith)
 
 -- and if there is one, the tokens from it on are not empty
-never : (qs : List Placed) (at : ℕ) → first_semicolon qs ≡ Some at → from_semicolon qs ≡ [] → ⊥
+never : (qs : List PlacedToken) (at : ℕ) → first_semicolon qs ≡ Some at → from_semicolon qs ≡ [] → ⊥
 never [] at h none = cc
 never (q ∷ qs) at h none = let more = never qs at in grind arith
 
 -- the tokens from the semicolon on are the semicolon and those after it
-from_first : (qs : List Placed) (p : Placed) (ps : List Placed) → from_semicolon qs ≡ p ∷ ps → (first_semicolon qs ≡ Some p.at) × (behind_semicolon qs ≡ ps)
+from_first : (qs : List PlacedToken) (p : PlacedToken) (ps : List PlacedToken) → from_semicolon qs ≡ p ∷ ps → (first_semicolon qs ≡ Some p.at) × (after_semicolon qs ≡ ps)
 from_first [] p ps h = let bad : ⊥ = cc in absurd bad
 from_first (q ∷ qs) p ps h = let more = from_first qs p ps in (grind arith, grind arith)
 
@@ -85,7 +85,7 @@ module _ (i : Input) where
     ending_is : c.ending ≡ i.ending
     ending_is = ap (λ (k : Input). k.ending) same
 
-    pub ended : sees is_semicolon c ≡ true → (read_until_from i ≡ Ok ((e, all), offset c)) × (next c ≡ record i { left = behind_semicolon i.left })
+    pub ended : sees is_semicolon c ≡ true → (read_until_from i ≡ Ok ((e, all), offset c)) × (next c ≡ record i { left = after_semicolon i.left })
     ended h =
         let from = from_first i.left in
         let here = rest in
@@ -97,8 +97,8 @@ module _ (i : Input) where
     unfolding expr_of
     refused_at more = rw (read, more) refl
 
-    pub refused_behind : sees is_semicolon c ≡ false → read_until_from i ≡ Err (refusal (up_to true c))
-    refused_behind h = until_is i ∙ by (is_end (up_to true c).ending (up_to true c).left) refl
+    pub refused_after : sees is_semicolon c ≡ false → read_until_from i ≡ Err (refusal (up_to true c))
+    refused_after h = until_is i ∙ by (is_end (up_to true c).ending (up_to true c).left) refl
       where
         by : (b : Bool) → is_end (up_to true c).ending (up_to true c).left ≡ b → by_end (first_semicolon i.left) i.ending (read_from (up_to true i)) ≡ Err (refusal (up_to true c))
         by true ends =
@@ -114,14 +114,14 @@ module _ (i : Input) (s : State) (e : Node) (read : expr_from (all i) max_levels
   unfolding input
   tokens_are = ap (λ b. up_to b s.tokens) kept.kind
 
-  behind : from_end true s.tokens ≡ from_end true i
-  behind = sym (ap (λ b. from_end b s.tokens) kept.kind) ∙ kept.behind
+  following : from_end true s.tokens ≡ from_end true i
+  following = sym (ap (λ b. from_end b s.tokens) kept.kind) ∙ kept.following
 
-  pub ended_of : sees is_semicolon s.tokens ≡ true → (read_until_from i ≡ Ok ((e, all i), offset s.tokens)) × (next s.tokens ≡ record i { left = behind_semicolon i.left })
-  ended_of h = ended i s.tokens e (read ∙ ap (λ j. Ok (e, j)) tokens_are) behind h
+  pub ended_of : sees is_semicolon s.tokens ≡ true → (read_until_from i ≡ Ok ((e, all i), offset s.tokens)) × (next s.tokens ≡ record i { left = after_semicolon i.left })
+  ended_of h = ended i s.tokens e (read ∙ ap (λ j. Ok (e, j)) tokens_are) following h
 
   pub refused_of : sees is_semicolon s.tokens ≡ false → read_until_from i ≡ Err (refusal (input s))
-  refused_of h = refused_behind i s.tokens e (read ∙ ap (λ j. Ok (e, j)) tokens_are) behind h ∙ ap (λ j. Err (refusal j)) (sym tokens_are)
+  refused_of h = refused_after i s.tokens e (read ∙ ap (λ j. Ok (e, j)) tokens_are) following h ∙ ap (λ j. Err (refusal j)) (sym tokens_are)
 
   pub all_of : sees is_semicolon s.tokens ≡ true → s.listed ≡ all i
   all_of h = sym (all_at_end s (ap (λ (j : Input). is_end j.ending j.left) tokens_are ∙ grind arith)) ∙ kept.occurrences
@@ -129,28 +129,28 @@ module _ (i : Input) (s : State) (e : Node) (read : expr_from (all i) max_levels
 -- ---- the token of a fault
 
 module _ (i : Input) (f : ExprFault) where
-  told_until : (o : Option ℕ) → until_by o i ≡ Err f → IsToldUntil o i f
-  told_until (Some at) is = let told = told_of (record { left = before_semicolon i.left; ending = ending.EndsAt at }) f in told (grind arith)
-  told_until None is = go (read_from i) refl is
+  reported_until : (o : Option ℕ) → until_by o i ≡ Err f → IsReportedUntil o i f
+  reported_until (Some at) is = let reported = reported_of (record { left = before_semicolon i.left; ending = ending.EndsAt at }) f in reported (grind arith)
+  reported_until None is = go (read_from i) refl is
     where
-      go : (r : Result (Node × List Occ) ExprFault) → read_from i ≡ r → or_fault (ending_fault i.ending) r ≡ Err f → IsToldUntil None i f
+      go : (r : Result (Node × List Occ) ExprFault) → read_from i ≡ r → or_fault (ending_fault i.ending) r ≡ Err f → IsReportedUntil None i f
       go (Ok x) read is =
           let s = spells_of i x read in
           let same : ending_fault i.ending ≡ f = cc in
           inr (record { at = s.at; ends = s.ends; says = sym same ∙ ap ending_fault s.ends; tree = x.0; spells = s.spells })
-      go (Err g) read is = let same : g ≡ f = cc in inl (told_of i f (read ∙ ap Err same))
+      go (Err g) read is = let same : g ≡ f = cc in inl (reported_of i f (read ∙ ap Err same))
 
-  says_until : (from : ℕ) (cs : List ℕ) → Lexes from cs i → (o : Option ℕ) → first_semicolon i.left ≡ o → IsToldUntil o i f → Says from cs f
-  says_until from cs lexes (Some at) h told =
+  says_until : (from : ℕ) (cs : List ℕ) → Lexes from cs i → (o : Option ℕ) → first_semicolon i.left ≡ o → IsReportedUntil o i f → Says from cs f
+  says_until from cs lexes (Some at) h reported =
       let cut = split_first i.left at h in
-      let stop = stands_at from cs i lexes (before_semicolon i.left) (semicolon at) (behind_semicolon i.left) cut.0 in
-      told_before from cs i lexes (record { left = before_semicolon i.left; ending = ending.EndsAt at }) (semicolon at ∷ behind_semicolon i.left) cut.0 (inl stop.0) _ max_levels f told
-  says_until from cs lexes None h (inl told) = told_at from cs i lexes _ max_levels f told
+      let stop = stands_at from cs i lexes (before_semicolon i.left) (semicolon at) (after_semicolon i.left) cut.0 in
+      reported_before from cs i lexes (record { left = before_semicolon i.left; ending = ending.EndsAt at }) (semicolon at ∷ after_semicolon i.left) cut.0 (inl stop.0) _ max_levels f reported
+  says_until from cs lexes None h (inl reported) = reported_at from cs i lexes _ max_levels f reported
   says_until from cs lexes None h (inr u) = subst (Says from cs) (ap ending_fault u.ends ∙ sym u.says) (ends_at from cs i lexes)
 
 pub first_until : (text : List ℕ) (from : ℕ) (r : Result Ended ExprFault) → IsReadUntil text from r → IfErr r (IsFirstUntil text from)
 first_until text from (Ok x) is = tt
-first_until text from (Err f) is = λ i lexes memory. told_until i f (first_semicolon i.left) (is i lexes (λ q. memory cc))
+first_until text from (Err f) is = λ i lexes memory. reported_until i f (first_semicolon i.left) (is i lexes (λ q. memory cc))
 
 -- ---- what follows for the text
 
@@ -168,7 +168,7 @@ module _ (text : List ℕ) (from : ℕ) (j : Input) (lexes : Lexes from (chars (
       let cut = split_first j.left x.1 (h ∙ ap Some read.1) in
       record {
         placed = before_semicolon j.left;
-        rest = behind_semicolon j.left;
+        rest = after_semicolon j.left;
         ending = j.ending;
         lexes = subst (λ ps. Lexes from (chars (drop from text)) (record { left = ps; ending = j.ending })) cut.0 lexes;
         first = cut.1;
@@ -186,7 +186,7 @@ module _ (text : List ℕ) (from : ℕ) (j : Input) (lexes : Lexes from (chars (
       let found = found_first reads.placed x.1 reads.rest reads.first in
       let k : Input = record { left = reads.placed ++ semicolon x.1 ∷ reads.rest; ending = reads.ending } in
       let back = ap (λ o. until_by o k) found.0 ∙ ap (λ ps. with_offset x.1 (read_from (record { left = ps; ending = ending.EndsAt x.1 }))) found.1 ∙ ap (with_offset x.1) (spelled_back reads.placed x.1 x.0 reads.listed reads.spells) in
-      let clash = sym (is k reads.lexes (λ q. memory cc)) ∙ back in
+      let contradiction = sym (is k reads.lexes (λ q. memory cc)) ∙ back in
       cc
 
   pub offsets_until : (r : Result Ended ExprFault) → IsReadUntil text from r → IfErr r (Says from (chars (drop from text)))

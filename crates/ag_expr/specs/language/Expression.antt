@@ -3,29 +3,29 @@ use Rattle.std.specs.Prelude.{◌≡◌, ◌⊎◌, ℕ, Bool, true, false, not,
 use Rattle.ag_expr.specs.declared.fault.ExprFault.{ExprFault}
 use Rattle.ag_expr.specs.declared.fault.ExprFault.TheVariants as fault
 use Rattle.ag_tokens.specs.declared.token.Punctuation.TheVariants as punctuation
-use Rattle.ag_tokens.specs.Token.{Token}
-use Rattle.ag_tokens.specs.Token as token
-use Rattle.ag_grammar.specs.declared.limits.TheConstants.{MOST_LEVELS}
+use Rattle.ag_tokens.specs.GrammarToken.{GrammarToken}
+use Rattle.ag_tokens.specs.GrammarToken as token
+use Rattle.ag_grammar.specs.declared.limits.TheConstants.{MAX_EXPR_LEVELS}
 use Rattle.ag_grammar.specs.declared.syntax.node.Node.{Node}
 use Rattle.ag_grammar.specs.declared.syntax.occurrence.Occ.{Occ}
 use Rattle.ag_tokens.specs.Ending as ending
-use Rattle.ag_tokens.specs.Placed.{Placed, tokens}
+use Rattle.ag_tokens.specs.PlacedToken.{PlacedToken, tokens}
 use Rattle.ag_tokens.specs.Tokens.{Lexes, NoTokenAt, TooLargeAt, TokenAt, EndsAt}
-use Rattle.ag_expr.specs.language.Occurrences.{all_occurrences, different}
+use Rattle.ag_expr.specs.language.Occurrences.{all_occurrences, distinct_occurrences}
 use Rattle.ag_expr.specs.language.Names.{call_of, is_reserved}
 use Rattle.ag_expr.specs.language.Syntax.{IsExpr}
 
 -- the maximum number of levels of an expression
 abbrev pub max_levels : ℕ
-max_levels = MOST_LEVELS
+max_levels = MAX_EXPR_LEVELS
 
 -- The text reads as the expression, which is a tree and a list of occurrences: the text is separators and
 -- longest tokens, with each number within its limit; the list has the distinct occurrences among the tokens;
 -- and the tokens spell the tree.
 pub record ReadsAsExpr (text : List ℕ) (expr : Node × List Occ) : Type 0 where
-  pub placed : List Placed
+  pub placed : List PlacedToken
   pub lexes : Lexes 0 (chars text) (record { left = placed; ending = ending.EndsAt (length text) })
-  pub listed : expr.1 ≡ different (all_occurrences placed)
+  pub listed : expr.1 ≡ distinct_occurrences (all_occurrences placed)
   pub spells : IsExpr expr.1 max_levels (tokens placed) expr.0
 
 -- the text does not read as an expression
@@ -42,7 +42,7 @@ abbrev pub begins_with : List ℕ → Bool
 begins_with name = not (is_reserved name) || (bytes_eq name (codes "let") || (bytes_eq name (codes "if") || is_some (call_of name)))
 
 -- and with a number, a text, an occurrence, `(`, `[` or `{`
-abbrev pub begins_expression : Token → Bool
+abbrev pub begins_expression : GrammarToken → Bool
 begins_expression (token.Number n) = true
 begins_expression (token.Text bytes) = true
 begins_expression (token.Name name) = begins_with name

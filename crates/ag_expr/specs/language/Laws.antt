@@ -5,20 +5,20 @@ use Rattle.ag_grammar.specs.declared.syntax.occurrence.Occ.{Occ}
 use Rattle.ag_expr.specs.language.Expression.{ReadsAsExpr}
 use Rattle.ag_expr.specs.declared.fault.ExprFault.{ExprFault}
 use Rattle.ag_tokens.specs.Ending as ending
-use Rattle.ag_tokens.specs.Placed.{Placed, Input, tokens}
-use Rattle.ag_expr.specs.language.Offsets.{IsToldFirst}
+use Rattle.ag_tokens.specs.PlacedToken.{PlacedToken, Input, tokens}
+use Rattle.ag_expr.specs.language.Offsets.{IsReportedFirst}
 use Rattle.ag_expr.specs.language.Reading.{expr_of}
 use Rattle.ag_expr.specs.language.Syntax.{IsExpr}
 
 -- The parser returns a tree for tokens, read to their end, if and only if the syntax relates the tokens to
 -- the tree.
 abbrev pub ReadingAgrees : Type 0
-ReadingAgrees = (listed : List Occ) (levels at : ℕ) (placed : List Placed) (tree : Node)
+ReadingAgrees = (listed : List Occ) (levels at : ℕ) (placed : List PlacedToken) (tree : Node)
     → (expr_of listed levels (record { left = placed; ending = ending.EndsAt at }) ≡ Ok (tree, record { left = []; ending = ending.EndsAt at })) ↔ IsExpr listed levels (tokens placed) tree
 
 -- The parser rejects tokens that are not an expression at the first token that cannot be accepted.
 abbrev pub RefusesAtTheFirst : Type 0
-RefusesAtTheFirst = (listed : List Occ) (levels : ℕ) (i : Input) (f : ExprFault) → expr_of listed levels i ≡ Err f → IsToldFirst listed levels i f
+RefusesAtTheFirst = (listed : List Occ) (levels : ℕ) (i : Input) (f : ExprFault) → expr_of listed levels i ≡ Err f → IsReportedFirst listed levels i f
 
 -- A text reads as at most one expression.
 abbrev pub OneExpression : Type 0

@@ -1,9 +1,9 @@
 -- The distinct occurrences of attributes in a text. All definitions are this project's.
 use Rattle.std.specs.Prelude.{ℕ, Bool, not, ◌&&◌, ◌==◌, cond, List, [], ◌∷◌, ◌++◌, filter, Option, position, bytes_eq}
 use Rattle.std.specs.List.{list_any}
-use Rattle.ag_tokens.specs.Placed.{Placed}
-use Rattle.ag_tokens.specs.Token.{Token}
-use Rattle.ag_tokens.specs.Token as token
+use Rattle.ag_tokens.specs.PlacedToken.{PlacedToken}
+use Rattle.ag_tokens.specs.GrammarToken.{GrammarToken}
+use Rattle.ag_tokens.specs.GrammarToken as token
 use Rattle.ag_grammar.specs.declared.syntax.occurrence.Occ.{Occ}
 
 -- an occurrence has this place and this name
@@ -15,19 +15,19 @@ abbrev pub position_of : List Occ → ℕ → List ℕ → Option ℕ
 position_of listed place attr = position (is_of place attr) listed
 
 -- the occurrence for a token at an offset, if the token is one
-abbrev pub occurrence_in : Token → ℕ → List Occ
+abbrev pub occurrence_in : GrammarToken → ℕ → List Occ
 occurrence_in (token.Occurrence place attr) at = record { place = place; attr = attr; at = at } ∷ []
 occurrence_in _ at = []
 
 -- all occurrences among tokens, in order
-abbrev pub all_occurrences : List Placed → List Occ
+abbrev pub all_occurrences : List PlacedToken → List Occ
 all_occurrences [] = []
 all_occurrences (p ∷ ps) = occurrence_in p.token p.at ++ all_occurrences ps
 
 -- the first occurrence of each place and name, in order
-abbrev pub different : List Occ → List Occ
-different [] = []
-different (x ∷ xs) = x ∷ filter (λ y. not (is_of y.place y.attr x)) (different xs)
+abbrev pub distinct_occurrences : List Occ → List Occ
+distinct_occurrences [] = []
+distinct_occurrences (x ∷ xs) = x ∷ filter (λ y. not (is_of y.place y.attr x)) (distinct_occurrences xs)
 
 -- the list with one more occurrence, unless its place and name are listed already
 abbrev pub listed_with : List Occ → Occ → List Occ

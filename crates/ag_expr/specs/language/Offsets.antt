@@ -7,28 +7,28 @@ use Rattle.ag_grammar.specs.declared.syntax.occurrence.Occ.{Occ}
 use Rattle.ag_tokens.specs.Ending.{Ending}
 use Rattle.ag_tokens.specs.Ending as ending
 use Rattle.ag_expr.specs.language.Expression.{begins_expression, max_levels}
-use Rattle.ag_expr.specs.language.Occurrences.{all_occurrences, different}
-use Rattle.ag_tokens.specs.Placed.{Placed, Input, tokens}
+use Rattle.ag_expr.specs.language.Occurrences.{all_occurrences, distinct_occurrences}
+use Rattle.ag_tokens.specs.PlacedToken.{PlacedToken, Input, tokens}
 use Rattle.ag_expr.specs.language.Reading.{Outcome, refusal_of, expr_of}
 use Rattle.ag_expr.specs.language.Syntax.{IsExpr}
-use Rattle.ag_tokens.specs.Token.{Token}
+use Rattle.ag_tokens.specs.GrammarToken.{GrammarToken}
 use Rattle.ag_tokens.specs.Tokens.{Lexes}
 
 -- the tokens are a prefix of an expression, for some number of levels
-abbrev pub Begins : List Occ → List Token → Type 0
-Begins listed ts = (levels : ℕ) × (more : List Token) × (e : Node) × IsExpr listed levels (ts ++ more) e
+abbrev pub Begins : List Occ → List GrammarToken → Type 0
+Begins listed ts = (levels : ℕ) × (more : List GrammarToken) × (e : Node) × IsExpr listed levels (ts ++ more) e
 
 -- no expression, for any number of levels, continues with the next token, or ends with the text if that ends
 -- here
-abbrev pub NoneGoesOn : List Occ → List Token → Ending → List Placed → Type 0
+abbrev pub NoneGoesOn : List Occ → List GrammarToken → Ending → List PlacedToken → Type 0
 NoneGoesOn listed ts e [] = (at : ℕ) → e ≡ ending.EndsAt at → (levels : ℕ) (tree : Node) → IsExpr listed levels ts tree → ⊥
 NoneGoesOn listed ts e (p ∷ ps) = Begins listed (ts ++ p.token ∷ []) → ⊥
 
 -- The fault is at the first token of `rest`: the tokens before it are a prefix of an expression, and no
 -- expression continues with this token.
 pub record IsFirstWrong (listed : List Occ) (i : Input) (f : ExprFault) : Type 0 where
-  pub before : List Placed
-  pub rest : List Placed
+  pub before : List PlacedToken
+  pub rest : List PlacedToken
   pub cut : i.left ≡ before ++ rest
   pub start : Begins listed (tokens before)
   pub says : f ≡ refusal_of i.ending rest
@@ -37,18 +37,18 @@ pub record IsFirstWrong (listed : List Occ) (i : Input) (f : ExprFault) : Type 0
 -- The fault is at a token that begins an inner expression and continues some expression, but none of this
 -- number of levels.
 pub record IsTooDeep (listed : List Occ) (levels : ℕ) (i : Input) (f : ExprFault) : Type 0 where
-  pub before : List Placed
-  pub first : Placed
-  pub rest : List Placed
+  pub before : List PlacedToken
+  pub first : PlacedToken
+  pub rest : List PlacedToken
   pub cut : i.left ≡ before ++ first ∷ rest
   pub says : f ≡ fault.TooDeep first.at
   pub begins_one : begins_expression first.token ≡ true
   pub start : Begins listed (tokens before ++ first.token ∷ [])
-  pub none : (more : List Token) (tree : Node) → IsExpr listed levels ((tokens before ++ first.token ∷ []) ++ more) tree → ⊥
+  pub none : (more : List GrammarToken) (tree : Node) → IsExpr listed levels ((tokens before ++ first.token ∷ []) ++ more) tree → ⊥
 
 -- the fault is at the first token that cannot be accepted
-abbrev pub IsToldFirst : List Occ → ℕ → Input → ExprFault → Type 0
-IsToldFirst listed levels i f = IsFirstWrong listed i f ⊎ IsTooDeep listed levels i f
+abbrev pub IsReportedFirst : List Occ → ℕ → Input → ExprFault → Type 0
+IsReportedFirst listed levels i f = IsFirstWrong listed i f ⊎ IsTooDeep listed levels i f
 
 -- the result of parsing the tokens of a text: a tree and the distinct occurrences among them, or a fault
 abbrev pub answer_of : List Occ → Outcome Node → Result (Node × List Occ) ExprFault
@@ -56,7 +56,7 @@ answer_of listed (Ok p) = Ok (p.0, listed)
 answer_of listed (Err f) = Err f
 
 abbrev pub occurrences_of : Input → List Occ
-occurrences_of i = different (all_occurrences i.left)
+occurrences_of i = distinct_occurrences (all_occurrences i.left)
 
 abbrev pub read_from : Input → Result (Node × List Occ) ExprFault
 read_from i = answer_of (occurrences_of i) (expr_of (occurrences_of i) max_levels i)
@@ -71,4 +71,4 @@ IsRead text = IsReadFrom text 0
 
 -- A fault other than `NoMemory` is at the first token of the text that cannot be accepted.
 abbrev pub IsFirstOf : List ℕ → ExprFault → Type 0
-IsFirstOf text f = (i : Input) → Lexes 0 (chars text) i → f ≢ fault.NoMemory → IsToldFirst (occurrences_of i) max_levels i f
+IsFirstOf text f = (i : Input) → Lexes 0 (chars text) i → f ≢ fault.NoMemory → IsReportedFirst (occurrences_of i) max_levels i f

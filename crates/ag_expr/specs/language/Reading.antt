@@ -13,16 +13,16 @@ use Rattle.ag_expr.specs.declared.parser.Atom.TheVariants as atom
 use Rattle.ag_tokens.specs.declared.token.Punctuation.{Punctuation}
 use Rattle.ag_tokens.specs.Ending.{Ending}
 use Rattle.ag_tokens.specs.Ending as ending
-use Rattle.ag_tokens.specs.Placed.{Placed, Input}
+use Rattle.ag_tokens.specs.PlacedToken.{PlacedToken, Input}
 use Rattle.ag_grammar.specs.declared.syntax.node.Node.TheVariants as node
 use Rattle.ag_expr.specs.declared.names.Call.{Call}
 use Rattle.ag_expr.specs.declared.names.Call.TheVariants as call
 use Rattle.ag_grammar.specs.declared.syntax.node.UnaryCall.{UnaryCall}
 use Rattle.ag_grammar.specs.declared.syntax.node.BinaryCall.{BinaryCall}
 use Rattle.ag_expr.specs.language.Names.{Names}
-use Rattle.ag_expr.specs.language.Syntax.{operator_of, precedences, takes_one, chained, new_name, call_in, operand_of}
-use Rattle.ag_tokens.specs.Token.{Token, Sign, mark, word}
-use Rattle.ag_tokens.specs.Token as token
+use Rattle.ag_expr.specs.language.Syntax.{operator_of, precedences, takes_one, chain_of, new_name, call_in, operand_of}
+use Rattle.ag_tokens.specs.GrammarToken.{GrammarToken, Sign, mark, word}
+use Rattle.ag_tokens.specs.GrammarToken as token
 use Rattle.ag_tokens.specs.Parsing as parsing
 use Rattle.ag_tokens.specs.Parsing.{◌>>=◌, ◌>>◌, pure, choose, one_from, further_from, end_from, is_sign, sees}
 
@@ -35,7 +35,7 @@ ending_fault (ending.NoTokenAt at) = fault.NoToken at
 ending_fault (ending.TooLargeAt at) = fault.NumberTooLarge at
 
 -- the fault for the next token, or for the ending if there is none
-abbrev pub refusal_of : Ending → List Placed → ExprFault
+abbrev pub refusal_of : Ending → List PlacedToken → ExprFault
 refusal_of e [] = ending_fault e
 refusal_of e (p ∷ ps) = fault.Unexpected p.at
 
@@ -51,10 +51,10 @@ abbrev pub Parser : Type 0 → Type 0
 Parser = parsing.Parser ExprFault
 
 -- accepts the next token with its meaning, if it has one
-abbrev pub token_as : {A : Type 0} → (Token → Option A) → Parser A
+abbrev pub token_as : {A : Type 0} → (GrammarToken → Option A) → Parser A
 token_as meaning = one_from refusal (λ at. meaning)
 
-abbrev pub as_sign : Sign → Token → Option (Unit {0})
+abbrev pub as_sign : Sign → GrammarToken → Option (Unit {0})
 as_sign s t = if is_sign s t then Some tt else None
 
 abbrev pub expect : Sign → Parser (Unit {0})
@@ -63,7 +63,7 @@ expect s = token_as (as_sign s)
 -- ---- chains of operators
 
 -- whether the token is an operator of the precedence
-abbrev pub is_operator_of : Precedence → Token → Bool
+abbrev pub is_operator_of : Precedence → GrammarToken → Bool
 is_operator_of k t = is_some (operator_of k t)
 
 unfoldable pub other_from : Precedence → Parser Node → Parser (Operator × Node)
@@ -76,7 +76,7 @@ unfoldable pub chain_from : Precedence → Parser Node → Parser Node
 chain_from k operand = do
   first ← operand
   others ← further_from (takes_one k) (is_operator_of k) (other_from k operand) []
-  pure (chained first others)
+  pure (chain_of first others)
 
 unfoldable pub ranked_from : Parser Node → List Precedence → Parser Node
 ranked_from atom [] = atom
@@ -85,16 +85,16 @@ ranked_from atom (k ∷ ks) = chain_from k (ranked_from atom ks)
 -- ---- expressions
 
 -- whether the token begins an operand, a call, an atom, or an expression
-abbrev pub is_call : Token → Bool
+abbrev pub is_call : GrammarToken → Bool
 is_call t = is_some (call_in t)
 
-abbrev pub is_operand : List Occ → Names → Token → Bool
+abbrev pub is_operand : List Occ → Names → GrammarToken → Bool
 is_operand listed scope t = is_some (operand_of listed scope t)
 
-abbrev pub begins_atom : List Occ → Names → Token → Bool
+abbrev pub begins_atom : List Occ → Names → GrammarToken → Bool
 begins_atom listed scope t = is_sign (mark punctuation.Open) t || (is_sign (mark punctuation.OpenList) t || (is_sign (mark punctuation.OpenTable) t || (is_call t || is_operand listed scope t)))
 
-abbrev pub begins : List Occ → Names → Token → Bool
+abbrev pub begins : List Occ → Names → GrammarToken → Bool
 begins listed scope t = is_sign (word (codes "let")) t || (is_sign (word (codes "if")) t || begins_atom listed scope t)
 
 -- the form of the atom that begins with the token
@@ -104,7 +104,7 @@ marked_atom punctuation.OpenList = atom.List
 marked_atom punctuation.OpenTable = atom.Table
 marked_atom _ = atom.Operand
 
-abbrev pub atom_of : Token → Atom
+abbrev pub atom_of : GrammarToken → Atom
 atom_of (token.Punctuation m) = marked_atom m
 atom_of (token.Name name) = cond (is_call (token.Name name)) atom.Call atom.Operand
 atom_of _ = atom.Operand
@@ -220,7 +220,7 @@ module _ (inner : Names → Parser Node) (scope : Names) where
     whole_from = choose (is_sign (word (codes "let"))) let_from (choose (is_sign (word (codes "if"))) if_from (ranked_from atom_from precedences))
 
 -- the fault for an expression that would begin here with no level left
-abbrev pub no_level_of : List Occ → Names → Ending → List Placed → ExprFault
+abbrev pub no_level_of : List Occ → Names → Ending → List PlacedToken → ExprFault
 no_level_of listed scope e [] = ending_fault e
 no_level_of listed scope e (p ∷ ps) = if begins listed scope p.token then fault.TooDeep p.at else fault.Unexpected p.at
 

@@ -4,10 +4,10 @@ use Rattle.std.specs.Prelude.{◌≡◌, ◌≢◌, ℕ, Bool, true, false, List
 use Rattle.ag_tokens.specs.declared.token.Punctuation.TheVariants as punctuation
 use Rattle.ag_tokens.specs.Ending.{Ending}
 use Rattle.ag_tokens.specs.Ending as ending
-use Rattle.ag_tokens.specs.Parsing.{front, is_sign, next}
-use Rattle.ag_tokens.specs.Placed.{Input}
-use Rattle.ag_tokens.specs.Token.{Token, mark}
-use Rattle.ag_tokens.specs.Token as token
+use Rattle.ag_tokens.specs.Parsing.{prefix, is_sign, next}
+use Rattle.ag_tokens.specs.PlacedToken.{Input}
+use Rattle.ag_tokens.specs.GrammarToken.{GrammarToken, mark}
+use Rattle.ag_tokens.specs.GrammarToken as token
 use Rattle.ag_expr.specs.declared.fault.ExprFault.{ExprFault}
 use Rattle.ag_expr.specs.declared.fault.ExprFault.TheVariants as fault
 use Rattle.ag_grammar.specs.declared.syntax.occurrence.Occ.{Occ}
@@ -17,7 +17,7 @@ use Rattle.ag_expr.specs.language.Expression.{max_levels}
 use Rattle.ag_expr.specs.language.Offsets.{answer_of}
 use Rattle.ag_expr.specs.language.Reading.{Parser, begins, expr_of, no_level_of}
 use Rattle.ag_grammar.specs.declared.syntax.node.Node.{Node}
-use Rattle.ag_expr.specs.language.Until.{Ended, before_semicolon, behind_semicolon, first_semicolon, from_semicolon, read_until_from}
+use Rattle.ag_expr.specs.language.Until.{Ended, before_semicolon, after_semicolon, first_semicolon, from_semicolon, read_until_from}
 
 -- ---- the tokens of a statement
 
@@ -37,7 +37,7 @@ from_end false i = record i { left = [] }
 from_end true i = record i { left = from_semicolon i.left }
 
 -- the next token, unless it is a `;` that ends a statement
-abbrev pub kept : Bool → Option Token → Option Token
+abbrev pub kept : Bool → Option GrammarToken → Option GrammarToken
 kept false o = o
 kept true None = None
 kept true (Some t) = cond (is_sign (mark punctuation.Semicolon) t) None (Some t)
@@ -73,23 +73,23 @@ pub record Keeps (old new : State) : Type 0 where
   pub occurrences : everything new ≡ everything old
   pub names : new.scope ≡ old.scope
   pub kind : new.is_statement ≡ old.is_statement
-  pub behind : from_end new.is_statement new.tokens ≡ from_end old.is_statement old.tokens
+  pub following : from_end new.is_statement new.tokens ≡ from_end old.is_statement old.tokens
 
 -- everything but the names in scope is unchanged
 pub record Stays (old new : State) : Type 0 where
   pub occurrences : everything new ≡ everything old
   pub tokens : input new ≡ input old
   pub kind : new.is_statement ≡ old.is_statement
-  pub behind : from_end new.is_statement new.tokens ≡ from_end old.is_statement old.tokens
+  pub following : from_end new.is_statement new.tokens ≡ from_end old.is_statement old.tokens
 
 -- whether the token is an occurrence
-abbrev pub is_occurrence : Option Token → Bool
+abbrev pub is_occurrence : Option GrammarToken → Bool
 is_occurrence (Some (token.Occurrence place attr)) = true
 is_occurrence _ = false
 
 -- the next token is not an occurrence
 abbrev pub PassesOther : State → Type 0
-PassesOther s = is_occurrence (front (input s)) ≡ false
+PassesOther s = is_occurrence (prefix (input s)) ≡ false
 
 -- the occurrence with this place and name has this index among all of them
 abbrev pub HasNumber : State → ℕ → List ℕ → ℕ → Type 0
@@ -100,7 +100,7 @@ abbrev pub no_level : State → ExprFault
 no_level s = no_level_of (everything s) s.scope (input s).ending (input s).left
 
 -- whether an expression can begin with the token; any occurrence can begin one
-abbrev pub begins_here : Names → Token → Bool
+abbrev pub begins_here : Names → GrammarToken → Bool
 begins_here scope (token.Occurrence place attr) = true
 begins_here scope t = begins [] scope t
 
@@ -121,5 +121,5 @@ IsReadToEnd s answer = answer ≢ Err fault.NoMemory → answer_of (everything s
 -- The result of parsing the tokens up to a `;`, with the input after the `;`; or the fault of the plain
 -- parser, unless memory ran out.
 abbrev pub IsReadEnded : Input → Result Ended ExprFault → Input → Type 0
-IsReadEnded old (Ok x) new = (read_until_from old ≡ Ok x) × (new ≡ record old { left = behind_semicolon old.left })
+IsReadEnded old (Ok x) new = (read_until_from old ≡ Ok x) × (new ≡ record old { left = after_semicolon old.left })
 IsReadEnded old (Err e) new = e ≢ fault.NoMemory → read_until_from old ≡ Err e

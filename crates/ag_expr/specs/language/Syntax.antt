@@ -7,8 +7,8 @@ use Rattle.ag_expr.specs.declared.parser.Precedence.{Precedence}
 use Rattle.ag_expr.specs.declared.parser.Precedence.TheVariants as precedence
 use Rattle.ag_tokens.specs.declared.token.Punctuation.{Punctuation}
 use Rattle.ag_tokens.specs.declared.token.Punctuation.TheVariants as punctuation
-use Rattle.ag_tokens.specs.Token.{Token, Sign, mark, word, sign_token}
-use Rattle.ag_tokens.specs.Token as token
+use Rattle.ag_tokens.specs.GrammarToken.{GrammarToken, Sign, mark, word, sign_token}
+use Rattle.ag_tokens.specs.GrammarToken as token
 use Rattle.ag_grammar.specs.declared.syntax.node.Operator.{Operator}
 use Rattle.ag_grammar.specs.declared.syntax.node.Operator.TheVariants as operator
 use Rattle.ag_grammar.specs.declared.syntax.node.Node.{Node}
@@ -26,7 +26,7 @@ use Rattle.ag_tokens.specs.Words.{◌>>=◌, ◌>>◌, gives, one, ◌or◌, fur
 -- ---- one sign
 
 -- this punctuation or this name alone
-abbrev pub spelled : Sign → List Token → Unit {0} → Type 0
+abbrev pub spelled : Sign → List GrammarToken → Unit {0} → Type 0
 spelled s ts u = ts ≡ sign_token s ∷ []
 
 -- ---- the table of operators with their precedences
@@ -44,7 +44,7 @@ marked_operator _ = None
 abbrev pub named_operator : List ℕ → Option (Precedence × Operator)
 named_operator name = cond (bytes_eq name (codes "div")) (Some (precedence.Product, operator.Divide)) (cond (bytes_eq name (codes "mod")) (Some (precedence.Product, operator.Remainder)) None)
 
-abbrev pub binary_operator : Token → Option (Precedence × Operator)
+abbrev pub binary_operator : GrammarToken → Option (Precedence × Operator)
 binary_operator (token.Punctuation m) = marked_operator m
 binary_operator (token.Name name) = named_operator name
 binary_operator _ = None
@@ -72,13 +72,13 @@ of_precedence k None = None
 of_precedence k (Some p) = cond (same_precedence k p.0) (Some p.1) None
 
 -- the operator of this precedence that a token spells
-abbrev pub operator_of : Precedence → Token → Option Operator
+abbrev pub operator_of : Precedence → GrammarToken → Option Operator
 operator_of k t = of_precedence k (binary_operator t)
 
 -- ---- operands of one token
 
 -- the name that a token can bind: one that is not reserved
-abbrev pub new_name : Token → Option (List ℕ)
+abbrev pub new_name : GrammarToken → Option (List ℕ)
 new_name (token.Name name) = cond (is_reserved name) None (Some name)
 new_name _ = None
 
@@ -88,7 +88,7 @@ bound_operand name number = cond (is_reserved name) None (option_map node.Bound 
 
 -- The operand that one token spells: a number, a text, an occurrence by its index among the distinct ones of
 -- the whole text, or a name by the index of its binding.
-abbrev pub operand_of : List Occ → Names → Token → Option Node
+abbrev pub operand_of : List Occ → Names → GrammarToken → Option Node
 operand_of listed scope (token.Number n) = Some (node.Literal (value.Num n))
 operand_of listed scope (token.Text bytes) = Some (node.Literal (value.Text bytes))
 operand_of listed scope (token.Name name) = bound_operand name (number_in scope name)
@@ -96,45 +96,45 @@ operand_of listed scope (token.Occurrence place attr) = option_map node.Occurren
 operand_of listed scope (token.Punctuation m) = None
 
 -- the call that a token names
-abbrev pub call_in : Token → Option Call
+abbrev pub call_in : GrammarToken → Option Call
 call_in (token.Name name) = call_of name
 call_in _ = None
 
 -- ---- chains of operators
 
 -- one operand is itself; more operands are a flat chain
-abbrev pub chained : Node → List (Operator × Node) → Node
-chained first [] = first
-chained first (x ∷ xs) = node.Chain first (x ∷ xs)
+abbrev pub chain_of : Node → List (Operator × Node) → Node
+chain_of first [] = first
+chain_of first (x ∷ xs) = node.Chain first (x ∷ xs)
 
 -- an operator of the precedence, followed by an operand
-abbrev pub IsOther : Precedence → (List Token → Node → Type 0) → List Token → Operator × Node → Type 0
+abbrev pub IsOther : Precedence → (List GrammarToken → Node → Type 0) → List GrammarToken → Operator × Node → Type 0
 IsOther k operand = do
   o ← one (operator_of k)
   e ← operand
   gives (o, e)
 
 -- operands with operators of the precedence between them
-abbrev pub IsChain : Precedence → (List Token → Node → Type 0) → List Token → Node → Type 0
+abbrev pub IsChain : Precedence → (List GrammarToken → Node → Type 0) → List GrammarToken → Node → Type 0
 IsChain k operand = do
   first ← operand
   others ← further (takes_one k) [] (IsOther k operand)
-  gives (chained first others)
+  gives (chain_of first others)
 
 -- nested chains, one for each precedence, over atoms
-abbrev pub IsRanked : (List Token → Node → Type 0) → List Precedence → List Token → Node → Type 0
+abbrev pub IsRanked : (List GrammarToken → Node → Type 0) → List Precedence → List GrammarToken → Node → Type 0
 IsRanked atom [] = atom
 IsRanked atom (k ∷ ks) = IsChain k (IsRanked atom ks)
 
 -- ---- forms without subexpressions
 
 -- the rest of an empty list after its opening bracket
-abbrev pub AreNone : List Token → Node → Type 0
+abbrev pub AreNone : List GrammarToken → Node → Type 0
 AreNone = do
   spelled (mark punctuation.CloseList)
   gives (node.List [])
 
-abbrev pub IsTable : List Token → Node → Type 0
+abbrev pub IsTable : List GrammarToken → Node → Type 0
 IsTable = do
   spelled (mark punctuation.OpenTable)
   spelled (mark punctuation.CloseTable)
@@ -142,8 +142,8 @@ IsTable = do
 
 -- ---- expressions; `inner` is the language of expressions of one level less, by the names in scope
 
-module _ (inner : Names → List Token → Node → Type 0) (scope : Names) where
-  abbrev pub IsParenthesized : List Token → Node → Type 0
+module _ (inner : Names → List GrammarToken → Node → Type 0) (scope : Names) where
+  abbrev pub IsParenthesized : List GrammarToken → Node → Type 0
   IsParenthesized = do
     spelled (mark punctuation.Open)
     e ← inner scope
@@ -151,39 +151,39 @@ module _ (inner : Names → List Token → Node → Type 0) (scope : Names) wher
     gives e
 
   -- a comma, followed by one more expression
-  abbrev pub IsNext : List Token → Node → Type 0
+  abbrev pub IsNext : List GrammarToken → Node → Type 0
   IsNext = do
     spelled (mark punctuation.Comma)
     inner scope
 
   -- the rest of a list with items after its opening bracket: the items, separated by commas
-  abbrev pub AreSome : List Token → Node → Type 0
+  abbrev pub AreSome : List GrammarToken → Node → Type 0
   AreSome = do
     first ← inner scope
     items ← further false (first ∷ []) IsNext
     spelled (mark punctuation.CloseList)
     gives (node.List items)
 
-  abbrev pub IsList : List Token → Node → Type 0
+  abbrev pub IsList : List GrammarToken → Node → Type 0
   IsList = do
     spelled (mark punctuation.OpenList)
     AreNone or AreSome
 
   -- the arguments of a call, as many as it takes, and the closing parenthesis
-  abbrev pub IsUnary : UnaryCall → List Token → Node → Type 0
+  abbrev pub IsUnary : UnaryCall → List GrammarToken → Node → Type 0
   IsUnary c = do
     a ← inner scope
     spelled (mark punctuation.Close)
     gives (node.Unary c a)
 
-  abbrev pub IsBinary : BinaryCall → List Token → Node → Type 0
+  abbrev pub IsBinary : BinaryCall → List GrammarToken → Node → Type 0
   IsBinary c = do
     a ← inner scope
     b ← IsNext
     spelled (mark punctuation.Close)
     gives (node.Binary c a b)
 
-  abbrev pub IsPut : List Token → Node → Type 0
+  abbrev pub IsPut : List GrammarToken → Node → Type 0
   IsPut = do
     t ← inner scope
     k ← IsNext
@@ -191,19 +191,19 @@ module _ (inner : Names → List Token → Node → Type 0) (scope : Names) wher
     spelled (mark punctuation.Close)
     gives (node.Put t k v)
 
-  abbrev pub AreArguments : Call → List Token → Node → Type 0
+  abbrev pub AreArguments : Call → List GrammarToken → Node → Type 0
   AreArguments (call.Unary c) = IsUnary c
   AreArguments (call.Binary c) = IsBinary c
   AreArguments call.Put = IsPut
 
-  abbrev pub IsCall : List Token → Node → Type 0
+  abbrev pub IsCall : List GrammarToken → Node → Type 0
   IsCall = do
     c ← one call_in
     spelled (mark punctuation.Open)
     AreArguments c
 
   -- the name of a `let` is in scope in its body, but not in its definition
-  abbrev pub IsLet : List Token → Node → Type 0
+  abbrev pub IsLet : List GrammarToken → Node → Type 0
   IsLet = do
     spelled (word (codes "let"))
     x ← one new_name
@@ -213,7 +213,7 @@ module _ (inner : Names → List Token → Node → Type 0) (scope : Names) wher
     f ← inner (scope ++ x ∷ [])
     gives (node.Let e f)
 
-  abbrev pub IsIf : List Token → Node → Type 0
+  abbrev pub IsIf : List GrammarToken → Node → Type 0
   IsIf = do
     spelled (word (codes "if"))
     c ← inner scope
@@ -224,17 +224,17 @@ module _ (inner : Names → List Token → Node → Type 0) (scope : Names) wher
     gives (node.If c e f)
 
   module _ (listed : List Occ) where
-    abbrev pub IsAtom : List Token → Node → Type 0
+    abbrev pub IsAtom : List GrammarToken → Node → Type 0
     IsAtom = IsParenthesized or IsList or IsTable or IsCall or one (operand_of listed scope)
 
-    abbrev pub IsWhole : List Token → Node → Type 0
+    abbrev pub IsWhole : List GrammarToken → Node → Type 0
     IsWhole = IsLet or IsIf or IsRanked IsAtom precedences
 
 -- The tokens are an expression of at most `levels` levels with this tree, with these names in scope.
-unfoldable pub IsExprIn : List Occ → ℕ → Names → List Token → Node → Type 0
+unfoldable pub IsExprIn : List Occ → ℕ → Names → List GrammarToken → Node → Type 0
 IsExprIn listed zero scope ts e = ⊥
 IsExprIn listed (suc levels) scope ts e = IsWhole (IsExprIn listed levels) scope listed ts e
 
 -- the same with no name in scope
-abbrev pub IsExpr : List Occ → ℕ → List Token → Node → Type 0
+abbrev pub IsExpr : List Occ → ℕ → List GrammarToken → Node → Type 0
 IsExpr listed levels = IsExprIn listed levels []

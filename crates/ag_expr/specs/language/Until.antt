@@ -8,14 +8,14 @@ use Rattle.ag_tokens.specs.declared.token.Punctuation.TheVariants as punctuation
 use Rattle.ag_tokens.specs.Ending.{Ending}
 use Rattle.ag_tokens.specs.Ending as ending
 use Rattle.ag_expr.specs.language.Expression.{max_levels}
-use Rattle.ag_expr.specs.language.Occurrences.{all_occurrences, different}
-use Rattle.ag_tokens.specs.Placed.{Placed, Input, tokens}
-use Rattle.ag_expr.specs.language.Offsets.{IsToldFirst, occurrences_of, read_from}
+use Rattle.ag_expr.specs.language.Occurrences.{all_occurrences, distinct_occurrences}
+use Rattle.ag_tokens.specs.PlacedToken.{PlacedToken, Input, tokens}
+use Rattle.ag_expr.specs.language.Offsets.{IsReportedFirst, occurrences_of, read_from}
 use Rattle.ag_tokens.specs.Parsing.{is_sign}
 use Rattle.ag_expr.specs.language.Reading.{ending_fault}
 use Rattle.ag_expr.specs.language.Syntax.{IsExpr}
-use Rattle.ag_tokens.specs.Token.{mark}
-use Rattle.ag_tokens.specs.Token as token
+use Rattle.ag_tokens.specs.GrammarToken.{mark}
+use Rattle.ag_tokens.specs.GrammarToken as token
 use Rattle.ag_tokens.specs.Tokens.{Lexes}
 
 -- an expression, with the offset of the semicolon after it
@@ -23,26 +23,26 @@ abbrev pub Ended : Type 0
 Ended = (Node × List Occ) × ℕ
 
 -- a semicolon at an offset
-abbrev pub semicolon : ℕ → Placed
+abbrev pub semicolon : ℕ → PlacedToken
 semicolon at = record { at = at; token = token.Punctuation punctuation.Semicolon }
 
 -- the offset of the first semicolon among tokens, and the tokens before it
-abbrev pub first_semicolon : List Placed → Option ℕ
+abbrev pub first_semicolon : List PlacedToken → Option ℕ
 first_semicolon [] = None
 first_semicolon (p ∷ ps) = cond (is_sign (mark punctuation.Semicolon) p.token) (Some p.at) (first_semicolon ps)
 
-abbrev pub before_semicolon : List Placed → List Placed
+abbrev pub before_semicolon : List PlacedToken → List PlacedToken
 before_semicolon [] = []
 before_semicolon (p ∷ ps) = cond (is_sign (mark punctuation.Semicolon) p.token) [] (p ∷ before_semicolon ps)
 
 -- the tokens from the first semicolon on, and the tokens after it
-abbrev pub from_semicolon : List Placed → List Placed
+abbrev pub from_semicolon : List PlacedToken → List PlacedToken
 from_semicolon [] = []
 from_semicolon (p ∷ ps) = cond (is_sign (mark punctuation.Semicolon) p.token) (p ∷ ps) (from_semicolon ps)
 
-abbrev pub behind_semicolon : List Placed → List Placed
-behind_semicolon [] = []
-behind_semicolon (p ∷ ps) = cond (is_sign (mark punctuation.Semicolon) p.token) ps (behind_semicolon ps)
+abbrev pub after_semicolon : List PlacedToken → List PlacedToken
+after_semicolon [] = []
+after_semicolon (p ∷ ps) = cond (is_sign (mark punctuation.Semicolon) p.token) ps (after_semicolon ps)
 
 abbrev pub with_offset : ℕ → Result (Node × List Occ) ExprFault → Result Ended ExprFault
 with_offset at (Ok x) = Ok (x, at)
@@ -70,12 +70,12 @@ IsReadUntil text from answer = (i : Input) → Lexes from (chars (drop from text
 -- From the offset `from` on, the text reads as the expression up to its first semicolon: the tokens before it
 -- spell the tree, and the list has the distinct occurrences among them.
 pub record ReadsUntil (text : List ℕ) (from : ℕ) (x : Ended) : Type 0 where
-  pub placed : List Placed
-  pub rest : List Placed
+  pub placed : List PlacedToken
+  pub rest : List PlacedToken
   pub ending : Ending
   pub lexes : Lexes from (chars (drop from text)) (record { left = placed ++ semicolon x.1 ∷ rest; ending = ending })
   pub first : first_semicolon placed ≡ None
-  pub listed : x.0.1 ≡ different (all_occurrences placed)
+  pub listed : x.0.1 ≡ distinct_occurrences (all_occurrences placed)
   pub spells : IsExpr x.0.1 max_levels (tokens placed) x.0.0
 
 -- a fault means that no expression followed by a semicolon begins at `from`, unless memory ran out
@@ -92,11 +92,11 @@ pub record IsUnended (i : Input) (f : ExprFault) : Type 0 where
 
 -- The fault is at the first token, before the first semicolon, that cannot be accepted. If there is no
 -- semicolon, it is at the first of all tokens that cannot be accepted, or at the end of the text.
-abbrev pub IsToldUntil : Option ℕ → Input → ExprFault → Type 0
-IsToldUntil (Some at) i f = IsToldFirst (different (all_occurrences (before_semicolon i.left))) max_levels (record { left = before_semicolon i.left; ending = ending.EndsAt at }) f
-IsToldUntil None i f = IsToldFirst (occurrences_of i) max_levels i f ⊎ IsUnended i f
+abbrev pub IsReportedUntil : Option ℕ → Input → ExprFault → Type 0
+IsReportedUntil (Some at) i f = IsReportedFirst (distinct_occurrences (all_occurrences (before_semicolon i.left))) max_levels (record { left = before_semicolon i.left; ending = ending.EndsAt at }) f
+IsReportedUntil None i f = IsReportedFirst (occurrences_of i) max_levels i f ⊎ IsUnended i f
 
 -- A fault other than `NoMemory` is at the first token from the offset `from` on, up to a semicolon, that
 -- cannot be accepted.
 abbrev pub IsFirstUntil : List ℕ → ℕ → ExprFault → Type 0
-IsFirstUntil text from f = (i : Input) → Lexes from (chars (drop from text)) i → f ≢ fault.NoMemory → IsToldUntil (first_semicolon i.left) i f
+IsFirstUntil text from f = (i : Input) → Lexes from (chars (drop from text)) i → f ≢ fault.NoMemory → IsReportedUntil (first_semicolon i.left) i f

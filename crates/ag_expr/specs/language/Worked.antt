@@ -1,9 +1,9 @@
 -- Tokens, numbers and trees for worked examples.
 use Rattle.std.specs.Prelude.{ℕ, List, [], ◌∷◌, ℤ, pos, negsuc, codes}
 use Rattle.ag_tokens.specs.declared.token.Punctuation.TheVariants as punctuation
-use Rattle.ag_tokens.specs.Placed.{Placed}
-use Rattle.ag_tokens.specs.Token.{Token}
-use Rattle.ag_tokens.specs.Token as token
+use Rattle.ag_tokens.specs.PlacedToken.{PlacedToken}
+use Rattle.ag_tokens.specs.GrammarToken.{GrammarToken}
+use Rattle.ag_tokens.specs.GrammarToken as token
 use Rattle.ag_grammar.specs.declared.syntax.node.Operator.TheVariants as operator
 use Rattle.ag_grammar.specs.declared.syntax.node.Node.{Node}
 use Rattle.ag_grammar.specs.declared.syntax.node.Node.TheVariants as node
@@ -13,11 +13,11 @@ use Rattle.ag_value.specs.declared.value.Value.TheVariants as value
 abbrev pub least : ℤ
 least = negsuc 9223372036854775807
 
-abbrev pub placed : ℕ → Token → Placed
+abbrev pub placed : ℕ → GrammarToken → PlacedToken
 placed at t = record { at = at; token = t }
 
 -- the tokens of `$1.a + 2`
-abbrev pub occurrence_and_number : List Placed
+abbrev pub occurrence_and_number : List PlacedToken
 occurrence_and_number = placed 0 (token.Occurrence 1 (codes "a")) ∷ placed 5 (token.Punctuation punctuation.Plus) ∷ placed 7 (token.Number (pos 2)) ∷ []
 
 -- `2 + 3 * 4`
@@ -37,7 +37,7 @@ abbrev pub by_zero : Node
 by_zero = node.Chain (node.Literal (value.Num (pos 1))) ((operator.Divide, node.Literal (value.Num (pos 0))) ∷ [])
 
 -- the tokens of `let x = 1 in x < 2`, with their offsets, and its tree
-abbrev pub let_and_compare : List Placed
+abbrev pub let_and_compare : List PlacedToken
 let_and_compare =
     placed 0 (token.Name (codes "let")) ∷ placed 4 (token.Name (codes "x")) ∷ placed 6 (token.Punctuation punctuation.Equal) ∷ placed 8 (token.Number (pos 1)) ∷ placed 10 (token.Name (codes "in")) ∷ placed 13 (token.Name (codes "x"))
     ∷ placed 15 (token.Punctuation punctuation.Less) ∷ placed 17 (token.Number (pos 2)) ∷ []

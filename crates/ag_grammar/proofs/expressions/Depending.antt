@@ -12,10 +12,10 @@ use Rattle.ag_grammar.specs.expressions.Evaluation.{Meaning, chain_value, item_v
 use Rattle.ag_grammar.specs.expressions.Laws.{RuleHasOneValue, RuleHoldsByOne, ValueOfOccurrences}
 use Rattle.ag_grammar.specs.expressions.Occurring.{AgreeOn, has_occurrence, has_step, some_item, some_operand}
 use Rattle.ag_grammar.specs.grammars.Sample.{rule_s}
-use Rattle.ag_grammar.specs.values.Calls.{called, called_with, chosen, put}
+use Rattle.ag_grammar.specs.values.Calls.{call_result, called_with, choice_of, put}
 use Rattle.ag_grammar.specs.values.Lists.{listed}
-use Rattle.ag_grammar.specs.values.Operators.{applied}
-use Rattle.ag_grammar.proofs.expressions.Occurring.{alone, has_in, has_layer, has_sum, occurrences_are_listed, stands}
+use Rattle.ag_grammar.specs.values.Operators.{operation_result}
+use Rattle.ag_grammar.proofs.expressions.Occurring.{alone, has_in, has_layer, has_sum, occurrences_are_listed, occurs}
 use Rattle.ag_grammar.proofs.expressions.Worked.{value_layer}
 
 -- the meaning of the operand in one step of a chain
@@ -48,7 +48,7 @@ settled_chain : (env other : ℕ → Value) (bound : List Value) (xs : List (Ope
 settled_chain env other bound [] v w e same = e
 settled_chain env other bound (x ∷ xs) v w e same =
     let own = x.1.1 env other (λ k h. same k (or_left (has_occurrence k x.1.0) (some_operand (map (has_in k) (map bare xs))) h)) bound in
-    settled_chain env other bound xs (applied x.0 v (value_in x.1.0 env bound)) (applied x.0 w (value_in x.1.0 other bound)) (ap₂ (applied x.0) e own)
+    settled_chain env other bound xs (operation_result x.0 v (value_in x.1.0 env bound)) (operation_result x.0 w (value_in x.1.0 other bound)) (ap₂ (operation_result x.0) e own)
     (λ k h. same k (or_right (has_occurrence k x.1.0) (some_operand (map (has_in k) (map bare xs))) h))
 
 settled_items : (env other : ℕ → Value) (bound : List Value) (xs : List Settled) → SameItems env other xs → item_values env bound (map value_in (map tree xs)) ≡ item_values other bound (map value_in (map tree xs))
@@ -76,9 +76,9 @@ settled_layer env other bound (Node-F.Let e f) same =
     ∙ ap (λ v. value_in f.0 other (bound ++ v ∷ [])) (e.1 env other (λ k h. same k (or_left (has_occurrence k e.0) (has_occurrence k f.0) h)) bound)
 settled_layer env other bound (Node-F.If c e f) same =
     let later : (k : ℕ) → (has_occurrence k e.0 || has_occurrence k f.0) ≡ true → env k ≡ other k = λ k h. same k (or_right (has_occurrence k c.0) (has_occurrence k e.0 || has_occurrence k f.0) h) in
-    ap (λ v. chosen v (value_in e.0 env bound) (value_in f.0 env bound)) (c.1 env other (λ k h. same k (or_left (has_occurrence k c.0) (has_occurrence k e.0 || has_occurrence k f.0) h)) bound)
-    ∙ ap₂ (chosen (value_in c.0 other bound)) (e.1 env other (λ k h. later k (or_left (has_occurrence k e.0) (has_occurrence k f.0) h)) bound) (f.1 env other (λ k h. later k (or_right (has_occurrence k e.0) (has_occurrence k f.0) h)) bound)
-settled_layer env other bound (Node-F.Unary call a) same = ap (called call) (a.1 env other same bound)
+    ap (λ v. choice_of v (value_in e.0 env bound) (value_in f.0 env bound)) (c.1 env other (λ k h. same k (or_left (has_occurrence k c.0) (has_occurrence k e.0 || has_occurrence k f.0) h)) bound)
+    ∙ ap₂ (choice_of (value_in c.0 other bound)) (e.1 env other (λ k h. later k (or_left (has_occurrence k e.0) (has_occurrence k f.0) h)) bound) (f.1 env other (λ k h. later k (or_right (has_occurrence k e.0) (has_occurrence k f.0) h)) bound)
+settled_layer env other bound (Node-F.Unary call a) same = ap (call_result call) (a.1 env other same bound)
 settled_layer env other bound (Node-F.Binary call a b) same =
     ap₂ (called_with call) (a.1 env other (λ k h. same k (or_left (has_occurrence k a.0) (has_occurrence k b.0) h)) bound) (b.1 env other (λ k h. same k (or_right (has_occurrence k a.0) (has_occurrence k b.0) h)) bound)
 settled_layer env other bound (Node-F.Put t i v) same =
@@ -134,4 +134,4 @@ same env other e = value_of_occurrences rule_s.expr.0 env other [] at
     at : (k : ℕ) → has_occurrence k rule_s.expr.0 ≡ true → env k ≡ other k
     at k h = first k (sym (has_sum k) ∙ h)
 
-pub ruleset one_occurrence = (stands, alone, same)
+pub ruleset one_occurrence = (occurs, alone, same)

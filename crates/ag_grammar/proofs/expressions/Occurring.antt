@@ -116,8 +116,8 @@ has_sum k =
     ∙ has_layer k (Node-F.Chain (node_of.Occurrence 0) ((Add, node_of.Literal (Num (pos 1))) ∷ []))
     ∙ ap (λ b. b || (has_occurrence k (node_of.Literal (Num (pos 1))) || false)) (has_own k 0) ∙ ap (λ b. nat_eq 0 k || (b || false)) (has_none k (Num (pos 1)))
 
-pub stands : has_occurrence 0 rule_s.expr.0 ≡ true
-stands = has_sum 0
+pub occurs : has_occurrence 0 rule_s.expr.0 ≡ true
+occurs = has_sum 0
 
 pub alone : has_occurrence 1 rule_s.expr.0 ≡ false
 alone = has_sum 1

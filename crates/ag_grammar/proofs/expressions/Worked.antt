@@ -11,7 +11,7 @@ use Rattle.ag_grammar.specs.expressions.Evaluation.{Meaning, value_step, value_i
 use Rattle.ag_grammar.specs.values.Arguments.{leftmost}
 use Rattle.ag_grammar.specs.values.Fitting.{fit}
 use Rattle.ag_grammar.specs.values.Numbers.{number_value}
-use Rattle.ag_grammar.specs.values.Operators.{applied}
+use Rattle.ag_grammar.specs.values.Operators.{operation_result}
 use Rattle.ag_value.proofs.Layers.{depth-Num, weight-Num}
 
 -- one level of a tree at a time
@@ -29,7 +29,7 @@ pub number_gives : (n : ℤ) (env : ℕ → Value) → value_of (node_of.Literal
 number_gives n env = ap (λ e. value_of e env) (sym (node_of.rolls-Literal (Num n))) ∙ value_layer (Node-F.Literal (Num n)) env [] ∙ fit_number n
 
 -- the sum of two numbers
-sum_gives : (m n : ℤ) → applied Add (Num m) (Num n) ≡ number_value (m +ℤ n)
+sum_gives : (m n : ℤ) → operation_result Add (Num m) (Num n) ≡ number_value (m +ℤ n)
 unfolding leftmost
 sum_gives m n = simp outs-Num
 
@@ -37,4 +37,4 @@ sum_gives m n = simp outs-Num
 pub and_one : (n : ℤ) (env : ℕ → Value) → env 0 ≡ Num n → value_of (node_of.Chain (node_of.Occurrence 0) ((Add, node_of.Literal (Num (pos 1))) ∷ [])) env ≡ number_value (n +ℤ pos 1)
 and_one n env e =
     ap (λ e. value_of e env) (sym (node_of.rolls-Chain (node_of.Occurrence 0) ((Add, node_of.Literal (Num (pos 1))) ∷ []))) ∙ value_layer (Node-F.Chain (node_of.Occurrence 0) ((Add, node_of.Literal (Num (pos 1))) ∷ [])) env []
-    ∙ ap₂ (applied Add) (occurrence_gives 0 env ∙ e) (number_gives (pos 1) env) ∙ sum_gives n (pos 1)
+    ∙ ap₂ (operation_result Add) (occurrence_gives 0 env ∙ e) (number_gives (pos 1) env) ∙ sum_gives n (pos 1)

@@ -8,7 +8,7 @@ use Rattle.ag_grammar.specs.declared.grammar.Production.{Production}
 use Rattle.ag_grammar.specs.declared.grammar.Rule.{Rule}
 use Rattle.ag_grammar.specs.declared.grammar.Target.{Target}
 use Rattle.ag_grammar.specs.declared.grammar.Terminal.TheVariants.{Literal, Class}
-use Rattle.ag_grammar.specs.grammars.AttributeGrammar.{Grammar, stored_items, item_at, IsRule, Kind, Synthesized, Inherited, symbol_kinds, item_kinds, given_kind, found_kind}
+use Rattle.ag_grammar.specs.grammars.AttributeGrammar.{Grammar, stored_items, item_at, IsRule, Kind, Synthesized, Inherited, symbol_kinds, item_kinds, defined_kind, used_kind}
 use Rattle.ag_grammar.specs.grammars.Accepted.{IsStart, IsComplete, IsNormal}
 use Rattle.ag_grammar.specs.grammars.Tree.{Tree, Forest, leaf, node, Fits, FitsAll, IsTreeOf}
 use Rattle.ag_grammar.specs.grammars.Passes.{Passes, item_passes, HasPass, Direction, LeftToRight, RightToLeft, direction_of, IsBefore, MayUse, IsLegalFor, IsLegal}
@@ -41,13 +41,13 @@ counterpart (z ∷ xs) (y ∷ ys) zero x l e = (y, refl)
 counterpart (z ∷ xs) (y ∷ ys) (suc i) x l e = let h : length xs ≡ length ys = omega arith in counterpart xs ys i x h e
 
 module _ (g : Grammar) (m : Passes) (k : ℕ) (q : Production) (v w : Valuation) (whole : (s : ℕ) → length (m s) ≡ length (symbol_kinds (slice_get g.symbols s))) (complete : IsComplete g q) (normal : IsNormal g q) (legal : IsLegalFor (HasPass m) q) (sv : (r : Rule) → IsRule q r → Holds r (at v)) (sw : (r : Rule) → IsRule q r → Holds r (at w)) (old : (j : ℕ) → SameAt (λ p. p < k) (item_passes m (item_at q j)) (at v j) (at w j)) (given : InheritedSame g m k (Some (item.Symbol q.left)) (v []) (w [])) where
-  argument : (j i a p : ℕ) → MayUse k j i p → slice_get (item_passes m (item_at q i)) a ≡ Some p → slice_get (item_kinds g (item_at q i)) a ≡ Some (found_kind i) → ((i : ℕ) → Visited k j (suc i) → SameAt (λ p. p ≤ k) (item_passes m (item_at q (suc i))) (at v (suc i)) (at w (suc i))) → at v i a ≡ at w i a
+  argument : (j i a p : ℕ) → MayUse k j i p → slice_get (item_passes m (item_at q i)) a ≡ Some p → slice_get (item_kinds g (item_at q i)) a ≡ Some (used_kind i) → ((i : ℕ) → Visited k j (suc i) → SameAt (λ p. p ≤ k) (item_passes m (item_at q (suc i))) (at v (suc i)) (at w (suc i))) → at v i a ≡ at w i a
   argument j zero a p u h n vis = given a p h (may_le k j 0 p u) n
   argument zero (suc i) a p u h n vis = vis i tt a p h u
   argument (suc j) (suc i) a p u h n vis = elim u [ inl x ↦ absurd (let e = x.0 in omega arith) | inr y ↦ elim y [ inl x ↦ vis i x.0 a p h x.1 | inr x ↦ old (suc i) a p h x ] ]
 
   -- the values that a rule defines at a place are the same
-  by_rule : (j a : ℕ) → slice_get (item_passes m (item_at q j)) a ≡ Some k → slice_get (item_kinds g (item_at q j)) a ≡ Some (given_kind j) → ((i : ℕ) → Visited k j (suc i) → SameAt (λ p. p ≤ k) (item_passes m (item_at q (suc i))) (at v (suc i)) (at w (suc i))) → at v j a ≡ at w j a
+  by_rule : (j a : ℕ) → slice_get (item_passes m (item_at q j)) a ≡ Some k → slice_get (item_kinds g (item_at q j)) a ≡ Some (defined_kind j) → ((i : ℕ) → Visited k j (suc i) → SameAt (λ p. p ≤ k) (item_passes m (item_at q (suc i))) (at v (suc i)) (at w (suc i))) → at v j a ≡ at w j a
   by_rule j a h n vis =
       let o : Target = record { place = j; attr = a } in
       let c = complete.all o n in

@@ -9,7 +9,7 @@ use Rattle.ag_grammar.specs.declared.grammar.Rule.{Rule}
 use Rattle.ag_grammar.specs.declared.grammar.Target.{Target}
 use Rattle.ag_grammar.specs.declared.grammar.Terminal.TheVariants.{Literal, Class}
 use Rattle.ag_grammar.specs.grammars.Accepted.{IsAccepted}
-use Rattle.ag_grammar.specs.grammars.AttributeGrammar.{Grammar, IsProduction, IsRule, Synthesized, Inherited, given_kind, item_at, item_kinds, symbol_kinds}
+use Rattle.ag_grammar.specs.grammars.AttributeGrammar.{Grammar, IsProduction, IsRule, Synthesized, Inherited, defined_kind, item_at, item_kinds, symbol_kinds}
 use Rattle.ag_grammar.specs.grammars.Laws.{RunBegins, RunGoesOn, RunIsTheSolution, RunSolvesRest}
 use Rattle.ag_grammar.specs.grammars.Passes.{Passes, HasPass, IsLegal, item_passes}
 use Rattle.ag_grammar.specs.grammars.Running.{FromPass, IsLastPass, IsTheSolution, RanThrough}
@@ -42,10 +42,10 @@ pass_within last m q o k is has = go (item_at q o.place) refl
 
 -- each target has a pass, which is at least 1
 module _ (g : Grammar) (m : Passes) (accepted : IsAccepted g) (legal : IsLegal g m) where
-  given_pass : (q : Production) (j a : ℕ) (x : Option Item) → item_at q j ≡ x → slice_get (item_kinds g x) a ≡ Some (given_kind j) → (k : ℕ) × (slice_get (item_passes m x) a ≡ Some k) × (1 ≤ k)
+  given_pass : (q : Production) (j a : ℕ) (x : Option Item) → item_at q j ≡ x → slice_get (item_kinds g x) a ≡ Some (defined_kind j) → (k : ℕ) × (slice_get (item_passes m x) a ≡ Some k) × (1 ≤ k)
   given_pass q j a None e kind = absurd (let bad : ⊥ = cc in bad)
   given_pass q j a (Some (item.Symbol s)) e kind =
-      let pass = counterpart (symbol_kinds (slice_get g.symbols s)) (m s) a (given_kind j) (sym (legal.whole s)) kind in
+      let pass = counterpart (symbol_kinds (slice_get g.symbols s)) (m s) a (defined_kind j) (sym (legal.whole s)) kind in
       (pass.0, pass.1, legal.positive s a pass.0 pass.1)
   given_pass q zero a (Some (item.Terminal t)) e kind = absurd (let bad : ⊥ = cc in bad)
   given_pass q (suc j) zero (Some (item.Terminal (Class c))) e kind = absurd (let z : Synthesized ≡ Inherited = cc in let bad : ⊥ = cc in bad)

@@ -8,10 +8,10 @@ use Rattle.ag_grammar.specs.declared.syntax.node.Operator.{Operator}
 use Rattle.ag_grammar.specs.declared.syntax.node.Node.{Node}
 use Rattle.ag_grammar.specs.declared.syntax.node.Node.TheFolds.{fold-Node}
 use Rattle.ag_grammar.specs.declared.syntax.node.Node.TheOpen.{Node-F}
-use Rattle.ag_grammar.specs.values.Calls.{called, called_with, chosen, put}
+use Rattle.ag_grammar.specs.values.Calls.{call_result, called_with, choice_of, put}
 use Rattle.ag_grammar.specs.values.Fitting.{fit}
 use Rattle.ag_grammar.specs.values.Lists.{listed}
-use Rattle.ag_grammar.specs.values.Operators.{applied}
+use Rattle.ag_grammar.specs.values.Operators.{operation_result}
 
 -- the value of a tree, as a function of the values of its occurrences and of the names bound around it, the
 -- outermost first
@@ -21,7 +21,7 @@ Meaning = (ℕ → Value) → List Value → Value
 -- the value of a chain, left-associative: the left argument of each step is the value so far
 abbrev pub chain_value : (ℕ → Value) → List Value → Value → List (Operator × Meaning) → Value
 chain_value env bound so_far [] = so_far
-chain_value env bound so_far (x ∷ xs) = chain_value env bound (applied x.0 so_far (x.1 env bound)) xs
+chain_value env bound so_far (x ∷ xs) = chain_value env bound (operation_result x.0 so_far (x.1 env bound)) xs
 
 -- the values of the items of a list
 abbrev pub item_values : (ℕ → Value) → List Value → List Meaning → List Value
@@ -41,8 +41,8 @@ value_step (Node-F.Occurrence k) env bound = env k
 value_step (Node-F.Bound k) env bound = bound_value (slice_get bound k)
 value_step (Node-F.Chain first others) env bound = chain_value env bound (first env bound) others
 value_step (Node-F.Let e f) env bound = f env (bound ++ e env bound ∷ [])
-value_step (Node-F.If c e f) env bound = chosen (c env bound) (e env bound) (f env bound)
-value_step (Node-F.Unary call a) env bound = called call (a env bound)
+value_step (Node-F.If c e f) env bound = choice_of (c env bound) (e env bound) (f env bound)
+value_step (Node-F.Unary call a) env bound = call_result call (a env bound)
 value_step (Node-F.Binary call a b) env bound = called_with call (a env bound) (b env bound)
 value_step (Node-F.Put t k v) env bound = put (t env bound) (k env bound) (v env bound)
 value_step (Node-F.List items) env bound = listed (item_values env bound items)

@@ -10,49 +10,49 @@ use Rattle.ag_grammar.specs.declared.grammar.Symbol.{Symbol}
 use Rattle.ag_grammar.specs.declared.grammar.Target.{Target}
 use Rattle.ag_grammar.specs.declared.grammar.Terminal.TheVariants.{Literal, Class}
 use Rattle.ag_grammar.specs.declared.grammar.Terminal.{Terminal}
-use Rattle.ag_grammar.specs.declared.limits.TheConstants.{CLASS_COUNT, MOST_ATTRIBUTES, MOST_ITEMS, MOST_LITERALS, MOST_LITERAL_BYTES, MOST_PASSES, MOST_PRODUCTIONS, MOST_RULES, MOST_STORED, MOST_SYMBOLS, MOST_TEXT_BYTES, NAME, NUMBER, TEXT}
-use Rattle.ag_grammar.specs.grammars.AttributeGrammar.{attribute_names, Grammar, stored_items, IsProduction, IsRule, Kind, HasKind, StandsFor, given_kind, found_kind}
+use Rattle.ag_grammar.specs.declared.limits.TheConstants.{CLASS_COUNT, MAX_ATTRIBUTES, MAX_ITEMS, MAX_LITERALS, MAX_LITERAL_BYTES, MAX_PASSES, MAX_PRODUCTIONS, MAX_RULES, MAX_STORED, MAX_SYMBOLS, MAX_TEXT_BYTES, NAME, NUMBER, TEXT}
+use Rattle.ag_grammar.specs.grammars.AttributeGrammar.{attribute_names, Grammar, stored_items, IsProduction, IsRule, Kind, HasKind, RefersTo, defined_kind, used_kind}
 
 -- The limits of a grammar (this project's): the maximum number of symbols,
-abbrev pub most_symbols : ℕ
-most_symbols = MOST_SYMBOLS
+abbrev pub max_symbols : ℕ
+max_symbols = MAX_SYMBOLS
 
 -- of attributes of a symbol,
-abbrev pub most_attributes : ℕ
-most_attributes = MOST_ATTRIBUTES
+abbrev pub max_attributes : ℕ
+max_attributes = MAX_ATTRIBUTES
 
 -- of productions,
-abbrev pub most_productions : ℕ
-most_productions = MOST_PRODUCTIONS
+abbrev pub max_productions : ℕ
+max_productions = MAX_PRODUCTIONS
 
 -- of items on a right side,
-abbrev pub most_items : ℕ
-most_items = MOST_ITEMS
+abbrev pub max_items : ℕ
+max_items = MAX_ITEMS
 
 -- of children of a production (items of its right side other than literals),
-abbrev pub most_stored : ℕ
-most_stored = MOST_STORED
+abbrev pub max_stored : ℕ
+max_stored = MAX_STORED
 
 -- of rules of a production and of arguments of a rule (an accepted grammar has far fewer),
-abbrev pub most_rules : ℕ
-most_rules = MOST_RULES
+abbrev pub max_rules : ℕ
+max_rules = MAX_RULES
 
 -- of distinct literals,
-abbrev pub most_literals : ℕ
-most_literals = MOST_LITERALS
+abbrev pub max_literals : ℕ
+max_literals = MAX_LITERALS
 
 -- of bytes of a literal,
-abbrev pub most_literal_bytes : ℕ
-most_literal_bytes = MOST_LITERAL_BYTES
+abbrev pub max_literal_bytes : ℕ
+max_literal_bytes = MAX_LITERAL_BYTES
 
 -- and of bytes of the grammar's text; the limit of a sentence is the same.
-abbrev pub most_text_bytes : ℕ
-most_text_bytes = MOST_TEXT_BYTES
+abbrev pub max_text_bytes : ℕ
+max_text_bytes = MAX_TEXT_BYTES
 
 -- The maximum number of passes that a grammar needs: two for each attribute that it may have (Jazayeri and
 -- Walter 1975).
-abbrev pub most_passes : ℕ
-most_passes = MOST_PASSES
+abbrev pub max_passes : ℕ
+max_passes = MAX_PASSES
 
 -- the numbers of the classes NAME, NUMBER and TEXT (this project's),
 abbrev pub name_class : ℕ
@@ -74,13 +74,13 @@ out_name = 111 ∷ 117 ∷ 116 ∷ []
 
 -- No list is longer than its limit, and no literal is empty (this project's).
 pub record IsWithinGrammarLimits (g : Grammar) : Type 0 where
-  pub symbol_count : length g.symbols ≤ most_symbols
-  pub attribute_count : Each (λ s. length (attribute_names s) ≤ most_attributes) g.symbols
-  pub production_count : length g.productions ≤ most_productions
-  pub item_count : Each (λ q. length q.items ≤ most_items) g.productions
-  pub stored_count : Each (λ q. length (stored_items q.items) ≤ most_stored) g.productions
-  pub literal_count : length g.literals ≤ most_literals
-  pub literal_bytes : Each (λ x. (1 ≤ length x) × (length x ≤ most_literal_bytes)) g.literals
+  pub symbol_count : length g.symbols ≤ max_symbols
+  pub attribute_count : Each (λ s. length (attribute_names s) ≤ max_attributes) g.symbols
+  pub production_count : length g.productions ≤ max_productions
+  pub item_count : Each (λ q. length q.items ≤ max_items) g.productions
+  pub stored_count : Each (λ q. length (stored_items q.items) ≤ max_stored) g.productions
+  pub literal_count : length g.literals ≤ max_literals
+  pub literal_bytes : Each (λ x. (1 ≤ length x) × (length x ≤ max_literal_bytes)) g.literals
 
 -- Space, tab, CR and LF separate the words of a sentence (this project's).
 abbrev pub IsSeparator : ℕ → Type 0
@@ -102,7 +102,7 @@ IsInUse g a = (p : ℕ) × (q : Production) × IsProduction g p q × Has q.items
 pub record IsNamedRule (g : Grammar) (q : Production) (r : Rule) : Type 0 where
   pub target : (k : Kind) × HasKind g q r.target k
   pub listed : is_below (length r.expr.1) r.expr.0 ≡ true
-  pub arguments : AreRelated (StandsFor g q) r.expr.1 r.args
+  pub arguments : AreRelated (RefersTo g q) r.expr.1 r.args
 
 -- Names and numbers are consistent (this project's): each number is in range; no symbol, attribute of a
 -- symbol, literal or class appears twice; each literal and class occurs in a production; and no literal
@@ -135,14 +135,14 @@ pub record IsStart (g : Grammar) : Type 0 where
 -- Complete: a production has exactly one rule for each synthesized attribute of its left side and for each
 -- inherited attribute of its right side, and no other rule (Knuth 1968).
 pub record IsComplete (g : Grammar) (q : Production) : Type 0 where
-  pub all : (o : Target) → HasKind g q o (given_kind o.place) → (r : Rule) × IsRule q r × (r.target ≡ o)
+  pub all : (o : Target) → HasKind g q o (defined_kind o.place) → (r : Rule) × IsRule q r × (r.target ≡ o)
   pub single : DifferIn (λ r. r.target) q.rules
-  pub no_other : Each (λ r. HasKind g q r.target (given_kind r.target.place)) q.rules
+  pub no_other : Each (λ r. HasKind g q r.target (defined_kind r.target.place)) q.rules
 
 -- Normal: the arguments of a rule are inherited attributes of the left side and synthesized attributes of the
 -- right side, which are those that the production's own rules do not define (this project's).
 abbrev pub IsNormal : Grammar → Production → Type 0
-IsNormal g q = Each (λ r. Each (λ o. HasKind g q o (found_kind o.place)) r.args) q.rules
+IsNormal g q = Each (λ r. Each (λ o. HasKind g q o (used_kind o.place)) r.args) q.rules
 
 -- A productive symbol, which derives a list of terminals: it has a production whose declared symbols are all
 -- productive (the textbook).

@@ -77,15 +77,15 @@ HasKind g q o k = slice_get (item_kinds g (item_at q o.place)) o.attr ≡ Some k
 
 -- the kind of the attributes that the rules of a production define at a place: synthesized on the left side,
 -- inherited on the right side
-abbrev pub given_kind : ℕ → Kind
-given_kind zero = Synthesized
-given_kind (suc i) = Inherited
+abbrev pub defined_kind : ℕ → Kind
+defined_kind zero = Synthesized
+defined_kind (suc i) = Inherited
 
 -- the kind of the attributes that the rules of a production use at a place: inherited on the left side,
 -- synthesized on the right side
-abbrev pub found_kind : ℕ → Kind
-found_kind zero = Inherited
-found_kind (suc i) = Synthesized
+abbrev pub used_kind : ℕ → Kind
+used_kind zero = Inherited
+used_kind (suc i) = Synthesized
 
 -- the name `lex`, as bytes
 abbrev pub lex_name : List ℕ
@@ -105,7 +105,7 @@ item_names g (Some (item.Terminal (Class c))) = lex_name ∷ []
 item_names g (Some (item.Terminal (Literal l))) = []
 
 -- An occurrence in the text of a rule refers to the attribute of its name at its place.
-pub record StandsFor (g : Grammar) (q : Production) (occurrence : Occ) (attribute : Target) : Type 0 where
+pub record RefersTo (g : Grammar) (q : Production) (occurrence : Occ) (attribute : Target) : Type 0 where
   pub place : attribute.place ≡ occurrence.place
   pub name : slice_get (item_names g (item_at q attribute.place)) attribute.attr ≡ Some occurrence.attr
 

@@ -5,7 +5,7 @@ use Rattle.ag_grammar.specs.declared.grammar.Item.TheVariants as item
 use Rattle.ag_grammar.specs.declared.grammar.Item.{Item}
 use Rattle.ag_grammar.specs.declared.grammar.Production.{Production}
 use Rattle.ag_grammar.specs.declared.grammar.Terminal.TheVariants.{Literal, Class}
-use Rattle.ag_grammar.specs.declared.limits.TheConstants.{MOST_DEPTH, MOST_NODES, MOST_TOKEN_BYTES, MOST_TURNED_DEPTH, MOST_TURNED_NODES}
+use Rattle.ag_grammar.specs.declared.limits.TheConstants.{MAX_DEPTH, MAX_NODES, MAX_TOKEN_BYTES, MAX_TURNED_DEPTH, MAX_TURNED_NODES}
 use Rattle.ag_grammar.specs.grammars.AttributeGrammar.{Grammar, stored_items, IsProduction}
 
 mutual
@@ -20,13 +20,13 @@ mutual
     more : Tree → Forest → Forest
 
 -- the maximum length of the text of a token, in bytes (this project's)
-abbrev pub most_token_bytes : ℕ
-most_token_bytes = MOST_TOKEN_BYTES
+abbrev pub max_token_bytes : ℕ
+max_token_bytes = MAX_TOKEN_BYTES
 
 -- A token's text is UTF-8 and has at most 65,535 bytes.
 pub record IsTokenText (x : List ℕ) : Type 0 where
   pub utf8 : is_utf8 x ≡ true
-  pub short : length x ≤ most_token_bytes
+  pub short : length x ≤ max_token_bytes
 
 -- A tree of an item: a token of its class, or a node with a production of its symbol and trees of that
 -- production's children (the textbook).
@@ -70,18 +70,18 @@ abbrev mutual
   node_counts (more t ts) = node_count t + node_counts ts
 
 -- The maximum depth and the maximum number of nodes of a tree (this project's).
-abbrev pub most_depth : ℕ
-most_depth = MOST_DEPTH
+abbrev pub max_depth : ℕ
+max_depth = MAX_DEPTH
 
-abbrev pub most_nodes : ℕ
-most_nodes = MOST_NODES
+abbrev pub max_nodes : ℕ
+max_nodes = MAX_NODES
 
 -- and those of a tree whose file is reversed, or converted from version 1 (this project's)
-abbrev pub most_turned_depth : ℕ
-most_turned_depth = MOST_TURNED_DEPTH
+abbrev pub max_turned_depth : ℕ
+max_turned_depth = MAX_TURNED_DEPTH
 
-abbrev pub most_turned_nodes : ℕ
-most_turned_nodes = MOST_TURNED_NODES
+abbrev pub max_turned_nodes : ℕ
+max_turned_nodes = MAX_TURNED_NODES
 
 -- the tree has at most this depth and at most this number of nodes
 pub record IsWithinLimits (depth count : ℕ) (t : Tree) : Type 0 where

@@ -48,8 +48,8 @@ has_fault (Some code) = true
 has_fault None = false
 
 -- `iserr(v)`, which accepts errors: 1 if v is an error, else 0
-abbrev pub tested : Value → Value
-tested v = truth (has_fault (fault_of v))
+abbrev pub test_result : Value → Value
+test_result v = truth (has_fault (fault_of v))
 
 -- `orelse(v, w)`, which accepts errors: v if that is not an error, else w
 abbrev pub either : Option ErrorCode → Value → Value → Value

@@ -9,24 +9,24 @@ use Rattle.ag_grammar.specs.declared.syntax.node.BinaryCall.{BinaryCall}
 use Rattle.ag_grammar.specs.declared.syntax.node.BinaryCall.TheVariants as binary
 use Rattle.ag_grammar.specs.declared.syntax.node.UnaryCall.{UnaryCall}
 use Rattle.ag_grammar.specs.declared.syntax.node.UnaryCall.TheVariants as unary
-use Rattle.ag_grammar.specs.values.Arguments.{or_else, strict, tested}
-use Rattle.ag_grammar.specs.values.Lists.{appended, length_of, nth_of}
+use Rattle.ag_grammar.specs.values.Arguments.{or_else, strict, test_result}
+use Rattle.ag_grammar.specs.values.Lists.{append_result, length_of, nth_of}
 use Rattle.ag_grammar.specs.values.Numbers.{decimal_of, number_of}
 use Rattle.ag_grammar.specs.values.Tables.{got_from, had_by, keys_of, put_in}
 use Rattle.ag_grammar.specs.values.Texts.{joined_by}
 
 -- a call with one argument
-abbrev pub called : UnaryCall → Value → Value
-called unary.Len a = strict (a ∷ []) (length_of a)
-called unary.Text n = strict (n ∷ []) (decimal_of n)
-called unary.Number t = strict (t ∷ []) (number_of t)
-called unary.Keys t = strict (t ∷ []) (keys_of t)
-called unary.IsError v = tested v
+abbrev pub call_result : UnaryCall → Value → Value
+call_result unary.Len a = strict (a ∷ []) (length_of a)
+call_result unary.Text n = strict (n ∷ []) (decimal_of n)
+call_result unary.Number t = strict (t ∷ []) (number_of t)
+call_result unary.Keys t = strict (t ∷ []) (keys_of t)
+call_result unary.IsError v = test_result v
 
 -- a call with two arguments
 abbrev pub called_with : BinaryCall → Value → Value → Value
 called_with binary.Nth l i = strict (l ∷ i ∷ []) (nth_of l i)
-called_with binary.Append l v = strict (l ∷ v ∷ []) (appended l v)
+called_with binary.Append l v = strict (l ∷ v ∷ []) (append_result l v)
 called_with binary.Join l s = strict (l ∷ s ∷ []) (joined_by l s)
 called_with binary.Get t k = strict (t ∷ k ∷ []) (got_from t k)
 called_with binary.Has t k = strict (t ∷ k ∷ []) (had_by t k)
@@ -44,5 +44,5 @@ chosen_at (Value-F.Num (negsuc n)) e f = e
 chosen_at (Value-F.Fault code) e f = value.Fault code
 chosen_at c e f = value.Fault Kind
 
-abbrev pub chosen : Value → Value → Value → Value
-chosen c e f = chosen_at (out-Value c) e f
+abbrev pub choice_of : Value → Value → Value → Value
+choice_of c e f = chosen_at (out-Value c) e f

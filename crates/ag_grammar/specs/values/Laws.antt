@@ -6,7 +6,7 @@ use Rattle.ag_value.specs.declared.value.Value.TheVariants as value
 use Rattle.ag_value.specs.Measure.{depth_of, max_depth, max_weight, weight_of}
 use Rattle.ag_value.specs.Well.{IsWell}
 use Rattle.ag_grammar.specs.values.Fitting.{fit}
-use Rattle.ag_grammar.specs.values.Operators.{compared}
+use Rattle.ag_grammar.specs.values.Operators.{comparison_result}
 use Rattle.ag_grammar.specs.values.Tables.{got_from, keys_of}
 
 -- A value that is too deep becomes the error `deep`, even if it is also too heavy;
@@ -23,7 +23,7 @@ WhatFitsStays = (v : Value) → depth_of v ≤ max_depth → weight_of v ≤ max
 
 -- `==` returns 1 for two well values if and only if they are the same.
 abbrev pub SameIsOne : Type 0
-SameIsOne = (v w : Value) → IsWell v → IsWell w → (compared v w ≡ value.Num (pos 1)) ↔ (v ≡ w)
+SameIsOne = (v w : Value) → IsWell v → IsWell w → (comparison_result v w ≡ value.Num (pos 1)) ↔ (v ≡ w)
 
 -- The results of `keys` and `get` are well without a check of the limits.
 abbrev pub KeysAreWell : Type 0

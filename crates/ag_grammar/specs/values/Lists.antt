@@ -27,8 +27,8 @@ concatenated_at (Value-F.Text left) (Value-F.Text right) = fit (value.Text (left
 concatenated_at (Value-F.List left) (Value-F.List right) = fit (value.List (left ++ right))
 concatenated_at left right = value.Fault Kind
 
-abbrev pub concatenated : Value → Value → Value
-concatenated left right = concatenated_at (out-Value left) (out-Value right)
+abbrev pub concatenation : Value → Value → Value
+concatenation left right = concatenated_at (out-Value left) (out-Value right)
 
 -- the item at an index from 0
 abbrev pub item_at : List Value → ℤ → Option Value
@@ -52,5 +52,5 @@ abbrev pub appended_at : Value-F Value → Value → Value
 appended_at (Value-F.List items) item = fit (value.List (items ++ item ∷ []))
 appended_at list item = value.Fault Kind
 
-abbrev pub appended : Value → Value → Value
-appended list item = appended_at (out-Value list) item
+abbrev pub append_result : Value → Value → Value
+append_result list item = appended_at (out-Value list) item

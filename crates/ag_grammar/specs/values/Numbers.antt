@@ -15,18 +15,18 @@ abbrev pub number_value : ℤ → Value
 number_value z = if is_i64 z then value.Num z else value.Fault Overflow
 
 -- the error `divide` if the divisor is zero, whatever the dividend is, else the quotient
-abbrev pub divided : ℤ → Value → Value
-divided (pos zero) quotient = value.Fault Divide
-divided (pos (suc n)) quotient = quotient
-divided (negsuc n) quotient = quotient
+abbrev pub quotient_of : ℤ → Value → Value
+quotient_of (pos zero) quotient = value.Fault Divide
+quotient_of (pos (suc n)) quotient = quotient
+quotient_of (negsuc n) quotient = quotient
 
 -- the quotient, truncated towards zero,
 abbrev pub quotient : ℤ → ℤ → Value
-quotient m n = divided n (number_value (int_div m n))
+quotient m n = quotient_of n (number_value (int_div m n))
 
 -- and the remainder, with the sign of the dividend
 abbrev pub remainder : ℤ → ℤ → Value
-remainder m n = divided n (value.Num (int_rem m n))
+remainder m n = quotient_of n (value.Num (int_rem m n))
 
 -- the result of f for two numbers, else the error `kind`
 abbrev pub from_numbers : (ℤ → ℤ → Value) → Value-F Value → Value-F Value → Value
@@ -42,13 +42,13 @@ abbrev pub is_digits : List ℕ → Bool
 is_digits digits = nat_lt 0 (length digits) && list_all is_ascii_digit digits
 
 -- the number of these digits with this sign, if they are digits and the number is in the range of i64
-abbrev pub signed : (ℤ → ℤ) → List ℕ → Option ℤ
-signed sign digits = if is_digits digits && is_i64 (sign (pos (digits_value 10 digits))) then Some (sign (pos (digits_value 10 digits))) else None
+abbrev pub signed_number : (ℤ → ℤ) → List ℕ → Option ℤ
+signed_number sign digits = if is_digits digits && is_i64 (sign (pos (digits_value 10 digits))) then Some (sign (pos (digits_value 10 digits))) else None
 
 -- the number that a text denotes: digits, with an optional `-` before them
-abbrev pub spelled : List ℕ → Option ℤ
-spelled [] = None
-spelled (b ∷ bytes) = if b == 45 then signed neg_ℤ bytes else signed (λ z. z) (b ∷ bytes)
+abbrev pub spelled_number : List ℕ → Option ℤ
+spelled_number [] = None
+spelled_number (b ∷ bytes) = if b == 45 then signed_number neg_ℤ bytes else signed_number (λ z. z) (b ∷ bytes)
 
 abbrev pub number_or_fault : Option ℤ → Value
 number_or_fault (Some z) = value.Num z
@@ -56,7 +56,7 @@ number_or_fault None = value.Fault Number
 
 -- `number(t)`
 abbrev pub number_at : Value-F Value → Value
-number_at (Value-F.Text text) = number_or_fault (spelled text)
+number_at (Value-F.Text text) = number_or_fault (spelled_number text)
 number_at v = value.Fault Kind
 
 abbrev pub number_of : Value → Value

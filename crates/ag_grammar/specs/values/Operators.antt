@@ -9,13 +9,13 @@ use Rattle.ag_value.specs.Well.{is_before}
 use Rattle.ag_grammar.specs.declared.syntax.node.Operator.{Operator}
 use Rattle.ag_grammar.specs.declared.syntax.node.Operator.TheVariants as operator
 use Rattle.ag_grammar.specs.values.Arguments.{strict, truth}
-use Rattle.ag_grammar.specs.values.Lists.{concatenated}
+use Rattle.ag_grammar.specs.values.Lists.{concatenation}
 use Rattle.ag_grammar.specs.values.Numbers.{number_value, of_numbers, quotient, remainder}
 
 -- `a == b`, for values of any kinds: 1 if they are the same value. Different well values have different
 -- spellings.
-abbrev pub compared : Value → Value → Value
-compared left right = truth (bytes_eq (spelling_of left) (spelling_of right))
+abbrev pub comparison_result : Value → Value → Value
+comparison_result left right = truth (bytes_eq (spelling_of left) (spelling_of right))
 
 -- `a < b`: compares two numbers, or two texts by their bytes
 abbrev pub ordered_at : Value-F Value → Value-F Value → Value
@@ -23,20 +23,20 @@ ordered_at (Value-F.Num m) (Value-F.Num n) = truth (int_lt m n)
 ordered_at (Value-F.Text s) (Value-F.Text t) = truth (is_before s t)
 ordered_at left right = value.Fault Kind
 
-abbrev pub ordered : Value → Value → Value
-ordered left right = ordered_at (out-Value left) (out-Value right)
+abbrev pub order_result : Value → Value → Value
+order_result left right = ordered_at (out-Value left) (out-Value right)
 
 -- the result of an operator for two values that are not errors
-abbrev pub operated : Operator → Value → Value → Value
-operated operator.Equal left right = compared left right
-operated operator.Less left right = ordered left right
-operated operator.Join left right = concatenated left right
-operated operator.Add left right = of_numbers (λ m n. number_value (m +ℤ n)) left right
-operated operator.Subtract left right = of_numbers (λ m n. number_value (m -ℤ n)) left right
-operated operator.Multiply left right = of_numbers (λ m n. number_value (m *ℤ n)) left right
-operated operator.Divide left right = of_numbers quotient left right
-operated operator.Remainder left right = of_numbers remainder left right
+abbrev pub operator_result : Operator → Value → Value → Value
+operator_result operator.Equal left right = comparison_result left right
+operator_result operator.Less left right = order_result left right
+operator_result operator.Join left right = concatenation left right
+operator_result operator.Add left right = of_numbers (λ m n. number_value (m +ℤ n)) left right
+operator_result operator.Subtract left right = of_numbers (λ m n. number_value (m -ℤ n)) left right
+operator_result operator.Multiply left right = of_numbers (λ m n. number_value (m *ℤ n)) left right
+operator_result operator.Divide left right = of_numbers quotient left right
+operator_result operator.Remainder left right = of_numbers remainder left right
 
 -- the result for any two values
-abbrev pub applied : Operator → Value → Value → Value
-applied o left right = strict (left ∷ right ∷ []) (operated o left right)
+abbrev pub operation_result : Operator → Value → Value → Value
+operation_result o left right = strict (left ∷ right ∷ []) (operator_result o left right)

@@ -64,6 +64,6 @@ has_key key None = false
 -- i is the index of a key in a table: the number of pairs with smaller keys. Either the pair at i has the
 -- key, or no pair has it.
 pub record IsIndex (key : List ℕ) (pairs : List (List ℕ × Value)) (i : ℕ) : Type 0 where
-  pub front : filter (λ p. is_before p.0 key) pairs ≡ take i pairs
-  pub stands : has_key key (slice_get pairs i) ≡ true → (filter (λ q. is_before key q.0) pairs ≡ drop (suc i) pairs) × (pair_with key pairs ≡ slice_get pairs i)
+  pub prefix : filter (λ p. is_before p.0 key) pairs ≡ take i pairs
+  pub occurs : has_key key (slice_get pairs i) ≡ true → (filter (λ q. is_before key q.0) pairs ≡ drop (suc i) pairs) × (pair_with key pairs ≡ slice_get pairs i)
   pub belongs : has_key key (slice_get pairs i) ≡ false → (filter (λ q. is_before key q.0) pairs ≡ drop i pairs) × (pair_with key pairs ≡ None)

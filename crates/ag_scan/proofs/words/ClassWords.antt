@@ -12,13 +12,13 @@ use Rattle.unicode_ident.proofs.IdentLemmas.{is_xid_continue-ascii, is_xid_start
 use Rattle.ag_grammar.specs.Lists.{Has}
 use Rattle.ag_grammar.specs.declared.grammar.Terminal.TheVariants.{Class}
 use Rattle.ag_tokens.specs.Tokens.{is_quotable, starts_name, IsName, IsDigits}
-use Rattle.ag_tokens.proofs.Fronts.{front_passes, front_reaches, front_ends}
+use Rattle.ag_tokens.proofs.Fronts.{prefix_passes, prefix_reaches, front_ends}
 use Rattle.ag_tokens.proofs.TokenLaws.{no_start}
 use Rattle.ag_scan.specs.Words.{IsWordOfClass, IsClassed, IsLongest, BeginsNone}
-use Rattle.ag_scan.specs.Cutting.{Front, front_in, back_of, span_from, closed, text_from, uses, class_from}
+use Rattle.ag_scan.specs.Cutting.{LeadingWord, prefix_in, back_of, span_from, close_quote, text_from, uses, class_from}
 
 -- The word is the longest word of a class at the beginning of the characters.
-pub record CutsClass (classes cs : List ℕ) (f : Front) : Type 0 where
+pub record CutsClass (classes cs : List ℕ) (f : LeadingWord) : Type 0 where
   pub class : ℕ
   pub word : List ℕ
   pub kind : f.kind ≡ Class class
@@ -54,7 +54,7 @@ has_used (c ∷ classes) k (suc i) e = let more = has_used classes k i e in grin
 
 -- the function reads at least the word before `more`; if it reads exactly this word, the result is that word
 record Reached (classes : List ℕ) (class : ℕ) (lex cs more : List ℕ) : Type 0 where
-  pub cut : Front
+  pub cut : LeadingWord
   pub is : class_from classes cs ≡ Some cut
   pub far : length cut.rest ≤ length more
   pub same : length cut.rest ≡ length more → (cut.kind ≡ Class class) × (cut.lex ≡ lex)
@@ -62,7 +62,7 @@ record Reached (classes : List ℕ) (class : ℕ) (lex cs more : List ℕ) : Typ
 span_reached : (p : ℕ → Bool) (classes : List ℕ) (class : ℕ) (word more : List ℕ) → list_all p word ≡ true → class_from classes (word ++ more) ≡ Some (span_from p class (word ++ more))
     → Reached classes class (encode_utf8_all word) (word ++ more) more
 span_reached p classes class word more all is =
-    let behind = front_reaches p word more all in
+    let following = prefix_reaches p word more all in
     let within = prefix_len-le-length p (word ++ more) in
     record {
       cut = span_from p class (word ++ more);
@@ -106,50 +106,50 @@ one_class classes word lex lex' c d used used' is is' =
     let both : a.cut ≡ b.cut = same_Some _ _ (sym a.is ∙ b.is) in
     let one = a.same (omega (arith, a.far)) in
     let other = b.same (omega (arith, b.far)) in
-    (sym one.0 ∙ ap (λ (f : Front). f.kind) both ∙ other.0, sym one.1 ∙ ap (λ (f : Front). f.lex) both ∙ other.1)
+    (sym one.0 ∙ ap (λ (f : LeadingWord). f.kind) both ∙ other.0, sym one.1 ∙ ap (λ (f : LeadingWord). f.lex) both ∙ other.1)
 
 -- ---- what the function reads is a word
 
 -- the characters begin with a word of a class, with this kind and text
-abbrev IsThere : List ℕ → List ℕ → Front → Type 0
+abbrev IsThere : List ℕ → List ℕ → LeadingWord → Type 0
 IsThere classes cs f = (class : ℕ) × (word : List ℕ) × (f.kind ≡ Class class) × (cs ≡ word ++ f.rest) × Has classes class × IsWordOfClass class word f.lex
 
-where_used : (classes : List ℕ) (k : ℕ) (o : Option Front) (f : Front) → cond (uses classes k) o None ≡ Some f → Has classes k × (o ≡ Some f)
+where_used : (classes : List ℕ) (k : ℕ) (o : Option LeadingWord) (f : LeadingWord) → cond (uses classes k) o None ≡ Some f → Has classes k × (o ≡ Some f)
 where_used classes k o f e = (used_has classes k (grind arith), grind arith)
 
-span_there : (p : ℕ → Bool) (classes : List ℕ) (class : ℕ) (cs : List ℕ) (f : Front) → Has classes class → IsWordOfClass class (front_in p cs) (encode_utf8_all (front_in p cs)) → Some (span_from p class cs) ≡ Some f → IsThere classes cs f
-span_there p classes class cs f used is e = rw (← same_Some _ _ e) (class, front_in p cs, refl, sym (take-append-drop (prefix_len p cs) cs), used, is)
+span_there : (p : ℕ → Bool) (classes : List ℕ) (class : ℕ) (cs : List ℕ) (f : LeadingWord) → Has classes class → IsWordOfClass class (prefix_in p cs) (encode_utf8_all (prefix_in p cs)) → Some (span_from p class cs) ≡ Some f → IsThere classes cs f
+span_there p classes class cs f used is e = rw (← same_Some _ _ e) (class, prefix_in p cs, refl, sym (take-append-drop (prefix_len p cs) cs), used, is)
 
-name_front : (c : ℕ) (cs : List ℕ) → starts_name c ≡ true → IsName (front_in is_xid_continue (c ∷ cs))
-name_front c cs starts = let k : prefix_len is_xid_continue (c ∷ cs) ≡ suc (prefix_len is_xid_continue cs) = rw (name_goes_on c starts) (omega arith) in rw k (starts, front_passes is_xid_continue cs)
+name_prefix : (c : ℕ) (cs : List ℕ) → starts_name c ≡ true → IsName (prefix_in is_xid_continue (c ∷ cs))
+name_prefix c cs starts = let k : prefix_len is_xid_continue (c ∷ cs) ≡ suc (prefix_len is_xid_continue cs) = rw (name_goes_on c starts) (omega arith) in rw k (starts, prefix_passes is_xid_continue cs)
 
-number_front : (c : ℕ) (cs : List ℕ) → is_ascii_digit c ≡ true → IsDigits (front_in is_ascii_digit (c ∷ cs))
-number_front c cs digit = let k : prefix_len is_ascii_digit (c ∷ cs) ≡ suc (prefix_len is_ascii_digit cs) = rw digit (omega arith) in (rw k (omega arith), front_passes is_ascii_digit (c ∷ cs))
+number_prefix : (c : ℕ) (cs : List ℕ) → is_ascii_digit c ≡ true → IsDigits (prefix_in is_ascii_digit (c ∷ cs))
+number_prefix c cs digit = let k : prefix_len is_ascii_digit (c ∷ cs) ≡ suc (prefix_len is_ascii_digit cs) = rw digit (omega arith) in (rw k (omega arith), prefix_passes is_ascii_digit (c ∷ cs))
 
-closed_there : (classes front back : List ℕ) (f : Front) → Has classes 2 → list_all is_quotable front ≡ true → closed (encode_utf8_all front) back ≡ Some f → IsThere classes (34 ∷ (front ++ back)) f
-closed_there classes front [] f used all e = absurd (none-some _ e)
-closed_there classes front (c ∷ back) f used all e =
-    let same : (c ≡ 34) × (record { kind = Class 2; lex = encode_utf8_all front; rest = back } ≡ f) = grind (arith, nat_tests) in
-    rw (same.0, ← same.1) (2, 34 ∷ (front ++ 34 ∷ []), refl, ap (λ x. 34 ∷ x) (sym (append_assoc front (34 ∷ []) back)), used, (front, refl, all, refl))
+closed_there : (classes prefix back : List ℕ) (f : LeadingWord) → Has classes 2 → list_all is_quotable prefix ≡ true → close_quote (encode_utf8_all prefix) back ≡ Some f → IsThere classes (34 ∷ (prefix ++ back)) f
+closed_there classes prefix [] f used all e = absurd (none-some _ e)
+closed_there classes prefix (c ∷ back) f used all e =
+    let same : (c ≡ 34) × (record { kind = Class 2; lex = encode_utf8_all prefix; rest = back } ≡ f) = grind (arith, nat_tests) in
+    rw (same.0, ← same.1) (2, 34 ∷ (prefix ++ 34 ∷ []), refl, ap (λ x. 34 ∷ x) (sym (append_assoc prefix (34 ∷ []) back)), used, (prefix, refl, all, refl))
 
-text_is_there : (classes cs : List ℕ) (f : Front) → Has classes 2 → text_from cs ≡ Some f → IsThere classes (34 ∷ cs) f
+text_is_there : (classes cs : List ℕ) (f : LeadingWord) → Has classes 2 → text_from cs ≡ Some f → IsThere classes (34 ∷ cs) f
 text_is_there classes cs f used e =
-    subst (λ x. IsThere classes (34 ∷ x) f) (take-append-drop (prefix_len is_quotable cs) cs) (closed_there classes (front_in is_quotable cs) (back_of is_quotable cs) f used (front_passes is_quotable cs) e)
+    subst (λ x. IsThere classes (34 ∷ x) f) (take-append-drop (prefix_len is_quotable cs) cs) (closed_there classes (prefix_in is_quotable cs) (back_of is_quotable cs) f used (prefix_passes is_quotable cs) e)
 
-cut_is_there : (classes cs : List ℕ) (f : Front) → class_from classes cs ≡ Some f → IsThere classes cs f
+cut_is_there : (classes cs : List ℕ) (f : LeadingWord) → class_from classes cs ≡ Some f → IsThere classes cs f
 unfolding class_from
 cut_is_there classes [] f e = absurd (none-some _ e)
 cut_is_there classes (c ∷ cs) f e = go (starts_name c) (is_ascii_digit c) (c == 34) refl refl refl e
   where
     go : (a b d : Bool) → starts_name c ≡ a → is_ascii_digit c ≡ b → (c == 34) ≡ d → class_from classes (c ∷ cs) ≡ Some f → IsThere classes (c ∷ cs) f
-    go true b d p q r e = let used = where_used classes 0 _ f (grind arith) in span_there is_xid_continue classes 0 (c ∷ cs) f used.0 (name_front c cs p, refl) used.1
-    go false true d p q r e = let used = where_used classes 1 _ f (grind arith) in span_there is_ascii_digit classes 1 (c ∷ cs) f used.0 (number_front c cs q, refl) used.1
+    go true b d p q r e = let used = where_used classes 0 _ f (grind arith) in span_there is_xid_continue classes 0 (c ∷ cs) f used.0 (name_prefix c cs p, refl) used.1
+    go false true d p q r e = let used = where_used classes 1 _ f (grind arith) in span_there is_ascii_digit classes 1 (c ∷ cs) f used.0 (number_prefix c cs q, refl) used.1
     go false false true p q r e = let used = where_used classes 2 _ f (grind arith) in let same : c ≡ 34 = grind (arith, nat_tests) in rw same (text_is_there classes cs f used.0 used.1)
     go false false false p q r e = let none : ⊥ = grind arith in absurd none
 
 -- ---- both together
 
-pub class_cut : (classes cs : List ℕ) (f : Front) → class_from classes cs ≡ Some f → CutsClass classes cs f
+pub class_cut : (classes cs : List ℕ) (f : LeadingWord) → class_from classes cs ≡ Some f → CutsClass classes cs f
 class_cut classes cs f e = record { class = there.0; word = there.1; kind = there.2; split = there.3; used = there.4; is = there.5; longest = longest }
   where
     there : IsThere classes cs f
@@ -159,7 +159,7 @@ class_cut classes cs f e = record { class = there.0; word = there.1; kind = ther
     longest longer more same (c, lex, used, is) =
         let far = word_reached classes longer more lex c used is in
         let one : Some far.cut ≡ Some f = sym far.is ∙ ap (class_from classes) (sym same ∙ sym there.3) ∙ e in
-        let rest : length far.cut.rest ≡ length f.rest = ap (λ (x : Front). length x.rest) (same_Some _ _ one) in
+        let rest : length far.cut.rest ≡ length f.rest = ap (λ (x : LeadingWord). length x.rest) (same_Some _ _ one) in
         omega (arith, far.far, ap length same, length-append there.1 f.rest, length-append longer more)
 
 pub class_none : (classes cs : List ℕ) → class_from classes cs ≡ None → BeginsNone (IsClassed classes) cs

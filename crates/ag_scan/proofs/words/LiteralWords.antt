@@ -7,28 +7,28 @@ use Rattle.ag_grammar.specs.declared.grammar.Terminal.TheVariants.{Literal}
 use Rattle.ag_tokens.proofs.Lexed.{width-encoded}
 use Rattle.ag_scan.specs.declared.literals.Word.{Word}
 use Rattle.ag_scan.specs.Cutting.{CutsLiteral}
-use Rattle.ag_scan.specs.Table.{IsFront, IsLongestFront, HasNoFront}
+use Rattle.ag_scan.specs.Table.{IsPrefix, IsLongestFront, HasNoPrefix}
 use Rattle.ag_scan.specs.Words.{IsLiteral, IsLongest, BeginsNone}
 use Rattle.ag_scan.proofs.words.Choosing.{no_longer}
 use Rattle.ag_scan.proofs.words.Tables.{front_fits}
 
 -- a text that is a prefix of another ends at a character boundary
-pub boundary : (text word : List ℕ) → IsUtf8 text → IsUtf8 word → IsFront word text → IsCharBoundary text (length word)
-boundary text word utf8 utf8' front =
-    let taken : take (length word) text ≡ word = ap (take (length word)) front.1 ∙ take-append_seam word front.0 in
-    IsCharBoundary-from_take text (length word) utf8 (front_fits word text front) (subst IsUtf8 (sym taken) utf8')
+pub boundary : (text word : List ℕ) → IsUtf8 text → IsUtf8 word → IsPrefix word text → IsCharBoundary text (length word)
+boundary text word utf8 utf8' prefix =
+    let taken : take (length word) text ≡ word = ap (take (length word)) prefix.1 ∙ take-append_seam word prefix.0 in
+    IsCharBoundary-from_take text (length word) utf8 (front_fits word text prefix) (subst IsUtf8 (sym taken) utf8')
 
-pub split_characters : (text word rest : List ℕ) → IsUtf8 word → IsFront word text → rest ≡ drop (length word) text → chars text ≡ chars word ++ chars rest
-split_characters text word rest utf8 front e =
-    let behind : rest ≡ front.0 = e ∙ ap (drop (length word)) front.1 ∙ drop-append_seam word front.0 in
-    ap chars front.1 ∙ chars-append word front.0 utf8 ∙ ap (λ x. chars word ++ chars x) (sym behind)
+pub split_characters : (text word rest : List ℕ) → IsUtf8 word → IsPrefix word text → rest ≡ drop (length word) text → chars text ≡ chars word ++ chars rest
+split_characters text word rest utf8 prefix e =
+    let following : rest ≡ prefix.0 = e ∙ ap (drop (length word)) prefix.1 ∙ drop-append_seam word prefix.0 in
+    ap chars prefix.1 ∙ chars-append word prefix.0 utf8 ∙ ap (λ x. chars word ++ chars x) (sym following)
 
 -- a prefix of the characters is a prefix of the bytes
-bytes_front : (text word more : List ℕ) → IsUtf8 text → chars text ≡ word ++ more → IsFront (encode_utf8_all word) text
-bytes_front text word more utf8 split = (encode_utf8_all more, sym (encodes-chars text utf8) ∙ ap encode_utf8_all split ∙ encodes-append word more)
+bytes_prefix : (text word more : List ℕ) → IsUtf8 text → chars text ≡ word ++ more → IsPrefix (encode_utf8_all word) text
+bytes_prefix text word more utf8 split = (encode_utf8_all more, sym (encodes-chars text utf8) ∙ ap encode_utf8_all split ∙ encodes-append word more)
 
-pub literal_none : (literals : List (List ℕ)) (text : List ℕ) → IsUtf8 text → HasNoFront literals text → BeginsNone (IsLiteral literals) (chars text)
-literal_none literals text utf8 none word more split (l, e) = none l (encode_utf8_all word) e (bytes_front text word more utf8 split)
+pub literal_none : (literals : List (List ℕ)) (text : List ℕ) → IsUtf8 text → HasNoPrefix literals text → BeginsNone (IsLiteral literals) (chars text)
+literal_none literals text utf8 none word more split (l, e) = none l (encode_utf8_all word) e (bytes_prefix text word more utf8 split)
 
 pub literal_cut : (literals : List (List ℕ)) (text lex rest : List ℕ) (w : Word) → IsUtf8 text → IsLongestFront literals text w → lex ≡ w.text.now → chars text ≡ chars w.text.now ++ chars rest → encode_utf8_all (chars w.text.now) ≡ w.text.now
     → CutsLiteral literals (chars text) (record { kind = Literal w.number; lex = lex; rest = chars rest })
@@ -44,5 +44,5 @@ literal_cut literals text lex rest w utf8 is same split encoded = record {
   where
     longest : IsLongest (IsLiteral literals) (chars w.text.now) (chars rest)
     longest longer more e (l, there) =
-        let less = is.longest l (encode_utf8_all longer) there (bytes_front text longer more utf8 (split ∙ e)) in
+        let less = is.longest l (encode_utf8_all longer) there (bytes_prefix text longer more utf8 (split ∙ e)) in
         no_longer longer (chars w.text.now) more (chars rest) (sym e) (omega (arith, width-encoded (chars w.text.now), ap length encoded, width-encoded longer))

@@ -6,15 +6,15 @@ use Rattle.std.specs.Cmp.{ranks, nat_cmp_total, tied_itself, upto}
 use Rattle.std.specs.Cmp.Lexicographic.{slice_cmp, nat_list_cmp_total, told_text}
 use Rattle.std.specs.List.{starts_with}
 use Rattle.std.specs.Ordering.{nat_cmp, is_gt, is_lt}
-use Rattle.ag_scan.specs.Table.{IsFront, IsUpTo}
+use Rattle.ag_scan.specs.Table.{IsPrefix, IsUpTo}
 
 -- a prefix of a text is not after the text
-pub front_up : (p rest : List ℕ) → is_gt (slice_cmp nat_cmp p (p ++ rest)) ≡ false
-front_up [] rest = grind arith
-front_up (c ∷ p) rest = rw (tied_itself nat_cmp_total c) (front_up p rest)
+pub prefix_up : (p rest : List ℕ) → is_gt (slice_cmp nat_cmp p (p ++ rest)) ≡ false
+prefix_up [] rest = grind arith
+prefix_up (c ∷ p) rest = rw (tied_itself nat_cmp_total c) (prefix_up p rest)
 
 -- a prefix of a text is also a prefix of each text between the two
-pub between : (p m rest : List ℕ) → is_gt (slice_cmp nat_cmp p m) ≡ false → is_gt (slice_cmp nat_cmp m (p ++ rest)) ≡ false → IsFront p m
+pub between : (p m rest : List ℕ) → is_gt (slice_cmp nat_cmp p m) ≡ false → is_gt (slice_cmp nat_cmp m (p ++ rest)) ≡ false → IsPrefix p m
 between [] m rest a b = (m, refl)
 between (c ∷ p) [] rest a b = absurd (cc)
 between (c ∷ p) (d ∷ m) rest a b =
@@ -24,11 +24,11 @@ between (c ∷ p) (d ∷ m) rest a b =
     let same : c ≡ d = grind arith in
     (found.0, cc)
 
-pub front_is_up : (p text : List ℕ) → IsFront p text → IsUpTo p text
-front_is_up p text (rest, e) = record { up = subst (λ x. is_gt (slice_cmp nat_cmp p x) ≡ false) (sym e) (front_up p rest) }
+pub prefix_is_up : (p text : List ℕ) → IsPrefix p text → IsUpTo p text
+prefix_is_up p text (rest, e) = record { up = subst (λ x. is_gt (slice_cmp nat_cmp p x) ≡ false) (sym e) (prefix_up p rest) }
 
-pub front_between : (p m text : List ℕ) → IsUpTo p m → IsUpTo m text → IsFront p text → IsFront p m
-front_between p m text a b (rest, e) = between p m rest a.up (subst (λ x. is_gt (slice_cmp nat_cmp m x) ≡ false) e b.up)
+pub prefix_between : (p m text : List ℕ) → IsUpTo p m → IsUpTo m text → IsPrefix p text → IsPrefix p m
+prefix_between p m text a b (rest, e) = between p m rest a.up (subst (λ x. is_gt (slice_cmp nat_cmp m x) ≡ false) e b.up)
 
 pub up_up : (a b c : List ℕ) → IsUpTo a b → IsUpTo b c → IsUpTo a c
 up_up a b c x y = record { up = upto nat_list_cmp_total a b c x.up y.up }
@@ -38,9 +38,9 @@ pub not_less : (a b : List ℕ) → is_lt (slice_cmp nat_cmp b a) ≡ false → 
 not_less a b h = let turned = nat_list_cmp_total.antisymm b a in record { up = grind arith }
 
 -- the meaning of the result of `starts_with`
-pub told_front : (text word : List ℕ) (r : Bool) → r ≡ starts_with nat_eq text word → MatchBool r (IsFront word text) (IsFront word text → ⊥)
-told_front text word r e = go r (told_text word (take (length word) text) r e)
+pub exact_prefix : (text word : List ℕ) (r : Bool) → r ≡ starts_with nat_eq text word → MatchBool r (IsPrefix word text) (IsPrefix word text → ⊥)
+exact_prefix text word r e = go r (told_text word (take (length word) text) r e)
   where
-    go : (r : Bool) → MatchBool r (word ≡ take (length word) text) (word ≡ take (length word) text → ⊥) → MatchBool r (IsFront word text) (IsFront word text → ⊥)
+    go : (r : Bool) → MatchBool r (word ≡ take (length word) text) (word ≡ take (length word) text → ⊥) → MatchBool r (IsPrefix word text) (IsPrefix word text → ⊥)
     go true h = (drop (length word) text, sym (take-append-drop (length word) text) ∙ ap (λ x. x ++ drop (length word) text) (sym h))
-    go false h = λ front. h (sym (ap (take (length word)) front.1 ∙ take-append_seam word front.0))
+    go false h = λ prefix. h (sym (ap (take (length word)) prefix.1 ∙ take-append_seam word prefix.0))

@@ -10,8 +10,8 @@ use Rattle.std.specs.Ordering.{nat_cmp, is_le, MatchOrdering}
 use Rattle.std.specs.declared.cmp.Ordering.{Ordering}
 use Rattle.std.specs.declared.cmp.Ordering.TheVariants.{Less, Equal, Greater}
 use Rattle.ag_scan.specs.declared.literals.Word.{Word}
-use Rattle.ag_scan.specs.Table.{IsFront, IsUpTo, AreUpTo, NoFront, IsLastFront, GivesLast, behind_last, AreLinked, AreOrdered, AreLiterals, IsTable, IsLongestFront}
-use Rattle.ag_scan.proofs.words.Orders.{front_between, front_is_up, up_up, not_less}
+use Rattle.ag_scan.specs.Table.{IsPrefix, IsUpTo, AreUpTo, NoPrefix, IsLastPrefix, GivesLast, after_last, AreLinked, AreOrdered, AreLiterals, IsTable, IsLongestFront}
+use Rattle.ag_scan.proofs.words.Orders.{prefix_between, prefix_is_up, up_up, not_less}
 
 -- a list has a member at each index below its length
 pub some_there : {A : Type 0} (xs : List A) (i : ℕ) → i < length xs → (x : A) × (slice_get xs i ≡ Some x)
@@ -23,14 +23,14 @@ pub same_there : {A : Type 0} (xs : List A) (i j : ℕ) (x y : A) → slice_get 
 same_there xs i j x y ex ey e = grind arith
 
 -- a prefix is not longer than the text
-pub front_fits : (p text : List ℕ) → IsFront p text → length p ≤ length text
+pub front_fits : (p text : List ℕ) → IsPrefix p text → length p ≤ length text
 front_fits p text (rest, e) = omega (arith, ap length e, length-append p rest)
 
 -- no word after the last one that is a prefix of the text is a prefix of it
-pub last_behind : (words : List Word) (bound : ℕ) (text : List ℕ) (o : Option ℕ) → GivesLast words bound text o → NoFront words (behind_last o) bound text
-last_behind words bound text o h = grind arith
+pub last_after : (words : List Word) (bound : ℕ) (text : List ℕ) (o : Option ℕ) → GivesLast words bound text o → NoPrefix words (after_last o) bound text
+last_after words bound text o h = grind arith
 
-pub last_below : (words : List Word) (bound : ℕ) (text : List ℕ) (o : Option ℕ) → GivesLast words bound text o → behind_last o ≤ bound
+pub last_below : (words : List Word) (bound : ℕ) (text : List ℕ) (o : Option ℕ) → GivesLast words bound text o → after_last o ≤ bound
 last_below words bound text o h = grind arith
 
 -- the comparison of two numbers, by its three cases
@@ -47,33 +47,33 @@ split i k less others = compared i k less (λ same. others (omega arith)) (λ mo
 
 module _ (words : List Word) (shorter : List (Option ℕ)) (bound : ℕ) (text : List ℕ) (ordered : AreOrdered words) (linked : AreLinked words shorter) (up : AreUpTo words bound text) where
   -- if the word at `last` is not a prefix of the text, the next candidate is the one that it links to
-  pub goes_on : (limit last : ℕ) (w : Word) (o : Option ℕ) → limit ≤ bound → limit ≡ last + 1 → NoFront words limit bound text → slice_get words last ≡ Some w → slice_get shorter last ≡ Some o → (IsFront w.text.now text → ⊥)
-      → NoFront words (behind_last o) bound text
+  pub goes_on : (limit last : ℕ) (w : Word) (o : Option ℕ) → limit ≤ bound → limit ≡ last + 1 → NoPrefix words limit bound text → slice_get words last ≡ Some w → slice_get shorter last ≡ Some o → (IsPrefix w.text.now text → ⊥)
+      → NoPrefix words (after_last o) bound text
   goes_on limit last w o within is none there link not_here =
-      let lower = last_behind words last w.text.now o (linked.each last w o there link) in
+      let lower = last_after words last w.text.now o (linked.each last w o there link) in
       record {
-        none = λ i u low high at front.
+        none = λ i u low high at prefix.
             compared i last
-            (λ less. lower.none i u low less at (front_between u.text.now w.text.now text (ordered.each i last u w (omega arith) at there) (up.each last w (omega arith) there) front))
-            (λ same. not_here (subst (λ (u : Word). IsFront u.text.now text) (same_there words i last u w at there same) front))
-            (λ more. none.none i u (omega arith) high at front);
+            (λ less. lower.none i u low less at (prefix_between u.text.now w.text.now text (ordered.each i last u w (omega arith) at there) (up.each last w (omega arith) there) prefix))
+            (λ same. not_here (subst (λ (u : Word). IsPrefix u.text.now text) (same_there words i last u w at there same) prefix))
+            (λ more. none.none i u (omega arith) high at prefix);
       }
 
 -- the last prefix of the text among the words that are not after it is the longest literal that is a prefix
-module _ (literals : List (List ℕ)) (words : List Word) (shorter : List (Option ℕ)) (table : IsTable literals words shorter) (bound : ℕ) (text : List ℕ) (up : AreUpTo words bound text) (others : NoFront words bound (length words) text) where
-  pub last_is_longest : (k : ℕ) (w : Word) → IsLastFront words bound text k → slice_get words k ≡ Some w → IsLongestFront literals text w
-  last_is_longest k w last there = record { numbered = table.literals_all.numbered k w there; front = front; longest = longest }
+module _ (literals : List (List ℕ)) (words : List Word) (shorter : List (Option ℕ)) (table : IsTable literals words shorter) (bound : ℕ) (text : List ℕ) (up : AreUpTo words bound text) (others : NoPrefix words bound (length words) text) where
+  pub last_is_longest : (k : ℕ) (w : Word) → IsLastPrefix words bound text k → slice_get words k ≡ Some w → IsLongestFront literals text w
+  last_is_longest k w last there = record { numbered = table.literals_all.numbered k w there; prefix = prefix; longest = longest }
     where
-      front : IsFront w.text.now text
-      front = subst (λ (u : Word). IsFront u.text.now text) (same_there words k k last.word w last.there there refl) last.front
+      prefix : IsPrefix w.text.now text
+      prefix = subst (λ (u : Word). IsPrefix u.text.now text) (same_there words k k last.word w last.there there refl) last.prefix
 
-      fits : (j : ℕ) (u : Word) → slice_get words j ≡ Some u → IsFront u.text.now text → length u.text.now ≤ length w.text.now
+      fits : (j : ℕ) (u : Word) → slice_get words j ≡ Some u → IsPrefix u.text.now text → length u.text.now ≤ length w.text.now
       fits j u at is =
           split k j
           (λ more. absurd (split j bound (λ less. last.last.none j u (omega arith) less at is) (λ far. others.none j u far (slice_get_within words j u at) at is)))
-          (λ le. front_fits u.text.now w.text.now (front_between u.text.now w.text.now text (table.ordered.each j k u w le at there) (up.each k w last.below there) is))
+          (λ le. front_fits u.text.now w.text.now (prefix_between u.text.now w.text.now text (table.ordered.each j k u w le at there) (up.each k w last.below there) is))
 
-      longest : (n : ℕ) (x : List ℕ) → slice_get literals n ≡ Some x → IsFront x text → length x ≤ length w.text.now
+      longest : (n : ℕ) (x : List ℕ) → slice_get literals n ≡ Some x → IsPrefix x text → length x ≤ length w.text.now
       longest n x at is = let found = table.literals_all.whole n x at in rw (← found.3) (fits found.0 found.1 found.2 (rw (← found.3) at is))
 
 -- ---- the construction of the table
@@ -138,15 +138,15 @@ parted words text ordered i j d le within passes =
 pub up_to_point : (words : List Word) (text : List ℕ) (n : ℕ) → IsPartitionPoint (λ w. stands_up text w ≡ true) (λ w. stands_up text w ≡ false) words n → AreUpTo words n text
 up_to_point words text n point = record { each = λ i w less at. up_of_test w.text.now text (subst (λ (u : Word). stands_up text u ≡ true) (get_or_from_slice_get words i w w at) (point.0 i w (omega arith) less)) }
 
-pub none_past_point : (words : List Word) (text : List ℕ) (n : ℕ) → IsPartitionPoint (λ w. stands_up text w ≡ true) (λ w. stands_up text w ≡ false) words n → NoFront words n (length words) text
+pub none_past_point : (words : List Word) (text : List ℕ) (n : ℕ) → IsPartitionPoint (λ w. stands_up text w ≡ true) (λ w. stands_up text w ≡ false) words n → NoPrefix words n (length words) text
 none_past_point words text n point = record {
-  none = λ i w low high at front.
+  none = λ i w low high at prefix.
       let fails = point.1 i w low high in
-      let passes = test_of_up w.text.now text (front_is_up w.text.now text front) in
+      let passes = test_of_up w.text.now text (prefix_is_up w.text.now text prefix) in
       let same = get_or_from_slice_get words i w w at in
       grind arith;
 }
 
 -- a link leads to an earlier word
-pub links_below : (words : List Word) (shorter : List (Option ℕ)) (last : ℕ) (o : Option ℕ) → AreLinked words shorter → last < length words → slice_get shorter last ≡ Some o → behind_last o ≤ last
+pub links_below : (words : List Word) (shorter : List (Option ℕ)) (last : ℕ) (o : Option ℕ) → AreLinked words shorter → last < length words → slice_get shorter last ≡ Some o → after_last o ≤ last
 links_below words shorter last o linked within link = let word = some_there words last within in last_below words last word.0.text.now o (linked.each last word.0 o word.1 link)

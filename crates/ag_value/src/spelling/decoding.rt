@@ -11,7 +11,7 @@ ghost use Rattle.ag_value.specs.declared.value.Value.{Value};
 
 use crate::fault::ValueFault;
 use crate::items::Items;
-use crate::limits::{MAX_DEPTH, MAX_WEIGHT};
+use crate::limits::{MAX_VALUE_DEPTH, MAX_WEIGHT};
 use crate::text::Text;
 use crate::value::{ErrorCode, Value};
 use crate::walks::wellness::is_keyed;
@@ -40,7 +40,7 @@ pub fn decode(alloc: Global, input: &[u8]) -> Result<(Value, usize), ValueFault>
         (λ found. found ≡ (value, length (spelling_of value)))
         (λ e. e ≡ ValueFault.NoMemory) }
 {
-    let (value, rest) = front_of(alloc, MAX_DEPTH as usize, input)?;
+    let (value, rest) = front_of(alloc, MAX_VALUE_DEPTH as usize, input)?;
     // The weight of the value is the length of its spelling.
     let len = input.len() - rest.len();
     if len as u64 > MAX_WEIGHT {
@@ -203,8 +203,8 @@ fn text_of(alloc: Global, bytes: &[u8]) -> Result<(Text, &[u8]), ValueFault>
     if rest.len() < len {
         return Err(ValueFault::Malformed);
     }
-    let (front, rest) = rest.split_at(len);
-    let Some(text) = utf8_of(front) else {
+    let (prefix, rest) = rest.split_at(len);
+    let Some(text) = utf8_of(prefix) else {
         return Err(ValueFault::Malformed);
     };
     Ok((Text::from_str(alloc, text)?, rest))
@@ -228,8 +228,8 @@ fn u32_of(bytes: &[u8]) -> Result<(u32, &[u8]), ValueFault>
     if bytes.len() < 4 {
         return Err(ValueFault::Malformed);
     }
-    let (front, rest) = bytes.split_at(4);
-    let number = u32::from_be_bytes([front[0], front[1], front[2], front[3]]);
+    let (prefix, rest) = bytes.split_at(4);
+    let number = u32::from_be_bytes([prefix[0], prefix[1], prefix[2], prefix[3]]);
     Ok((number, rest))
 }
 
@@ -240,9 +240,9 @@ fn u64_of(bytes: &[u8]) -> Result<(u64, &[u8]), ValueFault>
     if bytes.len() < 8 {
         return Err(ValueFault::Malformed);
     }
-    let (front, rest) = bytes.split_at(8);
+    let (prefix, rest) = bytes.split_at(8);
     let number = u64::from_be_bytes([
-        front[0], front[1], front[2], front[3], front[4], front[5], front[6], front[7],
+        prefix[0], prefix[1], prefix[2], prefix[3], prefix[4], prefix[5], prefix[6], prefix[7],
     ]);
     Ok((number, rest))
 }

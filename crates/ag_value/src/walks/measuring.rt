@@ -47,7 +47,7 @@ fn weight_of_pairs(pairs: &[(Text, Value)]) -> u64
 /// Returns the depth of a value, well or not: 0 for a number, a text and an error, 1 for an empty
 /// list or table, else one more than that of the deepest value in it. The result is saturated at
 /// `u32::MAX`. Takes no memory.
-#[cycle(sounding)]
+#[cycle(measuring_depth)]
 #[tactic(auto, using(crate::proofs::Layers::depths))]
 pub fn depth(value: &Value) -> u32
     ensures { result ≡ min (depth_of value.now) (2 ^ 32 - 1) }
@@ -61,7 +61,7 @@ pub fn depth(value: &Value) -> u32
     }
 }
 
-#[cycle(sounding)]
+#[cycle(measuring_depth)]
 fn depth_of_items(items: &[Value]) -> u32
     ensures { result ≡ min (greatest (map depth_of items.now)) (2 ^ 32 - 1) }
 {
@@ -72,7 +72,7 @@ fn depth_of_items(items: &[Value]) -> u32
     deepest
 }
 
-#[cycle(sounding)]
+#[cycle(measuring_depth)]
 fn depth_of_pairs(pairs: &[(Text, Value)]) -> u32
     ensures { result ≡ min (greatest (map (λ p. depth_of p.1) pairs.now)) (2 ^ 32 - 1) }
 {

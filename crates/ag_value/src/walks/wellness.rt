@@ -2,12 +2,12 @@
 ghost use Rattle.std.specs.Prelude.{◌≡◌, ◌↔◌, ◌&&◌, ◌∷◌, IsTrue, map};
 ghost use Rattle.ag_value.specs.Well.{IsWell, all_true, are_keys, is_item, is_item_pair, key_of};
 
-use crate::limits::{MAX_DEPTH, MAX_WEIGHT};
+use crate::limits::{MAX_VALUE_DEPTH, MAX_WEIGHT};
 use crate::text::Text;
 use crate::value::Value;
 use crate::walks::measuring::{depth, weight};
 
-/// Returns whether a value is well: at most [`MAX_DEPTH`] deep and [`MAX_WEIGHT`] heavy, with keys
+/// Returns whether a value is well: at most [`MAX_VALUE_DEPTH`] deep and [`MAX_WEIGHT`] heavy, with keys
 /// that rise strictly by their bytes in every table, and with no error inside a list or table.
 /// Takes no memory.
 #[inline(always)]
@@ -21,7 +21,7 @@ pub fn is_well(value: &Value) -> bool
             true
         }
         Value::Fault(_) => true,
-        _ => is_item(value) && depth(value) <= MAX_DEPTH && weight(value) <= MAX_WEIGHT,
+        _ => is_item(value) && depth(value) <= MAX_VALUE_DEPTH && weight(value) <= MAX_WEIGHT,
     }
 }
 

@@ -6,7 +6,7 @@ ghost use Rattle.aggen.specs.Building.{IsLeastPlan};
 ghost use Rattle.aggen.specs.Evaluating.{IsPassesFault, LeavesFilesOfTree};
 ghost use Rattle.passrun.specs.Rounds.{LeavesSomeFile, other_last};
 ghost use Rattle.treefile.specs.devices.Device.{LeavesContent, WhenHonest};
-ghost use Rattle.treefile.specs.devices.Several.{ThreeLast};
+ghost use Rattle.treefile.specs.devices.Several.{ThreePersist};
 
 use crate::translations::report::Report;
 use crate::translator::Translator;
@@ -49,7 +49,7 @@ pub(crate) fn run_tree<T: Device, D: Device>(
         (LeavesSomeFile (D.content a.old) (D.content a.new)) }
     ensures b_left { WhenHonest (D.is_honest b.new)
         (LeavesSomeFile (D.content b.old) (D.content b.new)) }
-    ensures devices { ThreeLast T.is_honest T.failures tree.old tree.new
+    ensures devices { ThreePersist T.is_honest T.failures tree.old tree.new
         D.is_honest D.failures a.old a.new D.is_honest D.failures b.old b.new
         (IsErrOf result Fault.Device) }
 {

@@ -7,9 +7,9 @@ ghost use Rattle.aggen.specs.Sentences.{IsParseFault};
 ghost use Rattle.aggen.specs.Translating.{IsAfterPasses};
 ghost use Rattle.aggen.specs.Translation.{BeginsText};
 ghost use Rattle.passrun.specs.Rounds.{LeavesSomeFile};
-ghost use Rattle.treefile.specs.ways.Beginning.{BeginsFile};
+ghost use Rattle.treefile.specs.framing.Beginning.{BeginsFile};
 ghost use Rattle.treefile.specs.devices.Device.{WhenHonest};
-ghost use Rattle.treefile.specs.devices.Several.{BothLast};
+ghost use Rattle.treefile.specs.devices.Several.{BothPersist};
 
 use crate::translations::report::Report;
 use crate::translator::Translator;
@@ -63,7 +63,7 @@ pub fn run_job<R: Read + Drop, D: Device, W: Write>(
         LeavesLastFilesOfJob (R.remaining reader) (D.is_honest a.new) (D.is_honest b.new)
         (D.content a.new) (D.content b.new)) }
     // D1 only if the number of failures rose on one of the two
-    ensures devices { BothLast D.is_honest D.failures a.old a.new
+    ensures devices { BothPersist D.is_honest D.failures a.old a.new
         D.is_honest D.failures b.old b.new (IsErrOf result Fault.Device) }
 {
     let job = Job::read(alloc, reader)?;

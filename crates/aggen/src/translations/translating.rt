@@ -7,10 +7,10 @@ ghost use Rattle.aggen.specs.Sentences.{IsParseFault, IsScanFault};
 ghost use Rattle.aggen.specs.Translating.{IsFilesFault, IsRefusedSentence, LeavesFiles};
 ghost use Rattle.passrun.specs.Rounds.{LeavesSomeFile, last_content};
 ghost use Rattle.planchecker.specs.Plans.{IsPlan};
-ghost use Rattle.roottext.specs.Roots.{IsWellText, TellsRoot};
-ghost use Rattle.treefile.specs.ways.Beginning.{BeginsFile};
+ghost use Rattle.roottext.specs.Roots.{IsWellText, MatchesRoot};
+ghost use Rattle.treefile.specs.framing.Beginning.{BeginsFile};
 ghost use Rattle.treefile.specs.devices.Device.{LeavesContent, WhenHonest};
-ghost use Rattle.treefile.specs.devices.Several.{BothLast};
+ghost use Rattle.treefile.specs.devices.Several.{BothPersist};
 
 use crate::translations::report::Report;
 use crate::translator::Translator;
@@ -46,7 +46,7 @@ pub(crate) fn leave_files<D: Device>(
         (LeavesSomeFile (D.content b.old) (D.content b.new)) }
     ensures parsed { IfErr result (λ e. IsParseFault e →
         WhenHonest (D.is_honest a.new) (BeginsFile 0 (D.content a.new))) }
-    ensures devices { BothLast D.is_honest D.failures a.old a.new
+    ensures devices { BothPersist D.is_honest D.failures a.old a.new
         D.is_honest D.failures b.old b.new (IsErrOf result Fault.Device) }
 {
     let nodes = translator.parse_tree(sentence, a)?;
@@ -73,12 +73,12 @@ pub(crate) fn last_text<D: Device>(
 ) -> Result<Text, OutFault>
     requires plan { IsPlan grammar.now plan.now.0 plan.now.1 }
     ensures root { WhenHonest (D.is_honest a.new) (WhenHonest (D.is_honest b.new)
-        (TellsRoot grammar.now plan.now.0
+        (MatchesRoot grammar.now plan.now.0
         (last_content last (D.content a.old) (D.content b.old)) result)) }
     ensures well { IfOk result IsWellText }
     ensures a_content { LeavesContent (D.is_honest a.new) (D.content a.old) (D.content a.new) }
     ensures b_content { LeavesContent (D.is_honest b.new) (D.content b.old) (D.content b.new) }
-    ensures devices { BothLast D.is_honest D.failures a.old a.new
+    ensures devices { BothPersist D.is_honest D.failures a.old a.new
         D.is_honest D.failures b.old b.new (IsErrOf result OutFault.Device) }
 {
     match last {

@@ -4,11 +4,11 @@ ghost use Rattle.std.specs.Prelude.{◌≡◌, ◌+◌, ◌∷◌, ℕ, [], true
 ghost use Rattle.std.specs.Prelude.{IfOk, IsErrOf, MatchResult, OnOk};
 ghost use Rattle.ag_value.specs.Well.{IsWell};
 ghost use Rattle.ag_value.specs.declared.value.Value.{Value as AttributeValue};
-ghost use Rattle.treefile.specs.ways.Beginning.{LeavesBeginning};
+ghost use Rattle.treefile.specs.framing.Beginning.{LeavesBeginning};
 ghost use Rattle.treefile.specs.devices.Device.{LeavesContent, Persists, WhenHonest};
-ghost use Rattle.treefile.specs.ways.Ending.{last_body_of};
+ghost use Rattle.treefile.specs.framing.Ending.{last_body_of};
 ghost use Rattle.treefile.specs.records.TreeFile.{body_of, version_two};
-ghost use Rattle.aggen.specs.Showing.{IsFileFault, IsWant, file_of};
+ghost use Rattle.aggen.specs.Showing.{IsFileFault, IsResourceFault, file_of};
 
 use ag_fault::Fault;
 use ag_value::{Value, ValueFault, decode};
@@ -21,7 +21,7 @@ pub fn write_file<D: Device>(alloc: Global, device: &mut D, value: Value) -> Res
     requires { IsWell value }
     ensures ok { OnOk result
         (WhenHonest (D.is_honest device.new) (D.content device.new ≡ file_of value)) }
-    ensures err { IfErr result IsWant }
+    ensures err { IfErr result IsResourceFault }
     ensures left { WhenHonest (D.is_honest device.new)
         (LeavesBeginning 0 (D.content device.old) (D.content device.new)) }
     ensures persists { Persists (D.is_honest device.old) (D.is_honest device.new)
@@ -42,7 +42,7 @@ pub fn read_file<D: Device>(alloc: Global, device: &mut D) -> Result<Value, Faul
     ensures well { IfOk result (λ value. IsWell value) }
     ensures read { WhenHonest (D.is_honest device.new)
         ((value : AttributeValue) → IsWell value → D.content device.old ≡ file_of value →
-        MatchResult result (λ found. found ≡ value) IsWant) }
+        MatchResult result (λ found. found ≡ value) IsResourceFault) }
     ensures err { IfErr result IsFileFault }
     ensures offset { WhenHonest (D.is_honest device.new)
         ((at : ℕ) → IsErrOf result (Fault.Damaged at) → at ≡ length (D.content device.old)) }

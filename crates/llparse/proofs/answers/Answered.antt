@@ -8,24 +8,24 @@ use Rattle.treefile.specs.devices.Device.{WhenHonest}
 use Rattle.treefile.specs.records.TreeFile.{header, version_two}
 use Rattle.llparse.specs.sentence.Parsing.{task_of, IsParsed, IsRefused, post}
 use Rattle.treefile.specs.records.FirstFile.{IsFirstFile}
-use Rattle.ag_scan.specs.Handed.{offset_at}
+use Rattle.ag_scan.specs.Supplied.{offset_at}
 use Rattle.llparse.specs.sentence.Sentences.{words_of, IsTreeWith}
 use Rattle.llparse.specs.declared.sentence.parse_fault.ParseFault.{ParseFault}
 use Rattle.llparse.specs.declared.sentence.parse_fault.ParseFault.TheVariants as fault
 use Rattle.llparse.proofs.answers.FirstFile.{first_file}
 use Rattle.llparse.proofs.steps.Shown.{whole}
 
-module _ (g : Grammar) (tokens : List Token) (honest : Bool) (front bytes : List ℕ) (result : Result ℕ ParseFault) where
+module _ (g : Grammar) (tokens : List Token) (honest : Bool) (prefix bytes : List ℕ) (result : Result ℕ ParseFault) where
   -- its file is written after the header
-  pub file_of : IfOk result (λ count. IsParsed (task_of g tokens honest front) count bytes) → WhenHonest honest (front ≡ header version_two 0) → (t : Tree) → IsTreeWith g (words_of tokens) t → OnOk result (WhenHonest honest (IsFirstFile version_two g t bytes))
+  pub file_of : IfOk result (λ count. IsParsed (task_of g tokens honest prefix) count bytes) → WhenHonest honest (prefix ≡ header version_two 0) → (t : Tree) → IsTreeWith g (words_of tokens) t → OnOk result (WhenHonest honest (IsFirstFile version_two g t bytes))
   file_of parsed begun t has = go result parsed
     where
-      go : (r : Result ℕ ParseFault) → IfOk r (λ count. IsParsed (task_of g tokens honest front) count bytes) → OnOk r (WhenHonest honest (IsFirstFile version_two g t bytes))
+      go : (r : Result ℕ ParseFault) → IfOk r (λ count. IsParsed (task_of g tokens honest prefix) count bytes) → OnOk r (WhenHonest honest (IsFirstFile version_two g t bytes))
       go (Ok count) p = λ h. first_file g t bytes has.tree (p.content h ∙ ap (λ z. z ++ post p.tree) (begun h) ∙ ap (λ z. header version_two 0 ++ post z) (sym (p.only t has)))
       go (Err e) p = tt
 
   -- no tree has the tokens if one can't be taken
-  pub none_of : IfErr result (IsRefused (task_of g tokens honest front) (offset_at tokens)) → (at : ℕ) (t : Tree) → result ≡ Err (fault.Unexpected at) → IsTreeWith g (words_of tokens) t → ⊥
+  pub none_of : IfErr result (IsRefused (task_of g tokens honest prefix) (offset_at tokens)) → (at : ℕ) (t : Tree) → result ≡ Err (fault.Unexpected at) → IsTreeWith g (words_of tokens) t → ⊥
   none_of refused at t e has =
-      let r : IsRefused (task_of g tokens honest front) (offset_at tokens) (fault.Unexpected at) = subst (λ z. IfErr z (IsRefused (task_of g tokens honest front) (offset_at tokens))) e refused in
+      let r : IsRefused (task_of g tokens honest prefix) (offset_at tokens) (fault.Unexpected at) = subst (λ z. IfErr z (IsRefused (task_of g tokens honest prefix) (offset_at tokens))) e refused in
       r.1.ends (drop r.0 (words_of tokens)) t refl (whole g (words_of tokens) r.0 t has)

@@ -1,9 +1,9 @@
 -- The remaining words, by the tokens.
 use Rattle.std.proofs.Common.{◌≡◌, ℕ, zero, suc, ◌+◌, ◌<◌, ◌≤◌, true, false, List, [], ◌∷◌, drop, length, slice_get, Option, Some, None, is_some, option_map, refl, ap, sym, ◌∙◌, add-one, arith}
-use Rattle.ag_scan.specs.Handed.{token_of}
+use Rattle.ag_scan.specs.Supplied.{token_of}
 use Rattle.ag_scan.specs.Tokens.{Token}
 use Rattle.ag_scan.specs.declared.token.Token as lent
-use Rattle.ag_scan.proofs.Lefts.{behind, rest_at, rest_none, ended}
+use Rattle.ag_scan.proofs.Lefts.{following, rest_at, rest_none, ended}
 use Rattle.ag_grammar.specs.declared.grammar.Terminal.{Terminal}
 use Rattle.llparse.specs.Ahead.{ahead_of}
 use Rattle.llparse.specs.declared.ahead.Ahead.TheVariants as ahead
@@ -33,7 +33,7 @@ none_is xs i a none e = let bad : ahead.End ≡ ahead.Terminal a = sym (ap ahead
 
 -- whether tokens are left
 pub is_left : (xs : List Token) (i : ℕ) (x : Token) → slice_get xs i ≡ Some x → i < length xs
-is_left xs i x e = let more = (behind xs i x (drop (i + 1) xs) (rest_at xs i x e)).1 in omega arith
+is_left xs i x e = let more = (following xs i x (drop (i + 1) xs) (rest_at xs i x e)).1 in omega arith
 
 pub none_left : (xs : List Token) (i : ℕ) → slice_get xs i ≡ None → length xs ≤ i
 none_left xs i e = (ended xs i (rest_none xs i e)).1

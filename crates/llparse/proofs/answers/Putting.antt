@@ -3,12 +3,12 @@ use Rattle.std.proofs.Common.{ℕ, List, [], ◌∷◌, Ok, Err, arith}
 use Rattle.std.proofs.lemmas.List.Elements.{All-cons, All-nil}
 use Rattle.ag_value.specs.declared.value.Value.{Text}
 use Rattle.ag_value.specs.Well.{IsWell}
-use Rattle.treefile.specs.ways.Beginning.{AddsFrames}
-use Rattle.treefile.specs.ways.Ending.{IsBody}
+use Rattle.treefile.specs.framing.Beginning.{AddsFrames}
+use Rattle.treefile.specs.framing.Ending.{IsBody}
 use Rattle.treefile.specs.records.Records.{token_body}
 use Rattle.treefile.specs.records.TreeFile.{version_two}
 use Rattle.treefile.specs.declared.body.Kind.TheVariants.{Token}
-use Rattle.treefile.proofs.ways.Beginning.{added, none_added}
+use Rattle.treefile.proofs.framing.Beginning.{added, none_added}
 use Rattle.treefile.proofs.records.Records.{is_body}
 use Rattle.llparse.specs.declared.sentence.parse_fault.ParseFault.{ParseFault}
 

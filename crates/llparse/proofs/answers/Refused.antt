@@ -5,43 +5,43 @@ use Rattle.ag_grammar.specs.declared.grammar.Item.TheVariants as item
 use Rattle.ag_grammar.specs.declared.grammar.Terminal.TheVariants.{Class}
 use Rattle.ag_grammar.specs.grammars.Accepted.{IsAccepted}
 use Rattle.ag_grammar.specs.grammars.AttributeGrammar.{Grammar, literal_text}
-use Rattle.ag_grammar.specs.grammars.Tree.{most_depth}
+use Rattle.ag_grammar.specs.grammars.Tree.{max_depth}
 use Rattle.ag_scan.specs.Tokens.{Token}
 use Rattle.llparse.specs.sentence.Parsing.{task_of, IsRefused}
-use Rattle.ag_scan.specs.Handed.{offset_at}
+use Rattle.ag_scan.specs.Supplied.{offset_at}
 use Rattle.llparse.specs.sentence.Sentences.{words_of, IsStuckAt}
-use Rattle.llparse.specs.sentence.Turns.{Asks, Faces, IsFull, made_by}
+use Rattle.llparse.specs.sentence.Turns.{IsAtSymbol, Faces, IsFull, made_by}
 use Rattle.llparse.specs.declared.sentence.parse_fault.ParseFault.{ParseFault}
 use Rattle.llparse.specs.declared.sentence.parse_fault.ParseFault.TheVariants as fault
-use Rattle.llparse.specs.declared.sentence.parser.OpenNode.{OpenNode}
+use Rattle.llparse.specs.declared.sentence.parser.OpenProduction.{OpenProduction}
 use Rattle.llparse.specs.declared.sentence.parser.Parser.{Parser}
 use Rattle.llparse.proofs.steps.Stacks as stacks
 use Rattle.llparse.proofs.steps.Starts as starts
 
-module _ (g : Grammar) (tokens : List Token) (honest : Bool) (front : List ℕ) where
+module _ (g : Grammar) (tokens : List Token) (honest : Bool) (prefix : List ℕ) where
   -- no more node is within the limits
-  pub full_node : IsAccepted g → (node : OpenNode) (p : Parser) (s : ℕ) (bytes : List ℕ) (e : ParseFault) → IsFull p e → Asks (task_of g tokens honest front) s node p bytes → IsRefused (task_of g tokens honest front) (offset_at tokens) e
+  pub full_node : IsAccepted g → (node : OpenProduction) (p : Parser) (s : ℕ) (bytes : List ℕ) (e : ParseFault) → IsFull p e → IsAtSymbol (task_of g tokens honest prefix) s node p bytes → IsRefused (task_of g tokens honest prefix) (offset_at tokens) e
   full_node accepted node p s bytes (fault.Unexpected at) full a = absurd full
   full_node accepted node p s bytes fault.TooDeep full a =
-      let deep : most_depth ≤ length (node ∷ reverse p.waiting.items) = omega (arith, length-reverse p.waiting.items) in
-      starts.deep_node (task_of g tokens honest front) accepted s (node ∷ reverse p.waiting.items) p.tokens.taken p.count (made_by p bytes) deep a
-  full_node accepted node p s bytes fault.TooManyNodes full a = starts.large_node (task_of g tokens honest front) accepted s (node ∷ reverse p.waiting.items) p.tokens.taken p.count (made_by p bytes) full a
+      let deep : max_depth ≤ length (node ∷ reverse p.waiting.items) = omega (arith, length-reverse p.waiting.items) in
+      starts.deep_node (task_of g tokens honest prefix) accepted s (node ∷ reverse p.waiting.items) p.tokens.taken p.count (made_by p bytes) deep a
+  full_node accepted node p s bytes fault.TooManyNodes full a = starts.large_node (task_of g tokens honest prefix) accepted s (node ∷ reverse p.waiting.items) p.tokens.taken p.count (made_by p bytes) full a
   full_node accepted node p s bytes fault.Device full a = absurd full
   full_node accepted node p s bytes fault.NoMemory full a = absurd full
 
   -- nor a leaf
-  pub full_leaf : IsAccepted g → (node : OpenNode) (p : Parser) (c : ℕ) (bytes : List ℕ) (e : ParseFault) → IsFull p e → Faces (task_of g tokens honest front) (item.Terminal (Class c)) node p bytes → IsRefused (task_of g tokens honest front) (offset_at tokens) e
+  pub full_leaf : IsAccepted g → (node : OpenProduction) (p : Parser) (c : ℕ) (bytes : List ℕ) (e : ParseFault) → IsFull p e → Faces (task_of g tokens honest prefix) (item.Terminal (Class c)) node p bytes → IsRefused (task_of g tokens honest prefix) (offset_at tokens) e
   full_leaf accepted node p c bytes (fault.Unexpected at) full b = absurd full
   full_leaf accepted node p c bytes fault.TooDeep full b =
-      let deep : most_depth ≤ length (node ∷ reverse p.waiting.items) = omega (arith, length-reverse p.waiting.items) in
-      stacks.deep_leaf (task_of g tokens honest front) accepted c (node ∷ reverse p.waiting.items) p.tokens.taken p.count (made_by p bytes) deep b
-  full_leaf accepted node p c bytes fault.TooManyNodes full b = stacks.large_leaf (task_of g tokens honest front) accepted c (node ∷ reverse p.waiting.items) p.tokens.taken p.count (made_by p bytes) full b
+      let deep : max_depth ≤ length (node ∷ reverse p.waiting.items) = omega (arith, length-reverse p.waiting.items) in
+      stacks.deep_leaf (task_of g tokens honest prefix) accepted c (node ∷ reverse p.waiting.items) p.tokens.taken p.count (made_by p bytes) deep b
+  full_leaf accepted node p c bytes fault.TooManyNodes full b = stacks.large_leaf (task_of g tokens honest prefix) accepted c (node ∷ reverse p.waiting.items) p.tokens.taken p.count (made_by p bytes) full b
   full_leaf accepted node p c bytes fault.Device full b = absurd full
   full_leaf accepted node p c bytes fault.NoMemory full b = absurd full
 
   -- the next token can't be taken
-  pub stuck : (i : ℕ) (e : ParseFault) → e ≡ fault.Unexpected (offset_at tokens i) → IsStuckAt g (words_of tokens) i → IsRefused (task_of g tokens honest front) (offset_at tokens) e
-  stuck i e is s = subst (IsRefused (task_of g tokens honest front) (offset_at tokens)) (sym is) (i, s, refl)
+  pub stuck : (i : ℕ) (e : ParseFault) → e ≡ fault.Unexpected (offset_at tokens i) → IsStuckAt g (words_of tokens) i → IsRefused (task_of g tokens honest prefix) (offset_at tokens) e
+  stuck i e is s = subst (IsRefused (task_of g tokens honest prefix) (offset_at tokens)) (sym is) (i, s, refl)
 
 -- a literal's text
 pub text_is : (g : Grammar) (l : ℕ) (x : List ℕ) → slice_get g.literals l ≡ Some x → x ≡ literal_text g l

@@ -4,7 +4,7 @@ use Rattle.std.proofs.lemmas.Bool.{cases_eq, false≢true}
 use Rattle.std.proofs.lemmas.List.{get_or-set_other, get_or-set_same}
 use Rattle.std.proofs.lemmas.Option.{same_Some, slice_get_within}
 use Rattle.ag_grammar.specs.declared.grammar.Production.{Production}
-use Rattle.llparse.specs.table.Predicted.{choice_at, AreFirstFrom, IsClash, IsLeastFrom, IsMarkedOf}
+use Rattle.llparse.specs.table.Predicted.{choice_at, AreFirstFrom, AreConflicting, IsLeastFrom, IsMarkedOf}
 use Rattle.closure.specs.Following.{is_marked}
 use Rattle.llparse.specs.declared.table.choosing.Pair.{Pair}
 
@@ -58,8 +58,8 @@ module _ (qs : List Production) (marks : List Bool) where
     }
 
     -- if the first of a clash is this production, the second is of its symbol
-    second_of : (b : ℕ) → IsClash qs marks i b → IsMarkedOf qs marks q.left b
-    second_of b clash = subst (λ z. IsMarkedOf qs marks z b) (same_symbol i clash.1.0 q.left clash.1.1 this) clash.1.2
+    second_of : (b : ℕ) → AreConflicting qs marks i b → IsMarkedOf qs marks q.left b
+    second_of b conflict_with = subst (λ z. IsMarkedOf qs marks z b) (same_symbol i conflict_with.1.0 q.left conflict_with.1.1 this) conflict_with.1.2
 
     pub put_pair : (choices : List (Option ℕ)) (r : ℕ) → choice_at choices q.left ≡ Some r → AreFirstFrom qs marks (i + 1) choices → IsLeastFrom qs marks i (Some (record { first = i; second = r }))
     put_pair choices r e old =
@@ -67,9 +67,9 @@ module _ (qs : List Production) (marks : List Bool) where
         let after : i < r = omega (arith, k.0) in (
           omega arith,
           (after, (q.left, this, k.1)),
-          λ a b le clash. elim (from_cases i a le) [
+          λ a b le conflict_with. elim (from_cases i a le) [
             | inl same ↦
-                let at_i : IsClash qs marks i b = subst (λ z. IsClash qs marks z b) same clash in
+                let at_i : AreConflicting qs marks i b = subst (λ z. AreConflicting qs marks z b) same conflict_with in
                 let less : i < b = at_i.0 in
                 inr (sym same, k.2 b (omega arith) (second_of b at_i))
             | inr more ↦ inl (omega arith)
@@ -80,22 +80,22 @@ module _ (qs : List Production) (marks : List Bool) where
     keeps_some choices p e old least = (
       omega (arith, least.0),
       least.1,
-      λ a b le clash. elim (from_cases i a le) [
+      λ a b le conflict_with. elim (from_cases i a le) [
         | inl same ↦
-            let at_i : IsClash qs marks i b = subst (λ z. IsClash qs marks z b) same clash in
+            let at_i : AreConflicting qs marks i b = subst (λ z. AreConflicting qs marks z b) same conflict_with in
             let less : i < b = at_i.0 in
             absurd (old.none q.left b e (omega arith) (second_of b at_i))
-        | inr more ↦ least.2 a b more clash
+        | inr more ↦ least.2 a b more conflict_with
       ],
     )
 
     keeps_none : (choices : List (Option ℕ)) → choice_at choices q.left ≡ None → AreFirstFrom qs marks (i + 1) choices → IsLeastFrom qs marks (i + 1) None → IsLeastFrom qs marks i None
-    keeps_none choices e old least = λ a b le clash. elim (from_cases i a le) [
+    keeps_none choices e old least = λ a b le conflict_with. elim (from_cases i a le) [
       | inl same ↦
-          let at_i : IsClash qs marks i b = subst (λ z. IsClash qs marks z b) same clash in
+          let at_i : AreConflicting qs marks i b = subst (λ z. AreConflicting qs marks z b) same conflict_with in
           let less : i < b = at_i.0 in
           old.none q.left b e (omega arith) (second_of b at_i)
-      | inr more ↦ least a b more clash
+      | inr more ↦ least a b more conflict_with
     ]
 
     pub keeps_pair : (choices : List (Option ℕ)) (pair : Option Pair) → choice_at choices q.left ≡ None → AreFirstFrom qs marks (i + 1) choices → IsLeastFrom qs marks (i + 1) pair → IsLeastFrom qs marks i pair
@@ -130,21 +130,21 @@ module _ (qs : List Production) (marks : List Bool) where
     }
 
     pub skip_pair : (pair : Option Pair) → IsLeastFrom qs marks (i + 1) pair → IsLeastFrom qs marks i pair
-    skip_pair None least = λ a b le clash. elim (from_cases i a le) [
-      | inl same ↦ not_this clash.1.0 a same clash.1.1
-      | inr more ↦ least a b more clash
+    skip_pair None least = λ a b le conflict_with. elim (from_cases i a le) [
+      | inl same ↦ not_this conflict_with.1.0 a same conflict_with.1.1
+      | inr more ↦ least a b more conflict_with
     ]
     skip_pair (Some p) least = (
       omega (arith, least.0),
       least.1,
-      λ a b le clash. elim (from_cases i a le) [
-        | inl same ↦ absurd (not_this clash.1.0 a same clash.1.1)
-        | inr more ↦ least.2 a b more clash
+      λ a b le conflict_with. elim (from_cases i a le) [
+        | inl same ↦ absurd (not_this conflict_with.1.0 a same conflict_with.1.1)
+        | inr more ↦ least.2 a b more conflict_with
       ],
     )
 
-  none_behind : (s k : ℕ) → length qs ≤ k → IsMarkedOf qs marks s k → ⊥
-  none_behind s k le h = let lt = slice_get_within qs k h.0 h.1 in omega arith
+  none_after : (s k : ℕ) → length qs ≤ k → IsMarkedOf qs marks s k → ⊥
+  none_after s k le h = let lt = slice_get_within qs k h.0 h.1 in omega arith
 
   no_choice : (n s : ℕ) → choice_at (replicate n None) s ≡ None
   no_choice zero s = refl
@@ -155,8 +155,8 @@ module _ (qs : List Production) (marks : List Bool) where
   pub chosen_start : (choices : List (Option ℕ)) (n : ℕ) → choices ≡ replicate n None → AreFirstFrom qs marks (length qs) choices
   chosen_start choices n is = record {
     chosen = λ s k e. absurd (let none : None ≡ Some k = sym (no_choice n s) ∙ ap (λ cs. choice_at cs s) (sym is) ∙ e in cc);
-    none = λ s k e le h. none_behind s k le h;
+    none = λ s k e le h. none_after s k le h;
   }
 
   pub least_start : IsLeastFrom qs marks (length qs) None
-  least_start = λ a b le clash. none_behind clash.1.0 a le clash.1.1
+  least_start = λ a b le conflict_with. none_after conflict_with.1.0 a le conflict_with.1.1

@@ -12,10 +12,10 @@ use Rattle.ag_grammar.specs.declared.grammar.Terminal.TheVariants.{Literal, Clas
 use Rattle.ag_grammar.specs.grammars.AttributeGrammar.{Grammar}
 use Rattle.ag_grammar.specs.grammars.Accepted.{IsAccepted, IsNamedItem}
 use Rattle.llparse.specs.Ahead.{InFirst, of_production, InFirstOf, here, inside, later, InFollow, at_end, next, last, Predicts, IsConflict, HasNoConflict}
-use Rattle.llparse.specs.table.Columns.{AreColumns, IsColumn, IsLeastAt, IsLeastBelow, IsSooner, at_ahead}
+use Rattle.llparse.specs.table.Columns.{AreColumns, IsColumn, IsLeastAt, IsLeastBelow, IsLesserConflict, at_ahead}
 use Rattle.llparse.specs.table.Edges.{IsKnownAhead}
 use Rattle.llparse.specs.table.Nodes.{index_of}
-use Rattle.llparse.specs.table.Predicted.{choice_at, AreFirstFrom, ArePredicted, IsClash, IsLeastFrom, IsMarkedOf}
+use Rattle.llparse.specs.table.Predicted.{choice_at, AreFirstFrom, ArePredicted, AreConflicting, IsLeastFrom, IsMarkedOf}
 use Rattle.closure.specs.Waiting.{rows}
 use Rattle.llparse.specs.table.Tables.{choice_of, is_known, Choices, FitsGrammar, IsChoice, IsLeastConflict}
 use Rattle.llparse.specs.declared.ahead.Ahead.{Ahead}
@@ -40,7 +40,7 @@ module _ (g : Grammar) (x : Ahead) (marks : List Bool) (predicted : ArePredicted
     none = λ s k e h. first.none s k e (omega arith) (mark_of_choice s k h);
   }
 
-  conflict_of : (a b : ℕ) → IsClash g.productions marks a b → IsConflict g a b x
+  conflict_of : (a b : ℕ) → AreConflicting g.productions marks a b → IsConflict g a b x
   conflict_of a b c =
       let h = c.1.1 in
       let k = c.1.2 in
@@ -55,12 +55,12 @@ module _ (g : Grammar) (x : Ahead) (marks : List Bool) (predicted : ArePredicted
         other_predicts = (predicted b k.0 k.1).0 k.3;
       }
 
-  clash_of : (a b : ℕ) → IsConflict g a b x → IsClash g.productions marks a b
-  clash_of a b c = (c.earlier, (c.one.left, (c.one, c.first_is, refl, (predicted a c.one c.first_is).1 c.one_predicts), (c.other, c.second_is, sym c.of_one_symbol, (predicted b c.other c.second_is).1 c.other_predicts)))
+  conflicting_of : (a b : ℕ) → IsConflict g a b x → AreConflicting g.productions marks a b
+  conflicting_of a b c = (c.earlier, (c.one.left, (c.one, c.first_is, refl, (predicted a c.one c.first_is).1 c.one_predicts), (c.other, c.second_is, sym c.of_one_symbol, (predicted b c.other c.second_is).1 c.other_predicts)))
 
   pub least_is : (pair : Option Pair) → IsLeastFrom g.productions marks 0 pair → IsLeastAt g x pair
-  least_is None least = λ a b c. least a b (omega arith) (clash_of a b c)
-  least_is (Some p) least = (conflict_of p.first p.second least.1, λ a b c. least.2 a b (omega arith) (clash_of a b c))
+  least_is None least = λ a b c. least a b (omega arith) (conflicting_of a b c)
+  least_is (Some p) least = (conflict_of p.first p.second least.1, λ a b c. least.2 a b (omega arith) (conflicting_of a b c))
 
 last_column : (xs : List (List (Option ℕ))) (x : List (Option ℕ)) (n : ℕ) → n ≡ length xs → get_or (xs ++ x ∷ []) n [] ≡ x
 last_column [] x zero e = refl
@@ -127,8 +127,8 @@ module _ (g : Grammar) (ok : IsAccepted g) where
       ],
     )
 
-    new_comes : (p : Pair) → IsLeastAt g x (Some p) → ((a b : ℕ) (y : Ahead) → IsKnownAhead g y → index_of (length g.literals) y < n → IsConflict g a b y → (p.first < a) ⊎ ((p.first ≡ a) × (p.second < b))) → IsLeastBelow g (n + 1) (Some (at_ahead p x))
-    new_comes p new later_ones = (
+    new_can_start : (p : Pair) → IsLeastAt g x (Some p) → ((a b : ℕ) (y : Ahead) → IsKnownAhead g y → index_of (length g.literals) y < n → IsConflict g a b y → (p.first < a) ⊎ ((p.first ≡ a) × (p.second < b))) → IsLeastBelow g (n + 1) (Some (at_ahead p x))
+    new_can_start p new later_ones = (
       new.0,
       omega (arith, at_n),
       λ a b y k lt d. elim (this_or y k lt) [
@@ -149,9 +149,9 @@ module _ (g : Grammar) (ok : IsAccepted g) where
     )
 
     -- the least conflict with one more look-ahead
-    pub least_more : (least : Option Conflict) (pair : Option Pair) (result : Option Conflict) → IsSooner least pair x result → IsLeastBelow g n least → IsLeastAt g x pair → IsLeastBelow g (n + 1) result
+    pub least_more : (least : Option Conflict) (pair : Option Pair) (result : Option Conflict) → IsLesserConflict least pair x result → IsLeastBelow g n least → IsLeastAt g x pair → IsLeastBelow g (n + 1) result
     least_more None None result is old new = subst (IsLeastBelow g (n + 1)) (sym is) (no_more old new)
-    least_more None (Some p) result is old new = subst (IsLeastBelow g (n + 1)) (sym is) (new_comes p new (λ a b y k lt d. absurd (old a b y k lt d)))
+    least_more None (Some p) result is old new = subst (IsLeastBelow g (n + 1)) (sym is) (new_can_start p new (λ a b y k lt d. absurd (old a b y k lt d)))
     least_more (Some c) None result is old new = subst (IsLeastBelow g (n + 1)) (sym is) (old_stays c old (λ a b d. absurd (new a b d)))
     least_more (Some c) (Some p) result (inl keeps) old new = subst (IsLeastBelow g (n + 1)) (sym keeps.0) (old_stays c old (λ a b d. elim keeps.1 [
       | inl less ↦ elim (new.1 a b d) [
@@ -163,7 +163,7 @@ module _ (g : Grammar) (ok : IsAccepted g) where
         | inr again ↦ inr (equal.0 ∙ again.0, omega (arith, equal.1, again.1))
       ]
     ]))
-    least_more (Some c) (Some p) result (inr takes) old new = subst (IsLeastBelow g (n + 1)) (sym takes.0) (new_comes p new (λ a b y k lt d. elim takes.1 [
+    least_more (Some c) (Some p) result (inr takes) old new = subst (IsLeastBelow g (n + 1)) (sym takes.0) (new_can_start p new (λ a b y k lt d. elim takes.1 [
       | inl less ↦ elim (old.2 a b y k lt d) [
         | inl further ↦ inl (omega arith)
         | inr equal ↦ inl (omega (arith, equal.0))

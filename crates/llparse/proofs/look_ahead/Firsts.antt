@@ -15,7 +15,7 @@ use Rattle.closure.specs.declared.edges.Edge.{Edge}
 use Rattle.closure.proofs.Positions.{element_at, position_of_element}
 use Rattle.closure.proofs.Reached.{reached_in, step}
 use Rattle.llparse.specs.Ahead.{IsNullable, InFirst, of_production, InFirstOf, here, inside, later}
-use Rattle.llparse.specs.table.Edges.{Adds, front, node_in, Begins, IsEdge, IsFirstEdge, IsKnownAhead, OfSome}
+use Rattle.llparse.specs.table.Edges.{Adds, prefix, node_in, Begins, IsEdge, IsFirstEdge, IsKnownAhead, OfSome}
 use Rattle.llparse.specs.table.Nodes.{node_of, index_of}
 use Rattle.llparse.specs.table.Nullable.{is_empty}
 use Rattle.llparse.specs.declared.ahead.Ahead.{Ahead}
@@ -67,45 +67,45 @@ module _ (g : Grammar) (ok : IsAccepted g) where
   first_below s a (of_production p q e l h) = rw (← l) (ok.named.left_sides p q e)
 
   module _ (n : ℕ → Bool) where
-    front_within : (xs : List Item) (y : Item) → Contains (front n xs) y → Contains xs y
+    front_within : (xs : List Item) (y : Item) → Contains (prefix n xs) y → Contains xs y
     front_within [] y h = h
-    front_within (x ∷ xs) y h = elim (cons_cases x (if is_empty n x then front n xs else []) y h) [
+    front_within (x ∷ xs) y h = elim (cons_cases x (if is_empty n x then prefix n xs else []) y h) [
       | inl e ↦ rw e (contains_here y xs)
-      | inr more ↦ contains_there x xs y (front_within xs y (among (is_empty n x) (front n xs) more))
+      | inr more ↦ contains_there x xs y (front_within xs y (among (is_empty n x) (prefix n xs) more))
     ]
       where
         among : (b : Bool) (zs : List Item) → Contains (if b then zs else []) y → Contains zs y
         among true zs h = h
         among false zs h = absurd (contains_none y h)
 
-    later_at : (xs : List Item) (y : Item) (a : Terminal) (s : ℕ) (b : Bool) → (b ≡ true → IsNullable g s) → (Contains (front n xs) y → InFirstOf g xs a)
-        → Contains (if b then front n xs else []) y → InFirstOf g (item.Symbol s ∷ xs) a
+    later_at : (xs : List Item) (y : Item) (a : Terminal) (s : ℕ) (b : Bool) → (b ≡ true → IsNullable g s) → (Contains (prefix n xs) y → InFirstOf g xs a)
+        → Contains (if b then prefix n xs else []) y → InFirstOf g (item.Symbol s ∷ xs) a
     later_at xs y a s true sound rec h = later (sound refl) (rec h)
     later_at xs y a s false sound rec h = absurd (contains_none y h)
 
-    later_in : ((s : ℕ) → n s ≡ true → IsNullable g s) → (xs : List Item) (y : Item) (a : Terminal) (x : Item) → (Contains (front n xs) y → InFirstOf g xs a)
-        → Contains (if is_empty n x then front n xs else []) y → InFirstOf g (x ∷ xs) a
+    later_in : ((s : ℕ) → n s ≡ true → IsNullable g s) → (xs : List Item) (y : Item) (a : Terminal) (x : Item) → (Contains (prefix n xs) y → InFirstOf g xs a)
+        → Contains (if is_empty n x then prefix n xs else []) y → InFirstOf g (x ∷ xs) a
     later_in sound xs y a (item.Symbol s) rec h = later_at xs y a s (n s) (sound s) rec h
     later_in sound xs y a (item.Terminal b) rec h = absurd (contains_none y h)
 
     -- the items begin with what an item of their front begins with
-    pub front_first : ((s : ℕ) → n s ≡ true → IsNullable g s) → (xs : List Item) (y : Item) (a : Terminal) → Contains (front n xs) y → ((zs : List Item) → InFirstOf g (y ∷ zs) a) → InFirstOf g xs a
-    front_first sound [] y a h begins = absurd (contains_none y h)
-    front_first sound (x ∷ xs) y a h begins = elim (cons_cases x (if is_empty n x then front n xs else []) y h) [
+    pub prefix_first : ((s : ℕ) → n s ≡ true → IsNullable g s) → (xs : List Item) (y : Item) (a : Terminal) → Contains (prefix n xs) y → ((zs : List Item) → InFirstOf g (y ∷ zs) a) → InFirstOf g xs a
+    prefix_first sound [] y a h begins = absurd (contains_none y h)
+    prefix_first sound (x ∷ xs) y a h begins = elim (cons_cases x (if is_empty n x then prefix n xs else []) y h) [
       | inl e ↦ rw e (begins xs)
-      | inr more ↦ later_in sound xs y a x (λ k. front_first sound xs y a k begins) more
+      | inr more ↦ later_in sound xs y a x (λ k. prefix_first sound xs y a k begins) more
     ]
 
     -- the edges of one more production are added
     pub edges_more : (at : ℕ) (q : Production) (symbols literals left : ℕ) (items : List Item) (k : ℕ) (A B C : Edge → Type 0) → at < length g.productions → symbols ≡ length g.symbols → literals ≡ length g.literals → left ≡ (get_or g.productions at q).left
-        → items ≡ (get_or g.productions at q).items → take k items ≡ front n items → Adds (OfSome (IsFirstEdge g n) (take at g.productions)) A B → Adds (OfSome (λ x e. IsEdge (node_of symbols literals x) left e) (take k items)) B C
+        → items ≡ (get_or g.productions at q).items → take k items ≡ prefix n items → Adds (OfSome (IsFirstEdge g n) (take at g.productions)) A B → Adds (OfSome (λ x e. IsEdge (node_of symbols literals x) left e) (take k items)) B C
         → Adds (OfSome (IsFirstEdge g n) (take (at + 1) g.productions)) A C
     edges_more at q symbols literals left items k A B C lt ss ll to same fits old new =
         let q' = get_or g.productions at q in
         let a = subst (λ z. Adds (OfSome (λ x e. IsEdge (node_of z literals x) left e) (take k items)) B C) ss new in
         let b = subst (λ z. Adds (OfSome (λ x e. IsEdge (node_of (length g.symbols) z x) left e) (take k items)) B C) ll a in
         let c = subst (λ z. Adds (OfSome (λ x e. IsEdge (node_in g x) z e) (take k items)) B C) to b in
-        let d = subst (λ zs. Adds (OfSome (λ x e. IsEdge (node_in g x) q'.left e) zs) B C) (fits ∙ ap (front n) same) c in
+        let d = subst (λ zs. Adds (OfSome (λ x e. IsEdge (node_in g x) q'.left e) zs) B C) (fits ∙ ap (prefix n) same) c in
         adds_more (IsFirstEdge g n) g.productions at q A B C lt old d
 
     -- the edges are between nodes
@@ -146,10 +146,10 @@ module _ (g : Grammar) (ok : IsAccepted g) where
           elim before [
             | inl at_root ↦
                 let f = root_item y (named_in q y r.1 (front_within q.items y r.2.1)) (sym r.2.2.tail ∙ at_root) in
-                inr (f.0, f.2, of_production p.0 q p.1 (sym r.2.2.head) (front_first sound q.items y f.0 r.2.1 (λ zs. subst (λ z. InFirstOf g (z ∷ zs) f.0) (sym f.1) here)))
+                inr (f.0, f.2, of_production p.0 q p.1 (sym r.2.2.head) (prefix_first sound q.items y f.0 r.2.1 (λ zs. subst (λ z. InFirstOf g (z ∷ zs) f.0) (sym f.1) here)))
             | inr may ↦
                 let same = symbol_item y e.from (first_below e.from may.0 may.2) r.2.2.tail in
-                inr (may.0, may.1, of_production p.0 q p.1 (sym r.2.2.head) (front_first sound q.items y may.0 r.2.1 (λ zs. subst (λ z. InFirstOf g (z ∷ zs) may.0) (sym same) (inside may.2))))
+                inr (may.0, may.1, of_production p.0 q p.1 (sym r.2.2.head) (prefix_first sound q.items y may.0 r.2.1 (λ zs. subst (λ z. InFirstOf g (z ∷ zs) may.0) (sym same) (inside may.2))))
           ])
 
     -- an item that begins with a terminal is reached
@@ -160,15 +160,15 @@ module _ (g : Grammar) (ok : IsAccepted g) where
       mutual
         first_reached : ((s : ℕ) → IsNullable g s → n s ≡ true) → ((e : Edge) → OfSome (IsFirstEdge g n) g.productions e → Contains edges e) → (s : ℕ) (b : Terminal) → b ≡ a → InFirst g s b → FromTerminal s
         first_reached whole all_edges s b is (of_production p q e l h) =
-            let r = front_reached whole all_edges q.items b is h in
+            let r = prefix_reached whole all_edges q.items b is h in
             step edges _ (record { from = node_in g r.0; to = s }) (all_edges (record { from = node_in g r.0; to = s }) (q, element_at g.productions p q e, (r.0, r.1, record { tail = refl; head = sym l }))) r.2
 
-        front_reached : ((s : ℕ) → IsNullable g s → n s ≡ true) → ((e : Edge) → OfSome (IsFirstEdge g n) g.productions e → Contains edges e) → (xs : List Item) (b : Terminal) → b ≡ a → InFirstOf g xs b → (y : Item) × Contains (front n xs) y × FromTerminal (node_in g y)
-        front_reached whole all_edges (item.Terminal c ∷ xs) b is here = (item.Terminal a, subst (λ z. Contains (item.Terminal c ∷ []) (item.Terminal z)) is (contains_here (item.Terminal c) []), seed (contains_here (node_in g (item.Terminal a)) []))
-        front_reached whole all_edges (item.Symbol s ∷ xs) b is (inside h) = (item.Symbol s, contains_here (item.Symbol s) (if n s then front n xs else []), first_reached whole all_edges s b is h)
-        front_reached whole all_edges (item.Symbol s ∷ xs) b is (later k h) =
-            let r = front_reached whole all_edges xs b is h in
-            (r.0, contains_there (item.Symbol s) (if n s then front n xs else []) r.0 (rw (whole s k) r.1), r.2)
+        prefix_reached : ((s : ℕ) → IsNullable g s → n s ≡ true) → ((e : Edge) → OfSome (IsFirstEdge g n) g.productions e → Contains edges e) → (xs : List Item) (b : Terminal) → b ≡ a → InFirstOf g xs b → (y : Item) × Contains (prefix n xs) y × FromTerminal (node_in g y)
+        prefix_reached whole all_edges (item.Terminal c ∷ xs) b is here = (item.Terminal a, subst (λ z. Contains (item.Terminal c ∷ []) (item.Terminal z)) is (contains_here (item.Terminal c) []), seed (contains_here (node_in g (item.Terminal a)) []))
+        prefix_reached whole all_edges (item.Symbol s ∷ xs) b is (inside h) = (item.Symbol s, contains_here (item.Symbol s) (if n s then prefix n xs else []), first_reached whole all_edges s b is h)
+        prefix_reached whole all_edges (item.Symbol s ∷ xs) b is (later k h) =
+            let r = prefix_reached whole all_edges xs b is h in
+            (r.0, contains_there (item.Symbol s) (if n s then prefix n xs else []) r.0 (rw (whole s k) r.1), r.2)
 
     module _ (edges : List Edge) (known_empty : (s : ℕ) → n s ≡ true ↔ IsNullable g s) (exact : (e : Edge) → Contains edges e ↔ OfSome (IsFirstEdge g n) g.productions e) where
       begins_of : (x : Ahead) (known : IsKnownAhead g x) (y : Item) → IsNamedItem g y → (node_in g y ≡ root edges x known) ⊎ May edges x known (node_in g y) → Begins g y x

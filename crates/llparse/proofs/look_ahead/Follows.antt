@@ -12,14 +12,14 @@ use Rattle.closure.specs.Following.{Follows, seed}
 use Rattle.closure.specs.declared.edges.Edge.{Edge}
 use Rattle.closure.proofs.Positions.{element_at, position_of_element}
 use Rattle.closure.proofs.Reached.{reached_in, step}
-use Rattle.llparse.specs.Ahead.{IsNullable, ComesFirst, InFollow, at_end, next, last}
-use Rattle.llparse.specs.table.Comes.{next_in, all_empty, IsFollowEdge, IsFollowed, OfRest}
+use Rattle.llparse.specs.Ahead.{IsNullable, CanBeFirst, InFollow, at_end, next, last}
+use Rattle.llparse.specs.table.CanStart.{next_in, all_empty, IsFollowEdge, IsFollowed, OfRest}
 use Rattle.llparse.specs.table.Edges.{node_in, Adds, Begins, IsEdge, OfSome}
 use Rattle.llparse.specs.table.Nodes.{node_of}
 use Rattle.llparse.specs.table.Nullable.{is_empty}
 use Rattle.llparse.specs.declared.ahead.Ahead.{Ahead}
 use Rattle.llparse.specs.declared.ahead.Ahead.TheVariants as ahead
-use Rattle.llparse.proofs.look_ahead.Comes.{comes_iff, nullable_iff, rest_of_split, rest_split}
+use Rattle.llparse.proofs.look_ahead.CanStart.{can_start_iff, nullable_iff, rest_of_split, rest_split}
 use Rattle.llparse.proofs.look_ahead.Edges.{adds_more, contains_here, contains_there}
 use Rattle.llparse.proofs.look_ahead.Firsts.{left_in, named_in, node_below, symbol_item}
 
@@ -69,7 +69,7 @@ module _ (g : Grammar) (ok : IsAccepted g) (n : ℕ → Bool) where
   )
 
   module _ (known : (s : ℕ) → n s ≡ true ↔ IsNullable g s) (x : Ahead) (b : ℕ → Bool) (begins : (y : Item) → IsNamedItem g y → b (node_in g y) ≡ true ↔ Begins g y x) where
-    followed : (p : ℕ) (q : Production) (xs ys : List Item) (s : ℕ) (x' : Ahead) → IsProduction g p q → q.items ≡ xs ++ item.Symbol s ∷ ys → ComesFirst g ys x' → InFollow g s x'
+    followed : (p : ℕ) (q : Production) (xs ys : List Item) (s : ℕ) (x' : Ahead) → IsProduction g p q → q.items ≡ xs ++ item.Symbol s ∷ ys → CanBeFirst g ys x' → InFollow g s x'
     followed p q xs ys s (ahead.Terminal a) e f h = next p q xs ys e f h
     followed p q xs ys s ahead.End e f h = absurd h
 
@@ -80,7 +80,7 @@ module _ (g : Grammar) (ok : IsAccepted g) (n : ℕ → Bool) where
         let p = position_of_element g.productions r.0 r.1 in
         let same = symbol_item g ok w.1 t lt w.5 in
         let split = subst (λ z. r.0.items ≡ w.0 ++ z ∷ w.2) same w.3 in
-        followed p.0 r.0 w.0 w.2 t x p.1 split ((comes_iff g n known x (λ y. b (node_in g y)) begins w.2 (rest_named r.0 w.0 w.2 w.1 r.1 w.3)).0 w.4)
+        followed p.0 r.0 w.0 w.2 t x p.1 split ((can_start_iff g n known x (λ y. b (node_in g y)) begins w.2 (rest_named r.0 w.0 w.2 w.1 r.1 w.3)).0 w.4)
 
     module _ (edges : List Edge) (seeds : List ℕ) (exact : (e : Edge) → Contains edges e ↔ OfSome (IsFollowEdge g n) g.productions e) (seeds_are : (t : ℕ) → Contains seeds t ↔ ((t ≡ g.start) × (x ≡ ahead.End)) ⊎ OfSome (IsFollowed g n b) g.productions t) where
       reached_follow : (t : ℕ) → Follows (map along edges) seeds t → t < length g.symbols → InFollow g t x
@@ -99,8 +99,8 @@ module _ (g : Grammar) (ok : IsAccepted g) (n : ℕ → Bool) where
       follow_reached s x' is at_end = seed ((seeds_are g.start).1 (inl (refl, is)))
       follow_reached s x' is (next p q {a = a} xs ys e f h) =
           let hq = element_at g.productions p q e in
-          let comes = (comes_iff g n known x (λ y. b (node_in g y)) begins ys (rest_named q xs ys (item.Symbol s) hq f)).1 (subst (ComesFirst g ys) (sym is) h) in
-          seed ((seeds_are s).1 (inr (q, hq, rest_of_split (next_in (λ x. b (node_in g x)) (is_empty n) false) (λ x t. t ≡ node_in g x) q.items xs (item.Symbol s) ys s f comes refl)))
+          let can_start = (can_start_iff g n known x (λ y. b (node_in g y)) begins ys (rest_named q xs ys (item.Symbol s) hq f)).1 (subst (CanBeFirst g ys) (sym is) h) in
+          seed ((seeds_are s).1 (inr (q, hq, rest_of_split (next_in (λ x. b (node_in g x)) (is_empty n) false) (λ x t. t ≡ node_in g x) q.items xs (item.Symbol s) ys s f can_start refl)))
       follow_reached s x' is (last p q xs ys at f k h) =
           let hq = element_at g.productions p q at in
           let e : Edge = record { from = q.left; to = s } in

@@ -8,12 +8,12 @@ use Rattle.ag_grammar.specs.grammars.Tree.{Tree, node, Forest, none, more}
 use Rattle.ag_grammar.specs.grammars.Yield.{Lexeme}
 use Rattle.treefile.specs.devices.Device.{WhenHonest}
 use Rattle.llparse.specs.Ahead.{ahead_of}
-use Rattle.llparse.specs.sentence.Opened.{joined, Open, open_at, Completes, Stands}
+use Rattle.llparse.specs.sentence.Opened.{joined, Open, open_at, Completes, FitsStack}
 use Rattle.treefile.specs.records.FirstFile.{leaf_texts}
 use Rattle.llparse.specs.sentence.Parsing.{Task, Made, After, Shows, kept, written, Held, Reading, Between, Whole, IsParsed, node_frame, post, posts}
 use Rattle.llparse.specs.sentence.Sentences.{IsTreeWith, IsStuckAt}
 use Rattle.llparse.specs.declared.ahead.Ahead.TheVariants as ahead
-use Rattle.llparse.specs.declared.sentence.parser.OpenNode.{OpenNode}
+use Rattle.llparse.specs.declared.sentence.parser.OpenProduction.{OpenProduction}
 use Rattle.llparse.proofs.answers.Kept.{parted, texts-joined}
 use Rattle.llparse.proofs.steps.Sizes as size
 use Rattle.llparse.proofs.steps.Steps as step
@@ -34,18 +34,18 @@ module _ (k : Task) where
   g = k.grammar
 
   -- the node around it continues
-  pub on_close : (p base : ℕ) (f : OpenNode) (fs : List OpenNode) (i n : ℕ) (rs out : Made) → WhenHonest k.honest (out.bytes ≡ rs.bytes ++ node_frame p (drop base rs.texts)) → out.texts ≡ take base rs.texts
+  pub on_close : (p base : ℕ) (f : OpenProduction) (fs : List OpenProduction) (i n : ℕ) (rs out : Made) → WhenHonest k.honest (out.bytes ≡ rs.bytes ++ node_frame p (drop base rs.texts)) → out.texts ≡ take base rs.texts
       → Reading k p base [] (f ∷ fs) i n rs → Between k (f ∷ fs) i n out
-  on_close p base f fs i n rs out put cut r = go r.under r.shows r.begins r.held r.stands r.sound r.complete
+  on_close p base f fs i n rs out put cut r = go r.under r.shows r.begins r.held r.occurs r.sound r.complete
     where
-      go : (os : List Open) → Shows g os (f ∷ fs) → base ≡ length (kept os) → Held k (open_at p r.done [] ∷ os) i n rs → Stands k.grammar (open_at p r.done []) os
+      go : (os : List Open) → Shows g os (f ∷ fs) → base ≡ length (kept os) → Held k (open_at p r.done [] ∷ os) i n rs → FitsStack k.grammar (open_at p r.done []) os
           → ((rest : List Lexeme) (t : Tree) → Completes k.grammar (open_at p r.done []) os rest t → After k i rest t)
           → ((rest : List Lexeme) (t : Tree) → ahead_of rest ≡ ahead_of (drop i k.words) → After k i rest t → Completes k.grammar (open_at p r.done []) os rest t)
           → Between k (f ∷ fs) i n out
-      go [] shows begins held stands sound complete = absurd shows
-      go (o ∷ os) shows begins held stands sound complete =
+      go [] shows begins held occurs sound complete = absurd shows
+      go (o ∷ os) shows begins held occurs sound complete =
           let d : Forest = joined o.done (more (node p r.done) none) in
-          let asked = stands.4 in
+          let expected_symbol = occurs.4 in
           let counts = size.node_counts-joined o.done (more (node p r.done) none) in
           let levels = size.deepest-joined o.done (more (node p r.done) none) in
           let counted = held.counted in
@@ -53,9 +53,9 @@ module _ (k : Task) where
           let outer = held.shallow.1.0 in
           let parts = parted rs.texts (kept (o ∷ os)) (leaf_texts r.done) base held.texts begins in
           let own : List ℕ = node_frame p (leaf_texts r.done) in
-          let content : WhenHonest k.honest (out.bytes ≡ k.front ++ (written os ++ posts d)) = λ h.
-          put h ∙ ap (λ (z : List Value). rs.bytes ++ node_frame p z) parts.1 ∙ ap (λ z. z ++ own) (held.content h) ∙ append_assoc k.front ((written os ++ posts o.done) ++ posts r.done) own
-          ∙ ap (λ z. k.front ++ z) (append_assoc (written os ++ posts o.done) (posts r.done) own ∙ append_assoc (written os) (posts o.done) (post (node p r.done))
+          let content : WhenHonest k.honest (out.bytes ≡ k.prefix ++ (written os ++ posts d)) = λ h.
+          put h ∙ ap (λ (z : List Value). rs.bytes ++ node_frame p z) parts.1 ∙ ap (λ z. z ++ own) (held.content h) ∙ append_assoc k.prefix ((written os ++ posts o.done) ++ posts r.done) own
+          ∙ ap (λ z. k.prefix ++ z) (append_assoc (written os ++ posts o.done) (posts r.done) own ∙ append_assoc (written os) (posts o.done) (post (node p r.done))
           ∙ ap (λ z. written os ++ (posts o.done ++ z)) (sym (append-nil (post (node p r.done)))) ∙ ap (λ z. written os ++ z) (sym (size.posts-joined o.done (more (node p r.done) none)))) in
           let texts : out.texts ≡ kept os ++ leaf_texts d = cut ∙ parts.0 ∙ ap (λ z. kept os ++ z) (sym (texts-joined o.done (more (node p r.done) none) ∙ append-nil (leaf_texts o.done))) in
           let whole : Reading k o.production f.base o.rest fs i n out = record {
@@ -64,7 +64,7 @@ module _ (k : Task) where
             shows = shows.3;
             begins = shows.2;
             held = record { within = held.within; content = content; texts = texts; counted = omega arith; few = held.few; shallow = (omega arith, held.shallow.1.1) };
-            stands = (asked.0, asked.1 ++ item.Symbol stands.0.left ∷ [], asked.2, asked.3 ∙ sym (append_assoc asked.1 (item.Symbol stands.0.left ∷ []) o.rest), asked.4);
+            occurs = (expected_symbol.0, expected_symbol.1 ++ item.Symbol occurs.0.left ∷ [], expected_symbol.2, expected_symbol.3 ∙ sym (append_assoc expected_symbol.1 (item.Symbol occurs.0.left ∷ []) o.rest), expected_symbol.4);
             sound = λ rest t w. sound rest t ((step.close k.grammar p r.done (o ∷ os) rest t).1 ((step.child k.grammar o.production o.done o.rest os (node p r.done) rest t).1 w));
             complete = λ rest t e w. (step.child k.grammar o.production o.done o.rest os (node p r.done) rest t).0 ((step.close k.grammar p r.done (o ∷ os) rest t).0 (complete rest t e w));
           } in
@@ -85,7 +85,7 @@ module _ (k : Task) where
           record {
             tree = node p r.done;
             within = held.within;
-            content = λ h. put h ∙ ap (λ (z : List Value). rs.bytes ++ node_frame p z) own ∙ ap (λ z. z ++ node_frame p (leaf_texts r.done)) (held.content h) ∙ append_assoc k.front (posts r.done) (node_frame p (leaf_texts r.done));
+            content = λ h. put h ∙ ap (λ (z : List Value). rs.bytes ++ node_frame p z) own ∙ ap (λ z. z ++ node_frame p (leaf_texts r.done)) (held.content h) ∙ append_assoc k.prefix (posts r.done) (node_frame p (leaf_texts r.done));
             counted = omega arith;
             few = held.few;
             shallow = omega arith;

@@ -7,9 +7,9 @@ use Rattle.ag_grammar.specs.grammars.Yield.{Lexeme}
 use Rattle.llparse.specs.sentence.Opened.{Open}
 use Rattle.llparse.specs.sentence.Parsing.{Shows}
 use Rattle.llparse.specs.sentence.Sentences.{IsTreeWith}
-use Rattle.llparse.specs.declared.sentence.parser.OpenNode.{OpenNode}
+use Rattle.llparse.specs.declared.sentence.parser.OpenProduction.{OpenProduction}
 
-pub length-shows : (g : Grammar) (os : List Open) (fs : List OpenNode) → Shows g os fs → length os ≡ length fs
+pub length-shows : (g : Grammar) (os : List Open) (fs : List OpenProduction) → Shows g os fs → length os ≡ length fs
 length-shows g [] [] h = refl
 length-shows g [] (f ∷ fs) h = absurd h
 length-shows g (o ∷ os) [] h = absurd h

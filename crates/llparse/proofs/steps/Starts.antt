@@ -10,11 +10,11 @@ use Rattle.ag_grammar.specs.grammars.Yield as yields
 use Rattle.ag_grammar.specs.grammars.Yield.{Lexeme}
 use Rattle.llparse.specs.Ahead.{ahead_of}
 use Rattle.llparse.specs.sentence.Opened.{Continues, IsStack, Open, open_at, opened}
-use Rattle.llparse.specs.sentence.Parsing.{Task, Made, kept, written, Reading, Asked, IsTooDeep, IsTooLarge, right_side}
+use Rattle.llparse.specs.sentence.Parsing.{Task, Made, kept, written, Reading, AtSymbol, IsTooDeep, IsTooLarge, right_side}
 use Rattle.llparse.specs.sentence.Sentences.{IsStuckAt, LeavesOnly}
 use Rattle.llparse.specs.table.Tables.{Choices, FitsGrammar, choice_of}
-use Rattle.llparse.specs.declared.sentence.parser.OpenNode.{OpenNode}
-use Rattle.llparse.proofs.steps.Begins.{begins_asked}
+use Rattle.llparse.specs.declared.sentence.parser.OpenProduction.{OpenProduction}
+use Rattle.llparse.proofs.steps.Begins.{begins_symbol}
 use Rattle.llparse.proofs.steps.Shown.{length-shows}
 use Rattle.llparse.proofs.steps.Sizes as size
 use Rattle.llparse.proofs.steps.Steps as step
@@ -23,30 +23,30 @@ module _ (k : Task) where
   abbrev g : Grammar
   g = k.grammar
 
-  pub begin : (rs : Made) → rs.bytes ≡ k.front → rs.texts ≡ [] → Asked k k.grammar.start [] 0 0 rs
+  pub begin : (rs : Made) → rs.bytes ≡ k.prefix → rs.texts ≡ [] → AtSymbol k k.grammar.start [] 0 0 rs
   begin rs same bare = record {
     under = [];
     shows = tt;
-    held = record { within = omega arith; content = λ h. same ∙ sym (append-nil k.front); texts = bare; counted = refl; few = omega arith; shallow = tt };
-    stands = refl;
+    held = record { within = omega arith; content = λ h. same ∙ sym (append-nil k.prefix); texts = bare; counted = refl; few = omega arith; shallow = tt };
+    occurs = refl;
     sound = λ rest t w. (step.begin k.grammar rest t).1 w;
     complete = λ rest t e p. (step.begin k.grammar rest t).0 p;
   }
 
-  pub on_symbol : (f : OpenNode) (s : ℕ) (ys : List Item) (fs : List OpenNode) (i n : ℕ) (rs : Made) → ys ≡ drop f.passed (right_side g f.production)
-      → Reading k f.production f.base (item.Symbol s ∷ ys) fs i n rs → Asked k s (f ∷ fs) i n rs
+  pub on_symbol : (f : OpenProduction) (s : ℕ) (ys : List Item) (fs : List OpenProduction) (i n : ℕ) (rs : Made) → ys ≡ drop f.passed (right_side g f.production)
+      → Reading k f.production f.base (item.Symbol s ∷ ys) fs i n rs → AtSymbol k s (f ∷ fs) i n rs
   on_symbol f s ys fs i n rs left r = record {
     under = open_at f.production r.done ys ∷ r.under;
     shows = (refl, left, r.begins, r.shows);
     held = record { within = r.held.within; content = r.held.content; texts = r.held.texts; counted = r.held.counted; few = r.held.few; shallow = r.held.shallow };
-    stands = r.stands;
+    occurs = r.occurs;
     sound = λ rest t w. r.sound rest t ((step.ask k.grammar f.production r.done s ys r.under rest t).1 w);
     complete = λ rest t e p. (step.ask k.grammar f.production r.done s ys r.under rest t).0 (r.complete rest t e p);
   }
 
   module _ (tables : Choices) (fits : FitsGrammar k.grammar tables) where
-    pub on_open : (s p base : ℕ) (fs : List OpenNode) (i n : ℕ) (rs : Made) → choice_of tables s (ahead_of (drop i k.words)) ≡ Some p → base ≡ length rs.texts → n < k.nodes → length fs < k.depth
-        → Asked k s fs i n rs → Reading k p base (right_side g p) fs i (n + 1) rs
+    pub on_open : (s p base : ℕ) (fs : List OpenProduction) (i n : ℕ) (rs : Made) → choice_of tables s (ahead_of (drop i k.words)) ≡ Some p → base ≡ length rs.texts → n < k.nodes → length fs < k.depth
+        → AtSymbol k s fs i n rs → Reading k p base (right_side g p) fs i (n + 1) rs
     on_open s p base fs i n rs chosen at more_nodes more_levels a =
         let c = (fits s (ahead_of (drop i k.words)) p).0 chosen in
         let q : Production = c.0 in
@@ -58,27 +58,27 @@ module _ (k : Task) where
           under = a.under;
           shows = a.shows;
           begins = at ∙ ap length a.held.texts;
-          held = record { within = a.held.within; content = λ h. a.held.content h ∙ ap (λ x. k.front ++ x) (sym (append-nil (written a.under))); texts = a.held.texts ∙ sym (append-nil (kept a.under)); counted = omega arith; few = omega arith; shallow = (omega arith, a.held.shallow) };
-          stands = (q, [], c.1, refl, subst (IsStack k.grammar a.under) (sym c.2) a.stands);
+          held = record { within = a.held.within; content = λ h. a.held.content h ∙ ap (λ x. k.prefix ++ x) (sym (append-nil (written a.under))); texts = a.held.texts ∙ sym (append-nil (kept a.under)); counted = omega arith; few = omega arith; shallow = (omega arith, a.held.shallow) };
+          occurs = (q, [], c.1, refl, subst (IsStack k.grammar a.under) (sym c.2) a.occurs);
           sound = λ rest t w. a.sound rest t (step.open_back k.grammar a.under s rest t p q c.1 c.2 w);
-          complete = λ rest t e w. (step.opens k.grammar tables fits a.under s rest t p q a.stands (ap (choice_of tables s) e ∙ chosen) c.1 c.2).0 (a.complete rest t e w);
+          complete = λ rest t e w. (step.opens k.grammar tables fits a.under s rest t p q a.occurs (ap (choice_of tables s) e ∙ chosen) c.1 c.2).0 (a.complete rest t e w);
         } in
         subst (λ x. Reading k p base x fs i (n + 1) rs) items r
 
-    pub no_rule : IsAccepted k.grammar → (s : ℕ) (fs : List OpenNode) (i n : ℕ) (rs : Made) → choice_of tables s (ahead_of (drop i k.words)) ≡ None → Asked k s fs i n rs → IsStuckAt k.grammar k.words i
+    pub no_rule : IsAccepted k.grammar → (s : ℕ) (fs : List OpenProduction) (i n : ℕ) (rs : Made) → choice_of tables s (ahead_of (drop i k.words)) ≡ None → AtSymbol k s fs i n rs → IsStuckAt k.grammar k.words i
     no_rule accepted s fs i n rs unnamed a = record {
       within = a.held.within;
-      ends = λ rest t e p. step.no_rule k.grammar tables fits a.under s rest t a.stands (ap (choice_of tables s) e ∙ unnamed) (a.complete rest t e p);
-      begins = let b = begins_asked k accepted s fs i n rs a in (b.0, b.1, b.2);
+      ends = λ rest t e p. step.no_rule k.grammar tables fits a.under s rest t a.occurs (ap (choice_of tables s) e ∙ unnamed) (a.complete rest t e p);
+      begins = let b = begins_symbol k accepted s fs i n rs a in (b.0, b.1, b.2);
     }
 
   -- if a node is to be opened and a limit is reached, each tree that has the node below the open nodes is
   -- beyond it
-  beyond_node : (size : Tree → ℕ) (begun : List Open → ℕ) (limit : ℕ) → IsAccepted k.grammar → (s : ℕ) (fs : List OpenNode) (i n : ℕ) (rs : Made)
-      → (a : Asked k s fs i n rs) → limit ≤ begun a.under → ((c : Tree) (ws : List Lexeme) (t : Tree) → Continues k.grammar a.under c ws t → limit < size t)
+  beyond_node : (size : Tree → ℕ) (begun : List Open → ℕ) (limit : ℕ) → IsAccepted k.grammar → (s : ℕ) (fs : List OpenProduction) (i n : ℕ) (rs : Made)
+      → (a : AtSymbol k s fs i n rs) → limit ≤ begun a.under → ((c : Tree) (ws : List Lexeme) (t : Tree) → Continues k.grammar a.under c ws t → limit < size t)
       → LeavesOnly k.grammar k.words size begun limit
   beyond_node size begun limit accepted s fs i n rs a full passed =
-      let b = begins_asked k accepted s fs i n rs a in
+      let b = begins_symbol k accepted s fs i n rs a in
       record {
         index = i;
         within = a.held.within;
@@ -92,7 +92,7 @@ module _ (k : Task) where
       }
 
   -- a node that is opened counts, and is below the others
-  pub deep_node : IsAccepted k.grammar → (s : ℕ) (fs : List OpenNode) (i n : ℕ) (rs : Made) → k.depth ≤ length fs → Asked k s fs i n rs → IsTooDeep k
+  pub deep_node : IsAccepted k.grammar → (s : ℕ) (fs : List OpenProduction) (i n : ℕ) (rs : Made) → k.depth ≤ length fs → AtSymbol k s fs i n rs → IsTooDeep k
   deep_node accepted s fs i n rs full a =
       let same = length-shows g a.under fs a.shows in
       beyond_node depth_of (λ above. length above) k.depth accepted s fs i n rs a (omega arith) (λ c ws t h.
@@ -100,7 +100,7 @@ module _ (k : Task) where
       let one : 1 ≤ depth_of c = size.depth_some c in
       omega arith)
 
-  pub large_node : IsAccepted k.grammar → (s : ℕ) (fs : List OpenNode) (i n : ℕ) (rs : Made) → k.nodes ≤ n → Asked k s fs i n rs → IsTooLarge k
+  pub large_node : IsAccepted k.grammar → (s : ℕ) (fs : List OpenProduction) (i n : ℕ) (rs : Made) → k.nodes ≤ n → AtSymbol k s fs i n rs → IsTooLarge k
   large_node accepted s fs i n rs full a =
       let counted = a.held.counted in
       beyond_node node_count opened k.nodes accepted s fs i n rs a (omega arith) (λ c ws t h.

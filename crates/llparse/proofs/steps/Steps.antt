@@ -8,7 +8,7 @@ use Rattle.ag_grammar.specs.grammars.AttributeGrammar.{Grammar, stored_items, Is
 use Rattle.ag_grammar.specs.grammars.Tree.{IsTokenText, Tree, leaf, node, Forest, none, more, Fits, FitsAll}
 use Rattle.ag_grammar.specs.grammars.Yield.{Lexeme, yield_along, yield_of}
 use Rattle.llparse.specs.Ahead.{HasNoConflict, InFollow, at_end, Predicts, ahead_of}
-use Rattle.llparse.specs.sentence.Opened.{joined, Open, open_at, Continues, Completes, IsStack, Wants}
+use Rattle.llparse.specs.sentence.Opened.{joined, Open, open_at, Continues, Completes, IsStack, ContinuesWith}
 use Rattle.llparse.specs.sentence.Sentences.{IsTreeWith}
 use Rattle.llparse.specs.table.Tables.{Choices, FitsGrammar, choice_of}
 use Rattle.llparse.specs.declared.ahead.Ahead.TheVariants as ahead
@@ -30,13 +30,13 @@ module _ (g : Grammar) where
   all_words ts xs = yield_along g xs ts
 
   -- at the beginning a tree of the start symbol is expected
-  pub begin : (ws : List Lexeme) (t : Tree) → IsTreeWith g ws t ↔ Wants g [] g.start ws t
+  pub begin : (ws : List Lexeme) (t : Tree) → IsTreeWith g ws t ↔ ContinuesWith g [] g.start ws t
   begin ws t = (there, back)
     where
-      there : IsTreeWith g ws t → Wants g [] g.start ws t
+      there : IsTreeWith g ws t → ContinuesWith g [] g.start ws t
       there p = (t, [], p.tree, sym p.yields ∙ sym (append-nil (words t)), (refl, refl))
 
-      back : Wants g [] g.start ws t → IsTreeWith g ws t
+      back : ContinuesWith g [] g.start ws t → IsTreeWith g ws t
       back (c, vs, is, e, (nil, same)) = record {
         tree = subst (Fits g (item.Symbol g.start)) (sym same) is;
         yields = ap words same ∙ sym (append-nil (words c)) ∙ ap (λ v. words c ++ v) (sym nil) ∙ sym e;
@@ -44,14 +44,14 @@ module _ (g : Grammar) where
 
   -- the next item is a symbol: a tree of it is expected
   pub ask : (p : ℕ) (done : Forest) (s : ℕ) (xs : List Item) (os : List Open) (ws : List Lexeme) (t : Tree)
-      → Completes g (open_at p done (item.Symbol s ∷ xs)) os ws t ↔ Wants g (open_at p done xs ∷ os) s ws t
+      → Completes g (open_at p done (item.Symbol s ∷ xs)) os ws t ↔ ContinuesWith g (open_at p done xs ∷ os) s ws t
   ask p done s xs os ws t = (there, back)
     where
-      there : Completes g (open_at p done (item.Symbol s ∷ xs)) os ws t → Wants g (open_at p done xs ∷ os) s ws t
+      there : Completes g (open_at p done (item.Symbol s ∷ xs)) os ws t → ContinuesWith g (open_at p done xs ∷ os) s ws t
       there (none, vs, fit, e, k) = absurd fit
       there (more c fs, vs, fit, e, k) = (c, all_words fs xs ++ vs, fit.0, e ∙ append_assoc (words c) (all_words fs xs) vs, (fs, vs, fit.1, refl, k))
 
-      back : Wants g (open_at p done xs ∷ os) s ws t → Completes g (open_at p done (item.Symbol s ∷ xs)) os ws t
+      back : ContinuesWith g (open_at p done xs ∷ os) s ws t → Completes g (open_at p done (item.Symbol s ∷ xs)) os ws t
       back (c, us, is, e, (fs, vs, fit, e2, k)) =
           (more c fs, vs, (is, fit), e ∙ ap (λ x. words c ++ x) e2 ∙ sym (append_assoc (words c) (all_words fs xs) vs), k)
 
@@ -63,7 +63,7 @@ module _ (g : Grammar) where
       subst (λ x. InFollow g s (ahead_of x)) (sym e) (unique.follows g o.production q get before o.rest s items fs fit vs outer)
 
   -- the expected tree has a production that is predicted
-  pub open_next : (os : List Open) (s : ℕ) (ws : List Lexeme) (t : Tree) → IsStack g os s → Wants g os s ws t
+  pub open_next : (os : List Open) (s : ℕ) (ws : List Lexeme) (t : Tree) → IsStack g os s → ContinuesWith g os s ws t
       → (k : ℕ) × (q : Production) × (IsProduction g k q) × (q.left ≡ s) × Predicts g q (ahead_of ws) × Completes g (open_at k none q.items) os ws t
   open_next os s ws t is (leaf d lex, vs, tree, e, c) = absurd tree
   open_next os s ws t is (node k ts, vs, (q, get, left, fits), e, c) =
@@ -72,17 +72,17 @@ module _ (g : Grammar) where
       (k, q, get, left, subst (λ x. Predicts g q (ahead_of x)) (sym split) (unique.predicted g k q get ts fits vs f), (ts, vs, fits, split, c))
 
   pub open_back : (os : List Open) (s : ℕ) (ws : List Lexeme) (t : Tree) (k : ℕ) (q : Production) → IsProduction g k q → q.left ≡ s
-      → Completes g (open_at k none q.items) os ws t → Wants g os s ws t
+      → Completes g (open_at k none q.items) os ws t → ContinuesWith g os s ws t
   open_back os s ws t k q get left (ts, vs, fits, e, c) =
       (node k ts, vs, (q, get, left, fits), e ∙ ap (λ x. all_words ts x ++ vs) (sym (unique.items_are g k q get)), c)
 
   -- if the table has a production, the trees are those with it
   pub opens : (tables : Choices) → FitsGrammar g tables → (os : List Open) (s : ℕ) (ws : List Lexeme) (t : Tree) (k : ℕ) (q : Production)
       → IsStack g os s → choice_of tables s (ahead_of ws) ≡ Some k → IsProduction g k q → q.left ≡ s
-      → Wants g os s ws t ↔ Completes g (open_at k none q.items) os ws t
+      → ContinuesWith g os s ws t ↔ Completes g (open_at k none q.items) os ws t
   opens tables fits os s ws t k q is chosen get left = (there, open_back os s ws t k q get left)
     where
-      there : Wants g os s ws t → Completes g (open_at k none q.items) os ws t
+      there : ContinuesWith g os s ws t → Completes g (open_at k none q.items) os ws t
       there w =
           let n = open_next os s ws t is w in
           let too = (fits s (ahead_of ws) n.0).1 (n.1, n.2, n.3, n.4) in
@@ -94,7 +94,7 @@ module _ (g : Grammar) where
 
   -- and if it has none, there are no trees
   pub no_rule : (tables : Choices) → FitsGrammar g tables → (os : List Open) (s : ℕ) (ws : List Lexeme) (t : Tree)
-      → IsStack g os s → choice_of tables s (ahead_of ws) ≡ None → Wants g os s ws t → ⊥
+      → IsStack g os s → choice_of tables s (ahead_of ws) ≡ None → ContinuesWith g os s ws t → ⊥
   no_rule tables fits os s ws t is unnamed w =
       let n = open_next os s ws t is w in
       let too : choice_of tables s (ahead_of ws) ≡ Some n.0 = (fits s (ahead_of ws) n.0).1 (n.1, n.2, n.3, n.4) in

@@ -43,8 +43,8 @@ module _ (g : Grammar) where
       × Continues os (node o.production (joined o.done fs)) vs t
 
   -- t is a whole tree in which a tree of s comes next below the innermost open node, and the words are those from it on
-  abbrev pub Wants : List Open → ℕ → List Lexeme → Tree → Type 0
-  Wants os s ws t =
+  abbrev pub ContinuesWith : List Open → ℕ → List Lexeme → Tree → Type 0
+  ContinuesWith os s ws t =
       (c : Tree) × (vs : List Lexeme) × Fits g (item.Symbol s) c × (ws ≡ yield_of g c ++ vs)
       × Continues os c vs t
 
@@ -55,22 +55,22 @@ module _ (g : Grammar) where
 
   -- the innermost open node is at a place where the one around it expects it, and has read a prefix of its
   -- right side
-  abbrev pub Stands : Open → List Open → Type 0
-  Stands o os = (q : Production) × (before : List Item) × IsProduction g o.production q × (q.items ≡ before ++ o.rest) × IsStack os q.left
+  abbrev pub FitsStack : Open → List Open → Type 0
+  FitsStack o os = (q : Production) × (before : List Item) × IsProduction g o.production q × (q.items ≡ before ++ o.rest) × IsStack os q.left
 
   -- each open node is at a place where the one around it expects it, and the next item of the innermost one
   -- is this item
   abbrev pub IsNext : List Open → Item → Type 0
   IsNext [] x = x ≡ item.Symbol g.start
-  IsNext (o ∷ os) x = Stands (open_at o.production o.done (x ∷ o.rest)) os
+  IsNext (o ∷ os) x = FitsStack (open_at o.production o.done (x ∷ o.rest)) os
 
 -- A whole tree is cut before one of its nodes: the nodes above this one are open, each with its children that are done, and
 -- the words are those from it on.
 pub record IsCutAt (g : Grammar) (above : List Open) (words : List Lexeme) (t : Tree) : Type 0 where
   pub next : Item
   pub child : Tree
-  pub behind : List Lexeme
-  pub stands : IsNext g above next
+  pub following : List Lexeme
+  pub occurs : IsNext g above next
   pub fits : Fits g next child
-  pub splits : words ≡ yield_of g child ++ behind
-  pub continues : Continues g above child behind t
+  pub splits : words ≡ yield_of g child ++ following
+  pub continues : Continues g above child following t

@@ -4,7 +4,7 @@ use Rattle.ag_value.specs.declared.value.Value.{Value}
 use Rattle.ag_grammar.specs.declared.grammar.Item.{Item}
 use Rattle.ag_grammar.specs.declared.grammar.Production.{Production}
 use Rattle.ag_grammar.specs.grammars.AttributeGrammar.{Grammar}
-use Rattle.ag_grammar.specs.grammars.Tree.{Tree, leaf, node, Forest, none, more, depth_of, deepest, node_count, most_depth, most_nodes}
+use Rattle.ag_grammar.specs.grammars.Tree.{Tree, leaf, node, Forest, none, more, depth_of, deepest, node_count, max_depth, max_nodes}
 use Rattle.ag_grammar.specs.grammars.Yield.{Lexeme}
 use Rattle.ag_grammar.specs.grammars.Yield as yields
 use Rattle.ag_scan.specs.Tokens.{Token}
@@ -14,11 +14,11 @@ use Rattle.treefile.specs.records.Records.{token_body}
 use Rattle.treefile.specs.records.TreeFile.{body_of, frame}
 use Rattle.treefile.specs.declared.body.Kind.TheVariants.{Node}
 use Rattle.llparse.specs.Ahead.{ahead_of}
-use Rattle.llparse.specs.sentence.Opened.{Open, open_at, opened, Completes, Wants, IsStack, Stands}
+use Rattle.llparse.specs.sentence.Opened.{Open, open_at, opened, Completes, ContinuesWith, IsStack, FitsStack}
 use Rattle.llparse.specs.sentence.Sentences.{IsTreeWith, IsStuckAt, LeavesOnlyDeeper, LeavesOnlyLarger, words_of}
 use Rattle.llparse.specs.declared.sentence.parse_fault.ParseFault.{ParseFault}
 use Rattle.llparse.specs.declared.sentence.parse_fault.ParseFault.TheVariants as fault
-use Rattle.llparse.specs.declared.sentence.parser.OpenNode.{OpenNode}
+use Rattle.llparse.specs.declared.sentence.parser.OpenProduction.{OpenProduction}
 
 -- the input of a parse, its limits, whether the device is honest, and its old content
 pub record Task : Type 0 where
@@ -27,12 +27,12 @@ pub record Task : Type 0 where
   pub depth : ℕ
   pub nodes : ℕ
   pub honest : Bool
-  pub front : List ℕ
+  pub prefix : List ℕ
 
 -- the task of parsing tokens
 abbrev pub task_of : Grammar → List Token → Bool → List ℕ → Task
-task_of g tokens honest front =
-    record { grammar = g; words = words_of tokens; depth = most_depth; nodes = most_nodes; honest = honest; front = front }
+task_of g tokens honest prefix =
+    record { grammar = g; words = words_of tokens; depth = max_depth; nodes = max_nodes; honest = honest; prefix = prefix }
 
 -- the right side of a production's number, empty if there is none
 abbrev pub right_side : Grammar → ℕ → List Item
@@ -65,7 +65,7 @@ kept [] = []
 kept (o ∷ os) = kept os ++ leaf_texts o.done
 
 -- the stack has the productions of the open nodes, how far each is read, and the beginnings of their texts
-abbrev pub Shows : Grammar → List Open → List OpenNode → Type 0
+abbrev pub Shows : Grammar → List Open → List OpenProduction → Type 0
 Shows g [] [] = Unit {0}
 Shows g [] (f ∷ fs) = ⊥
 Shows g (o ∷ os) [] = ⊥
@@ -89,7 +89,7 @@ IsShallow depth (o ∷ os) = (deepest o.done + suc (length os) ≤ depth) × IsS
 -- the counters, the records and the texts agree with the open nodes
 pub record Held (k : Task) (os : List Open) (at count : ℕ) (made : Made) : Type 0 where
   pub within : at ≤ length k.words
-  pub content : WhenHonest k.honest (made.bytes ≡ k.front ++ written os)
+  pub content : WhenHonest k.honest (made.bytes ≡ k.prefix ++ written os)
   pub texts : made.texts ≡ kept os
   pub counted : count ≡ opened os
   pub few : count ≤ k.nodes
@@ -98,30 +98,30 @@ pub record Held (k : Task) (os : List Open) (at count : ℕ) (made : Made) : Typ
 -- A node of production p is open at ys, within the nodes of the stack fs, and its texts begin at `base`; the
 -- trees that complete it have the words read so far and then their remaining words, and these are all such
 -- trees with the given look-ahead.
-pub record Reading (k : Task) (p base : ℕ) (ys : List Item) (fs : List OpenNode) (at count : ℕ) (made : Made) : Type 0 where
+pub record Reading (k : Task) (p base : ℕ) (ys : List Item) (fs : List OpenProduction) (at count : ℕ) (made : Made) : Type 0 where
   pub done : Forest
   pub under : List Open
   pub shows : Shows k.grammar under fs
   pub begins : base ≡ length (kept under)
   pub held : Held k (open_at p done ys ∷ under) at count made
-  pub stands : Stands k.grammar (open_at p done ys) under
+  pub occurs : FitsStack k.grammar (open_at p done ys) under
   pub sound : (rest : List Lexeme) (t : Tree) → Completes k.grammar (open_at p done ys) under rest t → After k at rest t
   pub complete : (rest : List Lexeme) (t : Tree) → ahead_of rest ≡ ahead_of (drop at k.words) → After k at rest t → Completes k.grammar (open_at p done ys) under rest t
 
 -- A tree of symbol s comes next, within the nodes of the stack fs.
-pub record Asked (k : Task) (s : ℕ) (fs : List OpenNode) (at count : ℕ) (made : Made) : Type 0 where
+pub record AtSymbol (k : Task) (s : ℕ) (fs : List OpenProduction) (at count : ℕ) (made : Made) : Type 0 where
   pub under : List Open
   pub shows : Shows k.grammar under fs
   pub held : Held k under at count made
-  pub stands : IsStack k.grammar under s
-  pub sound : (rest : List Lexeme) (t : Tree) → Wants k.grammar under s rest t → After k at rest t
-  pub complete : (rest : List Lexeme) (t : Tree) → ahead_of rest ≡ ahead_of (drop at k.words) → After k at rest t → Wants k.grammar under s rest t
+  pub occurs : IsStack k.grammar under s
+  pub sound : (rest : List Lexeme) (t : Tree) → ContinuesWith k.grammar under s rest t → After k at rest t
+  pub complete : (rest : List Lexeme) (t : Tree) → ahead_of rest ≡ ahead_of (drop at k.words) → After k at rest t → ContinuesWith k.grammar under s rest t
 
 -- A tree is done, and nothing is open; it is the one tree of the words read so far, and no tree has more words.
 pub record Whole (k : Task) (at count : ℕ) (bytes : List ℕ) : Type 0 where
   pub tree : Tree
   pub within : at ≤ length k.words
-  pub content : WhenHonest k.honest (bytes ≡ k.front ++ post tree)
+  pub content : WhenHonest k.honest (bytes ≡ k.prefix ++ post tree)
   pub counted : count ≡ node_count tree
   pub few : count ≤ k.nodes
   pub shallow : depth_of tree ≤ k.depth
@@ -130,12 +130,12 @@ pub record Whole (k : Task) (at count : ℕ) (bytes : List ℕ) : Type 0 where
 
 -- A parser is between two steps: the first node of its stack is open where the stack says, or the tree is
 -- done.
-abbrev pub Between : Task → List OpenNode → ℕ → ℕ → Made → Type 0
+abbrev pub Between : Task → List OpenProduction → ℕ → ℕ → Made → Type 0
 Between k [] at count made = Whole k at count made.bytes
 Between k (f ∷ fs) at count made = Reading k f.production f.base (drop f.passed (right_side k.grammar f.production)) fs at count made
 
 -- The first node of the stack has just passed an item.
-abbrev pub Before : Task → Item → List OpenNode → ℕ → ℕ → Made → Type 0
+abbrev pub Before : Task → Item → List OpenProduction → ℕ → ℕ → Made → Type 0
 Before k x [] at count made = ⊥
 Before k x (f ∷ fs) at count made = Reading k f.production f.base (x ∷ drop f.passed (right_side k.grammar f.production)) fs at count made
 
@@ -144,7 +144,7 @@ pub record IsParsed (k : Task) (count : ℕ) (bytes : List ℕ) : Type 0 where
   pub tree : Tree
   pub has_words : IsTreeWith k.grammar k.words tree
   pub only : (t : Tree) → IsTreeWith k.grammar k.words t → t ≡ tree
-  pub content : WhenHonest k.honest (bytes ≡ k.front ++ post tree)
+  pub content : WhenHonest k.honest (bytes ≡ k.prefix ++ post tree)
   pub counted : count ≡ node_count tree
   pub few : node_count tree ≤ k.nodes
   pub shallow : depth_of tree ≤ k.depth
@@ -170,10 +170,10 @@ most [] = 0
 most (q ∷ qs) = length q.items + most qs
 
 -- the greatest number of steps of the open nodes before the next one is opened
-abbrev pub weight : Grammar → List OpenNode → ℕ
+abbrev pub weight : Grammar → List OpenProduction → ℕ
 weight g [] = 0
 weight g (f ∷ fs) = suc (length (drop f.passed (right_side g f.production))) + weight g fs
 
 -- the greatest number of steps left
-abbrev pub steps_left : Grammar → ℕ → List OpenNode → ℕ → ℕ
+abbrev pub steps_left : Grammar → ℕ → List OpenProduction → ℕ → ℕ
 steps_left g nodes fs count = (most g.productions + 2) * (nodes - count) + weight g fs

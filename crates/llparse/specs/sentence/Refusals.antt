@@ -12,10 +12,10 @@ parse_fault_of device_fault.Failed = parse_fault.Device
 parse_fault_of device_fault.NoMemory = parse_fault.NoMemory
 
 -- the device failed, or memory was refused
-abbrev pub IsWant : ParseFault → Type 0
-IsWant parse_fault.Device = Unit {0}
-IsWant parse_fault.NoMemory = Unit {0}
-IsWant fault = ⊥
+abbrev pub IsResourceFault : ParseFault → Type 0
+IsResourceFault parse_fault.Device = Unit {0}
+IsResourceFault parse_fault.NoMemory = Unit {0}
+IsResourceFault fault = ⊥
 
 -- The effects of a call that appends records on the device, besides its content, and on the writer: the
 -- writer is broken exactly if the call returns that the device failed, and then failures rose.

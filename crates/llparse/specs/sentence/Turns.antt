@@ -3,15 +3,15 @@ use Rattle.std.specs.Prelude.{◌≡◌, ℕ, ◌+◌, ◌≤◌, Bool, List, �
 use Rattle.ag_grammar.specs.declared.grammar.Item.{Item}
 use Rattle.ag_grammar.specs.grammars.Accepted.{IsAccepted}
 use Rattle.ag_grammar.specs.grammars.AttributeGrammar.{Grammar}
-use Rattle.ag_grammar.specs.grammars.Tree.{most_depth, most_nodes}
-use Rattle.ag_scan.specs.Handed.{offset_at}
+use Rattle.ag_grammar.specs.grammars.Tree.{max_depth, max_nodes}
+use Rattle.ag_scan.specs.Supplied.{offset_at}
 use Rattle.ag_scan.specs.Tokens.{Token, FitAll}
 use Rattle.ag_scan.specs.Words.{vocabulary_of}
-use Rattle.llparse.specs.sentence.Parsing.{Task, task_of, Made, Asked, Between, Before, IsRefused, steps_left}
+use Rattle.llparse.specs.sentence.Parsing.{Task, task_of, Made, AtSymbol, Between, Before, IsRefused, steps_left}
 use Rattle.llparse.specs.table.Tables.{Choices, FitsGrammar}
 use Rattle.llparse.specs.declared.sentence.parse_fault.ParseFault.{ParseFault}
 use Rattle.llparse.specs.declared.sentence.parse_fault.ParseFault.TheVariants as fault
-use Rattle.llparse.specs.declared.sentence.parser.OpenNode.{OpenNode}
+use Rattle.llparse.specs.declared.sentence.parser.OpenProduction.{OpenProduction}
 use Rattle.llparse.specs.declared.sentence.parser.Parser.{Parser}
 
 -- the output of a parser, if the device has these bytes
@@ -19,15 +19,15 @@ abbrev pub made_by : Parser → List ℕ → Made
 made_by p bytes = record { bytes = bytes; texts = p.texts.items }
 
 -- a parser is between two steps, with this innermost open node
-abbrev pub IsBetween : Task → OpenNode → Parser → List ℕ → Type 0
+abbrev pub IsBetween : Task → OpenProduction → Parser → List ℕ → Type 0
 IsBetween k node p bytes = Between k (node ∷ reverse p.waiting.items) p.tokens.taken p.count (made_by p bytes)
 
 -- a tree of a symbol comes next in the innermost open node
-abbrev pub Asks : Task → ℕ → OpenNode → Parser → List ℕ → Type 0
-Asks k s node p bytes = Asked k s (node ∷ reverse p.waiting.items) p.tokens.taken p.count (made_by p bytes)
+abbrev pub IsAtSymbol : Task → ℕ → OpenProduction → Parser → List ℕ → Type 0
+IsAtSymbol k s node p bytes = AtSymbol k s (node ∷ reverse p.waiting.items) p.tokens.taken p.count (made_by p bytes)
 
 -- the innermost open node has just passed an item
-abbrev pub Faces : Task → Item → OpenNode → Parser → List ℕ → Type 0
+abbrev pub Faces : Task → Item → OpenProduction → Parser → List ℕ → Type 0
 Faces k x node p bytes = Before k x (node ∷ reverse p.waiting.items) p.tokens.taken p.count (made_by p bytes)
 
 -- an accepted grammar that tables fit
@@ -40,11 +40,11 @@ HasTokens tokens g = IsAccepted g × FitAll (vocabulary_of g) tokens
 
 -- For each grammar that has property P and these tokens, A before implies B after.
 abbrev pub Leads : (Grammar → Type 0) → List Token → (Task → List ℕ → Type 0) → (Task → List ℕ → Type 0) → Type 0
-Leads P tokens A B = (g : Grammar) (honest : Bool) (front bytes : List ℕ) → P g → A (task_of g tokens honest front) bytes → B (task_of g tokens honest front) bytes
+Leads P tokens A B = (g : Grammar) (honest : Bool) (prefix bytes : List ℕ) → P g → A (task_of g tokens honest prefix) bytes → B (task_of g tokens honest prefix) bytes
 
 -- the same if a device's content changes
 abbrev pub Writes : (Grammar → Type 0) → List Token → Bool → List ℕ → List ℕ → (Task → List ℕ → Type 0) → (Task → List ℕ → Type 0) → Type 0
-Writes P tokens honest old new A B = (g : Grammar) (front : List ℕ) → P g → A (task_of g tokens honest front) old → B (task_of g tokens honest front) new
+Writes P tokens honest old new A B = (g : Grammar) (prefix : List ℕ) → P g → A (task_of g tokens honest prefix) old → B (task_of g tokens honest prefix) new
 
 -- A before implies that the fault is justified
 abbrev pub Refuses : (Grammar → Type 0) → List Token → (Task → List ℕ → Type 0) → ParseFault → Type 0
@@ -52,19 +52,19 @@ Refuses P tokens A e = Leads P tokens A (λ k bytes. IsRefused k (offset_at toke
 
 -- the limit that a parser has reached
 abbrev pub IsFull : Parser → ParseFault → Type 0
-IsFull p fault.TooDeep = most_depth ≤ length p.waiting.items + 1
-IsFull p fault.TooManyNodes = most_nodes ≤ p.count
+IsFull p fault.TooDeep = max_depth ≤ length p.waiting.items + 1
+IsFull p fault.TooManyNodes = max_nodes ≤ p.count
 IsFull p fault = ⊥
 
 -- the greatest number of steps left
-abbrev pub left_of : Grammar → OpenNode → Parser → ℕ
-left_of g node p = steps_left g most_nodes (node ∷ reverse p.waiting.items) p.count
+abbrev pub left_of : Grammar → OpenProduction → Parser → ℕ
+left_of g node p = steps_left g max_nodes (node ∷ reverse p.waiting.items) p.count
 
 -- an open node after its next item
-abbrev pub advanced : OpenNode → OpenNode
+abbrev pub advanced : OpenProduction → OpenProduction
 advanced node = record node { passed = node.passed + 1 }
 
 -- An open node of a right side has this item next, and moves past it; or it is at its end.
-abbrev pub Advances : List Item → OpenNode → Option Item → OpenNode → Type 0
+abbrev pub Advances : List Item → OpenProduction → Option Item → OpenProduction → Type 0
 Advances items old None new = (slice_get items old.passed ≡ None) × (new ≡ old)
 Advances items old (Some x) new = (slice_get items old.passed ≡ Some x) × (new ≡ advanced old)

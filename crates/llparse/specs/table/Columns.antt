@@ -5,7 +5,7 @@ use Rattle.llparse.specs.Ahead.{IsConflict}
 use Rattle.llparse.specs.table.Edges.{IsKnownAhead}
 use Rattle.llparse.specs.table.Nodes.{index_of}
 use Rattle.llparse.specs.table.Predicted.{choice_at, IsNoLater}
-use Rattle.llparse.specs.table.Tables.{ComesNoLater, IsChoice}
+use Rattle.llparse.specs.table.Tables.{IsNotAfter, IsChoice}
 use Rattle.llparse.specs.declared.ahead.Ahead.{Ahead}
 use Rattle.llparse.specs.declared.table.choosing.Pair.{Pair}
 use Rattle.llparse.specs.declared.table.filling.Conflict.{Conflict}
@@ -25,7 +25,7 @@ abbrev pub IsLeastBelow : Grammar → ℕ → Option Conflict → Type 0
 IsLeastBelow g n None = (a b : ℕ) (y : Ahead) → IsKnownAhead g y → index_of (length g.literals) y < n → IsConflict g a b y → ⊥
 IsLeastBelow g n (Some c) =
     IsConflict g c.first c.second c.ahead × (index_of (length g.literals) c.ahead < n)
-    × ((a b : ℕ) (y : Ahead) → IsKnownAhead g y → index_of (length g.literals) y < n → IsConflict g a b y → ComesNoLater g c.first c.second c.ahead a b y)
+    × ((a b : ℕ) (y : Ahead) → IsKnownAhead g y → index_of (length g.literals) y < n → IsConflict g a b y → IsNotAfter g c.first c.second c.ahead a b y)
 
 -- the columns of the look-aheads before an index
 abbrev pub AreColumns : Grammar → ℕ → List (List (Option ℕ)) → Type 0
@@ -36,10 +36,10 @@ abbrev pub at_ahead : Pair → Ahead → Conflict
 at_ahead p x = record { first = p.first; second = p.second; ahead = x }
 
 -- the lesser of a conflict and a pair at a later look-ahead, if there are both
-abbrev pub IsSooner : Option Conflict → Option Pair → Ahead → Option Conflict → Type 0
-IsSooner None None x result = result ≡ None
-IsSooner None (Some p) x result = result ≡ Some (at_ahead p x)
-IsSooner (Some c) None x result = result ≡ Some c
-IsSooner (Some c) (Some p) x result =
+abbrev pub IsLesserConflict : Option Conflict → Option Pair → Ahead → Option Conflict → Type 0
+IsLesserConflict None None x result = result ≡ None
+IsLesserConflict None (Some p) x result = result ≡ Some (at_ahead p x)
+IsLesserConflict (Some c) None x result = result ≡ Some c
+IsLesserConflict (Some c) (Some p) x result =
     ((result ≡ Some c) × ((c.first < p.first) ⊎ ((c.first ≡ p.first) × (c.second ≤ p.second))))
     ⊎ ((result ≡ Some (at_ahead p x)) × ((p.first < c.first) ⊎ ((p.first ≡ c.first) × (p.second < c.second))))

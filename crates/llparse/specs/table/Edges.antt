@@ -36,13 +36,13 @@ abbrev pub node_in : Grammar → Item → ℕ
 node_in g x = node_of (length g.symbols) (length g.literals) x
 
 -- the items up to the first that is not a symbol of the set, including that one
-abbrev pub front : (ℕ → Bool) → List Item → List Item
-front n [] = []
-front n (x ∷ xs) = x ∷ (if is_empty n x then front n xs else [])
+abbrev pub prefix : (ℕ → Bool) → List Item → List Item
+prefix n [] = []
+prefix n (x ∷ xs) = x ∷ (if is_empty n x then prefix n xs else [])
 
 -- an edge goes from an item of the front of a right side to the left side
 abbrev pub IsFirstEdge : Grammar → (ℕ → Bool) → Production → Edge → Type 0
-IsFirstEdge g n q e = OfSome (λ x e. IsEdge (node_in g x) q.left e) (front n q.items) e
+IsFirstEdge g n q e = OfSome (λ x e. IsEdge (node_in g x) q.left e) (prefix n q.items) e
 
 -- the number of nodes of a grammar: its symbols, its literals, the classes and the end
 abbrev pub node_count : Grammar → ℕ

@@ -3,7 +3,7 @@ use Rattle.std.specs.Prelude.{ℕ, ◌≡◌, ◌+◌, ◌<◌, ◌≤◌, ◌�
 use Rattle.ag_grammar.specs.declared.grammar.Production.{Production}
 use Rattle.ag_grammar.specs.grammars.AttributeGrammar.{Grammar, IsProduction}
 use Rattle.llparse.specs.Ahead.{Predicts}
-use Rattle.llparse.specs.table.Comes.{AreFollowEdges}
+use Rattle.llparse.specs.table.CanStart.{AreFollowEdges}
 use Rattle.llparse.specs.table.Edges.{AreFirstEdges, IsOver}
 use Rattle.llparse.specs.table.Nullable.{AreNullableMarks}
 use Rattle.closure.specs.Following.{is_marked}
@@ -35,8 +35,8 @@ pub record AreFirstFrom (qs : List Production) (marks : List Bool) (from : ℕ) 
   pub none : (s k : ℕ) → choice_at choices s ≡ None → from ≤ k → IsMarkedOf qs marks s k → ⊥
 
 -- two marked productions of one symbol, the lesser one first
-abbrev pub IsClash : List Production → List Bool → ℕ → ℕ → Type 0
-IsClash qs marks a b = (a < b) × ((s : ℕ) × IsMarkedOf qs marks s a × IsMarkedOf qs marks s b)
+abbrev pub AreConflicting : List Production → List Bool → ℕ → ℕ → Type 0
+AreConflicting qs marks a b = (a < b) × ((s : ℕ) × IsMarkedOf qs marks s a × IsMarkedOf qs marks s b)
 
 -- a pair comes no later than another: its first is less, or that is the same and its second is no greater
 abbrev pub IsNoLater : Pair → ℕ → ℕ → Type 0
@@ -44,8 +44,8 @@ IsNoLater p a b = (p.first < a) ⊎ ((p.first ≡ a) × (p.second ≤ b))
 
 -- The least pair of such productions, among those whose first is from a number on, if there is one.
 abbrev pub IsLeastFrom : List Production → List Bool → ℕ → Option Pair → Type 0
-IsLeastFrom qs marks from None = (a b : ℕ) → from ≤ a → IsClash qs marks a b → ⊥
-IsLeastFrom qs marks from (Some p) = (from ≤ p.first) × IsClash qs marks p.first p.second × ((a b : ℕ) → from ≤ a → IsClash qs marks a b → IsNoLater p a b)
+IsLeastFrom qs marks from None = (a b : ℕ) → from ≤ a → AreConflicting qs marks a b → ⊥
+IsLeastFrom qs marks from (Some p) = (from ≤ p.first) × AreConflicting qs marks p.first p.second × ((a b : ℕ) → from ≤ a → AreConflicting qs marks a b → IsNoLater p a b)
 
 -- A production is added before those after it: if it has this mark and this symbol, the choices from the next
 -- production on become those from it on.

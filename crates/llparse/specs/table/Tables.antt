@@ -34,11 +34,11 @@ FitsGrammar g t = (s : ℕ) (x : Ahead) (k : ℕ) → choice_of t s x ≡ Some k
 
 -- Conflicts are in order of their first productions, then of their second ones, then of their look-aheads: literals, then
 -- classes, then the end (this project's).
-abbrev pub ComesNoLater : Grammar → ℕ → ℕ → Ahead → ℕ → ℕ → Ahead → Type 0
-ComesNoLater g a b x c d y = (a < c) ⊎ ((a ≡ c) × ((b < d) ⊎ ((b ≡ d) × (index_of (length g.literals) x ≤ index_of (length g.literals) y))))
+abbrev pub IsNotAfter : Grammar → ℕ → ℕ → Ahead → ℕ → ℕ → Ahead → Type 0
+IsNotAfter g a b x c d y = (a < c) ⊎ ((a ≡ c) × ((b < d) ⊎ ((b ≡ d) × (index_of (length g.literals) x ≤ index_of (length g.literals) y))))
 
 -- the least conflict, with its symbol
 pub record IsLeastConflict (g : Grammar) (symbol first second : ℕ) (x : Ahead) : Type 0 where
   pub conflict : IsConflict g first second x
   pub of_symbol : conflict.one.left ≡ symbol
-  pub least : (a b : ℕ) (y : Ahead) → IsConflict g a b y → ComesNoLater g first second x a b y
+  pub least : (a b : ℕ) (y : Ahead) → IsConflict g a b y → IsNotAfter g first second x a b y

@@ -7,7 +7,7 @@ ghost use Rattle.llparse.specs.sentence.Turns.{Advances};
 
 use crate::ahead::Ahead;
 use crate::sentence::parse_fault::ParseFault;
-use crate::sentence::parser::{OpenNode, Parser, new_node, next_item, node_at};
+use crate::sentence::parser::{OpenProduction, Parser, new_node, next_item, node_at};
 use crate::sentence::tokens::expect;
 use crate::table::lookup::Tables;
 use crate::table::nodes::Sizes;
@@ -33,7 +33,7 @@ fn pass(parser: &mut Parser<'_>, terminal: Terminal) -> Result<(), ParseFault>
 
 /// Returns the next item of an open node, and moves the node past it. Returns `None` at the node's
 /// end, and if the grammar has no such production.
-fn next_if_any(grammar: &Grammar, node: &mut OpenNode) -> Option<Item>
+fn next_if_any(grammar: &Grammar, node: &mut OpenProduction) -> Option<Item>
     ensures { Advances (right_side grammar.now node.old.production) node.old result node.new }
 {
     if (node.production as usize) < grammar.productions().len() {
@@ -47,11 +47,11 @@ fn next_if_any(grammar: &Grammar, node: &mut OpenNode) -> Option<Item>
 /// if any. After a fault the parser is at the token that it can't take.
 fn go_on(
     parser: &mut Parser<'_>,
-    innermost: OpenNode,
+    innermost: OpenProduction,
     grammar: &Grammar,
     tables: &Tables,
     until: usize,
-) -> Result<Option<OpenNode>, ParseFault> {
+) -> Result<Option<OpenProduction>, ParseFault> {
     let mut node = innermost;
     loop {
         match next_if_any(grammar, &mut node) {
@@ -79,7 +79,7 @@ fn begin(
     grammar: &Grammar,
     tables: &Tables,
     until: usize,
-) -> Result<Option<OpenNode>, ParseFault> {
+) -> Result<Option<OpenProduction>, ParseFault> {
     let root = new_node(tables, &parser.tokens, grammar.start(), 0)?;
     go_on(parser, root, grammar, tables, until)
 }
@@ -99,7 +99,7 @@ fn takes(parser: &Parser<'_>, terminal: Terminal, ahead: Ahead) -> bool {
 /// Returns whether a parser with this innermost open node can accept the look-ahead next.
 fn leads_to(
     parser: &mut Parser<'_>,
-    innermost: OpenNode,
+    innermost: OpenProduction,
     grammar: &Grammar,
     tables: &Tables,
     ahead: Ahead,
@@ -131,13 +131,13 @@ fn leads_to(
 
 /// Returns whether a look-ahead can follow the tokens that a parser has taken, with its innermost
 /// open node, if any.
-fn could_stand(
+fn could_follow(
     alloc: Global,
     grammar: &Grammar,
     tables: &Tables,
     sentence: &Sentence<'_>,
     before: &Parser<'_>,
-    innermost: Option<OpenNode>,
+    innermost: Option<OpenProduction>,
     ahead: Ahead,
 ) -> Result<bool, NoMemory> {
     let mut trial = Parser::new(alloc, sentence);
@@ -161,7 +161,7 @@ fn all_that_could(
     tables: &Tables,
     sentence: &Sentence<'_>,
     before: &Parser<'_>,
-    innermost: Option<OpenNode>,
+    innermost: Option<OpenProduction>,
 ) -> Result<Vec<Ahead>, NoMemory>
     ensures { IfOk result (λ aheads. All
         (λ ahead. is_known (length grammar.now.literals) ahead ≡ true) aheads.items) }
@@ -170,7 +170,7 @@ fn all_that_could(
     let sizes = Sizes::of(grammar);
     for index in 0..sizes.aheads() {
         let ahead = sizes.ahead(index);
-        if could_stand(alloc, grammar, tables, sentence, before, innermost, ahead)? {
+        if could_follow(alloc, grammar, tables, sentence, before, innermost, ahead)? {
             expected.push(ahead)?;
         }
     }
@@ -179,7 +179,7 @@ fn all_that_could(
 
 /// The place where `parse` rejects tokens with P1.
 #[derive(Debug, Drop)]
-pub struct Stuck<'t> {
+pub struct StuckPlace<'t> {
     /// The number of tokens before the one that can't be taken; the number of all tokens, if the
     /// sentence can't end there.
     pub index: usize,
@@ -211,13 +211,13 @@ fn stopped<'t>(
 /// Runs a parser until it has taken `count` tokens, without looking at the next one. Returns it and
 /// its innermost open node; `None` before the first token, since the next one chooses the root's
 /// production.
-fn parser_behind<'t>(
+fn parser_after<'t>(
     alloc: Global,
     grammar: &Grammar,
     tables: &Tables,
     sentence: &'t Sentence<'_>,
     count: usize,
-) -> Result<(Parser<'t>, Option<OpenNode>), ParseFault> {
+) -> Result<(Parser<'t>, Option<OpenProduction>), ParseFault> {
     let mut parser = Parser::new(alloc, sentence);
     if count == 0 {
         return Ok((parser, None));
@@ -239,7 +239,7 @@ pub fn expected_at<'t>(
     grammar: &Grammar,
     tables: &Tables,
     sentence: &'t Sentence<'_>,
-) -> Result<Stuck<'t>, NoMemory>
+) -> Result<StuckPlace<'t>, NoMemory>
     ensures known { IfOk result (λ stuck. All
         (λ ahead. is_known (length grammar.now.literals) ahead ≡ true) stuck.expected.items) }
 {
@@ -248,24 +248,24 @@ pub fn expected_at<'t>(
     let index = parser.tokens.taken();
     let found = parser.tokens.ahead();
     if !refused {
-        return Ok(Stuck {
+        return Ok(StuckPlace {
             index,
             found,
             expected,
         });
     }
-    let (before, innermost) = match parser_behind(alloc, grammar, tables, sentence, index) {
-        Ok(behind) => behind,
+    let (before, innermost) = match parser_after(alloc, grammar, tables, sentence, index) {
+        Ok(following) => following,
         Err(ParseFault::NoMemory) => return Err(NoMemory::NoMemory),
         Err(_) => {
-            return Ok(Stuck {
+            return Ok(StuckPlace {
                 index,
                 found,
                 expected,
             });
         }
     };
-    Ok(Stuck {
+    Ok(StuckPlace {
         index,
         found,
         expected: all_that_could(alloc, grammar, tables, sentence, &before, innermost)?,

@@ -5,24 +5,24 @@ ghost use Rattle.std.specs.Prelude.{option_map, IfErr, IfOk, IfSome, IsErrOf, On
 ghost use Rattle.ag_value.specs.Well.{IsWell};
 ghost use Rattle.ag_grammar.specs.declared.grammar.Item.TheVariants as item;
 ghost use Rattle.ag_grammar.specs.grammars.AttributeGrammar.{Grammar as AGrammar};
-ghost use Rattle.ag_grammar.specs.grammars.Tree.{IsTokenText, most_depth, most_nodes};
-ghost use Rattle.ag_scan.specs.Handed.{handed, offset_at};
-ghost use Rattle.treefile.specs.ways.Beginning.{AddsFrames};
+ghost use Rattle.ag_grammar.specs.grammars.Tree.{IsTokenText, max_depth, max_nodes};
+ghost use Rattle.ag_scan.specs.Supplied.{supplied, offset_at};
+ghost use Rattle.treefile.specs.framing.Beginning.{AddsFrames};
 ghost use Rattle.treefile.specs.devices.Device.{WhenHonest};
 ghost use Rattle.treefile.specs.records.TreeFile.{version_two};
 ghost use Rattle.llparse.specs.Ahead.{ahead_of};
 ghost use Rattle.llparse.specs.sentence.Parsing.{leaf_frame, node_frame, right_side};
-ghost use Rattle.llparse.specs.sentence.Refusals.{BreaksWriter, IsWant};
+ghost use Rattle.llparse.specs.sentence.Refusals.{BreaksWriter, IsResourceFault};
 ghost use Rattle.llparse.specs.sentence.Sentences.{words_of};
 ghost use Rattle.llparse.specs.table.Tables.{choice_of};
-ghost use Rattle.llparse.specs.sentence.Turns.{left_of, Asks, Faces, IsFull, Leads, Advances, IsBetween};
+ghost use Rattle.llparse.specs.sentence.Turns.{left_of, IsAtSymbol, Faces, IsFull, Leads, Advances, IsBetween};
 ghost use Rattle.llparse.specs.sentence.Turns.{HasTables, HasTokens, Refuses, Writes};
 
 use crate::ahead::Ahead;
 use crate::sentence::parse_fault::ParseFault;
 use crate::sentence::tokens::{expect, next_of, unexpected};
 use crate::table::lookup::Tables;
-use ag_grammar::limits::{MOST_DEPTH, MOST_NODES};
+use ag_grammar::limits::{MAX_DEPTH, MAX_NODES};
 use ag_grammar::{Grammar, Item, Terminal};
 use ag_scan::{Sentence, Tokens};
 use ag_value::{Text, Value};
@@ -33,7 +33,7 @@ use treefile::{Device, Kind, Writer};
 /// number of token texts that the parser kept when the node was opened. The texts of its own tokens
 /// come after those.
 #[derive(Clone, Copy, Debug, PartialEq, Eq)]
-pub(crate) struct OpenNode {
+pub(crate) struct OpenProduction {
     pub(crate) production: u16,
     pub(crate) passed: u16,
     pub(crate) base: usize,
@@ -42,7 +42,7 @@ pub(crate) struct OpenNode {
 /// Returns the next item of an open node, and moves the node past it. Returns `None` at the node's
 /// end.
 #[inline(always)]
-pub(crate) fn next_item(grammar: &Grammar, node: &mut OpenNode) -> Option<Item>
+pub(crate) fn next_item(grammar: &Grammar, node: &mut OpenProduction) -> Option<Item>
     requires { node.old.production < length grammar.now.productions }
     ensures { Advances (right_side grammar.now node.old.production) node.old result node.new }
 {
@@ -59,14 +59,19 @@ pub(crate) fn next_item(grammar: &Grammar, node: &mut OpenNode) -> Option<Item>
 /// Opens a node of a symbol at a look-ahead, at the beginning of its right side. Its texts come
 /// after the first `base`. Returns `None` if no production is predicted.
 #[inline(always)]
-pub(crate) fn node_at(tables: &Tables, symbol: u16, ahead: Ahead, base: usize) -> Option<OpenNode>
+pub(crate) fn node_at(
+    tables: &Tables,
+    symbol: u16,
+    ahead: Ahead,
+    base: usize,
+) -> Option<OpenProduction>
     ensures begins { IfSome result (λ node. node.passed ≡ 0) }
     ensures base { IfSome result (λ node. node.base ≡ base) }
     ensures chosen { choice_of tables.now symbol ahead
         ≡ option_map (λ node. node.production) result }
 {
     match tables.choice(symbol, ahead) {
-        Some(production) => Some(OpenNode {
+        Some(production) => Some(OpenProduction {
             production,
             passed: 0,
             base,
@@ -83,7 +88,7 @@ pub(crate) fn new_node(
     tokens: &Tokens<'_>,
     symbol: u16,
     base: usize,
-) -> Result<OpenNode, ParseFault>
+) -> Result<OpenProduction, ParseFault>
     ensures begins { IfOk result (λ node. node.passed ≡ 0) }
     ensures base { IfOk result (λ node. node.base ≡ base) }
     ensures chosen { IfOk result (λ node. choice_of tables.now symbol
@@ -110,7 +115,7 @@ fn put_leaf<D: Device>(
     writer: &mut Writer,
 ) -> Result<(), ParseFault>
     requires text { IsTokenText lex.now }
-    requires room { writer.old.written < most_nodes }
+    requires room { writer.old.written < max_nodes }
     requires fine { writer.old.is_broken ≡ false }
     ensures frame { OnOk result (WhenHonest (D.is_honest device.new)
         (D.content device.new ≡ D.content device.old ++ leaf_frame class lex.now)) }
@@ -120,7 +125,7 @@ fn put_leaf<D: Device>(
         (writer.new ≡ record writer.old { written = writer.old.written + 1 }) }
     ensures adds { WhenHonest (D.is_honest device.new)
         (AddsFrames (D.content device.old) (D.content device.new) result) }
-    ensures refuses { IfErr result IsWant }
+    ensures refuses { IfErr result IsResourceFault }
     ensures device { BreaksWriter D.is_honest D.failures device.old device.new
         writer.new.is_broken (IsErrOf result ParseFault.Device) }
 {
@@ -139,9 +144,9 @@ pub(crate) fn put_node<D: Device>(
     device: &mut D,
     writer: &mut Writer,
 ) -> Result<(), ParseFault>
-    requires few { length texts.now ≤ version_two.most_values }
+    requires few { length texts.now ≤ version_two.max_values }
     requires well { All IsWell texts.now }
-    requires room { writer.old.written < most_nodes }
+    requires room { writer.old.written < max_nodes }
     requires fine { writer.old.is_broken ≡ false }
     ensures frame { OnOk result (WhenHonest (D.is_honest device.new)
         (D.content device.new ≡ D.content device.old ++ node_frame production texts.now)) }
@@ -149,7 +154,7 @@ pub(crate) fn put_node<D: Device>(
         (writer.new ≡ record writer.old { written = writer.old.written + 1 }) }
     ensures adds { WhenHonest (D.is_honest device.new)
         (AddsFrames (D.content device.old) (D.content device.new) result) }
-    ensures refuses { IfErr result IsWant }
+    ensures refuses { IfErr result IsResourceFault }
     ensures device { BreaksWriter D.is_honest D.failures device.old device.new
         writer.new.is_broken (IsErrOf result ParseFault.Device) }
 {
@@ -168,7 +173,7 @@ pub(crate) fn put_node<D: Device>(
 /// sixteen bytes for a waiting node, and memory for the texts.
 #[derive(Drop)]
 pub(crate) struct Parser<'t> {
-    pub(crate) waiting: Vec<OpenNode>,
+    pub(crate) waiting: Vec<OpenProduction>,
     pub(crate) texts: Vec<Value>,
     pub(crate) tokens: Tokens<'t>,
     pub(crate) count: u32,
@@ -179,7 +184,7 @@ impl<'t> Parser<'t> {
     pub(crate) fn new(alloc: Global, sentence: &'t Sentence<'_>) -> Parser<'t>
         ensures waiting { result.waiting.items ≡ [] }
         ensures texts { result.texts.items ≡ [] }
-        ensures tokens { result.tokens ≡ handed sentence.now 0 }
+        ensures tokens { result.tokens ≡ supplied sentence.now 0 }
         ensures count { result.count ≡ 1 }
     {
         Parser {
@@ -194,14 +199,14 @@ impl<'t> Parser<'t> {
     /// one. Fails with P2 or P3.
     #[inline(always)]
     pub(crate) fn has_room(&self) -> Result<(), ParseFault>
-        ensures room { OnOk result ((length self.now.waiting.items + 1 < most_depth)
-            × (self.now.count < most_nodes)) }
+        ensures room { OnOk result ((length self.now.waiting.items + 1 < max_depth)
+            × (self.now.count < max_nodes)) }
         ensures full { IfErr result (IsFull self.now) }
     {
-        if self.waiting.len() + 1 >= MOST_DEPTH {
+        if self.waiting.len() + 1 >= MAX_DEPTH {
             return Err(ParseFault::TooDeep);
         }
-        if self.count >= MOST_NODES {
+        if self.count >= MAX_NODES {
             return Err(ParseFault::TooManyNodes);
         }
         Ok(())
@@ -222,13 +227,13 @@ impl<'t> Parser<'t> {
     pub(crate) fn open(
         &mut self,
         tables: &Tables,
-        outer: OpenNode,
+        outer: OpenProduction,
         symbol: u16,
-    ) -> Result<OpenNode, ParseFault>
+    ) -> Result<OpenProduction, ParseFault>
         ensures opens { IfOk result (λ node. Leads (HasTables tables.now) self.old.tokens.list
-            (λ k. Asks k symbol outer self.old) (λ k. IsBetween k node self.new)) }
+            (λ k. IsAtSymbol k symbol outer self.old) (λ k. IsBetween k node self.new)) }
         ensures refuses { IfErr result (Refuses (HasTables tables.now) self.old.tokens.list
-            (λ k. Asks k symbol outer self.old)) }
+            (λ k. IsAtSymbol k symbol outer self.old)) }
         ensures tokens { self.new.tokens ≡ self.old.tokens }
         ensures steps { IfOk result (λ node. (g : AGrammar)
             → left_of g node self.new < left_of g outer self.old) }
@@ -261,13 +266,13 @@ impl<'t> Parser<'t> {
             ≡ self.old.count }
         requires fine { writer.old.is_broken ≡ false }
         // for each hypothesis about the device that makes it honest
-        ensures takes { OnOk result ((node : OpenNode) (honest : Bool)
+        ensures takes { OnOk result ((node : OpenProduction) (honest : Bool)
             → (honest ≡ true → D.is_honest device.new ≡ true)
             → Writes (HasTokens self.old.tokens.list) self.old.tokens.list
             honest (D.content device.old) (D.content device.new)
             (λ k. Faces k (item.Terminal terminal) node self.old)
             (λ k. IsBetween k node self.new)) }
-        ensures refuses { (node : OpenNode)
+        ensures refuses { (node : OpenProduction)
             → IfErr result (Refuses (HasTokens self.old.tokens.list) self.old.tokens.list
             (λ k. Faces k (item.Terminal terminal) node self.old)) }
         ensures list { OnOk result (self.new.tokens.list ≡ self.old.tokens.list) }

@@ -2,15 +2,15 @@
 //! pass, with one token of look-ahead and a stack of its own.
 ghost use Rattle.std.specs.Prelude.{◌≡◌, ◌+◌, ℕ, false, Err, IfErr, IfOk, IsErrOf, OnOk};
 ghost use Rattle.ag_grammar.specs.grammars.Tree.{node_count, IsWithinLimits, Tree};
-ghost use Rattle.ag_grammar.specs.grammars.Tree.{most_depth, most_nodes};
-ghost use Rattle.ag_scan.specs.Handed.{offset_at};
+ghost use Rattle.ag_grammar.specs.grammars.Tree.{max_depth, max_nodes};
+ghost use Rattle.ag_scan.specs.Supplied.{offset_at};
 ghost use Rattle.ag_scan.specs.Tokens.{FitAll};
 ghost use Rattle.ag_scan.specs.Words.{vocabulary_of};
 ghost use Rattle.treefile.specs.records.FirstFile.{IsFirstFile};
-ghost use Rattle.treefile.specs.ways.Beginning.{AddsFrames, BeginsFile};
+ghost use Rattle.treefile.specs.framing.Beginning.{AddsFrames, BeginsFile};
 ghost use Rattle.treefile.specs.devices.Device.{WhenHonest};
 ghost use Rattle.treefile.specs.records.TreeFile.{header, version_two};
-ghost use Rattle.treefile.specs.ways.Writing.{Progress};
+ghost use Rattle.treefile.specs.framing.Writing.{Progress};
 ghost use Rattle.llparse.specs.sentence.Parsing.{task_of, IsParsed, IsRefused};
 ghost use Rattle.llparse.specs.sentence.Refusals.{BreaksWriter};
 ghost use Rattle.llparse.specs.sentence.Sentences.{words_of, IsTreeWith};
@@ -111,7 +111,7 @@ pub fn parse<D: Device>(
     ensures one { (t u : Tree) → IsTreeWith grammar.now (words_of sentence.now) t
         → IsTreeWith grammar.now (words_of sentence.now) u → t ≡ u }
     ensures limits { (t : Tree) → IsTreeWith grammar.now (words_of sentence.now) t
-        → OnOk result (IsWithinLimits most_depth most_nodes t) }
+        → OnOk result (IsWithinLimits max_depth max_nodes t) }
     ensures count { (t : Tree) → IsTreeWith grammar.now (words_of sentence.now) t
         → IfOk result (λ count. count ≡ node_count t) }
     ensures file { (t : Tree) → IsTreeWith grammar.now (words_of sentence.now) t
@@ -126,9 +126,9 @@ pub fn parse<D: Device>(
     ensures none { (at : ℕ) (t : Tree) → result ≡ Err (ParseFault.Unexpected at)
         → IsTreeWith grammar.now (words_of sentence.now) t → ⊥ }
     ensures deep { IsErrOf result ParseFault.TooDeep
-        → LeavesOnlyDeeper most_depth grammar.now (words_of sentence.now) }
+        → LeavesOnlyDeeper max_depth grammar.now (words_of sentence.now) }
     ensures large { IsErrOf result ParseFault.TooManyNodes
-        → LeavesOnlyLarger most_nodes grammar.now (words_of sentence.now) }
+        → LeavesOnlyLarger max_nodes grammar.now (words_of sentence.now) }
 
     // Err: the device has a prefix of a file of pass 0, possibly only its header.
     ensures left { IfErr result (λ _. WhenHonest (D.is_honest device.new)

@@ -1,7 +1,7 @@
 //! The next token of a sentence.
 ghost use Rattle.std.specs.Prelude.{◌≡◌, ◌≢◌, ◌∷◌, ◌+◌, ◌<◌, ◌↔◌, drop, length, IfErr, IfOk};
 ghost use Rattle.std.specs.Prelude.{IsTrue};
-ghost use Rattle.ag_scan.specs.Handed.{offset_at};
+ghost use Rattle.ag_scan.specs.Supplied.{offset_at};
 ghost use Rattle.ag_scan.specs.Tokens.{FitAll, IsTokenOf};
 ghost use Rattle.ag_scan.specs.Words.{Vocabulary};
 ghost use Rattle.llparse.specs.Ahead.{ahead_of};

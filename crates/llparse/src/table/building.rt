@@ -5,7 +5,7 @@ ghost use Rattle.llparse.specs.table.Tables.{FitsGrammar, IsLeastConflict};
 ghost use Rattle.llparse.specs.declared.ahead.Ahead.{Ahead as AnAhead};
 
 use crate::table::fault::TableFault;
-use crate::table::filling::fill;
+use crate::table::filling::columns_of;
 use crate::table::lookup::Tables;
 use crate::table::nodes::Sizes;
 use ag_grammar::Grammar;
@@ -23,7 +23,7 @@ pub fn tables(alloc: Global, grammar: &Grammar) -> Result<Tables, TableFault>
         ≡ Err (TableFault.Conflict symbol first second x)
         → IsLeastConflict grammar.now symbol first second x }
 {
-    let columns = fill(alloc, grammar)?;
+    let columns = columns_of(alloc, grammar)?;
     if let Some(least) = columns.conflict {
         return Err(TableFault::Conflict {
             symbol: grammar.productions()[least.first as usize].left,

@@ -3,7 +3,7 @@
 ghost use Rattle.std.specs.Prelude.{◌≡◌, ◌≤◌, ◌<◌, ℕ, true, length, slice_get};
 ghost use Rattle.std.specs.Prelude.{Some, IfOk};
 ghost use Rattle.ag_grammar.specs.declared.grammar.Production.{Production as AProduction};
-ghost use Rattle.ag_grammar.specs.grammars.Accepted.{most_productions};
+ghost use Rattle.ag_grammar.specs.grammars.Accepted.{max_productions};
 ghost use Rattle.llparse.specs.table.Predicted.{AreFirstFrom, IsLeastFrom, PutsFirst, PutsLeast};
 
 use ag_grammar::Production;
@@ -26,7 +26,7 @@ pub(crate) struct Column {
 
 /// Returns the least pair, if `production` comes before all others, and `chosen` was the choice of
 /// its symbol before.
-fn clash(production: u16, chosen: Option<u16>, conflict: Option<Pair>) -> Option<Pair>
+fn conflict_with(production: u16, chosen: Option<u16>, conflict: Option<Pair>) -> Option<Pair>
     ensures some { (r : ℕ) → chosen ≡ Some r → result ≡ Some
         (record { first = production; second = r }) }
     ensures none { chosen ≡ None → result ≡ conflict }
@@ -50,12 +50,12 @@ impl Column {
         ensures least { PutsLeast symbol production true self.old.choices.items
             self.old.conflict self.new.conflict }
     {
-        self.conflict = clash(production, self.choices[symbol], self.conflict);
+        self.conflict = conflict_with(production, self.choices[symbol], self.conflict);
         self.choices[symbol] = Some(production);
     }
 
     /// Chooses a production if it is marked.
-    fn put_if(&mut self, symbol: usize, production: u16, wanted: bool)
+    fn choose_if(&mut self, symbol: usize, production: u16, wanted: bool)
         requires symbol { symbol < length self.old.choices.items }
         ensures len { length self.new.choices.items ≡ length self.old.choices.items }
         ensures first { PutsFirst symbol production wanted self.old.choices.items
@@ -76,7 +76,7 @@ pub(crate) fn choose(
     marks: &[bool],
     symbols: usize,
 ) -> Result<Column, NoMemory>
-    requires few { length productions.now ≤ most_productions }
+    requires few { length productions.now ≤ max_productions }
     requires len { length marks.now ≡ length productions.now }
     requires below { (p : ℕ) (q : AProduction) → slice_get productions.now p ≡ Some q
         → q.left < symbols }
@@ -91,7 +91,7 @@ pub(crate) fn choose(
         conflict: None,
     };
     for at in (0..productions.len()).rev() {
-        column.put_if(productions[at].left as usize, at as u16, marks[at]);
+        column.choose_if(productions[at].left as usize, at as u16, marks[at]);
     }
     Ok(column)
 }

@@ -1,6 +1,6 @@
 //! The columns of tables, one for each look-ahead, and the least conflict in them.
 ghost use Rattle.std.specs.Prelude.{◌+◌, ◌<◌, length, IfOk};
-ghost use Rattle.llparse.specs.table.Columns.{AreColumns, IsColumn, IsLeastAt, IsLeastBelow, IsSooner};
+ghost use Rattle.llparse.specs.table.Columns.{AreColumns, IsColumn, IsLeastAt, IsLeastBelow, IsLesserConflict};
 ghost use Rattle.llparse.specs.table.Edges.{IsKnownAhead};
 ghost use Rattle.llparse.specs.table.Predicted.{AreSets};
 ghost use Rattle.closure.specs.Waiting.{rows};
@@ -47,8 +47,8 @@ fn column_of(
 }
 
 /// Returns the lesser of a conflict and of a pair that conflicts at a later look-ahead.
-fn sooner(least: Option<Conflict>, pair: Option<Pair>, ahead: Ahead) -> Option<Conflict>
-    ensures { IsSooner least pair ahead result }
+fn lesser_conflict(least: Option<Conflict>, pair: Option<Pair>, ahead: Ahead) -> Option<Conflict>
+    ensures { IsLesserConflict least pair ahead result }
 {
     let Some(pair) = pair else {
         return least;
@@ -71,7 +71,7 @@ fn sooner(least: Option<Conflict>, pair: Option<Pair>, ahead: Ahead) -> Option<C
 }
 
 /// Returns the columns of a grammar.
-pub(crate) fn fill(alloc: Global, grammar: &Grammar) -> Result<Columns, NoMemory>
+pub(crate) fn columns_of(alloc: Global, grammar: &Grammar) -> Result<Columns, NoMemory>
     ensures columns { IfOk result (λ columns. AreColumns grammar.now
         (length grammar.now.literals + 4) (rows columns.choices.items)) }
     ensures least { IfOk result (λ columns. IsLeastBelow grammar.now
@@ -84,7 +84,7 @@ pub(crate) fn fill(alloc: Global, grammar: &Grammar) -> Result<Columns, NoMemory
     for index in 0..sizes.aheads() {
         let ahead = sizes.ahead(index);
         let column = column_of(alloc, grammar, &sets, ahead)?;
-        conflict = sooner(conflict, column.conflict, ahead);
+        conflict = lesser_conflict(conflict, column.conflict, ahead);
         choices.push(column.choices)?;
     }
     Ok(Columns { choices, conflict })

@@ -3,7 +3,7 @@
 ghost use Rattle.std.specs.Prelude.{◌≡◌, ◌≤◌, length, take, IfOk, OnOk};
 ghost use Rattle.closure.specs.Following.{is_marked};
 ghost use Rattle.ag_grammar.specs.declared.grammar.Item.{Item as AnItem};
-ghost use Rattle.llparse.specs.table.Edges.{front, AddsEdges, AreFirst, AreFirstEdges};
+ghost use Rattle.llparse.specs.table.Edges.{prefix, AddsEdges, AreFirst, AreFirstEdges};
 ghost use Rattle.llparse.specs.table.Edges.{IsEdge, IsKnownAhead, IsOver, OfSome};
 ghost use Rattle.llparse.specs.table.Nullable.{AreNullableMarks};
 ghost use Rattle.llparse.specs.table.Nodes.{node_by};
@@ -17,7 +17,7 @@ use closure::{Clauses, Edge};
 use std::alloc::Global;
 
 /// Adds an edge.
-pub(crate) fn note(edges: &mut Vec<Edge>, from: usize, to: usize) -> Result<(), NoMemory>
+pub(crate) fn add_edge(edges: &mut Vec<Edge>, from: usize, to: usize) -> Result<(), NoMemory>
     ensures { OnOk result (AddsEdges (IsEdge from to) edges.old.items edges.new.items) }
 {
     edges.push(Edge { from, to })?;
@@ -25,9 +25,9 @@ pub(crate) fn note(edges: &mut Vec<Edge>, from: usize, to: usize) -> Result<(), 
 }
 
 /// Returns the number of items up to the first that is not nullable, including that one.
-pub(crate) fn front_len(nullable: &[bool], items: &[Item]) -> usize
+pub(crate) fn nullable_prefix_len(nullable: &[bool], items: &[Item]) -> usize
     ensures within { result ≤ length items.now }
-    ensures front { take result items.now ≡ front (is_marked nullable.now) items.now }
+    ensures prefix { take result items.now ≡ prefix (is_marked nullable.now) items.now }
 {
     for at in 0..items.len() {
         if !is_empty(nullable, items[at]) {
@@ -38,7 +38,7 @@ pub(crate) fn front_len(nullable: &[bool], items: &[Item]) -> usize
 }
 
 /// Adds an edge from each of some items to a left side.
-pub(crate) fn note_front(
+pub(crate) fn add_prefix_edges(
     edges: &mut Vec<Edge>,
     sizes: Sizes,
     left: usize,
@@ -48,7 +48,7 @@ pub(crate) fn note_front(
         items.now) edges.old.items edges.new.items) }
 {
     for item in items {
-        note(edges, sizes.node(*item), left)?;
+        add_edge(edges, sizes.node(*item), left)?;
     }
     Ok(())
 }

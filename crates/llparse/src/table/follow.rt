@@ -2,15 +2,15 @@
 //! come next after an item, and the nodes that are reached.
 ghost use Rattle.std.specs.Prelude.{◌≡◌, ◌<◌, ◌↔◌, ◌&&◌, ◌||◌, true, false, length};
 ghost use Rattle.std.specs.Prelude.{Contains, IfOk, OnOk};
-ghost use Rattle.llparse.specs.table.Comes.{AreFollow, AreFollowed, AreFollowEdges, IsLastEdge};
-ghost use Rattle.llparse.specs.table.Comes.{IsNextNode};
+ghost use Rattle.llparse.specs.table.CanStart.{AreFollow, AreFollowed, AreFollowEdges, IsLastEdge};
+ghost use Rattle.llparse.specs.table.CanStart.{IsNextNode};
 ghost use Rattle.llparse.specs.table.Edges.{Adds, AddsEdges, AreFirst, IsEdge, IsOver};
 ghost use Rattle.llparse.specs.table.Nullable.{is_empty, AreNullableMarks};
 ghost use Rattle.closure.specs.Following.{is_marked};
 ghost use Rattle.llparse.specs.declared.ahead.Ahead.TheVariants as look;
 
 use crate::ahead::Ahead;
-use crate::table::first::note;
+use crate::table::first::add_edge;
 use crate::table::nodes::Sizes;
 use crate::table::nullable::is_empty;
 use ag_grammar::{Grammar, Item};
@@ -27,25 +27,25 @@ pub(crate) fn has(marks: &[bool], at: usize) -> bool
 
 /// Returns whether a look-ahead comes next: an item begins with it, or is nullable and the
 /// look-ahead comes next after it.
-pub(crate) fn comes(begins: bool, empty: bool, behind: bool) -> bool
-    ensures { result ≡ (begins || (empty && behind)) }
+pub(crate) fn can_start(begins: bool, empty: bool, following: bool) -> bool
+    ensures { result ≡ (begins || (empty && following)) }
 {
-    begins || (empty && behind)
+    begins || (empty && following)
 }
 
 /// Adds an edge if `wanted`.
-fn note_if(edges: &mut Vec<Edge>, from: usize, to: usize, wanted: bool) -> Result<(), NoMemory>
+fn add_edge_if(edges: &mut Vec<Edge>, from: usize, to: usize, wanted: bool) -> Result<(), NoMemory>
     ensures { OnOk result (AddsEdges (λ e. (wanted
         ≡ true) × IsEdge from to e) edges.old.items edges.new.items) }
 {
     if wanted {
-        note(edges, from, to)?;
+        add_edge(edges, from, to)?;
     }
     Ok(())
 }
 
 /// Adds an edge from a left side to each item after which all items are nullable.
-pub(crate) fn note_last(
+pub(crate) fn add_follow_edges(
     edges: &mut Vec<Edge>,
     sizes: Sizes,
     nullable: &[bool],
@@ -57,8 +57,8 @@ pub(crate) fn note_last(
 {
     let mut empty = true;
     for at in (0..items.len()).rev() {
-        note_if(edges, left, sizes.node(items[at]), empty)?;
-        empty = comes(false, is_empty(nullable, items[at]), empty);
+        add_edge_if(edges, left, sizes.node(items[at]), empty)?;
+        empty = can_start(false, is_empty(nullable, items[at]), empty);
     }
     Ok(())
 }
@@ -89,7 +89,7 @@ fn note_next(
     for at in (0..items.len()).rev() {
         let node = sizes.node(items[at]);
         note_seed(seeds, node, next)?;
-        next = comes(has(begins, node), is_empty(nullable, items[at]), next);
+        next = can_start(has(begins, node), is_empty(nullable, items[at]), next);
     }
     Ok(())
 }

@@ -1,12 +1,12 @@
 //! The productions that predict a look-ahead.
 ghost use Rattle.std.specs.Prelude.{◌≡◌, length, IfOk};
-ghost use Rattle.llparse.specs.table.Comes.{next_by, AreFollowEdges};
+ghost use Rattle.llparse.specs.table.CanStart.{next_by, AreFollowEdges};
 ghost use Rattle.llparse.specs.table.Edges.{AreFirstEdges, IsKnownAhead};
 ghost use Rattle.llparse.specs.table.Predicted.{ArePredicted, AreSets};
 
 use crate::ahead::Ahead;
-use crate::table::first::{first, front_len, note_front};
-use crate::table::follow::{follow, has, note_last};
+use crate::table::first::{add_prefix_edges, first, nullable_prefix_len};
+use crate::table::follow::{add_follow_edges, follow, has};
 use crate::table::nodes::Sizes;
 use crate::table::nullable::{is_empty, nullable};
 use ag_grammar::{Grammar, Item};
@@ -15,9 +15,15 @@ use closure::{Clauses, Edge};
 use std::alloc::Global;
 
 /// Returns whether a look-ahead comes next along items, or after them if all are nullable
-/// (`behind`).
-fn is_next(sizes: Sizes, nullable: &[bool], begins: &[bool], items: &[Item], behind: bool) -> bool
-    ensures { result ≡ next_by sizes begins.now nullable.now behind items.now }
+/// (`following`).
+fn is_next(
+    sizes: Sizes,
+    nullable: &[bool],
+    begins: &[bool],
+    items: &[Item],
+    following: bool,
+) -> bool
+    ensures { result ≡ next_by sizes begins.now nullable.now following items.now }
 {
     for item in items {
         if has(begins, sizes.node(*item)) {
@@ -27,7 +33,7 @@ fn is_next(sizes: Sizes, nullable: &[bool], begins: &[bool], items: &[Item], beh
             return false;
         }
     }
-    behind
+    following
 }
 
 /// Returns the edges for FIRST, from the first items of right sides to the left sides, and those
@@ -48,9 +54,9 @@ fn edges_of(
         let production = &productions[at];
         let left = production.left as usize;
         let items = production.items.as_slice();
-        let front = front_len(nullable, items);
-        note_front(&mut first, sizes, left, &items[..front])?;
-        note_last(&mut follow, sizes, nullable, left, items)?;
+        let prefix = nullable_prefix_len(nullable, items);
+        add_prefix_edges(&mut first, sizes, left, &items[..prefix])?;
+        add_follow_edges(&mut follow, sizes, nullable, left, items)?;
     }
     Ok((first, follow))
 }
@@ -103,9 +109,9 @@ impl Sets {
         let mut marks = Vec::new(alloc);
         for at in 0..productions.len() {
             let production = &productions[at];
-            let behind = has(follows, production.left as usize);
+            let following = has(follows, production.left as usize);
             let items = production.items.as_slice();
-            marks.push(is_next(sizes, nullable, begins, items, behind))?;
+            marks.push(is_next(sizes, nullable, begins, items, following))?;
         }
         Ok(marks)
     }

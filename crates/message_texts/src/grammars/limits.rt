@@ -3,8 +3,8 @@
 use crate::display::Grouped;
 use crate::parts::Parts;
 use ag_grammar::limits::{
-    MOST_ATTRIBUTES, MOST_ITEMS, MOST_LITERAL_BYTES, MOST_LITERALS, MOST_PRODUCTIONS, MOST_STORED,
-    MOST_SYMBOLS,
+    MAX_ATTRIBUTES, MAX_ITEMS, MAX_LITERAL_BYTES, MAX_LITERALS, MAX_PRODUCTIONS, MAX_STORED,
+    MAX_SYMBOLS,
 };
 use ag_grammar::{RawGrammar, RawItem, RawProduction, RawSymbol};
 use normalform::LimitKind;
@@ -54,13 +54,13 @@ fn write_large(out: &mut String, raw: &RawGrammar, kind: LimitKind) -> Result<()
 /// Writes the limit.
 fn write_excess(out: &mut String, kind: LimitKind) -> Result<(), AllocError> {
     let (limit, unit) = match kind {
-        LimitKind::Symbols => (MOST_SYMBOLS, " symbols"),
-        LimitKind::Attributes => (MOST_ATTRIBUTES, " attributes"),
-        LimitKind::Productions => (MOST_PRODUCTIONS, " productions"),
-        LimitKind::Items => (MOST_ITEMS, " items on its right side"),
-        LimitKind::Stored => (MOST_STORED, " symbols and classes on its right side"),
-        LimitKind::LiteralLength => (MOST_LITERAL_BYTES, " bytes"),
-        LimitKind::Literals => (MOST_LITERALS, " different literals"),
+        LimitKind::Symbols => (MAX_SYMBOLS, " symbols"),
+        LimitKind::Attributes => (MAX_ATTRIBUTES, " attributes"),
+        LimitKind::Productions => (MAX_PRODUCTIONS, " productions"),
+        LimitKind::Items => (MAX_ITEMS, " items on its right side"),
+        LimitKind::Stored => (MAX_STORED, " symbols and classes on its right side"),
+        LimitKind::LiteralLength => (MAX_LITERAL_BYTES, " bytes"),
+        LimitKind::Literals => (MAX_LITERALS, " different literals"),
     };
     let what = match kind {
         LimitKind::LiteralLength => " has a literal of more than ",
@@ -83,7 +83,7 @@ fn hint_of(kind: LimitKind) -> &'static str {
 fn large_symbol(raw: &RawGrammar) -> Option<&RawSymbol> {
     for symbol in raw.symbols.as_slice() {
         let syn = symbol.syn.as_slice().len();
-        if syn.saturating_add(symbol.inh.as_slice().len()) > MOST_ATTRIBUTES {
+        if syn.saturating_add(symbol.inh.as_slice().len()) > MAX_ATTRIBUTES {
             return Some(symbol);
         }
     }
@@ -94,8 +94,8 @@ fn large_symbol(raw: &RawGrammar) -> Option<&RawSymbol> {
 fn large_production(raw: &RawGrammar, kind: LimitKind) -> Option<&RawProduction> {
     for production in raw.productions.as_slice() {
         let exceeds = match kind {
-            LimitKind::Items => production.items.as_slice().len() > MOST_ITEMS,
-            LimitKind::Stored => production.last_place() > MOST_STORED,
+            LimitKind::Items => production.items.as_slice().len() > MAX_ITEMS,
+            LimitKind::Stored => production.last_place() > MAX_STORED,
             LimitKind::LiteralLength => has_long_literal(production),
             _ => false,
         };
@@ -110,7 +110,7 @@ fn large_production(raw: &RawGrammar, kind: LimitKind) -> Option<&RawProduction>
 fn has_long_literal(production: &RawProduction) -> bool {
     for item in production.items.as_slice() {
         match item {
-            RawItem::Literal(text) if text.as_str().len() > MOST_LITERAL_BYTES => return true,
+            RawItem::Literal(text) if text.as_str().len() > MAX_LITERAL_BYTES => return true,
             _ => {}
         }
     }

@@ -1,13 +1,13 @@
 //! Texts that read as no grammar.
 
-use crate::display::{Found, begins_with, token_fault};
+use crate::display::{FoundText, begins_with, token_fault};
 use crate::expected::write_expected;
 use crate::expressions::{describe_fault, offset_in};
 use crate::grammar_text::GrammarText;
 use crate::hints::Context;
 use crate::parts::{Location, Parts};
-use ag_expr::{Expected as Part, ExprFault};
-use ag_grammar::limits::MOST_TEXT_BYTES;
+use ag_expr::{ExpectedPart as Part, ExprFault};
+use ag_grammar::limits::MAX_TEXT_BYTES;
 use ag_text::{Expected, TextFault, expected_at};
 use std::alloc::AllocError;
 
@@ -55,7 +55,7 @@ fn describe_in(
     context: &Context<'_>,
     expected: &[Expected],
 ) -> Result<(), AllocError> {
-    if let Some(fault) = spoiled_token(context.found, expected) {
+    if let Some(fault) = damaged_token(context.found, expected) {
         return describe_fault(parts, fault, context, &[]);
     }
     match fault {
@@ -66,7 +66,7 @@ fn describe_in(
         TextFault::Unexpected(_, _) => describe_unexpected(parts, context, expected),
         TextFault::Expr(fault) => describe_rule(parts, fault, context, expected),
         TextFault::TooLong => {
-            parts.add_size_limit("the file", MOST_TEXT_BYTES, "shorten the grammar")
+            parts.add_size_limit("the file", MAX_TEXT_BYTES, "shorten the grammar")
         }
         TextFault::NoMemory => Ok(()),
     }
@@ -87,7 +87,7 @@ fn describe_rule(
 }
 
 /// Returns why what was found is not a literal or an occurrence, if it begins as one and one could come.
-fn spoiled_token(found: Option<&str>, expected: &[Expected]) -> Option<ExprFault> {
+fn damaged_token(found: Option<&str>, expected: &[Expected]) -> Option<ExprFault> {
     let is_meant = begins_with(found, '"') && expected.contains(&Expected::Item)
         || begins_with(found, '$') && expected.contains(&Expected::Rule);
     if is_meant { token_fault(found?) } else { None }
@@ -100,7 +100,7 @@ fn describe_unexpected(
     context: &Context<'_>,
     expected: &[Expected],
 ) -> Result<(), AllocError> {
-    write!(parts.found, "found {}", Found(context.found))?;
+    write!(parts.found, "found {}", FoundText(context.found))?;
     if expected.contains(&Expected::Item) && begins_with(context.found, '"') {
         return parts.expected.push_str(LITERAL_NEEDS);
     }

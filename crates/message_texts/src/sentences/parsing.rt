@@ -1,13 +1,13 @@
 //! Sentences that have no tree.
 
-use crate::display::Found;
+use crate::display::FoundText;
 use crate::parts::{Location, Parts};
 use crate::position::Source;
 use crate::terminals::{class_name, write_aheads};
-use ag_grammar::limits::{MOST_DEPTH, MOST_NODES};
+use ag_grammar::limits::{MAX_DEPTH, MAX_NODES};
 use ag_grammar::{Grammar, Terminal};
 use ag_scan::{Sentence, Token, scan};
-use llparse::{ParseFault, Stuck, Tables, expected_at};
+use llparse::{ParseFault, StuckPlace, Tables, expected_at};
 use std::alloc::{AllocError, Global};
 
 /// What has no tree within the limits.
@@ -44,10 +44,10 @@ pub fn describe_parse(
             }
         }
         ParseFault::TooDeep => {
-            parts.add_tree_limit(MOST_DEPTH, "levels", SENTENCE, "nest it less")
+            parts.add_tree_limit(MAX_DEPTH, "levels", SENTENCE, "nest it less")
         }
         ParseFault::TooManyNodes => {
-            parts.add_tree_limit(MOST_NODES as usize, "nodes", SENTENCE, "split it")
+            parts.add_tree_limit(MAX_NODES as usize, "nodes", SENTENCE, "split it")
         }
         ParseFault::Device | ParseFault::NoMemory => Ok(()),
     }
@@ -71,7 +71,7 @@ fn describe_unexpected(
 fn describe_stuck(
     parts: &mut Parts,
     sentence: &ParsedSentence<'_>,
-    stuck: &Stuck<'_>,
+    stuck: &StuckPlace<'_>,
 ) -> Result<(), AllocError> {
     if stuck.expected.is_empty() {
         return Ok(());
@@ -80,7 +80,7 @@ fn describe_stuck(
         Some(token) => text_of(sentence.source.text(), token),
         None => None,
     };
-    write!(parts.found, "found {}", Found(found))?;
+    write!(parts.found, "found {}", FoundText(found))?;
     parts.expected.push_str("expected ")?;
     write_aheads(
         &mut parts.expected,

@@ -1,12 +1,12 @@
 //! Sentences that have no tokens.
 
-use crate::display::{Found, begins_with};
+use crate::display::{FoundText, begins_with};
 use crate::hints::{BYTE_ORDER_MARK, MARK};
 use crate::parts::{Location, Parts};
 use crate::position::{Place, Source};
 use crate::terminals::{terminal_count, write_terminals};
 use ag_grammar::Grammar;
-use ag_grammar::limits::{MOST_TEXT_BYTES, MOST_TOKEN_BYTES, TEXT};
+use ag_grammar::limits::{MAX_TEXT_BYTES, MAX_TOKEN_BYTES, TEXT};
 use ag_scan::ScanFault;
 use std::alloc::AllocError;
 
@@ -53,9 +53,9 @@ pub fn describe_scan(
             }
         }
         ScanFault::LongToken(_) => {
-            parts.add_size_limit("the token here", MOST_TOKEN_BYTES, SPLIT)
+            parts.add_size_limit("the token here", MAX_TOKEN_BYTES, SPLIT)
         }
-        ScanFault::TooLong => parts.add_size_limit("the sentence", MOST_TEXT_BYTES, SPLIT),
+        ScanFault::TooLong => parts.add_size_limit("the sentence", MAX_TEXT_BYTES, SPLIT),
         ScanFault::NoMemory => Ok(()),
     }
 }
@@ -78,7 +78,7 @@ fn describe_no_token(
     grammar: &Grammar,
     found: Option<&str>,
 ) -> Result<(), AllocError> {
-    write!(parts.found, "found {}", Found(found))?;
+    write!(parts.found, "found {}", FoundText(found))?;
     if terminal_count(grammar) == 0 {
         return parts.found.push_str(NO_TERMINALS);
     }

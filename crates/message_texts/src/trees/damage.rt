@@ -2,11 +2,11 @@
 
 ghost use Rattle.treefile.specs.devices.Device.{LeavesContent, Persists};
 
-use crate::display::Plain;
+use crate::display::PlainText;
 use crate::parts::Parts;
 use crate::terminals::class_name;
 use crate::trees::frames::{Frame, expected_before, frame_before};
-use ag_grammar::limits::{MOST_DEPTH, MOST_NODES, MOST_TURNED_DEPTH, MOST_TURNED_NODES, TEXT};
+use ag_grammar::limits::{MAX_DEPTH, MAX_NODES, MAX_TURNED_DEPTH, MAX_TURNED_NODES, TEXT};
 use ag_grammar::{Grammar, Item, Terminal};
 use std::alloc::{AllocError, Global};
 use treefile::{Device, FileVersion, HEADER_BYTES};
@@ -173,8 +173,8 @@ impl TreeFormat<'_> {
     /// Describes P2 of a tree file, and what to do.
     pub fn describe_depth_limit(&self, parts: &mut Parts) -> Result<(), AllocError> {
         let most = match self.version {
-            FileVersion::One => MOST_TURNED_DEPTH,
-            FileVersion::Two => MOST_DEPTH,
+            FileVersion::One => MAX_TURNED_DEPTH,
+            FileVersion::Two => MAX_DEPTH,
         };
         parts.add_tree_limit(most, "levels", FILE, "nest the sentence less")
     }
@@ -182,8 +182,8 @@ impl TreeFormat<'_> {
     /// Describes P3 of a tree file, and what to do.
     pub fn describe_node_limit(&self, parts: &mut Parts) -> Result<(), AllocError> {
         let most = match self.version {
-            FileVersion::One => MOST_TURNED_NODES,
-            FileVersion::Two => MOST_NODES,
+            FileVersion::One => MAX_TURNED_NODES,
+            FileVersion::Two => MAX_NODES,
         };
         parts.add_tree_limit(most as usize, "nodes", FILE, "split the sentence")
     }
@@ -198,7 +198,7 @@ impl TreeFormat<'_> {
     fn write_item(&self, out: &mut String, item: Item) -> Result<(), AllocError> {
         match item {
             Item::Symbol(number) => match self.grammar.symbols().get(usize::from(number)) {
-                Some(symbol) => write!(out, "a node of `{}`", Plain(symbol.name.as_str())),
+                Some(symbol) => write!(out, "a node of `{}`", PlainText(symbol.name.as_str())),
                 None => out.push_str("a node"),
             },
             Item::Terminal(Terminal::Class(number)) => write!(out, "a {}", class_name(number)),

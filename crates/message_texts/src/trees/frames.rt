@@ -2,7 +2,7 @@
 
 ghost use Rattle.treefile.specs.devices.Device.{LeavesContent, Persists};
 
-use ag_grammar::limits::MOST_NODES;
+use ag_grammar::limits::MAX_NODES;
 use ag_grammar::{Grammar, Item};
 use std::alloc::Global;
 use treefile::{Device, FileVersion, LENGTH_BYTES, fits_before};
@@ -33,9 +33,9 @@ pub fn frame_before<D: Device>(version: FileVersion, tree: &mut D, end: u64) -> 
         return None;
     }
     let begin = end - LENGTH_BYTES - bytes;
-    let mut front = [0; 3];
-    tree.read_at(begin, &mut front).ok()?;
-    let [kind, high, low] = front;
+    let mut prefix = [0; 3];
+    tree.read_at(begin, &mut prefix).ok()?;
+    let [kind, high, low] = prefix;
     Some(Frame {
         begin,
         kind,
@@ -61,7 +61,7 @@ pub fn expected_before<D: Device>(
     let mut expected = Vec::new(alloc);
     expected.push(Item::Symbol(grammar.start())).ok()?;
     let mut end = tree.len().ok()?;
-    for _ in 0..MOST_NODES {
+    for _ in 0..MAX_NODES {
         if end <= at {
             break;
         }
@@ -79,7 +79,7 @@ pub fn expected_before<D: Device>(
 fn push_children(grammar: &Grammar, number: u16, expected: &mut Vec<Item>) -> Option<()> {
     let production = grammar.productions().get(usize::from(number))?;
     for item in production.items.as_slice() {
-        if item.has_place() {
+        if item.is_stored_child() {
             expected.push(*item).ok()?;
         }
     }

@@ -16,23 +16,23 @@ abbrev pub Apart : {K : Type 0} → List K → Type 0
 Apart {K} keys = AllPairs (λ (a b : K). a ≢ b) keys
 
 -- a test that decides whether keys are equal
-pub record Tells {K : Type 0} (same : K → K → Bool) : Type 0 where
+pub record DecidesBy {K : Type 0} (same : K → K → Bool) : Type 0 where
   pub sound : (a b : K) → same a b ≡ true → a ≡ b
   pub whole : (a b : K) → a ≡ b → same a b ≡ true
 
-differs : {K : Type 0} (same : K → K → Bool) → Tells same → (a b : K) → a ≢ b → same b a ≡ false
-differs same tells a b other = go (same b a) refl
+differs : {K : Type 0} (same : K → K → Bool) → DecidesBy same → (a b : K) → a ≢ b → same b a ≡ false
+differs same decides a b other = go (same b a) refl
   where
     go : (v : Bool) → same b a ≡ v → v ≡ false
     go false e = refl
-    go true e = absurd (other (sym (tells.sound b a e)))
+    go true e = absurd (other (sym (decides.sound b a e)))
 
-pub apart_push : {K : Type 0} (same : K → K → Bool) → Tells same → (seen : List K) (key : K) → Apart seen → list_any (same key) seen ≡ false → Apart (seen ++ key ∷ [])
-apart_push same tells seen key apart new = all_pairs_push (λ a b. a ≢ b) seen key apart (λ k d lt e.
-    false≢true (sym new ∙ list_any_at (same key) seen k d lt (tells.whole key (get_or seen k d) (sym e))))
+pub apart_push : {K : Type 0} (same : K → K → Bool) → DecidesBy same → (seen : List K) (key : K) → Apart seen → list_any (same key) seen ≡ false → Apart (seen ++ key ∷ [])
+apart_push same decides seen key apart new = all_pairs_push (λ a b. a ≢ b) seen key apart (λ k d lt e.
+    false≢true (sym new ∙ list_any_at (same key) seen k d lt (decides.whole key (get_or seen k d) (sym e))))
 
-apart_new : {K : Type 0} (same : K → K → Bool) → Tells same → (seen : List K) (key : K) (rest : List K) → Apart (seen ++ key ∷ rest) → list_any (same key) seen ≡ false
-apart_new same tells seen key rest apart = list_any_none (same key) seen (λ k d lt. differs same tells (get_or seen k d) key (λ e.
+apart_new : {K : Type 0} (same : K → K → Bool) → DecidesBy same → (seen : List K) (key : K) (rest : List K) → Apart (seen ++ key ∷ rest) → list_any (same key) seen ≡ false
+apart_new same decides seen key rest apart = list_any_none (same key) seen (λ k d lt. differs same decides (get_or seen k d) key (λ e.
     apart k (length seen) d lt (omega (arith, length-append seen (key ∷ rest))) (get_or_append_left seen (key ∷ rest) d k lt ∙ e ∙ sym (get_or_at seen key rest d (length seen) refl))))
 
 -- the check of a key at its place, and then further checks
@@ -49,13 +49,13 @@ new_is true h = absurd (cc)
 with_new : {X K : Type 0} (same : K → K → Bool) (key : X → K) (seen : List K) (x : X) → list_any (same (key x)) seen ≡ false → with_key same key seen x ≡ seen ++ key x ∷ []
 with_new same key seen x new = rw new refl
 
-pub apart_along : {X K : Type 0} (same : K → K → Bool) (fault : X → NormalFault) (key : X → K) (more : X → List Check) → Tells same → (seen : List K) (xs : List X) → Apart seen
+pub apart_along : {X K : Type 0} (same : K → K → Bool) (fault : X → NormalFault) (key : X → K) (more : X → List Check) → DecidesBy same → (seen : List K) (xs : List X) → Apart seen
     → first_wrong (checks_along (key_checks same fault key more) (with_key same key) seen xs) ≡ None → Apart (seen ++ map key xs)
-apart_along same fault key more tells seen [] apart h = rw append-nil apart
-apart_along same fault key more tells seen (x ∷ xs) apart h =
+apart_along same fault key more decides seen [] apart h = rw append-nil apart
+apart_along same fault key more decides seen (x ∷ xs) apart h =
     let p = both_right (key_checks same fault key more seen x) (checks_along (key_checks same fault key more) (with_key same key) (with_key same key seen x) xs) h in
     let new = new_is (list_any (same (key x)) seen) (is_right (fault x, not (list_any (same (key x)) seen)) (both_right ((fault x, not (list_any (same (key x)) seen)) ∷ []) (more x) p.0).0) in
-    rw (← append_assoc seen (key x ∷ []) (map key xs)) (apart_along same fault key more tells (seen ++ key x ∷ []) xs (apart_push same tells seen (key x) apart new) (rw (with_new same key seen x new) at p.1))
+    rw (← append_assoc seen (key x ∷ []) (map key xs)) (apart_along same fault key more decides (seen ++ key x ∷ []) xs (apart_push same decides seen (key x) apart new) (rw (with_new same key seen x new) at p.1))
 
 -- the further checks hold too
 pub more_along : {X K : Type 0} (same : K → K → Bool) (fault : X → NormalFault) (key : X → K) (more : X → List Check) (seen : List K) (xs : List X)
@@ -68,14 +68,14 @@ more_along same fault key more seen (y ∷ ys) h (suc i) x e =
     let p = both_right (key_checks same fault key more seen y) (checks_along (key_checks same fault key more) (with_key same key) (with_key same key seen y) ys) h in
     more_along same fault key more (with_key same key seen y) ys p.1 i x e
 
-pub along_apart : {X K : Type 0} (same : K → K → Bool) (fault : X → NormalFault) (key : X → K) (more : X → List Check) → Tells same → (seen : List K) (xs : List X) → Apart (seen ++ map key xs)
+pub along_apart : {X K : Type 0} (same : K → K → Bool) (fault : X → NormalFault) (key : X → K) (more : X → List Check) → DecidesBy same → (seen : List K) (xs : List X) → Apart (seen ++ map key xs)
     → ((i : ℕ) (x : X) → slice_get xs i ≡ Some x → first_wrong (more x) ≡ None) → first_wrong (checks_along (key_checks same fault key more) (with_key same key) seen xs) ≡ None
-along_apart same fault key more tells seen [] apart each = refl
-along_apart same fault key more tells seen (x ∷ xs) apart each =
-    let new = apart_new same tells seen (key x) (map key xs) apart in
+along_apart same fault key more decides seen [] apart each = refl
+along_apart same fault key more decides seen (x ∷ xs) apart each =
+    let new = apart_new same decides seen (key x) (map key xs) apart in
     together (key_checks same fault key more seen x) (checks_along (key_checks same fault key more) (with_key same key) (with_key same key seen x) xs)
     (together ((fault x, not (list_any (same (key x)) seen)) ∷ []) (more x) (right_is (fault x, not (list_any (same (key x)) seen)) (rw new refl)) (each zero x refl))
-    (rw (with_new same key seen x new) (along_apart same fault key more tells (seen ++ key x ∷ []) xs (rw (append_assoc seen (key x ∷ []) (map key xs)) apart) (λ i. each (suc i))))
+    (rw (with_new same key seen x new) (along_apart same fault key more decides (seen ++ key x ∷ []) xs (rw (append_assoc seen (key x ∷ []) (map key xs)) apart) (λ i. each (suc i))))
 
 pub none_apart : {K : Type 0} → Apart {K = K} []
 none_apart i j d before within = absurd (omega arith)

@@ -6,7 +6,7 @@ use Rattle.ag_grammar.specs.Lists.{Each, DifferIn, Differ, AreRelated}
 use Rattle.ag_grammar.specs.declared.grammar.Symbol.{Symbol}
 use Rattle.ag_grammar.specs.declared.syntax.occurrence.Occ.{Occ}
 use Rattle.ag_grammar.specs.grammars.Accepted.{IsNamed, IsNamedItem, IsNamedRule}
-use Rattle.ag_grammar.specs.grammars.AttributeGrammar.{attribute_names, StandsFor}
+use Rattle.ag_grammar.specs.grammars.AttributeGrammar.{attribute_names, RefersTo}
 use Rattle.ag_grammar.specs.expressions.Trees.{is_below}
 use Rattle.ag_grammar.specs.declared.raw.Named.{Named}
 use Rattle.ag_grammar.specs.declared.raw.RawGrammar.{RawGrammar}
@@ -16,10 +16,10 @@ use Rattle.ag_grammar.specs.declared.raw.RawProduction.{RawProduction}
 use Rattle.ag_grammar.specs.declared.raw.RawRule.{RawRule}
 use Rattle.ag_grammar.specs.declared.raw.RawSymbol.{RawSymbol}
 use Rattle.normalform.specs.declared.fault.NormalFault.TheVariants as fault
-use Rattle.normalform.specs.faults.Faults.{first_wrong, name_check, item_checks, occurrence_check, rule_checks, unknown_in, unknown, doubled_names, doubled}
+use Rattle.normalform.specs.faults.Faults.{first_wrong, name_check, item_checks, occurrence_check, rule_checks, unknown_in, unknown_checks, doubled_names, doubled_checks}
 use Rattle.normalform.specs.numbers.Numbers.{number_in, symbol_of, symbol_names, item_of, placed, names_at, target_of, rule_of, literals_of, numbered}
 use Rattle.normalform.proofs.found.Apart.{Apart, none_apart, apart_along, more_along, along_apart, apart_differ, differ_apart}
-use Rattle.normalform.proofs.numbered.Listed.{tells_texts, has_any}
+use Rattle.normalform.proofs.numbered.Listed.{decides_texts, has_any}
 use Rattle.normalform.proofs.numbered.Placing.{some_kind, stands_for, named_there, names_of}
 use Rattle.normalform.proofs.found.Reduced.{symbols, produces, name_known, below_known, unknown_parts}
 use Rattle.closure.proofs.Positions.{at_mapped, mapped_at}
@@ -36,9 +36,9 @@ abbrev attributes : RawSymbol → List Named
 attributes s = s.syn ++ s.inh
 
 -- no symbol is declared twice
-pub symbols_differ : (ss : List RawSymbol) → first_wrong (doubled ss) ≡ None → DifferIn (λ s. s.name) (map symbol_of ss)
+pub symbols_differ : (ss : List RawSymbol) → first_wrong (doubled_checks ss) ≡ None → DifferIn (λ s. s.name) (map symbol_of ss)
 symbols_differ ss h = differ_mapped symbol_of (λ (s : Symbol). s.name) ss (apart_differ symbol_text ss
-    (apart_along bytes_eq (λ (s : RawSymbol). fault.DoubledName s.name.at) symbol_text (λ s. doubled_names [] (attributes s)) tells_texts [] ss none_apart h))
+    (apart_along bytes_eq (λ (s : RawSymbol). fault.DoubledName s.name.at) symbol_text (λ s. doubled_names [] (attributes s)) decides_texts [] ss none_apart h))
 
 names_same : (s : RawSymbol) → map named_text (attributes s) ≡ attribute_names (symbol_of s)
 names_same s = map-append named_text s.syn s.inh
@@ -50,10 +50,10 @@ texts_differ texts apart = apart_differ (λ x. x) texts (rw (same texts) apart)
     same [] = refl
     same (x ∷ xs) = ap (λ ys. x ∷ ys) (same xs)
 
-pub attributes_differ : (ss : List RawSymbol) → first_wrong (doubled ss) ≡ None → Each (λ s. Differ (attribute_names s)) (map symbol_of ss)
+pub attributes_differ : (ss : List RawSymbol) → first_wrong (doubled_checks ss) ≡ None → Each (λ s. Differ (attribute_names s)) (map symbol_of ss)
 attributes_differ ss h = each_mapped symbol_of (λ s. Differ (attribute_names s)) ss (λ i s e.
     let here = more_along bytes_eq (λ (s : RawSymbol). fault.DoubledName s.name.at) symbol_text (λ s. doubled_names [] (attributes s)) [] ss h i s e in
-    texts_differ (attribute_names (symbol_of s)) (rw (← names_same s) (apart_along bytes_eq (λ (n : Named). fault.DoubledName n.at) named_text (λ n. []) tells_texts [] (attributes s) none_apart here)))
+    texts_differ (attribute_names (symbol_of s)) (rw (← names_same s) (apart_along bytes_eq (λ (n : Named). fault.DoubledName n.at) named_text (λ n. []) decides_texts [] (attributes s) none_apart here)))
 
 differ_texts : (texts : List (List ℕ)) → Differ texts → Apart texts
 differ_texts texts differ = rw (same texts) at (differ_apart (λ x. x) texts differ)
@@ -62,10 +62,10 @@ differ_texts texts differ = rw (same texts) at (differ_apart (λ x. x) texts dif
     same [] = refl
     same (x ∷ xs) = ap (λ ys. x ∷ ys) (same xs)
 
-pub differ_doubled : (ss : List RawSymbol) → DifferIn (λ s. s.name) (map symbol_of ss) → Each (λ s. Differ (attribute_names s)) (map symbol_of ss) → first_wrong (doubled ss) ≡ None
-differ_doubled ss differ each = along_apart bytes_eq (λ (s : RawSymbol). fault.DoubledName s.name.at) symbol_text (λ s. doubled_names [] (attributes s)) tells_texts [] ss
+pub differ_doubled : (ss : List RawSymbol) → DifferIn (λ s. s.name) (map symbol_of ss) → Each (λ s. Differ (attribute_names s)) (map symbol_of ss) → first_wrong (doubled_checks ss) ≡ None
+differ_doubled ss differ each = along_apart bytes_eq (λ (s : RawSymbol). fault.DoubledName s.name.at) symbol_text (λ s. doubled_names [] (attributes s)) decides_texts [] ss
     (differ_apart symbol_text ss (mapped_differ symbol_of (λ (s : Symbol). s.name) ss differ))
-    (λ i s e. along_apart bytes_eq (λ (n : Named). fault.DoubledName n.at) named_text (λ n. []) tells_texts [] (attributes s)
+    (λ i s e. along_apart bytes_eq (λ (n : Named). fault.DoubledName n.at) named_text (λ n. []) decides_texts [] (attributes s)
     (rw (names_same s) (differ_texts (attribute_names (symbol_of s)) (mapped_each symbol_of (λ t. Differ (attribute_names t)) ss each i s e))) (λ j x f. refl))
 
 -- an occurrence is known
@@ -78,14 +78,14 @@ occurrence_known raw q r h =
     (is_right (occurrence_check ss items r.target) w.0, map_each (occurrence_check ss items) r.expr.1 w.1)
 
 related : (raw : RawGrammar) (q : RawProduction) (os : List Occ) → ((i : ℕ) (o : Occ) → slice_get os i ≡ Some o → list_any (bytes_eq o.attr) (names_at (symbols raw) (placed (symbols raw) q) o.place) ≡ true)
-    → AreRelated (StandsFor (numbered raw) (produces raw q)) os (map (target_of (symbols raw) (placed (symbols raw) q)) os)
+    → AreRelated (RefersTo (numbered raw) (produces raw q)) os (map (target_of (symbols raw) (placed (symbols raw) q)) os)
 related raw q os h = record {
   equally_long = sym (length-map os (target_of (symbols raw) (placed (symbols raw) q)));
   each = λ i o t e f.
       let w = mapped_at (target_of (symbols raw) (placed (symbols raw) q)) os i t f in
       let same : w.0 ≡ o = let k : Some w.0 ≡ Some o = sym w.1 ∙ e in cc in
       let here : target_of (symbols raw) (placed (symbols raw) q) o ≡ t = rw (← same) w.2 in
-      subst (StandsFor (numbered raw) (produces raw q) o) here (stands_for raw q o (h i o e));
+      subst (RefersTo (numbered raw) (produces raw q) o) here (stands_for raw q o (h i o e));
 }
 
 -- a known rule is named
@@ -97,10 +97,10 @@ rule_named raw q r h listed = let w = occurrence_known raw q r h in record {
   arguments = related raw q r.expr.1 w.1;
 }
 
-found_there : (raw : RawGrammar) (q : RawProduction) (o : Occ) → StandsFor (numbered raw) (produces raw q) o (target_of (symbols raw) (placed (symbols raw) q) o) → list_any (bytes_eq o.attr) (names_at (symbols raw) (placed (symbols raw) q) o.place) ≡ true
-found_there raw q o stands =
+found_there : (raw : RawGrammar) (q : RawProduction) (o : Occ) → RefersTo (numbered raw) (produces raw q) o (target_of (symbols raw) (placed (symbols raw) q) o) → list_any (bytes_eq o.attr) (names_at (symbols raw) (placed (symbols raw) q) o.place) ≡ true
+found_there raw q o occurs =
     let names = names_at (symbols raw) (placed (symbols raw) q) o.place in
-    has_any names o.attr (number_in names o.attr, sym (ap (λ ns. slice_get ns (number_in names o.attr)) (names_of raw q o.place)) ∙ stands.name)
+    has_any names o.attr (number_in names o.attr, sym (ap (λ ns. slice_get ns (number_in names o.attr)) (names_of raw q o.place)) ∙ occurs.name)
 
 -- and the converse
 named_rule : (raw : RawGrammar) (q : RawProduction) (r : RawRule) → IsNamedRule (numbered raw) (produces raw q) (rule_of (symbols raw) (placed (symbols raw) q) r) → first_wrong (rule_checks (symbols raw) (placed (symbols raw) q) r) ≡ None
@@ -115,12 +115,12 @@ name_right : (ss : List Symbol) (name : Named) → number_in (symbol_names ss) n
 name_right ss name lt = right_is (name_check (symbol_names ss) name) (below_known (symbol_names ss) name.name (rw (length-map ss (λ (s : Symbol). s.name)) lt))
 
 -- left sides are symbols
-pub lefts_known : (raw : RawGrammar) → first_wrong (unknown (symbols raw) raw.productions) ≡ None → Each (λ q. q.left < length (symbols raw)) (numbered raw).productions
+pub lefts_known : (raw : RawGrammar) → first_wrong (unknown_checks (symbols raw) raw.productions) ≡ None → Each (λ q. q.left < length (symbols raw)) (numbered raw).productions
 lefts_known raw h = each_mapped (produces raw) (λ q. q.left < length (symbols raw)) raw.productions (λ i q e.
     name_known (symbols raw) q.left (unknown_parts (symbols raw) q (flat_each (unknown_in (symbols raw)) raw.productions h i q e)).0)
 
 -- rules are named
-pub rules_named : (raw : RawGrammar) → first_wrong (unknown (symbols raw) raw.productions) ≡ None → Each (λ q. Each (λ r. is_below (length r.expr.1) r.expr.0 ≡ true) q.rules) (numbered raw).productions
+pub rules_named : (raw : RawGrammar) → first_wrong (unknown_checks (symbols raw) raw.productions) ≡ None → Each (λ q. Each (λ r. is_below (length r.expr.1) r.expr.0 ≡ true) q.rules) (numbered raw).productions
     → Each (λ q. Each (IsNamedRule (numbered raw) q) q.rules) (numbered raw).productions
 rules_named raw h listed = each_mapped (produces raw) (λ q. Each (IsNamedRule (numbered raw) q) q.rules) raw.productions (λ p q e.
     let parts = unknown_parts (symbols raw) q (flat_each (unknown_in (symbols raw)) raw.productions h p q e) in
@@ -135,7 +135,7 @@ item_right raw (raw_item.Name name) lt = name_right (symbols raw) name lt
 item_right raw (raw_item.Literal text) lt = refl
 item_right raw (raw_item.Class c) lt = refl
 
-pub named_known : (raw : RawGrammar) → IsNamed (numbered raw) → first_wrong (unknown (symbols raw) raw.productions) ≡ None
+pub named_known : (raw : RawGrammar) → IsNamed (numbered raw) → first_wrong (unknown_checks (symbols raw) raw.productions) ≡ None
 named_known raw named = each_flat (unknown_in (symbols raw)) raw.productions (λ p q e.
     let ss = symbols raw in
     together (name_check (symbol_names ss) q.left ∷ []) (flat_map (item_checks (symbol_names ss)) q.items ++ flat_map (rule_checks ss (placed ss q)) q.rules)

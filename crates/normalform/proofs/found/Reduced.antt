@@ -30,7 +30,7 @@ use Rattle.normalform.specs.numbers.Numbers.{number_in, symbol_of, symbol_names,
 use Rattle.normalform.proofs.numbered.Texts.{found}
 use Rattle.ag_grammar.specs.declared.raw.Named.{Named}
 use Rattle.normalform.specs.declared.fault.NormalFault.TheVariants as fault
-use Rattle.normalform.specs.faults.Faults.{first_wrong, name_check, item_checks, rule_checks, unknown_in, unknown, is_start, start_checks}
+use Rattle.normalform.specs.faults.Faults.{first_wrong, name_check, item_checks, rule_checks, unknown_in, unknown_checks, is_start, start_checks}
 use Rattle.normalform.proofs.found.Right.{is_right, both_right, has_flat}
 
 abbrev symbols_of : List Item → List ℕ
@@ -190,10 +190,10 @@ unknown_parts ss q h =
     let w = both_right (name_check (symbol_names ss) q.left ∷ []) (flat_map (item_checks (symbol_names ss)) q.items ++ flat_map (rule_checks ss (placed ss q)) q.rules) h in
     let v = both_right (flat_map (item_checks (symbol_names ss)) q.items) (flat_map (rule_checks ss (placed ss q)) q.rules) w.1 in (w.0, v.0, v.1)
 
-pub clauses_below : (ss : List Symbol) (qs : List RawProduction) → first_wrong (unknown ss qs) ≡ None → All (IsClauseBelow (length ss)) (clauses_of ss qs)
+pub clauses_below : (ss : List Symbol) (qs : List RawProduction) → first_wrong (unknown_checks ss qs) ≡ None → All (IsClauseBelow (length ss)) (clauses_of ss qs)
 clauses_below ss [] h = All-nil (IsClauseBelow (length ss))
 clauses_below ss (q ∷ qs) h =
-    let w = both_right (unknown_in ss q) (unknown ss qs) h in
+    let w = both_right (unknown_in ss q) (unknown_checks ss qs) h in
     let v = unknown_parts ss q w.0 in
     All-cons (IsClauseBelow (length ss)) (clause_of ss q) (clauses_of ss qs) (record { head = name_known ss q.left v.0; body = body_below ss q.items v.1 }) (clauses_below ss qs w.1)
 

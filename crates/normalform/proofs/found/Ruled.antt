@@ -11,14 +11,14 @@ use Rattle.ag_grammar.specs.declared.grammar.Symbol.{Symbol}
 use Rattle.ag_grammar.specs.declared.grammar.Target.{Target}
 use Rattle.ag_grammar.specs.declared.grammar.Terminal.TheVariants.{Literal, Class}
 use Rattle.ag_grammar.specs.grammars.Accepted.{IsNormal}
-use Rattle.ag_grammar.specs.grammars.AttributeGrammar.{Synthesized, Inherited, item_kinds, symbol_kinds, given_kind, found_kind, HasKind, IsRule}
+use Rattle.ag_grammar.specs.grammars.AttributeGrammar.{Synthesized, Inherited, item_kinds, symbol_kinds, defined_kind, used_kind, HasKind, IsRule}
 use Rattle.ag_grammar.specs.declared.raw.RawGrammar.{RawGrammar}
 use Rattle.ag_grammar.specs.declared.raw.RawProduction.{RawProduction}
 use Rattle.ag_grammar.specs.declared.raw.RawRule.{RawRule}
 use Rattle.normalform.specs.declared.fault.NormalFault.TheVariants as fault
 use Rattle.normalform.specs.faults.Faults.{first_wrong, given_at, numbers_given, same_target, with_target, with_rule, targets_of, missing_check, missing_at, missing_in, doubled_in, is_kind, has_kind, given_check, not_given_in, found_check, not_found_in}
 use Rattle.normalform.specs.numbers.Numbers.{declared, placed, target_of, rule_of, numbered}
-use Rattle.normalform.proofs.found.Apart.{Tells, none_apart, apart_along, along_apart, apart_differ, differ_apart}
+use Rattle.normalform.proofs.found.Apart.{DecidesBy, none_apart, apart_along, along_apart, apart_differ, differ_apart}
 use Rattle.normalform.proofs.numbered.KindAt.{synthesized_at, inherited_at}
 use Rattle.normalform.proofs.numbered.Listed.{any_at, at_any}
 use Rattle.normalform.proofs.numbered.Placing.{kinds_at, kind_has, has_its_kind, is_its_kind}
@@ -33,8 +33,8 @@ both false b h = absurd (cc)
 target_is : (p a q b : ℕ) → p ≡ q → a ≡ b → (λ (x : Target). x) (record { place = p; attr = a }) ≡ record { place = q; attr = b }
 target_is p a q b e f = rw (e, f) refl
 
-pub tells_targets : Tells same_target
-tells_targets = record {
+pub decides_targets : DecidesBy same_target
+decides_targets = record {
   sound = λ a b h. let w = both (nat_eq a.place b.place) (nat_eq a.attr b.attr) h in target_is a.place a.attr b.place b.attr (eqb-true a.place b.place w.0) (eqb-true a.attr b.attr w.1);
   whole = λ a b e. rw (e, eq-eqb b.place b.place refl, eq-eqb b.attr b.attr refl) refl;
 }
@@ -44,7 +44,7 @@ with_from : (t u : Target) (ts : List Target) → list_any (same_target t) (with
 with_from t u ts h = go (list_any (same_target u) ts) h
   where
     last : (x : Target) (i : ℕ) → slice_get (u ∷ []) i ≡ Some x → same_target t x ≡ true → u ≡ t
-    last x zero e h = let z : u ≡ x = cc in z ∙ sym (tells_targets.sound t x h)
+    last x zero e h = let z : u ≡ x = cc in z ∙ sym (decides_targets.sound t x h)
     last x (suc i) e h = absurd (cc)
 
     go : (b : Bool) → list_any (same_target t) (cond b ts (ts ++ u ∷ [])) ≡ true → (list_any (same_target t) ts ≡ true) ⊎ (u ≡ t)
@@ -84,7 +84,7 @@ with_has t ts = go (list_any (same_target t) ts) refl
   where
     go : (b : Bool) → list_any (same_target t) ts ≡ b → list_any (same_target t) (cond b ts (ts ++ t ∷ [])) ≡ true
     go true e = e
-    go false e = any_right (same_target t) ts t (tells_targets.whole t t refl)
+    go false e = any_right (same_target t) ts t (decides_targets.whole t t refl)
 
 -- one of the targets of rules is the target of some rule
 among_from : (ss : List Symbol) (items : List Item) (t : Target) (rules : List RawRule) (ts : List Target) → list_any (same_target t) (fold (with_rule ss items) ts rules) ≡ true
@@ -121,7 +121,7 @@ has_range a (suc n) zero k e = let z : a ≡ k = cc in (omega arith, omega arith
 has_range a (suc n) (suc i) k e = let w = has_range (a + 1) n i k e in (omega (arith, w.0), omega (arith, w.1))
 
 -- the attributes that rules define at a symbol's place are those of the kind
-numbers_has : (place a : ℕ) (s : Symbol) → slice_get (symbol_kinds (Some s)) a ≡ Some (given_kind place) → Has (numbers_given place s) a
+numbers_has : (place a : ℕ) (s : Symbol) → slice_get (symbol_kinds (Some s)) a ≡ Some (defined_kind place) → Has (numbers_given place s) a
 numbers_has zero a s k =
     let h : nat_lt a (length s.syn) ≡ true = sym (synthesized_at s.syn s.inh a) ∙ is_its_kind Synthesized (slice_get (symbol_kinds (Some s)) a) k in
     range_has 0 (length s.syn) a (omega arith) (omega (arith, ltb-true a (length s.syn) h))
@@ -132,7 +132,7 @@ numbers_has (suc i) a s k =
     let high = ltb-true (a - length s.syn) (length s.inh) w.1 in
     range_has (length s.syn) (length s.inh) a low (omega arith)
 
-has_numbers : (place a i : ℕ) (s : Symbol) → slice_get (numbers_given place s) i ≡ Some a → is_kind (given_kind place) (slice_get (symbol_kinds (Some s)) a) ≡ true
+has_numbers : (place a i : ℕ) (s : Symbol) → slice_get (numbers_given place s) i ≡ Some a → is_kind (defined_kind place) (slice_get (symbol_kinds (Some s)) a) ≡ true
 has_numbers zero a i s e = let w = has_range 0 (length s.syn) i a e in synthesized_at s.syn s.inh a ∙ lt-ltb a (length s.syn) (omega (arith, w.1))
 has_numbers (suc n) a i s e =
     let w = has_range (length s.syn) (length s.inh) i a e in
@@ -141,10 +141,10 @@ has_numbers (suc n) a i s e =
     let high = lt-ltb (a - length s.syn) (length s.inh) lt in
     inherited_at s.syn s.inh a ∙ rw (low, high) refl
 
-given_has : (ss : List Symbol) (q : RawProduction) (place : ℕ) (x : Item) (a : ℕ) → slice_get (placed ss q) place ≡ Some x → slice_get (item_kinds (declared ss) (Some x)) a ≡ Some (given_kind place) → Has (given_at ss place x) a
+given_has : (ss : List Symbol) (q : RawProduction) (place : ℕ) (x : Item) (a : ℕ) → slice_get (placed ss q) place ≡ Some x → slice_get (item_kinds (declared ss) (Some x)) a ≡ Some (defined_kind place) → Has (given_at ss place x) a
 given_has ss q place (item.Symbol s) a e k = go (slice_get ss s) k
   where
-    go : (o : Option Symbol) → slice_get (symbol_kinds o) a ≡ Some (given_kind place) → Has (elim o [ Some x ↦ numbers_given place x | None ↦ [] ]) a
+    go : (o : Option Symbol) → slice_get (symbol_kinds o) a ≡ Some (defined_kind place) → Has (elim o [ Some x ↦ numbers_given place x | None ↦ [] ]) a
     go None k = absurd (cc)
     go (Some y) k = numbers_has place a y k
 given_has ss q zero (item.Terminal t) a e k = absurd (cc)
@@ -152,23 +152,23 @@ given_has ss q (suc i) (item.Terminal (Class c)) zero e k = absurd (cc)
 given_has ss q (suc i) (item.Terminal (Class c)) (suc a) e k = absurd (cc)
 given_has ss q (suc i) (item.Terminal (Literal l)) a e k = absurd (cc)
 
-has_given : (ss : List Symbol) (place i : ℕ) (x : Item) (a : ℕ) → slice_get (given_at ss place x) i ≡ Some a → is_kind (given_kind place) (slice_get (item_kinds (declared ss) (Some x)) a) ≡ true
+has_given : (ss : List Symbol) (place i : ℕ) (x : Item) (a : ℕ) → slice_get (given_at ss place x) i ≡ Some a → is_kind (defined_kind place) (slice_get (item_kinds (declared ss) (Some x)) a) ≡ true
 has_given ss place i (item.Symbol s) a e = go (slice_get ss s) e
   where
-    go : (o : Option Symbol) → slice_get (elim o [ Some x ↦ numbers_given place x | None ↦ [] ]) i ≡ Some a → is_kind (given_kind place) (slice_get (symbol_kinds o) a) ≡ true
+    go : (o : Option Symbol) → slice_get (elim o [ Some x ↦ numbers_given place x | None ↦ [] ]) i ≡ Some a → is_kind (defined_kind place) (slice_get (symbol_kinds o) a) ≡ true
     go None e = absurd (cc)
     go (Some y) e = has_numbers place a i y e
 has_given ss place i (item.Terminal t) a e = absurd (cc)
 
 -- no rule is missing
-pub all_ruled : (raw : RawGrammar) (p : ℕ) (q : RawProduction) → first_wrong (missing_in (symbols raw) p q) ≡ None → (o : Target) → HasKind (numbered raw) (produces raw q) o (given_kind o.place) → (r : Rule) × IsRule (produces raw q) r × (r.target ≡ o)
+pub all_ruled : (raw : RawGrammar) (p : ℕ) (q : RawProduction) → first_wrong (missing_in (symbols raw) p q) ≡ None → (o : Target) → HasKind (numbered raw) (produces raw q) o (defined_kind o.place) → (r : Rule) × IsRule (produces raw q) r × (r.target ≡ o)
 all_ruled raw p q h o k =
     let ss = symbols raw in
     let items = placed ss q in
-    let kind : slice_get (item_kinds (declared ss) (slice_get items o.place)) o.attr ≡ Some (given_kind o.place) = sym (ap (λ ks. slice_get ks o.attr) (kinds_at raw q o.place)) ∙ k in
+    let kind : slice_get (item_kinds (declared ss) (slice_get items o.place)) o.attr ≡ Some (defined_kind o.place) = sym (ap (λ ks. slice_get ks o.attr) (kinds_at raw q o.place)) ∙ k in
     go (slice_get items o.place) refl kind
   where
-    ruled : (x : Item) → slice_get (placed (symbols raw) q) o.place ≡ Some x → slice_get (item_kinds (declared (symbols raw)) (Some x)) o.attr ≡ Some (given_kind o.place) → (r : Rule) × IsRule (produces raw q) r × (r.target ≡ o)
+    ruled : (x : Item) → slice_get (placed (symbols raw) q) o.place ≡ Some x → slice_get (item_kinds (declared (symbols raw)) (Some x)) o.attr ≡ Some (defined_kind o.place) → (r : Rule) × IsRule (produces raw q) r × (r.target ≡ o)
     ruled x e kind =
         let ss = symbols raw in
         let items = placed ss q in
@@ -182,11 +182,11 @@ all_ruled raw p q h o k =
           | inr w ↦ (rule_of ss items w.1, (w.0, at_mapped (rule_of ss items) q.rules w.0 w.1 w.2), w.3)
         ]
 
-    go : (x : Option Item) → slice_get (placed (symbols raw) q) o.place ≡ x → slice_get (item_kinds (declared (symbols raw)) x) o.attr ≡ Some (given_kind o.place) → (r : Rule) × IsRule (produces raw q) r × (r.target ≡ o)
+    go : (x : Option Item) → slice_get (placed (symbols raw) q) o.place ≡ x → slice_get (item_kinds (declared (symbols raw)) x) o.attr ≡ Some (defined_kind o.place) → (r : Rule) × IsRule (produces raw q) r × (r.target ≡ o)
     go None e kind = absurd (cc)
     go (Some x) e kind = ruled x e kind
 
-pub ruled_all : (raw : RawGrammar) (p : ℕ) (q : RawProduction) → ((o : Target) → HasKind (numbered raw) (produces raw q) o (given_kind o.place) → (r : Rule) × IsRule (produces raw q) r × (r.target ≡ o)) → first_wrong (missing_in (symbols raw) p q) ≡ None
+pub ruled_all : (raw : RawGrammar) (p : ℕ) (q : RawProduction) → ((o : Target) → HasKind (numbered raw) (produces raw q) o (defined_kind o.place) → (r : Rule) × IsRule (produces raw q) r × (r.target ≡ o)) → first_wrong (missing_in (symbols raw) p q) ≡ None
 ruled_all raw p q all =
     let ss = symbols raw in
     let items = placed ss q in
@@ -199,8 +199,8 @@ ruled_all raw p q all =
         let ss = symbols raw in
         let items = placed ss q in
         let there : 0 + place ≡ place = omega arith in
-        let kind : has_kind ss items (record { place = place; attr = a }) (given_kind place) ≡ true = rw e (has_given ss place i x a (rw there at f)) in
-        let w = all (record { place = place; attr = a }) (kind_has raw q (record { place = place; attr = a }) (given_kind place) kind) in
+        let kind : has_kind ss items (record { place = place; attr = a }) (defined_kind place) ≡ true = rw e (has_given ss place i x a (rw there at f)) in
+        let w = all (record { place = place; attr = a }) (kind_has raw q (record { place = place; attr = a }) (defined_kind place) kind) in
         let v = mapped_at (rule_of ss items) q.rules w.1.0 w.0 w.1.1 in
         let same : target_of ss items v.0.target ≡ record { place = place; attr = a } = ap (λ (r : Rule). r.target) v.2 ∙ w.2 in
         rw (there, ← same) (among_has ss items q.rules [] w.1.0 v.0 v.1)
@@ -227,37 +227,37 @@ pub rules_single : (raw : RawGrammar) (q : RawProduction) → first_wrong (doubl
 rules_single raw q h =
     let key = λ (r : RawRule). target_of (symbols raw) (placed (symbols raw) q) r.target in
     differ_mapped (rule_of (symbols raw) (placed (symbols raw) q)) (λ (r : Rule). r.target) q.rules (apart_differ key q.rules
-    (apart_along same_target (λ (r : RawRule). fault.RuleDoubled r.target.at) key (λ r. []) tells_targets [] q.rules none_apart h))
+    (apart_along same_target (λ (r : RawRule). fault.RuleDoubled r.target.at) key (λ r. []) decides_targets [] q.rules none_apart h))
 
 pub single_rules : (raw : RawGrammar) (q : RawProduction) → DifferIn (λ r. r.target) (produces raw q).rules → first_wrong (doubled_in (symbols raw) q) ≡ None
 single_rules raw q h =
     let key = λ (r : RawRule). target_of (symbols raw) (placed (symbols raw) q) r.target in
-    along_apart same_target (λ (r : RawRule). fault.RuleDoubled r.target.at) key (λ r. []) tells_targets [] q.rules
+    along_apart same_target (λ (r : RawRule). fault.RuleDoubled r.target.at) key (λ r. []) decides_targets [] q.rules
     (differ_apart key q.rules (mapped_differ (rule_of (symbols raw) (placed (symbols raw) q)) (λ (r : Rule). r.target) q.rules h)) (λ i x e. refl)
 
 -- the rules define each target
-pub targets_given : (raw : RawGrammar) (q : RawProduction) → first_wrong (not_given_in (symbols raw) q) ≡ None → Each (λ r. HasKind (numbered raw) (produces raw q) r.target (given_kind r.target.place)) (produces raw q).rules
-targets_given raw q h = each_mapped (rule_of (symbols raw) (placed (symbols raw) q)) (λ r. HasKind (numbered raw) (produces raw q) r.target (given_kind r.target.place)) q.rules (λ i r e.
+pub targets_given : (raw : RawGrammar) (q : RawProduction) → first_wrong (not_given_in (symbols raw) q) ≡ None → Each (λ r. HasKind (numbered raw) (produces raw q) r.target (defined_kind r.target.place)) (produces raw q).rules
+targets_given raw q h = each_mapped (rule_of (symbols raw) (placed (symbols raw) q)) (λ r. HasKind (numbered raw) (produces raw q) r.target (defined_kind r.target.place)) q.rules (λ i r e.
     let t = target_of (symbols raw) (placed (symbols raw) q) r.target in
-    kind_has raw q t (given_kind t.place) (map_each (given_check (symbols raw) (placed (symbols raw) q)) q.rules h i r e))
+    kind_has raw q t (defined_kind t.place) (map_each (given_check (symbols raw) (placed (symbols raw) q)) q.rules h i r e))
 
-pub given_targets : (raw : RawGrammar) (q : RawProduction) → Each (λ r. HasKind (numbered raw) (produces raw q) r.target (given_kind r.target.place)) (produces raw q).rules → first_wrong (not_given_in (symbols raw) q) ≡ None
+pub given_targets : (raw : RawGrammar) (q : RawProduction) → Each (λ r. HasKind (numbered raw) (produces raw q) r.target (defined_kind r.target.place)) (produces raw q).rules → first_wrong (not_given_in (symbols raw) q) ≡ None
 given_targets raw q h = each_map (given_check (symbols raw) (placed (symbols raw) q)) q.rules (λ i r e.
     let t = target_of (symbols raw) (placed (symbols raw) q) r.target in
-    has_its_kind raw q t (given_kind t.place) (mapped_each (rule_of (symbols raw) (placed (symbols raw) q)) (λ r. HasKind (numbered raw) (produces raw q) r.target (given_kind r.target.place)) q.rules h i r e))
+    has_its_kind raw q t (defined_kind t.place) (mapped_each (rule_of (symbols raw) (placed (symbols raw) q)) (λ r. HasKind (numbered raw) (produces raw q) r.target (defined_kind r.target.place)) q.rules h i r e))
 
 -- the rules use each argument
 pub arguments_found : (raw : RawGrammar) (q : RawProduction) → first_wrong (not_found_in (symbols raw) q) ≡ None → IsNormal (numbered raw) (produces raw q)
-arguments_found raw q h = each_mapped (rule_of (symbols raw) (placed (symbols raw) q)) (λ r. Each (λ o. HasKind (numbered raw) (produces raw q) o (found_kind o.place)) r.args) q.rules (λ i r e.
-    each_mapped (target_of (symbols raw) (placed (symbols raw) q)) (λ o. HasKind (numbered raw) (produces raw q) o (found_kind o.place)) r.expr.1 (λ j o f.
+arguments_found raw q h = each_mapped (rule_of (symbols raw) (placed (symbols raw) q)) (λ r. Each (λ o. HasKind (numbered raw) (produces raw q) o (used_kind o.place)) r.args) q.rules (λ i r e.
+    each_mapped (target_of (symbols raw) (placed (symbols raw) q)) (λ o. HasKind (numbered raw) (produces raw q) o (used_kind o.place)) r.expr.1 (λ j o f.
     let t = target_of (symbols raw) (placed (symbols raw) q) o in
-    kind_has raw q t (found_kind t.place) (map_each (found_check (symbols raw) (placed (symbols raw) q)) r.expr.1
+    kind_has raw q t (used_kind t.place) (map_each (found_check (symbols raw) (placed (symbols raw) q)) r.expr.1
     (flat_each (λ (s : RawRule). map (found_check (symbols raw) (placed (symbols raw) q)) s.expr.1) q.rules h i r e) j o f)))
 
 pub found_arguments : (raw : RawGrammar) (q : RawProduction) → IsNormal (numbered raw) (produces raw q) → first_wrong (not_found_in (symbols raw) q) ≡ None
 found_arguments raw q h = each_flat (λ (s : RawRule). map (found_check (symbols raw) (placed (symbols raw) q)) s.expr.1) q.rules (λ i r e.
     each_map (found_check (symbols raw) (placed (symbols raw) q)) r.expr.1 (λ j o f.
     let t = target_of (symbols raw) (placed (symbols raw) q) o in
-    has_its_kind raw q t (found_kind t.place)
-    (mapped_each (target_of (symbols raw) (placed (symbols raw) q)) (λ o. HasKind (numbered raw) (produces raw q) o (found_kind o.place)) r.expr.1
-    (mapped_each (rule_of (symbols raw) (placed (symbols raw) q)) (λ r. Each (λ o. HasKind (numbered raw) (produces raw q) o (found_kind o.place)) r.args) q.rules h i r e) j o f)))
+    has_its_kind raw q t (used_kind t.place)
+    (mapped_each (target_of (symbols raw) (placed (symbols raw) q)) (λ o. HasKind (numbered raw) (produces raw q) o (used_kind o.place)) r.expr.1
+    (mapped_each (rule_of (symbols raw) (placed (symbols raw) q)) (λ r. Each (λ o. HasKind (numbered raw) (produces raw q) o (used_kind o.place)) r.args) q.rules h i r e) j o f)))

@@ -60,8 +60,8 @@ readable_is (raw_item.Name name) h = refl
 readable_is (raw_item.Literal text) h = rw (le-leb 1 (length text) h.0) (all_pass (λ b. not (is_separator b)) text (λ i b e. none_separator b (h.1 i b e)))
 readable_is (raw_item.Class c) h = lt-ltb c 3 h
 
-pub readable_tells : (qs : List RawProduction) → (list_all readable_in qs ≡ true) ↔ Each (λ q. Each IsReadableItem q.items) qs
-readable_tells qs = (
+pub readable_decides : (qs : List RawProduction) → (list_all readable_in qs ≡ true) ↔ Each (λ q. Each IsReadableItem q.items) qs
+readable_decides qs = (
   λ h p q e i x f. item_readable x (passes_at readable_item q.items i x (passes_at readable_in qs p q h e) f),
   λ h. all_pass readable_in qs (λ p q e. all_pass readable_item q.items (λ i x f. readable_is x (h p q e i x f))),
 )

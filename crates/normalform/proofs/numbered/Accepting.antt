@@ -11,7 +11,7 @@ use Rattle.ag_grammar.specs.declared.grammar.Item.TheVariants as item
 use Rattle.ag_grammar.specs.declared.grammar.Production.{Production}
 use Rattle.ag_grammar.specs.declared.grammar.Symbol.{Symbol}
 use Rattle.ag_grammar.specs.declared.grammar.Terminal.TheVariants.{Literal, Class}
-use Rattle.ag_grammar.specs.grammars.Accepted.{IsAccepted, IsNamed, IsNamedItem, IsInUse, IsStart, IsComplete, IsNormal, IsWithinGrammarLimits, IsSeparator, out_name, most_symbols, most_attributes, most_productions, most_items, most_stored, most_literals, most_literal_bytes}
+use Rattle.ag_grammar.specs.grammars.Accepted.{IsAccepted, IsNamed, IsNamedItem, IsInUse, IsStart, IsComplete, IsNormal, IsWithinGrammarLimits, IsSeparator, out_name, max_symbols, max_attributes, max_productions, max_items, max_stored, max_literals, max_literal_bytes}
 use Rattle.ag_grammar.specs.grammars.AttributeGrammar.{attribute_names, stored_items}
 use Rattle.ag_grammar.specs.expressions.Trees.{is_below}
 use Rattle.ag_grammar.specs.declared.raw.RawGrammar.{RawGrammar}
@@ -21,12 +21,12 @@ use Rattle.ag_grammar.specs.declared.raw.RawProduction.{RawProduction}
 use Rattle.normalform.specs.declared.fault.LimitKind.TheVariants as limit
 use Rattle.normalform.specs.declared.fault.NormalFault.{NormalFault}
 use Rattle.normalform.specs.declared.fault.NormalFault.TheVariants as fault
-use Rattle.normalform.specs.faults.Faults.{first_wrong, unknown_in, item_checks, unknown, doubled, is_start, start_checks, missing_in, missing, doubled_in, doubled_rules, not_given_in, not_given, not_found_in, not_found, few_attributes, few_items, few_stored, is_short, symbol_limits, production_limits, literal_limits, limit_checks, rule_kinds, naming_checks, HasNoFault, IsReadable, IsReadableItem, IsSmall, IsListed, AreListedIn, IsFirstFault, in_names, in_productive, in_reached, in_rules, IsTrueOf}
+use Rattle.normalform.specs.faults.Faults.{first_wrong, unknown_in, item_checks, unknown_checks, doubled_checks, is_start, start_checks, missing_in, missing_checks, doubled_in, doubled_rules, not_given_in, not_defined_here, not_found_in, not_found, few_attributes, few_items, few_stored, is_short, symbol_limits, production_limits, literal_limits, limit_checks, rule_kinds, naming_checks, HasNoFault, IsReadable, IsReadableItem, IsSmall, IsListed, AreListedIn, IsFirstFault, in_names, in_productive, in_reached, in_rules, IsTrueOf}
 use Rattle.normalform.specs.numbers.Numbers.{number_in, symbol_of, symbol_names, item_of, placed, is_class, classes_of, literals_of, numbered}
 use Rattle.normalform.proofs.found.Apart.{Apart}
 use Rattle.normalform.proofs.found.Founds.{naming_parts}
 use Rattle.normalform.proofs.found.Known.{symbols_differ, attributes_differ, differ_doubled, texts_differ, lefts_known, rules_named, named_known}
-use Rattle.normalform.proofs.numbered.Listed.{any_has, has_any, literals_apart, literal_stands, literal_listed, apart_same, number_at, filter_has, has_filter, class_stands, stands_class}
+use Rattle.normalform.proofs.numbered.Listed.{any_has, has_any, literals_apart, literal_occurs, literal_listed, apart_same, number_at, filter_has, has_filter, class_occurs, occurs_class}
 use Rattle.normalform.proofs.numbered.Placing.{stored_same}
 use Rattle.normalform.proofs.found.Reduced.{symbols, produces, name_known, known, unknown_parts}
 use Rattle.closure.proofs.Positions.{at_mapped}
@@ -49,12 +49,12 @@ literal_used : (raw : RawGrammar) (l : ℕ) → l < length (literals raw) → Is
 literal_used raw l lt =
     let text = get_or (literals raw) l [] in
     let e : slice_get (literals raw) l ≡ Some text = slice_get-get_or (literals raw) l [] lt in
-    let w = literal_stands raw.productions text (l, e) in
+    let w = literal_occurs raw.productions text (l, e) in
     let n = number_at (literals raw) (literals_apart raw.productions) l text e in
     (w.0, produces raw w.1, at_mapped (produces raw) raw.productions w.0 w.1 w.2, (w.3.0, at_mapped (item_in raw) w.1.items w.3.0 (raw_item.Literal text) w.3.1 ∙ ap (λ m. Some (item.Terminal (Literal m))) n))
 
 literal_readable : (raw : RawGrammar) → IsReadable raw → (i : ℕ) (x : List ℕ) → slice_get (literals raw) i ≡ Some x → (1 ≤ length x) × Each (λ b. IsSeparator b → ⊥) x
-literal_readable raw readable i x e = let w = literal_stands raw.productions x (i, e) in readable w.0 w.1 w.2 w.3.0 (raw_item.Literal x) w.3.1
+literal_readable raw readable i x e = let w = literal_occurs raw.productions x (i, e) in readable w.0 w.1 w.2 w.3.0 (raw_item.Literal x) w.3.1
 
 -- the classes
 abbrev known_classes : List ℕ
@@ -89,7 +89,7 @@ classes_differ raw = apart_same (classes_of raw.productions) (AllPairs-filter (�
 
 class_used : (raw : RawGrammar) (i c : ℕ) → slice_get (classes_of raw.productions) i ≡ Some c → IsInUse (numbered raw) (Class c)
 class_used raw i c e =
-    let w = class_stands raw.productions c (has_filter (uses raw) known_classes c (i, e)).1 in
+    let w = class_occurs raw.productions c (has_filter (uses raw) known_classes c (i, e)).1 in
     (w.0, produces raw w.1, at_mapped (produces raw) raw.productions w.0 w.1 w.2, (w.3.0, at_mapped (item_in raw) w.1.items w.3.0 (raw_item.Class c) w.3.1))
 
 -- an item of a production is named
@@ -97,9 +97,9 @@ item_named : (raw : RawGrammar) (p : ℕ) (q : RawProduction) (i : ℕ) (x : Raw
     → IsNamedItem (numbered raw) (item_in raw x)
 item_named raw p q i (raw_item.Name name) e f readable right = name_known (symbols raw) name right
 item_named raw p q i (raw_item.Literal text) e f readable right = known (literals raw) text (literal_listed raw.productions p q i text e f)
-item_named raw p q i (raw_item.Class c) e f readable right = filter_has (uses raw) known_classes c (known_class c readable) (stands_class raw.productions p q i c e f)
+item_named raw p q i (raw_item.Class c) e f readable right = filter_has (uses raw) known_classes c (known_class c readable) (occurs_class raw.productions p q i c e f)
 
-items_named : (raw : RawGrammar) → IsReadable raw → first_wrong (unknown (symbols raw) raw.productions) ≡ None → Each (λ q. Each (IsNamedItem (numbered raw)) q.items) (numbered raw).productions
+items_named : (raw : RawGrammar) → IsReadable raw → first_wrong (unknown_checks (symbols raw) raw.productions) ≡ None → Each (λ q. Each (IsNamedItem (numbered raw)) q.items) (numbered raw).productions
 items_named raw readable h = each_mapped (produces raw) (λ q. Each (IsNamedItem (numbered raw)) q.items) raw.productions (λ p q e.
     let parts = unknown_parts (symbols raw) q (flat_each (unknown_in (symbols raw)) raw.productions h p q e) in
     each_mapped (item_in raw) (IsNamedItem (numbered raw)) q.items (λ i x f.
@@ -148,25 +148,25 @@ start_right raw start = right_is (fault.BadStart, is_start (slice_get (symbols r
 
 -- the kinds about rules
 abbrev Rules : RawGrammar → Type 0
-Rules raw = (first_wrong (missing (symbols raw) raw.productions) ≡ None) × (first_wrong (doubled_rules (symbols raw) raw.productions) ≡ None)
-    × (first_wrong (not_given (symbols raw) raw.productions) ≡ None) × (first_wrong (not_found (symbols raw) raw.productions) ≡ None)
+Rules raw = (first_wrong (missing_checks (symbols raw) raw.productions) ≡ None) × (first_wrong (doubled_rules (symbols raw) raw.productions) ≡ None)
+    × (first_wrong (not_defined_here (symbols raw) raw.productions) ≡ None) × (first_wrong (not_found (symbols raw) raw.productions) ≡ None)
 
 rule_parts : (raw : RawGrammar) → first_wrong (rule_kinds (symbols raw) raw.productions) ≡ None → Rules raw
 rule_parts raw h =
     let ss = symbols raw in
     let qs = raw.productions in
-    let a = both_right ((missing ss qs ++ doubled_rules ss qs) ++ not_given ss qs) (not_found ss qs) h in
-    let b = both_right (missing ss qs ++ doubled_rules ss qs) (not_given ss qs) a.0 in
-    let c = both_right (missing ss qs) (doubled_rules ss qs) b.0 in (c.0, c.1, b.1, a.1)
+    let a = both_right ((missing_checks ss qs ++ doubled_rules ss qs) ++ not_defined_here ss qs) (not_found ss qs) h in
+    let b = both_right (missing_checks ss qs ++ doubled_rules ss qs) (not_defined_here ss qs) a.0 in
+    let c = both_right (missing_checks ss qs) (doubled_rules ss qs) b.0 in (c.0, c.1, b.1, a.1)
 
 parts_rule : (raw : RawGrammar) → Rules raw → first_wrong (rule_kinds (symbols raw) raw.productions) ≡ None
 parts_rule raw r =
     let ss = symbols raw in
     let qs = raw.productions in
-    together ((missing ss qs ++ doubled_rules ss qs) ++ not_given ss qs) (not_found ss qs)
-    (together (missing ss qs ++ doubled_rules ss qs) (not_given ss qs) (together (missing ss qs) (doubled_rules ss qs) r.0 r.1) r.2) r.3
+    together ((missing_checks ss qs ++ doubled_rules ss qs) ++ not_defined_here ss qs) (not_found ss qs)
+    (together (missing_checks ss qs ++ doubled_rules ss qs) (not_defined_here ss qs) (together (missing_checks ss qs) (doubled_rules ss qs) r.0 r.1) r.2) r.3
 
-missing_at_index : (raw : RawGrammar) → first_wrong (missing (symbols raw) raw.productions) ≡ None → (p : ℕ) (q : RawProduction) → slice_get raw.productions p ≡ Some q → first_wrong (missing_in (symbols raw) p q) ≡ None
+missing_at_index : (raw : RawGrammar) → first_wrong (missing_checks (symbols raw) raw.productions) ≡ None → (p : ℕ) (q : RawProduction) → slice_get raw.productions p ≡ Some q → first_wrong (missing_in (symbols raw) p q) ≡ None
 missing_at_index raw h p q e = let there : 0 + p ≡ p = omega arith in subst (λ n. first_wrong (missing_in (symbols raw) n q) ≡ None) there (along_each (missing_in (symbols raw)) 0 raw.productions h p q e)
 
 complete : (raw : RawGrammar) → Rules raw → Each (IsComplete (numbered raw)) (numbered raw).productions
@@ -202,22 +202,22 @@ limits raw readable h =
     let qs = raw.productions in
     let a = both_right (symbol_limits ss ++ production_limits ss qs) (literal_limits (literals raw)) h in
     let b = both_right (symbol_limits ss) (production_limits ss qs) a.0 in
-    let s = both_right ((fault.Limit limit.Symbols, nat_le (length ss) most_symbols) ∷ []) ((fault.Limit limit.Attributes, list_all few_attributes ss) ∷ []) b.0 in
-    let p = both_right ((fault.Limit limit.Productions, nat_le (length qs) most_productions) ∷ []) ((fault.Limit limit.Items, list_all few_items qs) ∷ (fault.Limit limit.Stored, list_all (few_stored ss) qs) ∷ []) b.1 in
+    let s = both_right ((fault.Limit limit.Symbols, nat_le (length ss) max_symbols) ∷ []) ((fault.Limit limit.Attributes, list_all few_attributes ss) ∷ []) b.0 in
+    let p = both_right ((fault.Limit limit.Productions, nat_le (length qs) max_productions) ∷ []) ((fault.Limit limit.Items, list_all few_items qs) ∷ (fault.Limit limit.Stored, list_all (few_stored ss) qs) ∷ []) b.1 in
     let r = both_right ((fault.Limit limit.Items, list_all few_items qs) ∷ []) ((fault.Limit limit.Stored, list_all (few_stored ss) qs) ∷ []) p.1 in
-    let l = both_right ((fault.Limit limit.LiteralLength, list_all is_short (literals raw)) ∷ []) ((fault.Limit limit.Literals, nat_le (length (literals raw)) most_literals) ∷ []) a.1 in
+    let l = both_right ((fault.Limit limit.LiteralLength, list_all is_short (literals raw)) ∷ []) ((fault.Limit limit.Literals, nat_le (length (literals raw)) max_literals) ∷ []) a.1 in
     let attributes = is_right (fault.Limit limit.Attributes, list_all few_attributes ss) s.1 in
     let items = is_right (fault.Limit limit.Items, list_all few_items qs) r.0 in
     let stored = is_right (fault.Limit limit.Stored, list_all (few_stored ss) qs) r.1 in
     let short = is_right (fault.Limit limit.LiteralLength, list_all is_short (literals raw)) l.0 in
     record {
-      symbol_count = leb-true (length ss) most_symbols (is_right (fault.Limit limit.Symbols, nat_le (length ss) most_symbols) s.0);
-      attribute_count = λ i x e. leb-true (length (attribute_names x)) most_attributes (passes_at few_attributes ss i x attributes e);
-      production_count = rw (length-map qs (produces raw)) (leb-true (length qs) most_productions (is_right (fault.Limit limit.Productions, nat_le (length qs) most_productions) p.0));
-      item_count = each_mapped (produces raw) (λ q. length q.items ≤ most_items) qs (λ i q e. rw (length-map q.items (item_in raw)) (leb-true (length q.items) most_items (passes_at few_items qs i q items e)));
-      stored_count = each_mapped (produces raw) (λ q. length (stored_items q.items) ≤ most_stored) qs (λ i q e. omega (arith, stored_long raw q, leb-true (length (placed ss q)) (1 + most_stored) (passes_at (few_stored ss) qs i q stored e)));
-      literal_count = leb-true (length (literals raw)) most_literals (is_right (fault.Limit limit.Literals, nat_le (length (literals raw)) most_literals) l.1);
-      literal_bytes = λ i x e. ((literal_readable raw readable i x e).0, leb-true (length x) most_literal_bytes (passes_at is_short (literals raw) i x short e));
+      symbol_count = leb-true (length ss) max_symbols (is_right (fault.Limit limit.Symbols, nat_le (length ss) max_symbols) s.0);
+      attribute_count = λ i x e. leb-true (length (attribute_names x)) max_attributes (passes_at few_attributes ss i x attributes e);
+      production_count = rw (length-map qs (produces raw)) (leb-true (length qs) max_productions (is_right (fault.Limit limit.Productions, nat_le (length qs) max_productions) p.0));
+      item_count = each_mapped (produces raw) (λ q. length q.items ≤ max_items) qs (λ i q e. rw (length-map q.items (item_in raw)) (leb-true (length q.items) max_items (passes_at few_items qs i q items e)));
+      stored_count = each_mapped (produces raw) (λ q. length (stored_items q.items) ≤ max_stored) qs (λ i q e. omega (arith, stored_long raw q, leb-true (length (placed ss q)) (1 + max_stored) (passes_at (few_stored ss) qs i q stored e)));
+      literal_count = leb-true (length (literals raw)) max_literals (is_right (fault.Limit limit.Literals, nat_le (length (literals raw)) max_literals) l.1);
+      literal_bytes = λ i x e. ((literal_readable raw readable i x e).0, leb-true (length x) max_literal_bytes (passes_at is_short (literals raw) i x short e));
     }
 
 within_limits : (raw : RawGrammar) → IsWithinGrammarLimits (numbered raw) → first_wrong (limit_checks (symbols raw) raw.productions) ≡ None
@@ -226,17 +226,17 @@ within_limits raw within =
     let qs = raw.productions in
     together (symbol_limits ss ++ production_limits ss qs) (literal_limits (literals raw))
     (together (symbol_limits ss) (production_limits ss qs)
-    (together ((fault.Limit limit.Symbols, nat_le (length ss) most_symbols) ∷ []) ((fault.Limit limit.Attributes, list_all few_attributes ss) ∷ [])
-    (right_is (fault.Limit limit.Symbols, nat_le (length ss) most_symbols) (le-leb (length ss) most_symbols within.symbol_count))
-    (right_is (fault.Limit limit.Attributes, list_all few_attributes ss) (all_pass few_attributes ss (λ i x e. le-leb (length (attribute_names x)) most_attributes (within.attribute_count i x e)))))
-    (together ((fault.Limit limit.Productions, nat_le (length qs) most_productions) ∷ []) ((fault.Limit limit.Items, list_all few_items qs) ∷ (fault.Limit limit.Stored, list_all (few_stored ss) qs) ∷ [])
-    (right_is (fault.Limit limit.Productions, nat_le (length qs) most_productions) (le-leb (length qs) most_productions (rw (← length-map qs (produces raw)) within.production_count)))
+    (together ((fault.Limit limit.Symbols, nat_le (length ss) max_symbols) ∷ []) ((fault.Limit limit.Attributes, list_all few_attributes ss) ∷ [])
+    (right_is (fault.Limit limit.Symbols, nat_le (length ss) max_symbols) (le-leb (length ss) max_symbols within.symbol_count))
+    (right_is (fault.Limit limit.Attributes, list_all few_attributes ss) (all_pass few_attributes ss (λ i x e. le-leb (length (attribute_names x)) max_attributes (within.attribute_count i x e)))))
+    (together ((fault.Limit limit.Productions, nat_le (length qs) max_productions) ∷ []) ((fault.Limit limit.Items, list_all few_items qs) ∷ (fault.Limit limit.Stored, list_all (few_stored ss) qs) ∷ [])
+    (right_is (fault.Limit limit.Productions, nat_le (length qs) max_productions) (le-leb (length qs) max_productions (rw (← length-map qs (produces raw)) within.production_count)))
     (together ((fault.Limit limit.Items, list_all few_items qs) ∷ []) ((fault.Limit limit.Stored, list_all (few_stored ss) qs) ∷ [])
-    (right_is (fault.Limit limit.Items, list_all few_items qs) (all_pass few_items qs (λ i q e. le-leb (length q.items) most_items (rw (← length-map q.items (item_in raw)) (mapped_each (produces raw) (λ r. length r.items ≤ most_items) qs within.item_count i q e)))))
-    (right_is (fault.Limit limit.Stored, list_all (few_stored ss) qs) (all_pass (few_stored ss) qs (λ i q e. le-leb (length (placed ss q)) (1 + most_stored) (omega (arith, stored_long raw q, mapped_each (produces raw) (λ r. length (stored_items r.items) ≤ most_stored) qs within.stored_count i q e))))))))
-    (together ((fault.Limit limit.LiteralLength, list_all is_short (literals raw)) ∷ []) ((fault.Limit limit.Literals, nat_le (length (literals raw)) most_literals) ∷ [])
-    (right_is (fault.Limit limit.LiteralLength, list_all is_short (literals raw)) (all_pass is_short (literals raw) (λ i x e. le-leb (length x) most_literal_bytes (within.literal_bytes i x e).1)))
-    (right_is (fault.Limit limit.Literals, nat_le (length (literals raw)) most_literals) (le-leb (length (literals raw)) most_literals within.literal_count)))
+    (right_is (fault.Limit limit.Items, list_all few_items qs) (all_pass few_items qs (λ i q e. le-leb (length q.items) max_items (rw (← length-map q.items (item_in raw)) (mapped_each (produces raw) (λ r. length r.items ≤ max_items) qs within.item_count i q e)))))
+    (right_is (fault.Limit limit.Stored, list_all (few_stored ss) qs) (all_pass (few_stored ss) qs (λ i q e. le-leb (length (placed ss q)) (1 + max_stored) (omega (arith, stored_long raw q, mapped_each (produces raw) (λ r. length (stored_items r.items) ≤ max_stored) qs within.stored_count i q e))))))))
+    (together ((fault.Limit limit.LiteralLength, list_all is_short (literals raw)) ∷ []) ((fault.Limit limit.Literals, nat_le (length (literals raw)) max_literals) ∷ [])
+    (right_is (fault.Limit limit.LiteralLength, list_all is_short (literals raw)) (all_pass is_short (literals raw) (λ i x e. le-leb (length x) max_literal_bytes (within.literal_bytes i x e).1)))
+    (right_is (fault.Limit limit.Literals, nat_le (length (literals raw)) max_literals) (le-leb (length (literals raw)) max_literals within.literal_count)))
 
 -- without a fault the numbered grammar is accepted
 pub accepted : (raw : RawGrammar) → IsReadable raw → AreListed raw → HasNoFault raw → IsAccepted (numbered raw)
@@ -259,8 +259,8 @@ pub no_fault : (raw : RawGrammar) → IsAccepted (numbered raw) → HasNoFault r
 no_fault raw accepted =
     let ss = symbols raw in
     record {
-      names = together (unknown ss raw.productions ++ doubled raw.symbols) (start_checks ss raw.start)
-          (together (unknown ss raw.productions) (doubled raw.symbols) (named_known raw accepted.named) (differ_doubled raw.symbols accepted.named.symbols_differ accepted.named.attributes_differ))
+      names = together (unknown_checks ss raw.productions ++ doubled_checks raw.symbols) (start_checks ss raw.start)
+          (together (unknown_checks ss raw.productions) (doubled_checks raw.symbols) (named_known raw accepted.named) (differ_doubled raw.symbols accepted.named.symbols_differ accepted.named.attributes_differ))
           (start_right raw accepted.start);
       productive = λ s lt. accepted.productive s (rw (length-map raw.symbols symbol_of) lt);
       reached = λ s lt. accepted.reachable s (rw (length-map raw.symbols symbol_of) lt);
@@ -275,12 +275,12 @@ small raw none =
     let further = both_right (rule_kinds ss qs) (limit_checks ss qs) none.rules in
     let a = both_right (symbol_limits ss ++ production_limits ss qs) (literal_limits (literals raw)) further.1 in
     let b = both_right (symbol_limits ss) (production_limits ss qs) a.0 in
-    let s = both_right ((fault.Limit limit.Symbols, nat_le (length ss) most_symbols) ∷ []) ((fault.Limit limit.Attributes, list_all few_attributes ss) ∷ []) b.0 in
-    let l = both_right ((fault.Limit limit.LiteralLength, list_all is_short (literals raw)) ∷ []) ((fault.Limit limit.Literals, nat_le (length (literals raw)) most_literals) ∷ []) a.1 in
+    let s = both_right ((fault.Limit limit.Symbols, nat_le (length ss) max_symbols) ∷ []) ((fault.Limit limit.Attributes, list_all few_attributes ss) ∷ []) b.0 in
+    let l = both_right ((fault.Limit limit.LiteralLength, list_all is_short (literals raw)) ∷ []) ((fault.Limit limit.Literals, nat_le (length (literals raw)) max_literals) ∷ []) a.1 in
     record {
-      symbols = leb-true (length ss) most_symbols (is_right (fault.Limit limit.Symbols, nat_le (length ss) most_symbols) s.0);
+      symbols = leb-true (length ss) max_symbols (is_right (fault.Limit limit.Symbols, nat_le (length ss) max_symbols) s.0);
       attributes = is_right (fault.Limit limit.Attributes, list_all few_attributes ss) s.1;
-      texts = leb-true (length (literals raw)) most_literals (is_right (fault.Limit limit.Literals, nat_le (length (literals raw)) most_literals) l.1);
+      texts = leb-true (length (literals raw)) max_literals (is_right (fault.Limit limit.Literals, nat_le (length (literals raw)) max_literals) l.1);
     }
 
 -- a property of all elements holds of each

@@ -46,8 +46,8 @@ inherits_is : (o : Option Symbol) (s : RawSymbol) (syn inh : List Named) (a : �
 inherits_is o s syn inh a e f g = rw (e, f, g, inherited_at (texts_of s.syn) (texts_of s.inh) a, length-map s.syn (λ (n : Named). n.name), length-map s.inh (λ (n : Named). n.name)) refl
 
 -- after the synthesized ones
-pub inherits_behind : (o : Option Symbol) (s : RawSymbol) (syn inh : List Named) (a : ℕ) → o ≡ Some (symbol_of s) → syn ≡ s.syn → inh ≡ s.inh → length syn ≤ a → nat_lt (a - length syn) (length inh) ≡ is_kind Inherited (slice_get (symbol_kinds o) a)
-inherits_behind o s syn inh a e f g le = let h = le-leb (length syn) a le in rw h at (inherits_is o s syn inh a e f g)
+pub inherits_after : (o : Option Symbol) (s : RawSymbol) (syn inh : List Named) (a : ℕ) → o ≡ Some (symbol_of s) → syn ≡ s.syn → inh ≡ s.inh → length syn ≤ a → nat_lt (a - length syn) (length inh) ≡ is_kind Inherited (slice_get (symbol_kinds o) a)
+inherits_after o s syn inh a e f g le = let h = le-leb (length syn) a le in rw h at (inherits_is o s syn inh a e f g)
 
 -- not one of these
 pub inherits_none : (o : Option Symbol) (s : RawSymbol) (syn : List Named) (a : ℕ) → o ≡ Some (symbol_of s) → syn ≡ s.syn → a < length syn → nat_le (length syn) a ≡ is_kind Inherited (slice_get (symbol_kinds o) a)

@@ -8,13 +8,13 @@ use Rattle.ag_grammar.specs.declared.raw.RawItem.{RawItem}
 use Rattle.ag_grammar.specs.declared.raw.RawItem.TheVariants as raw_item
 use Rattle.ag_grammar.specs.declared.raw.RawProduction.{RawProduction}
 use Rattle.normalform.specs.numbers.Numbers.{number_in, with_text, with_item, with_production, literals_of, is_class}
-use Rattle.normalform.proofs.found.Apart.{Apart, Tells, apart_push, apart_differ, none_apart}
+use Rattle.normalform.proofs.found.Apart.{Apart, DecidesBy, apart_push, apart_differ, none_apart}
 use Rattle.normalform.proofs.numbered.Placing.{text_at}
 use Rattle.normalform.proofs.found.Reduced.{split_has}
 use Rattle.normalform.proofs.found.Right.{has_left, has_right}
 
-pub tells_texts : Tells bytes_eq
-tells_texts = record { sound = λ a b. (bytes_eq-Decides a b).0; whole = λ a b. (bytes_eq-Decides a b).1 }
+pub decides_texts : DecidesBy bytes_eq
+decides_texts = record { sound = λ a b. (bytes_eq-Decides a b).0; whole = λ a b. (bytes_eq-Decides a b).1 }
 
 -- an element of the list passes the test
 pub any_at : {X : Type 0} (test : X → Bool) (xs : List X) → list_any test xs ≡ true → (i : ℕ) × (x : X) × (slice_get xs i ≡ Some x) × (test x ≡ true)
@@ -74,15 +74,15 @@ apart_with texts text apart = go (list_any (bytes_eq text) texts) refl
   where
     go : (b : Bool) → list_any (bytes_eq text) texts ≡ b → Apart (cond b texts (texts ++ text ∷ []))
     go true e = apart
-    go false e = apart_push bytes_eq tells_texts texts text apart e
+    go false e = apart_push bytes_eq decides_texts texts text apart e
 
 -- a literal is one of the items
 abbrev IsAmong : List RawItem → List ℕ → Type 0
 IsAmong xs text = Has xs (raw_item.Literal text)
 
 -- a literal occurs in a production
-abbrev pub StandsIn : List RawProduction → List ℕ → Type 0
-StandsIn qs text = (p : ℕ) × (q : RawProduction) × (slice_get qs p ≡ Some q) × Has q.items (raw_item.Literal text)
+abbrev pub OccursIn : List RawProduction → List ℕ → Type 0
+OccursIn qs text = (p : ℕ) × (q : RawProduction) × (slice_get qs p ≡ Some q) × Has q.items (raw_item.Literal text)
 
 items_keep : (xs : List RawItem) (texts : List (List ℕ)) (x : List ℕ) → Has texts x → Has (fold with_item texts xs) x
 items_keep [] texts x h = h
@@ -132,7 +132,7 @@ all_add [] texts p q i x e f = absurd (cc)
 all_add (r ∷ qs) texts zero q i x e f = let z : r ≡ q = cc in all_keep qs (with_production texts r) x (items_add r.items texts i x (rw z f))
 all_add (r ∷ qs) texts (suc p) q i x e f = all_add qs (with_production texts r) p q i x e f
 
-all_from : (qs : List RawProduction) (texts : List (List ℕ)) (x : List ℕ) → Has (fold with_production texts qs) x → Has texts x ⊎ StandsIn qs x
+all_from : (qs : List RawProduction) (texts : List (List ℕ)) (x : List ℕ) → Has (fold with_production texts qs) x → Has texts x ⊎ OccursIn qs x
 all_from [] texts x h = inl h
 all_from (q ∷ qs) texts x h = elim (all_from qs (with_production texts q) x h) [
   | inl old ↦ elim (items_from q.items texts x old) [
@@ -149,8 +149,8 @@ all_apart (q ∷ qs) texts h = all_apart qs (with_production texts q) (items_apa
 pub literals_apart : (qs : List RawProduction) → Apart (literals_of qs)
 literals_apart qs = all_apart qs [] none_apart
 
-pub literal_stands : (qs : List RawProduction) (x : List ℕ) → Has (literals_of qs) x → StandsIn qs x
-literal_stands qs x h = elim (all_from qs [] x h) [
+pub literal_occurs : (qs : List RawProduction) (x : List ℕ) → Has (literals_of qs) x → OccursIn qs x
+literal_occurs qs x h = elim (all_from qs [] x h) [
   | inl none ↦ absurd (cc (none.1))
   | inr w ↦ w
 ]
@@ -201,11 +201,11 @@ class_is c (raw_item.Class d) h = let e : d ≡ c = grind (arith, nat_tests) in 
 pub is_its_class : (c : ℕ) → is_class c (raw_item.Class c) ≡ true
 is_its_class c = grind (arith, nat_tests)
 
-pub class_stands : (qs : List RawProduction) (c : ℕ) → list_any (λ q. list_any (is_class c) q.items) qs ≡ true → (p : ℕ) × (q : RawProduction) × (slice_get qs p ≡ Some q) × Has q.items (raw_item.Class c)
-class_stands qs c h =
+pub class_occurs : (qs : List RawProduction) (c : ℕ) → list_any (λ q. list_any (is_class c) q.items) qs ≡ true → (p : ℕ) × (q : RawProduction) × (slice_get qs p ≡ Some q) × Has q.items (raw_item.Class c)
+class_occurs qs c h =
     let w = any_at (λ (q : RawProduction). list_any (is_class c) q.items) qs h in
     let v = any_at (is_class c) w.1.items w.3 in
     (w.0, w.1, w.2, (v.0, v.2 ∙ ap (λ x. Some x) (class_is c v.1 v.3)))
 
-pub stands_class : (qs : List RawProduction) (p : ℕ) (q : RawProduction) (i c : ℕ) → slice_get qs p ≡ Some q → slice_get q.items i ≡ Some (raw_item.Class c) → list_any (λ r. list_any (is_class c) r.items) qs ≡ true
-stands_class qs p q i c e f = at_any (λ (r : RawProduction). list_any (is_class c) r.items) qs p q e (at_any (is_class c) q.items i (raw_item.Class c) f (is_its_class c))
+pub occurs_class : (qs : List RawProduction) (p : ℕ) (q : RawProduction) (i c : ℕ) → slice_get qs p ≡ Some q → slice_get q.items i ≡ Some (raw_item.Class c) → list_any (λ r. list_any (is_class c) r.items) qs ≡ true
+occurs_class qs p q i c e f = at_any (λ (r : RawProduction). list_any (is_class c) r.items) qs p q e (at_any (is_class c) q.items i (raw_item.Class c) f (is_its_class c))

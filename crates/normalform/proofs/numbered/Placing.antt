@@ -11,7 +11,7 @@ use Rattle.ag_grammar.specs.declared.grammar.Symbol.{Symbol}
 use Rattle.ag_grammar.specs.declared.grammar.Target.{Target}
 use Rattle.ag_grammar.specs.declared.grammar.Terminal.TheVariants.{Literal, Class}
 use Rattle.ag_grammar.specs.declared.syntax.occurrence.Occ.{Occ}
-use Rattle.ag_grammar.specs.grammars.AttributeGrammar.{Kind, Synthesized, Inherited, stored_items, item_at, item_names, item_kinds, symbol_kinds, symbol_names as names_of_symbol, HasKind, StandsFor}
+use Rattle.ag_grammar.specs.grammars.AttributeGrammar.{Kind, Synthesized, Inherited, stored_items, item_at, item_names, item_kinds, symbol_kinds, symbol_names as names_of_symbol, HasKind, RefersTo}
 use Rattle.ag_grammar.specs.declared.raw.RawGrammar.{RawGrammar}
 use Rattle.ag_grammar.specs.declared.raw.RawItem.{RawItem}
 use Rattle.ag_grammar.specs.declared.raw.RawItem.TheVariants as raw_item
@@ -96,7 +96,7 @@ some_kind raw q o h =
     (get_or kinds n Synthesized, ap (λ ks. slice_get ks n) (kinds_at raw q o.place) ∙ slice_get-get_or kinds n Synthesized lt)
 
 pub stands_for : (raw : RawGrammar) (q : RawProduction) (o : Occ) → list_any (bytes_eq o.attr) (names_at (symbols raw) (placed (symbols raw) q) o.place) ≡ true
-    → StandsFor (numbered raw) (produces raw q) o (target_of (symbols raw) (placed (symbols raw) q) o)
+    → RefersTo (numbered raw) (produces raw q) o (target_of (symbols raw) (placed (symbols raw) q) o)
 stands_for raw q o h = record {
   place = refl;
   name = ap (λ ns. slice_get ns (number_in (names_at (symbols raw) (placed (symbols raw) q) o.place) o.attr)) (names_of raw q o.place) ∙ text_at (names_at (symbols raw) (placed (symbols raw) q) o.place) o.attr h;

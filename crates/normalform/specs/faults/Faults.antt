@@ -11,8 +11,8 @@ use Rattle.ag_grammar.specs.declared.grammar.Rule.{Rule}
 use Rattle.ag_grammar.specs.declared.grammar.Symbol.{Symbol}
 use Rattle.ag_grammar.specs.declared.grammar.Target.{Target}
 use Rattle.ag_grammar.specs.declared.syntax.occurrence.Occ.{Occ}
-use Rattle.ag_grammar.specs.grammars.Accepted.{IsAccepted, IsProductive, IsReached, IsSeparator, class_count, out_name, most_symbols, most_attributes, most_productions, most_items, most_stored, most_literals, most_literal_bytes}
-use Rattle.ag_grammar.specs.grammars.AttributeGrammar.{Kind, Synthesized, Inherited, attribute_names, item_kinds, given_kind, found_kind}
+use Rattle.ag_grammar.specs.grammars.Accepted.{IsAccepted, IsProductive, IsReached, IsSeparator, class_count, out_name, max_symbols, max_attributes, max_productions, max_items, max_stored, max_literals, max_literal_bytes}
+use Rattle.ag_grammar.specs.grammars.AttributeGrammar.{Kind, Synthesized, Inherited, attribute_names, item_kinds, defined_kind, used_kind}
 use Rattle.ag_grammar.specs.expressions.Trees.{is_below}
 use Rattle.ag_grammar.specs.declared.raw.Named.{Named}
 use Rattle.ag_grammar.specs.declared.raw.RawGrammar.{RawGrammar}
@@ -60,8 +60,8 @@ rule_checks ss items r = occurrence_check ss items r.target ∷ map (occurrence_
 abbrev pub unknown_in : List Symbol → RawProduction → List Check
 unknown_in ss q = name_check (symbol_names ss) q.left ∷ flat_map (item_checks (symbol_names ss)) q.items ++ flat_map (rule_checks ss (placed ss q)) q.rules
 
-abbrev pub unknown : List Symbol → List RawProduction → List Check
-unknown ss qs = flat_map (unknown_in ss) qs
+abbrev pub unknown_checks : List Symbol → List RawProduction → List Check
+unknown_checks ss qs = flat_map (unknown_in ss) qs
 
 -- N2. The check of a declared name: it is not one of the earlier names.
 abbrev pub new_check : List (List ℕ) → Named → List Check
@@ -80,8 +80,8 @@ symbol_checks seen s = new_check seen s.name ++ doubled_names [] (s.syn ++ s.inh
 abbrev pub with_symbol : List (List ℕ) → RawSymbol → List (List ℕ)
 with_symbol seen s = with_text seen s.name.name
 
-abbrev pub doubled : List RawSymbol → List Check
-doubled ss = checks_along symbol_checks with_symbol [] ss
+abbrev pub doubled_checks : List RawSymbol → List Check
+doubled_checks ss = checks_along symbol_checks with_symbol [] ss
 
 -- N3. The start symbol is declared, has no inherited attribute, and has a synthesized one named `out`.
 abbrev pub is_start : Option Symbol → Bool
@@ -140,8 +140,8 @@ after n x = n + 1
 abbrev pub missing_in : List Symbol → ℕ → RawProduction → List Check
 missing_in ss p q = checks_along (missing_at ss (targets_of ss (placed ss q) q.rules) p) after 0 (placed ss q)
 
-abbrev pub missing : List Symbol → List RawProduction → List Check
-missing ss qs = checks_along (missing_in ss) after 0 qs
+abbrev pub missing_checks : List Symbol → List RawProduction → List Check
+missing_checks ss qs = checks_along (missing_in ss) after 0 qs
 
 -- N7. The check of a rule's target: it is not one of those of the earlier rules of the production.
 abbrev pub new_target : List Symbol → List Item → List Target → RawRule → List Check
@@ -166,17 +166,17 @@ has_kind ss items t k = is_kind k (slice_get (item_kinds (declared ss) (slice_ge
 
 -- N8. The check of a rule's target: the rules of the production define it.
 abbrev pub given_check : List Symbol → List Item → RawRule → Check
-given_check ss items r = let t = target_of ss items r.target in (fault.NotDefinedHere r.target.at, has_kind ss items t (given_kind t.place))
+given_check ss items r = let t = target_of ss items r.target in (fault.NotDefinedHere r.target.at, has_kind ss items t (defined_kind t.place))
 
 abbrev pub not_given_in : List Symbol → RawProduction → List Check
 not_given_in ss q = map (given_check ss (placed ss q)) q.rules
 
-abbrev pub not_given : List Symbol → List RawProduction → List Check
-not_given ss qs = flat_map (not_given_in ss) qs
+abbrev pub not_defined_here : List Symbol → List RawProduction → List Check
+not_defined_here ss qs = flat_map (not_given_in ss) qs
 
 -- N9. The check of an occurrence: the rules of the production use it.
 abbrev pub found_check : List Symbol → List Item → Occ → Check
-found_check ss items o = let t = target_of ss items o in (fault.NotNormal o.at, has_kind ss items t (found_kind t.place))
+found_check ss items o = let t = target_of ss items o in (fault.NotNormal o.at, has_kind ss items t (used_kind t.place))
 
 abbrev pub not_found_in : List Symbol → RawProduction → List Check
 not_found_in ss q = flat_map (λ r. map (found_check ss (placed ss q)) r.expr.1) q.rules
@@ -186,30 +186,30 @@ not_found ss qs = flat_map (not_found_in ss) qs
 
 -- N10. The limits of symbols, productions and different literals.
 abbrev pub few_attributes : Symbol → Bool
-few_attributes s = nat_le (length (attribute_names s)) most_attributes
+few_attributes s = nat_le (length (attribute_names s)) max_attributes
 
 abbrev pub few_items : RawProduction → Bool
-few_items q = nat_le (length q.items) most_items
+few_items q = nat_le (length q.items) max_items
 
 -- the limit of the items with a place: the left side is one more
 abbrev pub few_stored : List Symbol → RawProduction → Bool
-few_stored ss q = nat_le (length (placed ss q)) (1 + most_stored)
+few_stored ss q = nat_le (length (placed ss q)) (1 + max_stored)
 
 abbrev pub is_short : List ℕ → Bool
-is_short text = nat_le (length text) most_literal_bytes
+is_short text = nat_le (length text) max_literal_bytes
 
 abbrev pub symbol_limits : List Symbol → List Check
-symbol_limits ss = (fault.Limit limit.Symbols, nat_le (length ss) most_symbols) ∷ (fault.Limit limit.Attributes, list_all few_attributes ss) ∷ []
+symbol_limits ss = (fault.Limit limit.Symbols, nat_le (length ss) max_symbols) ∷ (fault.Limit limit.Attributes, list_all few_attributes ss) ∷ []
 
 abbrev pub production_limits : List Symbol → List RawProduction → List Check
 production_limits ss qs =
-    (fault.Limit limit.Productions, nat_le (length qs) most_productions)
+    (fault.Limit limit.Productions, nat_le (length qs) max_productions)
     ∷ (fault.Limit limit.Items, list_all few_items qs)
     ∷ (fault.Limit limit.Stored, list_all (few_stored ss) qs)
     ∷ []
 
 abbrev pub literal_limits : List (List ℕ) → List Check
-literal_limits texts = (fault.Limit limit.LiteralLength, list_all is_short texts) ∷ (fault.Limit limit.Literals, nat_le (length texts) most_literals) ∷ []
+literal_limits texts = (fault.Limit limit.LiteralLength, list_all is_short texts) ∷ (fault.Limit limit.Literals, nat_le (length texts) max_literals) ∷ []
 
 abbrev pub limit_checks : List Symbol → List RawProduction → List Check
 limit_checks ss qs = symbol_limits ss ++ production_limits ss qs ++ literal_limits (literals_of qs)
@@ -217,11 +217,11 @@ limit_checks ss qs = symbol_limits ss ++ production_limits ss qs ++ literal_limi
 -- the checks of the kinds before N4: names, and the start symbol
 abbrev pub naming_checks : RawGrammar → List Check
 naming_checks raw = let ss = map symbol_of raw.symbols in
-    unknown ss raw.productions ++ doubled raw.symbols ++ start_checks ss raw.start
+    unknown_checks ss raw.productions ++ doubled_checks raw.symbols ++ start_checks ss raw.start
 
 -- the checks of the kinds about rules
 abbrev pub rule_kinds : List Symbol → List RawProduction → List Check
-rule_kinds ss qs = missing ss qs ++ doubled_rules ss qs ++ not_given ss qs ++ not_found ss qs
+rule_kinds ss qs = missing_checks ss qs ++ doubled_rules ss qs ++ not_defined_here ss qs ++ not_found ss qs
 
 -- the checks of N6 to N10
 abbrev pub further_checks : RawGrammar → List Check
@@ -267,9 +267,9 @@ AreListedIn q = All IsListed q.rules
 
 -- The symbols and literals are within the limits, so that their numbers and those of attributes are small.
 pub record IsSmall (ss : List Symbol) (literals : List (List ℕ)) : Type 0 where
-  pub symbols : length ss ≤ most_symbols
+  pub symbols : length ss ≤ max_symbols
   pub attributes : list_all few_attributes ss ≡ true
-  pub texts : length literals ≤ most_literals
+  pub texts : length literals ≤ max_literals
 
 -- the name of the symbol of a number
 abbrev pub IsNameAt : List RawSymbol → ℕ → Named → Type 0

@@ -12,8 +12,8 @@ use crate::faults::placed::places_of;
 use crate::numbers::declared::Declared;
 use crate::numbers::names::Names;
 use ag_grammar::limits::{
-    MOST_ATTRIBUTES, MOST_ITEMS, MOST_LITERAL_BYTES, MOST_LITERALS, MOST_PRODUCTIONS, MOST_STORED,
-    MOST_SYMBOLS,
+    MAX_ATTRIBUTES, MAX_ITEMS, MAX_LITERAL_BYTES, MAX_LITERALS, MAX_PRODUCTIONS, MAX_STORED,
+    MAX_SYMBOLS,
 };
 use ag_grammar::{RawItem, RawProduction, RawSymbol};
 use ag_value::NoMemory;
@@ -45,14 +45,14 @@ pub fn literals_of<'t>(
     Ok(texts)
 }
 
-/// Returns whether a symbol has at most `MOST_ATTRIBUTES` attributes.
+/// Returns whether a symbol has at most `MAX_ATTRIBUTES` attributes.
 fn has_few_attributes(symbol: &RawSymbol) -> bool
     ensures { result ≡ few_attributes (symbol_of symbol.now) }
 {
-    symbol.syn.as_slice().len() + symbol.inh.as_slice().len() <= MOST_ATTRIBUTES
+    symbol.syn.as_slice().len() + symbol.inh.as_slice().len() <= MAX_ATTRIBUTES
 }
 
-/// Returns whether each symbol has at most `MOST_ATTRIBUTES` attributes.
+/// Returns whether each symbol has at most `MAX_ATTRIBUTES` attributes.
 fn all_have_few_attributes(symbols: &[RawSymbol]) -> bool
     ensures { result ≡ list_all few_attributes (map symbol_of symbols.now) }
 {
@@ -64,14 +64,14 @@ fn all_have_few_attributes(symbols: &[RawSymbol]) -> bool
     true
 }
 
-/// Returns whether a right side has at most `MOST_ITEMS` items.
+/// Returns whether a right side has at most `MAX_ITEMS` items.
 fn has_few_items(production: &RawProduction) -> bool
     ensures { result ≡ few_items production.now }
 {
-    production.items.as_slice().len() <= MOST_ITEMS
+    production.items.as_slice().len() <= MAX_ITEMS
 }
 
-/// Returns whether each right side has at most `MOST_ITEMS` items.
+/// Returns whether each right side has at most `MAX_ITEMS` items.
 fn all_have_few_items(productions: &[RawProduction]) -> bool
     ensures { result ≡ list_all few_items productions.now }
 {
@@ -80,7 +80,7 @@ fn all_have_few_items(productions: &[RawProduction]) -> bool
         .all(|production| has_few_items(production))
 }
 
-/// Returns whether a right side has at most `MOST_STORED` symbols and classes.
+/// Returns whether a right side has at most `MAX_STORED` symbols and classes.
 fn has_few_stored(
     alloc: Global,
     declared: &Declared<'_>,
@@ -89,10 +89,10 @@ fn has_few_stored(
     ensures { IfOk result (λ b. b ≡ few_stored declared.now production.now) }
 {
     let items = places_of(alloc, declared, production)?;
-    Ok(items.len() <= 1 + MOST_STORED)
+    Ok(items.len() <= 1 + MAX_STORED)
 }
 
-/// Returns whether each right side has at most `MOST_STORED` symbols and classes.
+/// Returns whether each right side has at most `MAX_STORED` symbols and classes.
 fn all_have_few_stored(
     alloc: Global,
     declared: &Declared<'_>,
@@ -108,12 +108,12 @@ fn all_have_few_stored(
     Ok(true)
 }
 
-/// Returns whether each literal has at most `MOST_LITERAL_BYTES` bytes.
+/// Returns whether each literal has at most `MAX_LITERAL_BYTES` bytes.
 fn all_are_short(texts: &Names<'_>) -> bool
     ensures { result ≡ list_all is_short texts.now }
 {
     for (text, _) in texts.listed() {
-        if text.len() > MOST_LITERAL_BYTES {
+        if text.len() > MAX_LITERAL_BYTES {
             return false;
         }
     }
@@ -124,7 +124,7 @@ fn all_are_short(texts: &Names<'_>) -> bool
 fn symbol_limit(symbols: &[RawSymbol]) -> Option<NormalFault>
     ensures { result ≡ first_wrong (symbol_limits (map symbol_of symbols.now)) }
 {
-    if symbols.len() > MOST_SYMBOLS {
+    if symbols.len() > MAX_SYMBOLS {
         return Some(NormalFault::Limit(LimitKind::Symbols));
     }
     if !all_have_few_attributes(symbols) {
@@ -142,7 +142,7 @@ fn production_limit(
     ensures { IfOk result (λ f. f
         ≡ first_wrong (production_limits declared.now productions.now)) }
 {
-    if productions.len() > MOST_PRODUCTIONS {
+    if productions.len() > MAX_PRODUCTIONS {
         return Ok(Some(NormalFault::Limit(LimitKind::Productions)));
     }
     if !all_have_few_items(productions) {
@@ -161,7 +161,7 @@ fn literal_limit(literals: &Names<'_>) -> Option<NormalFault>
     if !all_are_short(literals) {
         return Some(NormalFault::Limit(LimitKind::LiteralLength));
     }
-    if literals.count() > MOST_LITERALS {
+    if literals.count() > MAX_LITERALS {
         return Some(NormalFault::Limit(LimitKind::Literals));
     }
     None

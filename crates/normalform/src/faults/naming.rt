@@ -7,7 +7,7 @@ ghost use Rattle.normalform.specs.faults.Faults.{symbol_checks, with_name, with_
 ghost use Rattle.normalform.specs.numbers.Numbers.{symbol_names, with_text};
 
 use crate::fault::NormalFault;
-use crate::faults::asking::{Question, first_in_production};
+use crate::faults::reference_checks::{RuleCheck, first_in_production};
 use crate::numbers::declared::Declared;
 use crate::numbers::names::Names;
 use ag_grammar::{Named, RawItem, RawProduction, RawSymbol};
@@ -62,17 +62,17 @@ fn unknown_in_production(
     if let Some(fault) = unknown_in_items(declared, production.items.as_slice()) {
         return Ok(Some(fault));
     }
-    first_in_production(alloc, Question::Known, declared, production)
+    first_in_production(alloc, RuleCheck::Known, declared, production)
 }
 
 /// Returns the first fault N1: an undeclared symbol of a production, or an occurrence whose place
 /// or attribute does not exist.
-pub fn unknown(
+pub fn unknown_checks(
     alloc: Global,
     declared: &Declared<'_>,
     productions: &[RawProduction],
 ) -> Result<Option<NormalFault>, NoMemory>
-    ensures { IfOk result (λ f. f ≡ first_wrong (spec.unknown declared.now productions.now)) }
+    ensures { IfOk result (λ f. f ≡ first_wrong (spec.unknown_checks declared.now productions.now)) }
 {
     for production in productions {
         if let Some(fault) = unknown_in_production(alloc, declared, production)? {
@@ -139,8 +139,11 @@ fn doubled_in_symbol<'t>(
 
 /// Returns the first fault N2: a symbol that is declared again, or an attribute that is declared
 /// again in its symbol.
-pub fn doubled<'t>(alloc: Global, symbols: &'t [RawSymbol]) -> Result<Option<NormalFault>, NoMemory>
-    ensures { IfOk result (λ f. f ≡ first_wrong (spec.doubled symbols.now)) }
+pub fn doubled_checks<'t>(
+    alloc: Global,
+    symbols: &'t [RawSymbol],
+) -> Result<Option<NormalFault>, NoMemory>
+    ensures { IfOk result (λ f. f ≡ first_wrong (spec.doubled_checks symbols.now)) }
 {
     let mut seen = Names::new(alloc);
     for symbol in symbols {

@@ -2,7 +2,7 @@
 ghost use Rattle.std.specs.Prelude.{◌≡◌, ◌++◌, ◌∷◌, [], map, IfOk, OnOk};
 ghost use Rattle.normalform.specs.numbers.Numbers.{stored_of, symbol_names};
 ghost use Rattle.normalform.specs.numbers.Numbers.{placed};
-ghost use Rattle.normalform.specs.faults.Placed.{item_placed};
+ghost use Rattle.normalform.specs.faults.PlacedItem.{item_placed};
 
 use crate::numbers::declared::Declared;
 use ag_grammar::{RawItem, RawProduction};
@@ -11,7 +11,7 @@ use std::alloc::Global;
 
 /// The item at a place of a production.
 #[derive(Clone, Copy, Debug, PartialEq, Eq)]
-pub enum Placed {
+pub enum PlacedItem {
     /// A symbol, by its number; an undeclared one has the number of declared symbols.
     Symbol(usize),
     /// A token of a class.
@@ -20,7 +20,7 @@ pub enum Placed {
 
 /// Appends an item, unless it is a literal, which has no place.
 fn place_item(
-    items: &mut Vec<Placed>,
+    items: &mut Vec<PlacedItem>,
     declared: &Declared<'_>,
     item: &RawItem,
 ) -> Result<(), NoMemory>
@@ -28,9 +28,9 @@ fn place_item(
         ++ stored_of (symbol_names declared.now) (item.now ∷ [])) }
 {
     match item {
-        RawItem::Name(name) => items.push(Placed::Symbol(declared.number(name.name.as_str())))?,
+        RawItem::Name(name) => items.push(PlacedItem::Symbol(declared.number(name.name.as_str())))?,
         RawItem::Literal(_) => (),
-        RawItem::Class(class) => items.push(Placed::Class(*class))?,
+        RawItem::Class(class) => items.push(PlacedItem::Class(*class))?,
     }
     Ok(())
 }
@@ -40,12 +40,12 @@ pub fn places_of(
     alloc: Global,
     declared: &Declared<'_>,
     production: &RawProduction,
-) -> Result<Vec<Placed>, NoMemory>
+) -> Result<Vec<PlacedItem>, NoMemory>
     ensures { IfOk result (λ items. map item_placed items.items
         ≡ placed declared.now production.now) }
 {
     let mut items = Vec::new(alloc);
-    items.push(Placed::Symbol(declared.number(production.left.name.as_str())))?;
+    items.push(PlacedItem::Symbol(declared.number(production.left.name.as_str())))?;
     for item in production.items.as_slice() {
         place_item(&mut items, declared, item)?;
     }

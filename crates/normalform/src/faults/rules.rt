@@ -5,11 +5,11 @@ ghost use Rattle.normalform.specs.faults.Faults as spec;
 ghost use Rattle.normalform.specs.faults.Faults.{first_wrong, checks_along, after, with_rule, new_target};
 ghost use Rattle.normalform.specs.faults.Faults.{same_target, doubled_in};
 ghost use Rattle.normalform.specs.numbers.Numbers.{target_of};
-ghost use Rattle.normalform.specs.faults.Placed.{item_placed};
+ghost use Rattle.normalform.specs.faults.PlacedItem.{item_placed};
 
 use crate::fault::NormalFault;
-use crate::faults::asking::{Question, first_in_productions};
-use crate::faults::placed::{Placed, places_of};
+use crate::faults::placed::{PlacedItem, places_of};
+use crate::faults::reference_checks::{RuleCheck, first_in_productions};
 use crate::faults::targets::Targets;
 use crate::numbers::declared::Declared;
 use ag_grammar::{RawProduction, RawRule};
@@ -20,7 +20,7 @@ use std::alloc::Global;
 fn add_target(
     targets: &mut Targets,
     declared: &Declared<'_>,
-    items: &[Placed],
+    items: &[PlacedItem],
     rule: &RawRule,
 ) -> Result<bool, NoMemory>
     ensures added { OnOk result (targets.new ≡ with_rule declared.now (map item_placed items.now)
@@ -36,7 +36,7 @@ fn add_target(
 fn targets_of(
     alloc: Global,
     declared: &Declared<'_>,
-    items: &[Placed],
+    items: &[PlacedItem],
     rules: &[RawRule],
 ) -> Result<Targets, NoMemory>
     ensures { IfOk result (λ t. t
@@ -55,12 +55,12 @@ fn missing_at(
     targets: &Targets,
     production: usize,
     place: usize,
-    item: Placed,
+    item: PlacedItem,
 ) -> Option<NormalFault>
     ensures { result ≡ first_wrong (spec.missing_at declared.now targets.now production place
         (item_placed item)) }
 {
-    let Placed::Symbol(symbol) = item else {
+    let PlacedItem::Symbol(symbol) = item else {
         return None;
     };
     let (first, end) = declared.given(place, symbol);
@@ -77,7 +77,7 @@ fn missing_among(
     declared: &Declared<'_>,
     targets: &Targets,
     production: usize,
-    items: &[Placed],
+    items: &[PlacedItem],
 ) -> Option<NormalFault>
     ensures { result ≡ first_wrong (checks_along (spec.missing_at declared.now targets.now
         production) after 0 (map item_placed items.now)) }
@@ -112,12 +112,12 @@ fn missing_in(
 
 /// Returns the first fault N6: an attribute that needs a rule and has none, by production, then
 /// place, then attribute.
-pub fn missing(
+pub fn missing_checks(
     alloc: Global,
     declared: &Declared<'_>,
     productions: &[RawProduction],
 ) -> Result<Option<NormalFault>, NoMemory>
-    ensures { IfOk result (λ f. f ≡ first_wrong (spec.missing declared.now productions.now)) }
+    ensures { IfOk result (λ f. f ≡ first_wrong (spec.missing_checks declared.now productions.now)) }
 {
     for (number, production) in productions.iter().enumerate() {
         if let Some(fault) = missing_in(alloc, declared, number, production)? {
@@ -132,7 +132,7 @@ pub fn missing(
 fn doubled_rule(
     targets: &mut Targets,
     declared: &Declared<'_>,
-    items: &[Placed],
+    items: &[PlacedItem],
     rule: &RawRule,
 ) -> Result<Option<NormalFault>, NoMemory>
     ensures fault { IfOk result (λ f. f ≡ first_wrong (new_target declared.now
@@ -151,7 +151,7 @@ fn doubled_rule(
 fn doubled_among(
     alloc: Global,
     declared: &Declared<'_>,
-    items: &[Placed],
+    items: &[PlacedItem],
     rules: &[RawRule],
 ) -> Result<Option<NormalFault>, NoMemory>
     ensures { IfOk result (λ f. f ≡ first_wrong (checks_along (new_target declared.now
@@ -203,14 +203,14 @@ pub fn doubled_rules(
 
 /// Returns the first fault N8: a target that is inherited at place 0, or synthesized at a later
 /// place.
-pub fn not_given(
+pub fn not_defined_here(
     alloc: Global,
     declared: &Declared<'_>,
     productions: &[RawProduction],
 ) -> Result<Option<NormalFault>, NoMemory>
-    ensures { IfOk result (λ f. f ≡ first_wrong (spec.not_given declared.now productions.now)) }
+    ensures { IfOk result (λ f. f ≡ first_wrong (spec.not_defined_here declared.now productions.now)) }
 {
-    first_in_productions(alloc, Question::Given, declared, productions)
+    first_in_productions(alloc, RuleCheck::Given, declared, productions)
 }
 
 /// Returns the first fault N9: an argument that is synthesized at place 0, or inherited at a later
@@ -222,5 +222,5 @@ pub fn not_found(
 ) -> Result<Option<NormalFault>, NoMemory>
     ensures { IfOk result (λ f. f ≡ first_wrong (spec.not_found declared.now productions.now)) }
 {
-    first_in_productions(alloc, Question::Found, declared, productions)
+    first_in_productions(alloc, RuleCheck::Found, declared, productions)
 }

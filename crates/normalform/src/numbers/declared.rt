@@ -9,16 +9,16 @@ ghost use Rattle.ag_grammar.specs.grammars.AttributeGrammar.{attribute_names, le
 ghost use Rattle.ag_grammar.specs.grammars.AttributeGrammar.{symbol_names as attributes_of};
 ghost use Rattle.ag_grammar.specs.grammars.AttributeGrammar.{Synthesized, Inherited};
 ghost use Rattle.ag_grammar.specs.grammars.AttributeGrammar.{symbol_kinds, item_kinds};
-ghost use Rattle.ag_grammar.specs.grammars.AttributeGrammar.{given_kind, found_kind};
+ghost use Rattle.ag_grammar.specs.grammars.AttributeGrammar.{defined_kind, used_kind};
 ghost use Rattle.ag_grammar.specs.grammars.Raw.{texts_of};
 ghost use Rattle.normalform.specs.faults.Faults as spec;
 ghost use Rattle.normalform.specs.faults.Faults.{has_kind, is_kind, given_at};
 ghost use Rattle.normalform.specs.numbers.Numbers.{declared};
 ghost use Rattle.normalform.specs.numbers.Numbers.{number_in, symbol_of, symbol_names, names_at};
 ghost use Rattle.normalform.specs.numbers.Numbers.{target_of};
-ghost use Rattle.normalform.specs.faults.Placed.{item_placed};
+ghost use Rattle.normalform.specs.faults.PlacedItem.{item_placed};
 
-use crate::faults::placed::Placed;
+use crate::faults::placed::PlacedItem;
 use crate::numbers::names::Names;
 use ag_grammar::{Named, Occ, RawSymbol};
 use ag_value::NoMemory;
@@ -156,26 +156,26 @@ impl<'t> Declared<'t> {
 
     /// Returns the number of the attribute that an occurrence names, or the number of attributes at
     /// its place if there is no such attribute.
-    pub fn attribute(&self, items: &[Placed], occurrence: &Occ) -> usize
+    pub fn attribute(&self, items: &[PlacedItem], occurrence: &Occ) -> usize
         ensures { result ≡ (target_of self.now (map item_placed items.now) occurrence.now).attr }
     {
         let name = occurrence.attr.as_str();
         match items.get(occurrence.place as usize) {
-            Some(Placed::Symbol(symbol)) => self.attribute_of(*symbol, name),
-            Some(Placed::Class(_)) => lex_number(name),
+            Some(PlacedItem::Symbol(symbol)) => self.attribute_of(*symbol, name),
+            Some(PlacedItem::Class(_)) => lex_number(name),
             None => 0,
         }
     }
 
     /// Returns whether the attribute that an occurrence names exists.
-    pub fn has_attribute(&self, items: &[Placed], occurrence: &Occ) -> bool
+    pub fn has_attribute(&self, items: &[PlacedItem], occurrence: &Occ) -> bool
         ensures { result ≡ list_any (bytes_eq occurrence.now.attr)
             (names_at self.now (map item_placed items.now) occurrence.now.place) }
     {
         let name = occurrence.attr.as_str();
         match items.get(occurrence.place as usize) {
-            Some(Placed::Symbol(symbol)) => self.has_attribute_of(*symbol, name),
-            Some(Placed::Class(_)) => name == "lex",
+            Some(PlacedItem::Symbol(symbol)) => self.has_attribute_of(*symbol, name),
+            Some(PlacedItem::Class(_)) => name == "lex",
             None => false,
         }
     }
@@ -214,32 +214,32 @@ impl<'t> Declared<'t> {
     }
 
     /// Returns whether the item at a place has a synthesized attribute with the number.
-    fn is_synthesized(&self, items: &[Placed], place: usize, number: usize) -> bool
+    fn is_synthesized(&self, items: &[PlacedItem], place: usize, number: usize) -> bool
         ensures { result ≡ is_kind Synthesized (slice_get (item_kinds (declared self.now)
             (slice_get (map item_placed items.now) place)) number) }
     {
         match items.get(place) {
-            Some(Placed::Symbol(symbol)) => self.synthesizes(*symbol, number),
-            Some(Placed::Class(_)) => number == 0,
+            Some(PlacedItem::Symbol(symbol)) => self.synthesizes(*symbol, number),
+            Some(PlacedItem::Class(_)) => number == 0,
             None => false,
         }
     }
 
     /// Returns whether the item at a place has an inherited attribute with the number.
-    fn is_inherited(&self, items: &[Placed], place: usize, number: usize) -> bool
+    fn is_inherited(&self, items: &[PlacedItem], place: usize, number: usize) -> bool
         ensures { result ≡ is_kind Inherited (slice_get (item_kinds (declared self.now)
             (slice_get (map item_placed items.now) place)) number) }
     {
         match items.get(place) {
-            Some(Placed::Symbol(symbol)) => self.inherits(*symbol, number),
+            Some(PlacedItem::Symbol(symbol)) => self.inherits(*symbol, number),
             _ => false,
         }
     }
 
     /// Returns whether the rules of its production define an occurrence.
-    pub fn is_given(&self, items: &[Placed], occurrence: &Occ) -> bool
+    pub fn is_given(&self, items: &[PlacedItem], occurrence: &Occ) -> bool
         ensures { let t = target_of self.now (map item_placed items.now) occurrence.now in
-            result ≡ has_kind self.now (map item_placed items.now) t (given_kind t.place) }
+            result ≡ has_kind self.now (map item_placed items.now) t (defined_kind t.place) }
     {
         let place = occurrence.place as usize;
         let number = self.attribute(items, occurrence);
@@ -251,9 +251,9 @@ impl<'t> Declared<'t> {
     }
 
     /// Returns whether the rules of its production can use an occurrence.
-    pub fn is_found(&self, items: &[Placed], occurrence: &Occ) -> bool
+    pub fn is_found(&self, items: &[PlacedItem], occurrence: &Occ) -> bool
         ensures { let t = target_of self.now (map item_placed items.now) occurrence.now in
-            result ≡ has_kind self.now (map item_placed items.now) t (found_kind t.place) }
+            result ≡ has_kind self.now (map item_placed items.now) t (used_kind t.place) }
     {
         let place = occurrence.place as usize;
         let number = self.attribute(items, occurrence);

@@ -1,14 +1,14 @@
 //! Numbering a raw grammar within the limits.
 ghost use Rattle.std.specs.Prelude.{◌≡◌, ◌<◌, ◌≤◌, length, map, filter, All, IfOk};
 ghost use Rattle.std.specs.List.{list_any};
-ghost use Rattle.ag_grammar.specs.grammars.Accepted.{most_symbols};
+ghost use Rattle.ag_grammar.specs.grammars.Accepted.{max_symbols};
 ghost use Rattle.normalform.specs.faults.Faults.{IsSmall, IsListed, AreListedIn};
 ghost use Rattle.normalform.specs.numbers.Numbers as spec;
 ghost use Rattle.normalform.specs.numbers.Numbers.{symbol_names};
-ghost use Rattle.normalform.specs.faults.Placed.{item_placed};
+ghost use Rattle.normalform.specs.faults.PlacedItem.{item_placed};
 
 use crate::faults::limits::literals_of;
-use crate::faults::placed::{Placed, places_of};
+use crate::faults::placed::{PlacedItem, places_of};
 use crate::numbers::declared::Declared;
 use crate::numbers::names::Names;
 use ag_grammar::{
@@ -18,7 +18,7 @@ use ag_value::{Items, NoMemory, Text};
 use std::alloc::Global;
 
 /// Converts a number to 16 bits.
-fn narrow(number: usize) -> u16
+fn to_u16(number: usize) -> u16
     requires { number < 65536 }
     ensures { result ≡ number }
 {
@@ -31,9 +31,9 @@ fn item_of(declared: &Declared<'_>, literals: &Names<'_>, item: &RawItem) -> Ite
     ensures { result ≡ spec.item_of (symbol_names declared.now) literals.now item.now }
 {
     match item {
-        RawItem::Name(name) => Item::Symbol(narrow(declared.number(name.name.as_str()))),
+        RawItem::Name(name) => Item::Symbol(to_u16(declared.number(name.name.as_str()))),
         RawItem::Literal(text) => {
-            Item::Terminal(Terminal::Literal(narrow(literals.number(text.as_str()))))
+            Item::Terminal(Terminal::Literal(to_u16(literals.number(text.as_str()))))
         }
         RawItem::Class(class) => Item::Terminal(Terminal::Class(*class)),
     }
@@ -61,7 +61,7 @@ fn items_of(
 fn target_of(
     declared: &Declared<'_>,
     literals: &Names<'_>,
-    items: &[Placed],
+    items: &[PlacedItem],
     occurrence: &Occ,
 ) -> Target
     requires { IsSmall declared.now literals.now }
@@ -69,7 +69,7 @@ fn target_of(
 {
     Target {
         place: occurrence.place,
-        attr: narrow(declared.attribute(items, occurrence)),
+        attr: to_u16(declared.attribute(items, occurrence)),
     }
 }
 
@@ -78,7 +78,7 @@ fn targets_of(
     alloc: Global,
     declared: &Declared<'_>,
     literals: &Names<'_>,
-    items: &[Placed],
+    items: &[PlacedItem],
     occurrences: &[Occ],
 ) -> Result<Items<Target>, NoMemory>
     requires { IsSmall declared.now literals.now }
@@ -97,7 +97,7 @@ fn rule_of(
     alloc: Global,
     declared: &Declared<'_>,
     literals: &Names<'_>,
-    items: &[Placed],
+    items: &[PlacedItem],
     rule: RawRule,
 ) -> Result<Rule, NoMemory>
     requires { IsSmall declared.now literals.now }
@@ -116,7 +116,7 @@ fn rules_of(
     alloc: Global,
     declared: &Declared<'_>,
     literals: &Names<'_>,
-    items: &[Placed],
+    items: &[PlacedItem],
     rules: Items<RawRule>,
 ) -> Result<Items<Rule>, NoMemory>
     requires { IsSmall declared.now literals.now }
@@ -145,7 +145,7 @@ fn production_of(
 {
     let places = places_of(alloc, declared, &production)?;
     let RawProduction { left, items, rules } = production;
-    let left = narrow(declared.number(left.name.as_str()));
+    let left = to_u16(declared.number(left.name.as_str()));
     let items = items_of(alloc, declared, literals, items.as_slice())?;
     let rules = rules_of(alloc, declared, literals, places.as_slice(), rules)?;
     Ok(Production { left, items, rules })
@@ -172,10 +172,10 @@ pub fn productions_of(
 
 /// Returns the number of a symbol within the limits.
 pub fn start_of(declared: &Declared<'_>, name: &str) -> u16
-    requires { length declared.now ≤ most_symbols }
+    requires { length declared.now ≤ max_symbols }
     ensures { result ≡ spec.number_in (symbol_names declared.now) name.now }
 {
-    narrow(declared.number(name))
+    to_u16(declared.number(name))
 }
 
 /// Returns the literals of productions as owned texts.

@@ -9,12 +9,12 @@ use Rattle.ag_grammar.specs.grammars.AttributeGrammar.{Grammar, Kind, symbol_kin
 use Rattle.passassign.specs.Dependencies.{AreDependencies}
 use Rattle.passassign.specs.Least.{partial_of, IsLeast}
 use Rattle.passassign.specs.Making.{IsMade, start}
-use Rattle.passassign.specs.Progress.{IsWith, IsProgress, open_count}
-use Rattle.ag_grammar.specs.grammars.Accepted.{most_passes}
+use Rattle.passassign.specs.PassesSoFar.{IsWith, IsProgress, open_count}
+use Rattle.ag_grammar.specs.grammars.Accepted.{max_passes}
 use Rattle.passassign.specs.Rows.{passes_of, AreFew}
 use Rattle.passassign.specs.Searching.{AreOf}
 use Rattle.passassign.specs.Tables.{slot_of, state_at, state_of, given, first_state, attribute_count, table_passes, IsFirstTable, IsTable, IsDeclared, AreRowsOfTable}
-use Rattle.passassign.specs.declared.assigning.Progress.{Progress}
+use Rattle.passassign.specs.declared.assigning.PassesSoFar.{PassesSoFar}
 use Rattle.passassign.specs.declared.dependency.Dependency.{Dependency}
 use Rattle.passassign.specs.declared.table.State.{State}
 use Rattle.passassign.specs.declared.table.State.TheVariants.{Absent, Open, Given}
@@ -120,7 +120,7 @@ given_pass Open there o = absurd (o refl)
 given_pass (Given p) there o = refl
 
 -- the rows of a table without open attributes agree with the table
-module _ (g : Grammar) (all : List Dependency) (p : Progress) (symbols : List Symbol) (productions : List Production) (rows : List (List ℕ)) (w : IsWith symbols productions g) (progress : IsProgress g all p) (none : open_count p.states.items ≡ 0)
+module _ (g : Grammar) (all : List Dependency) (p : PassesSoFar) (symbols : List Symbol) (productions : List Production) (rows : List (List ℕ)) (w : IsWith symbols productions g) (progress : IsProgress g all p) (none : open_count p.states.items ≡ 0)
     (rows_are : AreRowsOfTable symbols p.states.items rows) where
   are : AreRowsOfTable g.symbols p.states.items rows
   are = subst (λ symbols. AreRowsOfTable symbols p.states.items rows) (sym w.symbols_are) rows_are
@@ -145,5 +145,5 @@ module _ (g : Grammar) (all : List Dependency) (p : Progress) (symbols : List Sy
   pub least : IsLeast g (passes_of rows)
   least = whole_least g p.next (table_passes p.states.items) (passes_of rows) w.accepted.complete w.accepted.normal progress.made (λ s. are.len s ∙ sym (kinds_names (slice_get g.symbols s))) is_table
 
-  pub few : p.next ≤ most_passes + 1 → AreFew rows
+  pub few : p.next ≤ max_passes + 1 → AreFew rows
   few next s a k e = let lt : k < p.next = made_before progress.made s a k (sym (is_table s a) ∙ e) in omega (arith, lt, next)

@@ -9,7 +9,7 @@ use Rattle.ag_grammar.specs.declared.grammar.Production.{Production}
 use Rattle.ag_grammar.specs.declared.grammar.Rule.{Rule}
 use Rattle.ag_grammar.specs.declared.grammar.Target.{Target}
 use Rattle.ag_grammar.specs.declared.grammar.Terminal.TheVariants.{Literal, Class}
-use Rattle.ag_grammar.specs.grammars.AttributeGrammar.{Grammar, item_at, IsProduction, IsRule, IsArgument, Kind, HasKind, Synthesized, Inherited, item_kinds, given_kind, found_kind}
+use Rattle.ag_grammar.specs.grammars.AttributeGrammar.{Grammar, item_at, IsProduction, IsRule, IsArgument, Kind, HasKind, Synthesized, Inherited, item_kinds, defined_kind, used_kind}
 use Rattle.ag_grammar.specs.grammars.Accepted.{IsComplete, IsNormal}
 use Rattle.ag_grammar.specs.declared.direction.Direction.{Direction}
 use Rattle.ag_grammar.specs.declared.direction.Direction.TheVariants.{LeftToRight, RightToLeft}
@@ -45,10 +45,10 @@ not_inherited : (a : ℕ) → slice_get (Synthesized ∷ []) a ≡ Some Inherite
 not_inherited zero e = cc
 not_inherited (suc a) e = cc
 
-no_token_target : (g : Grammar) (q : Production) (c : ℕ) (o : Target) → item_at q o.place ≡ Some (item.Terminal (Class c)) → HasKind g q o (given_kind o.place) → ⊥
+no_token_target : (g : Grammar) (q : Production) (c : ℕ) (o : Target) → item_at q o.place ≡ Some (item.Terminal (Class c)) → HasKind g q o (defined_kind o.place) → ⊥
 no_token_target g q c o e h = go o.place o.attr e h
   where
-    go : (j a : ℕ) → item_at q j ≡ Some (item.Terminal (Class c)) → slice_get (item_kinds g (item_at q j)) a ≡ Some (given_kind j) → ⊥
+    go : (j a : ℕ) → item_at q j ≡ Some (item.Terminal (Class c)) → slice_get (item_kinds g (item_at q j)) a ≡ Some (defined_kind j) → ⊥
     go zero a e h = cc
     go (suc j) a e h = not_inherited a (subst (λ y. slice_get (item_kinds g y) a ≡ Some Inherited) e h)
 
@@ -75,7 +75,7 @@ module _ (g : Grammar) (complete : Each (IsComplete g) g.productions) (normal : 
 
   -- the argument of a rule of an attribute that gets pass k
   argument : (i : ℕ) (q : Production) → IsProduction g i q → (r : Rule) (o : Target) → IsRule q r → IsArgument r o → (s : ℕ) → item_at q r.target.place ≡ Some (item.Symbol s) → IsOpen g m s r.target.attr
-      → (IsStruckBy strikes s r.target.attr → ⊥) → HasKind g q o (found_kind o.place) → (p : ℕ) × GivesPass after q o p × MayUse k r.target.place o.place p
+      → (IsStruckBy strikes s r.target.attr → ⊥) → HasKind g q o (used_kind o.place) → (p : ℕ) × GivesPass after q o p × MayUse k r.target.place o.place p
   argument i q get r o rule arg s target gap safe named = go (item_at q o.place) refl
     where
       free : IsReason (direction_of k) (IsOpen g m) strikes q r.target.place o → ⊥
@@ -83,25 +83,25 @@ module _ (g : Grammar) (complete : Each (IsComplete g) g.productions) (normal : 
           let x : Strike = record { symbol = s; attr = r.target.attr; production = i; rule = rule.0; arg = arg.0 } in
           safe (pass.finished x gap (record { production = q; rule = r; argument = o; is_production = get; is_rule = rule.1; is_argument = arg.1; symbol = target; attr = refl; reason = reason }))
 
-      kind : (x : Option Item) → item_at q o.place ≡ x → slice_get (item_kinds g x) o.attr ≡ Some (found_kind o.place)
-      kind x e = subst (λ y. slice_get (item_kinds g y) o.attr ≡ Some (found_kind o.place)) e named
+      kind : (x : Option Item) → item_at q o.place ≡ x → slice_get (item_kinds g x) o.attr ≡ Some (used_kind o.place)
+      kind x e = subst (λ y. slice_get (item_kinds g y) o.attr ≡ Some (used_kind o.place)) e named
 
       of_symbol : (u : ℕ) → item_at q o.place ≡ Some (item.Symbol u) → (y : Option ℕ) → after u o.attr ≡ y → (p : ℕ) × GivesPass after q o p × MayUse k r.target.place o.place p
       of_symbol u e (Some p) f = (
         p,
         ap (λ y. pass_at after y o.attr) e ∙ f,
         may_use k r.target.place o.place p (up_to u o.attr p f)
-            (λ ahead is. free (inr (ahead, subst (λ y. IsOneOf (IsOpen g m) y o.attr) (sym e) ((found_kind o.place, kind (Some (item.Symbol u)) e), new u o.attr (f ∙ ap Some is))))),
+            (λ ahead is. free (inr (ahead, subst (λ y. IsOneOf (IsOpen g m) y o.attr) (sym e) ((used_kind o.place, kind (Some (item.Symbol u)) e), new u o.attr (f ∙ ap Some is))))),
       )
       of_symbol u e None f =
-          absurd (free (inl (subst (λ y. IsOneOf (IsStruckBy strikes) y o.attr) (sym e) (pass.left u o.attr ((found_kind o.place, kind (Some (item.Symbol u)) e), old_none u o.attr f) f))))
+          absurd (free (inl (subst (λ y. IsOneOf (IsStruckBy strikes) y o.attr) (sym e) (pass.left u o.attr ((used_kind o.place, kind (Some (item.Symbol u)) e), old_none u o.attr f) f))))
 
       go : (x : Option Item) → item_at q o.place ≡ x → (p : ℕ) × GivesPass after q o p × MayUse k r.target.place o.place p
       go None e = let bad = kind None e in cc
       go (Some (item.Terminal (Literal l))) e = let bad = kind (Some (item.Terminal (Literal l))) e in cc
       go (Some (item.Terminal (Class c))) e = (
         0,
-        ap (λ y. pass_at after y o.attr) e ∙ token_pass o.attr (found_kind o.place) (kind (Some (item.Terminal (Class c))) e),
+        ap (λ y. pass_at after y o.attr) e ∙ token_pass o.attr (used_kind o.place) (kind (Some (item.Terminal (Class c))) e),
         may_use k r.target.place o.place 0 (omega arith) (λ ahead is. omega arith),
       )
       go (Some (item.Symbol u)) e = of_symbol u e (after u o.attr) refl

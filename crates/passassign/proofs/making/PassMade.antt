@@ -5,10 +5,10 @@ use Rattle.ag_grammar.specs.grammars.AttributeGrammar.{Grammar}
 use Rattle.ag_grammar.specs.grammars.Passes.{direction_of, other}
 use Rattle.passassign.specs.Least.{IsOver}
 use Rattle.passassign.specs.Making.{IsOpen, IsMade, IsPass, AreMarks, given_by, passed}
-use Rattle.passassign.specs.Progress.{IsProgress, IsNext, AreOpenIn}
+use Rattle.passassign.specs.PassesSoFar.{IsProgress, IsNext, AreOpenIn}
 use Rattle.passassign.specs.Searching.{AreOf, IsSearch, target_of}
 use Rattle.passassign.specs.Tables.{slot_of, state_at, state_of, given, after_pass, is_marked, table_passes}
-use Rattle.passassign.specs.declared.assigning.Progress.{Progress}
+use Rattle.passassign.specs.declared.assigning.PassesSoFar.{PassesSoFar}
 use Rattle.passassign.specs.declared.dependency.Dependency.{Dependency}
 use Rattle.passassign.specs.declared.stuck.Strike.{Strike}
 use Rattle.passassign.specs.declared.table.State.{State}
@@ -102,7 +102,7 @@ module _ (old new : List State) (marks : List Bool) (k : ℕ) (after : (i : ℕ)
         let lt = (attribute_within g u a of.accepted i).0 in
         ap given (after_of u a) ∙ given_after k (state_of old u a) (is_marked marks (slot_of u a)) ((of.table.there u a).1 i) ∙ ap (given_by k (given (state_of old u a))) (sym (hit_in u a lt)))
 
-pub next_made : (g : Grammar) (all : List Dependency) (old new : Progress) (xs : List Strike) (marks : List Bool) → ((i : ℕ) → state_at new.states.items i ≡ after_pass old.next (state_at old.states.items i) (is_marked marks i)) → length new.states.items ≡ length old.states.items → new.next ≡ old.next + 1
+pub next_made : (g : Grammar) (all : List Dependency) (old new : PassesSoFar) (xs : List Strike) (marks : List Bool) → ((i : ℕ) → state_at new.states.items i ≡ after_pass old.next (state_at old.states.items i) (is_marked marks i)) → length new.states.items ≡ length old.states.items → new.next ≡ old.next + 1
     → new.direction ≡ other old.direction → IsSearch all old.direction old.states.items xs marks → IsProgress g all old → IsNext g all old new xs
 next_made g all old new xs marks after len next turned s p = record { progress = record { of = now; made = made; turned = turn }; pass = pass }
   where

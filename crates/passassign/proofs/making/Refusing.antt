@@ -10,9 +10,9 @@ use Rattle.ag_grammar.specs.grammars.Passes.{direction_of, other}
 use Rattle.passassign.specs.Answer.{IsInDeclaredOrder, IsRefused}
 use Rattle.passassign.specs.Certificate.{Members, IsCertificate, stuck_of}
 use Rattle.passassign.specs.Making.{IsOpen, IsPass, AreIdle}
-use Rattle.passassign.specs.Progress.{IsProgress, IsNext, AreOpenIn, open_count}
+use Rattle.passassign.specs.PassesSoFar.{IsProgress, IsNext, AreOpenIn, open_count}
 use Rattle.passassign.specs.Tables.{slot_of, state_at, state_of, given, is_open, table_passes}
-use Rattle.passassign.specs.declared.assigning.Progress.{Progress}
+use Rattle.passassign.specs.declared.assigning.PassesSoFar.{PassesSoFar}
 use Rattle.passassign.specs.declared.dependency.Dependency.{Dependency}
 use Rattle.passassign.specs.declared.stuck.Strike.{Strike}
 use Rattle.passassign.specs.declared.stuck.Stuck.{Stuck}
@@ -75,7 +75,7 @@ turned_twice : (d : Direction) → other (other d) ≡ d
 turned_twice LeftToRight = refl
 turned_twice RightToLeft = refl
 
-module _ (g : Grammar) (all : List Dependency) (old new last : Progress) (first second : List Strike) (one : IsNext g all old new first) (two : IsNext g all new last second) (before : IsProgress g all old) (next : new.next ≡ old.next + 1) (next_two : last.next ≡ new.next + 1) (len : length last.states.items ≡ length old.states.items) (kept : AreOpenIn last.states.items old.states.items) (most : open_count old.states.items ≤ open_count last.states.items) where
+module _ (g : Grammar) (all : List Dependency) (old new last : PassesSoFar) (first second : List Strike) (one : IsNext g all old new first) (two : IsNext g all new last second) (before : IsProgress g all old) (next : new.next ≡ old.next + 1) (next_two : last.next ≡ new.next + 1) (len : length last.states.items ≡ length old.states.items) (kept : AreOpenIn last.states.items old.states.items) (most : open_count old.states.items ≤ open_count last.states.items) where
   still : AreOpenIn old.states.items last.states.items
   still = same_open old.states.items last.states.items len kept most
 

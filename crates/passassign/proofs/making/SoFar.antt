@@ -8,7 +8,7 @@ use Rattle.ag_grammar.specs.Lists.{Has}
 use Rattle.ag_grammar.specs.grammars.AttributeGrammar.{Grammar, symbol_kinds}
 use Rattle.ag_grammar.specs.grammars.Passes.{IsLegal, direction_of}
 use Rattle.ag_grammar.proofs.grammars.OneSolution.{counterpart}
-use Rattle.passassign.specs.declared.assigning.Progress.{Progress}
+use Rattle.passassign.specs.declared.assigning.PassesSoFar.{PassesSoFar}
 use Rattle.passassign.specs.declared.dependency.Dependency.{Dependency}
 use Rattle.passassign.specs.declared.stuck.Strike.{Strike}
 use Rattle.passassign.specs.declared.table.State.{State}
@@ -17,7 +17,7 @@ use Rattle.passassign.specs.Certificate.{IsStruckBy, StrikesExactly}
 use Rattle.passassign.specs.Least.{Partial, partial_of, IsAttribute}
 use Rattle.passassign.specs.Making.{IsOpen, IsPass, IsMade}
 use Rattle.passassign.specs.PassStrikes.{HasPassFrom, HasPassAfter, AreStrikesAt, AreStrikesOf, HasNoPassBelow, HasNoPassUpTo, AreStrikesSoFar, IsLastInUse}
-use Rattle.passassign.specs.Progress.{IsProgress, IsNext, open_count}
+use Rattle.passassign.specs.PassesSoFar.{IsProgress, IsNext, open_count}
 use Rattle.passassign.specs.Rows.{passes_of}
 use Rattle.passassign.specs.Tables.{slot_of, state_at, state_of, given, table_passes}
 use Rattle.passassign.proofs.slots.Linked.{open_there, state_in}
@@ -90,7 +90,7 @@ module _ (g : Grammar) (k : ℕ) (m after : Partial) (strikes : List Strike) (ma
 pub none_so_far : (g : Grammar) (m : Partial) → AreStrikesSoFar g 1 m []
 none_so_far g m = record { count = refl; each = λ i xs e. absurd (let bad : ⊥ = cc in bad) }
 
-pub so_far_next : (g : Grammar) (all : List Dependency) (old new : Progress) (strikes : List Strike) (lists more : List (List Strike)) → IsProgress g all old → IsNext g all old new strikes → new.next ≡ old.next + 1 → more ≡ lists ++ strikes ∷ [] → AreStrikesSoFar g old.next (table_passes old.states.items) lists
+pub so_far_next : (g : Grammar) (all : List Dependency) (old new : PassesSoFar) (strikes : List Strike) (lists more : List (List Strike)) → IsProgress g all old → IsNext g all old new strikes → new.next ≡ old.next + 1 → more ≡ lists ++ strikes ∷ [] → AreStrikesSoFar g old.next (table_passes old.states.items) lists
     → AreStrikesSoFar g new.next (table_passes new.states.items) more
 so_far_next g all old new strikes lists more before next one e h =
     subst (λ j. AreStrikesSoFar g j (table_passes new.states.items) more) (sym one)
@@ -115,7 +115,7 @@ some_given (x ∷ xs) (y ∷ ys) len lt = elim (first_given x y (open_count xs) 
 ]
 
 -- if a pass leaves fewer open, some attribute has its number
-module _ (g : Grammar) (all : List Dependency) (old new : Progress) (strikes : List Strike) (before : IsProgress g all old) (next : IsNext g all old new strikes) (len : length new.states.items ≡ length old.states.items) (one : new.next ≡ old.next + 1) (less : open_count new.states.items < open_count old.states.items) where
+module _ (g : Grammar) (all : List Dependency) (old new : PassesSoFar) (strikes : List Strike) (before : IsProgress g all old) (next : IsNext g all old new strikes) (len : length new.states.items ≡ length old.states.items) (one : new.next ≡ old.next + 1) (less : open_count new.states.items < open_count old.states.items) where
   given_here : (s a : ℕ) → IsOpen g (table_passes old.states.items) s a → a < 16 → (state_at new.states.items (slot_of s a) ≡ Open → ⊥) → (x : State) → state_of new.states.items s a ≡ x → IsLastInUse new.next (table_passes new.states.items)
   given_here s a i lt shut Absent e = absurd ((next.progress.of.table.there s a).1 i.0 e)
   given_here s a i lt shut Open e = absurd (shut (sym (state_in new.states.items s a lt) ∙ e))
@@ -153,8 +153,8 @@ module _ (g : Grammar) (rows : List (List ℕ)) (next : ℕ) (m : Partial) (list
   each_strikes i xs e =
       exactly_same g (direction_of (i + 1)) (HasNoPassBelow g m (i + 1)) (HasPassFrom (passes_of rows) (i + 1)) (HasNoPassUpTo g m (i + 1)) (HasPassAfter (passes_of rows) (i + 1)) (from_below (i + 1)) (after_up_to (i + 1)) (up_to_after (i + 1)) xs (so_far.each i xs e)
 
-  most_pass : (s : ℕ) (row : List ℕ) → slice_get rows s ≡ Some row → (a p : ℕ) → slice_get row a ≡ Some p → p ≤ length lists
-  most_pass s row at a p has =
+  max_pass : (s : ℕ) (row : List ℕ) → slice_get rows s ≡ Some row → (a p : ℕ) → slice_get row a ≡ Some p → p ≤ length lists
+  max_pass s row at a p has =
       let e : partial_of (passes_of rows) s a ≡ Some p = subst (λ r. slice_get r a ≡ Some p) (sym (get_or_from_slice_get rows s row [] at)) has in
       let lt : p < next = made_before made s a p (sym (is s a) ∙ e) in
       let n = so_far.count in
@@ -172,4 +172,4 @@ module _ (g : Grammar) (rows : List (List ℕ)) (next : ℕ) (m : Partial) (list
       ]
 
   pub strikes_of_all : AreStrikesOf g rows lists
-  strikes_of_all = record { count = record { most = most_pass; there = greatest_there last }; each = each_strikes }
+  strikes_of_all = record { count = record { most = max_pass; there = greatest_there last }; each = each_strikes }

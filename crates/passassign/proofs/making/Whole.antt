@@ -5,7 +5,7 @@ use Rattle.ag_grammar.specs.declared.grammar.Item.TheVariants as item
 use Rattle.ag_grammar.specs.declared.grammar.Item.{Item}
 use Rattle.ag_grammar.specs.declared.grammar.Production.{Production}
 use Rattle.ag_grammar.specs.declared.grammar.Terminal.TheVariants.{Literal, Class}
-use Rattle.ag_grammar.specs.grammars.AttributeGrammar.{Grammar, item_at, item_kinds, given_kind, IsProduction, symbol_kinds}
+use Rattle.ag_grammar.specs.grammars.AttributeGrammar.{Grammar, item_at, item_kinds, defined_kind, IsProduction, symbol_kinds}
 use Rattle.ag_grammar.specs.grammars.Accepted.{IsComplete, IsNormal}
 use Rattle.ag_grammar.specs.declared.direction.Direction.{Direction}
 use Rattle.ag_grammar.specs.declared.direction.Direction.TheVariants.{RightToLeft}
@@ -74,10 +74,10 @@ struck_known g complete d candidate struck (x ∷ xs) (is, new, one, more) s a h
   where
     target : (s a : ℕ) → (x.symbol ≡ s) × (x.attr ≡ a) → IsAttribute g s a
     target s a (u, b) = (
-      given_kind one.rule.target.place,
-      subst (λ s. slice_get (symbol_kinds (slice_get g.symbols s)) a ≡ Some (given_kind one.rule.target.place)) u
-          (subst (λ y. slice_get (item_kinds g y) a ≡ Some (given_kind one.rule.target.place)) one.symbol
-          (subst (λ a. slice_get (item_kinds g (item_at one.production one.rule.target.place)) a ≡ Some (given_kind one.rule.target.place)) (one.attr ∙ b) ((complete x.production one.production one.is_production).no_other x.rule one.rule one.is_rule))),
+      defined_kind one.rule.target.place,
+      subst (λ s. slice_get (symbol_kinds (slice_get g.symbols s)) a ≡ Some (defined_kind one.rule.target.place)) u
+          (subst (λ y. slice_get (item_kinds g y) a ≡ Some (defined_kind one.rule.target.place)) one.symbol
+          (subst (λ a. slice_get (item_kinds g (item_at one.production one.rule.target.place)) a ≡ Some (defined_kind one.rule.target.place)) (one.attr ∙ b) ((complete x.production one.production one.is_production).no_other x.rule one.rule one.is_rule))),
     )
 
     go : IsStruckBy (x ∷ xs) s a → (IsStruckBy xs s a → IsAttribute g s a) → IsAttribute g s a

@@ -18,7 +18,7 @@ use Rattle.ag_grammar.specs.declared.grammar.Terminal.TheVariants.{Literal, Clas
 use Rattle.ag_grammar.specs.declared.syntax.occurrence.Occ.{Occ}
 use Rattle.ag_grammar.specs.expressions.Occurrences.{AreDifferent}
 use Rattle.ag_grammar.specs.grammars.Accepted.{IsAccepted}
-use Rattle.ag_grammar.specs.grammars.AttributeGrammar.{Grammar, IsProduction, IsRule, Kind, Synthesized, HasKind, StandsFor, found_kind, given_kind, item_at, item_kinds, item_names, stored_items}
+use Rattle.ag_grammar.specs.grammars.AttributeGrammar.{Grammar, IsProduction, IsRule, Kind, Synthesized, HasKind, RefersTo, used_kind, defined_kind, item_at, item_kinds, item_names, stored_items}
 use Rattle.passassign.proofs.slots.Linked.{attribute_within, same_parts}
 
 -- a number for a place and an attribute
@@ -90,12 +90,12 @@ module _ (g : Grammar) (accepted : IsAccepted g) (p : ℕ) (q : Production) (at 
       go (Some (item.Terminal (Literal l))) f = absurd (let bad : slice_get {X = Kind} [] o.attr ≡ Some k = there (Some (item.Terminal (Literal l))) f in let worse : ⊥ = cc in worse)
 
   pub few_rules : length q.rules ≤ 65536
-  few_rules = few (λ r. r.target) q.rules (accepted.complete p q at).single (λ i r e. small_parts r.target (given_kind r.target.place) ((accepted.complete p q at).no_other i r e))
+  few_rules = few (λ r. r.target) q.rules (accepted.complete p q at).single (λ i r e. small_parts r.target (defined_kind r.target.place) ((accepted.complete p q at).no_other i r e))
 
   pub few_arguments : (r : Rule) → IsRule q r → AreDifferent r.expr.1 → length r.args ≤ 65536
-  few_arguments r is different = few (λ o. o) r.args single (λ i o e. small_parts o (found_kind o.place) (accepted.normal p q at is.0 r is.1 i o e))
+  few_arguments r is different = few (λ o. o) r.args single (λ i o e. small_parts o (used_kind o.place) (accepted.normal p q at is.0 r is.1 i o e))
     where
-      named : (i : ℕ) (x : Occ) (o : Target) → slice_get r.expr.1 i ≡ Some x → slice_get r.args i ≡ Some o → StandsFor g q x o
+      named : (i : ℕ) (x : Occ) (o : Target) → slice_get r.expr.1 i ≡ Some x → slice_get r.args i ≡ Some o → RefersTo g q x o
       named = (accepted.named.rules_named p q at is.0 r is.1).arguments.each
 
       long : length r.expr.1 ≡ length r.args
@@ -108,8 +108,8 @@ module _ (g : Grammar) (accepted : IsAccepted g) (p : ℕ) (q : Production) (at 
           let d : Occ = record { place = 0; attr = []; at = 0 } in
           let x = get_or r.expr.1 i d in
           let y = get_or r.expr.1 j d in
-          let first : StandsFor g q x o = named i x o (slice_get-get_or r.expr.1 i d (omega (arith, long))) e in
-          let second : StandsFor g q y w = named j y w (slice_get-get_or r.expr.1 j d (omega (arith, long))) f in
+          let first : RefersTo g q x o = named i x o (slice_get-get_or r.expr.1 i d (omega (arith, long))) e in
+          let second : RefersTo g q y w = named j y w (slice_get-get_or r.expr.1 j d (omega (arith, long))) f in
           let places : x.place ≡ y.place = sym first.place ∙ ap (λ (o : Target). o.place) same ∙ second.place in
           let names : Some x.attr ≡ Some y.attr = sym first.name ∙ ap (λ (o : Target). slice_get (item_names g (item_at q o.place)) o.attr) same ∙ second.name in
           let attrs : x.attr ≡ y.attr = cc in

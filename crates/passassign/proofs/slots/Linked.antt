@@ -12,7 +12,7 @@ use Rattle.ag_grammar.specs.declared.grammar.Rule.{Rule}
 use Rattle.ag_grammar.specs.declared.grammar.Symbol.{Symbol}
 use Rattle.ag_grammar.specs.declared.grammar.Target.{Target}
 use Rattle.ag_grammar.specs.grammars.Accepted.{IsAccepted}
-use Rattle.ag_grammar.specs.grammars.AttributeGrammar.{Grammar, Synthesized, Inherited, IsProduction, item_at, item_kinds, found_kind, given_kind, symbol_kinds, symbol_names, places_of}
+use Rattle.ag_grammar.specs.grammars.AttributeGrammar.{Grammar, Synthesized, Inherited, IsProduction, item_at, item_kinds, used_kind, defined_kind, symbol_kinds, symbol_names, places_of}
 use Rattle.passassign.specs.Dependencies.{symbol_of, table_slot, IsDependency, AreDependencies}
 use Rattle.passassign.specs.Least.{IsAttribute}
 use Rattle.passassign.specs.Making.{IsOpen}
@@ -128,11 +128,11 @@ module _ (g : Grammar) (u : Dependency) (accepted : IsAccepted g) (p : Parts g u
   pub target_is : IsAttribute g u.strike.symbol u.strike.attr
   target_is =
       let k = (accepted.complete u.strike.production p.production p.is_production).no_other u.strike.rule p.rule p.is_rule in
-      (given_kind p.rule.target.place, subst (λ a. slice_get (symbol_kinds (slice_get g.symbols u.strike.symbol)) a ≡ Some (given_kind p.rule.target.place)) p.attr (subst (λ x. slice_get (item_kinds g x) p.rule.target.attr ≡ Some (given_kind p.rule.target.place)) p.symbol k))
+      (defined_kind p.rule.target.place, subst (λ a. slice_get (symbol_kinds (slice_get g.symbols u.strike.symbol)) a ≡ Some (defined_kind p.rule.target.place)) p.attr (subst (λ x. slice_get (item_kinds g x) p.rule.target.attr ≡ Some (defined_kind p.rule.target.place)) p.symbol k))
 
   argument_is : IsAttribute g p.of p.argument.attr
   argument_is =
-      (found_kind p.argument.place, subst (λ x. slice_get (item_kinds g x) p.argument.attr ≡ Some (found_kind p.argument.place)) p.is_symbol (accepted.normal u.strike.production p.production p.is_production u.strike.rule p.rule p.is_rule u.strike.arg p.argument p.is_argument))
+      (used_kind p.argument.place, subst (λ x. slice_get (item_kinds g x) p.argument.attr ≡ Some (used_kind p.argument.place)) p.is_symbol (accepted.normal u.strike.production p.production p.is_production u.strike.rule p.rule p.is_rule u.strike.arg p.argument p.is_argument))
 
   pub argument_within : p.argument.attr < 16
   argument_within = (attribute_within g p.of p.argument.attr accepted argument_is).0

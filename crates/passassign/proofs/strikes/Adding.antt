@@ -3,7 +3,7 @@ use Rattle.std.proofs.Common.{ℕ, ◌≡◌, ◌≤◌, ◌+◌, ◌↔◌, ◌
 use Rattle.std.proofs.lemmas.Bool.{cases_eq}
 use Rattle.std.proofs.lemmas.Option.{slice_get_within}
 use Rattle.ag_grammar.specs.Lists.{Has}
-use Rattle.passassign.specs.Dependencies.{OfEach, OfFront, Adds}
+use Rattle.passassign.specs.Dependencies.{OfEach, OfPrefix, Adds}
 use Rattle.passassign.proofs.slots.Lists.{has_kept, has_put, has_cases}
 
 pub adds_push : {X : Type 0} (xs : List X) (y : X) → Adds (λ u. u ≡ y) xs (xs ++ y ∷ [])
@@ -13,7 +13,7 @@ adds_push xs y = record {
   only = λ x h. elim (has_cases xs y x h) [ inl old ↦ inl old | inr e ↦ inr (sym e) ];
 }
 
-pub adds_more : {X Y : Type 0} (R : ℕ → X → Y → Type 0) (xs : List X) (i : ℕ) (x : X) (a b c : List Y) → slice_get xs i ≡ Some x → Adds (OfFront R xs i) a b → Adds (R i x) b c → Adds (OfFront R xs (i + 1)) a c
+pub adds_more : {X Y : Type 0} (R : ℕ → X → Y → Type 0) (xs : List X) (i : ℕ) (x : X) (a b c : List Y) → slice_get xs i ≡ Some x → Adds (OfPrefix R xs i) a b → Adds (R i x) b c → Adds (OfPrefix R xs (i + 1)) a c
 adds_more R xs i x a b c is m n = record {
   kept = λ y h. n.kept y (m.kept y h);
   all = λ y h. elim (cases_eq h.0 i) [
@@ -29,7 +29,7 @@ adds_more R xs i x a b c is m n = record {
   ];
 }
 
-pub adds_all : {X Y : Type 0} (R : ℕ → X → Y → Type 0) (xs : List X) (i : ℕ) (a b : List Y) → length xs ≤ i → Adds (OfFront R xs i) a b → Adds (OfEach R xs) a b
+pub adds_all : {X Y : Type 0} (R : ℕ → X → Y → Type 0) (xs : List X) (i : ℕ) (a b : List Y) → length xs ≤ i → Adds (OfPrefix R xs i) a b → Adds (OfEach R xs) a b
 adds_all R xs i a b most m = record {
   kept = m.kept;
   all = λ y h. let w = slice_get_within xs h.0 h.1 h.2 in m.all y (h.0, h.1, omega arith, h.2, h.3);

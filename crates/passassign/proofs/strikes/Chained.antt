@@ -54,8 +54,8 @@ module _ (g : Grammar) (d : Direction) (candidate : Attributes) where
         },
       )
 
-      behind : (s : ℕ) → item_at good.production good.argument.place ≡ Some (item.Symbol s) → (ys : List Strike) × IsChainOf g d candidate s good.argument.attr ys → (zs : List Strike) × IsChainOf g d candidate x.symbol x.attr zs
-      behind s e w =
+      following : (s : ℕ) → item_at good.production good.argument.place ≡ Some (item.Symbol s) → (ys : List Strike) × IsChainOf g d candidate s good.argument.attr ys → (zs : List Strike) × IsChainOf g d candidate x.symbol x.attr zs
+      following s e w =
           let is_first = w.1 in
           made (is_first.first ∷ is_first.others) (subst (IsChain g d candidate) is_first.is is_first.chain)
           (inl (subst (λ y. IsOneOf (IsStruckBy (is_first.first ∷ [])) y good.argument.attr) (sym e) (inl (is_first.symbol, is_first.attr))))
@@ -64,7 +64,7 @@ module _ (g : Grammar) (d : Direction) (candidate : Attributes) where
       go y e (inr ahead) = made [] tt (inr ahead)
       go None e (inl i) = absurd (subst (λ y. IsOneOf (IsStruckBy struck) y good.argument.attr) e i)
       go (Some (item.Terminal t)) e (inl i) = absurd (subst (λ y. IsOneOf (IsStruckBy struck) y good.argument.attr) e i)
-      go (Some (item.Symbol s)) e (inl i) = behind s e (have s good.argument.attr (subst (λ y. IsOneOf (IsStruckBy struck) y good.argument.attr) e i))
+      go (Some (item.Symbol s)) e (inl i) = following s e (have s good.argument.attr (subst (λ y. IsOneOf (IsStruckBy struck) y good.argument.attr) e i))
 
   more_chains : (struck : List Strike) (x : Strike) → HaveChains g d candidate struck → (ys : List Strike) × IsChainOf g d candidate x.symbol x.attr ys → HaveChains g d candidate (x ∷ struck)
   more_chains struck x have one s a (inl (u, b)) = subst (λ s. (ys : List Strike) × IsChainOf g d candidate s a ys) u (subst (λ a. (ys : List Strike) × IsChainOf g d candidate x.symbol a ys) b one)
@@ -86,12 +86,12 @@ module _ (g : Grammar) (d : Direction) (candidate : Attributes) (xs : List Strik
   own_names : Names g x good.production good.rule good.argument
   own_names = record { is_production = good.is_production; is_rule = good.is_rule; is_argument = good.is_argument }
 
-  behind : (ys : List Strike) → IsReason d candidate ys good.production good.rule.target.place good.argument → IsGood g d candidate ys x
-  behind ys reason = record { production = good.production; rule = good.rule; argument = good.argument; is_production = good.is_production; is_rule = good.is_rule; is_argument = good.is_argument; symbol = good.symbol; attr = good.attr; reason = reason }
+  following : (ys : List Strike) → IsReason d candidate ys good.production good.rule.target.place good.argument → IsGood g d candidate ys x
+  following ys reason = record { production = good.production; rule = good.rule; argument = good.argument; is_production = good.is_production; is_rule = good.is_rule; is_argument = good.is_argument; symbol = good.symbol; attr = good.attr; reason = reason }
 
   -- one that waits for no attribute is good before all others
   pub root_good : WaitsForNone g d x → ((s a : ℕ) → IsStruckBy xs s a → candidate s a) → IsGood g d candidate [] x
-  root_good none within = behind [] (go (item_at good.production good.argument.place) refl good.reason)
+  root_good none within = following [] (go (item_at good.production good.argument.place) refl good.reason)
     where
       go : (y : Option Item) → item_at good.production good.argument.place ≡ y → IsReason d candidate xs good.production good.rule.target.place good.argument → IsReason d candidate [] good.production good.rule.target.place good.argument
       go y e (inr ahead) = inr ahead
@@ -130,7 +130,7 @@ module _ (g : Grammar) (d : Direction) (candidate : Attributes) (xs : List Strik
 
     -- and it is good after a strike of only that one
     pub link_good : (y : Strike) → y.symbol ≡ s → y.attr ≡ a → IsGood g d candidate (y ∷ []) x
-    link_good y e f = behind (y ∷ []) (inl (subst (λ z. IsOneOf (IsStruckBy (y ∷ [])) z good.argument.attr) (sym at_place) (inl (e, f ∙ sym own_attr))))
+    link_good y e f = following (y ∷ []) (inl (subst (λ z. IsOneOf (IsStruckBy (y ∷ [])) z good.argument.attr) (sym at_place) (inl (e, f ∙ sym own_attr))))
 
 -- the production, rule and argument that a strike names are unique
 same_names : (g : Grammar) (x : Strike) (q p : Production) (u r : Rule) (o t : Target) → Names g x q u o → Names g x p r t → (q ≡ p) × (u ≡ r) × (o ≡ t)
@@ -158,16 +158,16 @@ take_hit (suc n) (x ∷ xs) s a (inr m) = inr (take_hit n xs s a m)
 
 -- Links of a chain in a list of good strikes.
 module _ (g : Grammar) (d : Direction) (candidate : Attributes) where
-  good_behind : (struck xs : List Strike) → AreGood g d candidate struck xs → (i : ℕ) (x : Strike) → slice_get xs i ≡ Some x → (zs : List Strike) × IsGood g d candidate zs x × ((s a : ℕ) → IsStruckBy zs s a → IsStruckBy struck s a ⊎ IsStruckBy (take i xs) s a)
-  good_behind struck [] good i x e = absurd (let bad : ⊥ = cc in bad)
-  good_behind struck (y ∷ ys) (is, new, one, more) zero x e = let same : y ≡ x = cc in (struck, subst (IsGood g d candidate struck) same one, λ s a h. inl h)
-  good_behind struck (y ∷ ys) (is, new, one, more) (suc i) x e =
-      let w = good_behind (y ∷ struck) ys more i x e in
+  good_after : (struck xs : List Strike) → AreGood g d candidate struck xs → (i : ℕ) (x : Strike) → slice_get xs i ≡ Some x → (zs : List Strike) × IsGood g d candidate zs x × ((s a : ℕ) → IsStruckBy zs s a → IsStruckBy struck s a ⊎ IsStruckBy (take i xs) s a)
+  good_after struck [] good i x e = absurd (let bad : ⊥ = cc in bad)
+  good_after struck (y ∷ ys) (is, new, one, more) zero x e = let same : y ≡ x = cc in (struck, subst (IsGood g d candidate struck) same one, λ s a h. inl h)
+  good_after struck (y ∷ ys) (is, new, one, more) (suc i) x e =
+      let w = good_after (y ∷ struck) ys more i x e in
       (w.0, w.1, λ s a h. elim (w.2 s a h) [ inl o ↦ elim o [ inl first ↦ inr (inl first) | inr old ↦ inl old ] | inr t ↦ inr (inr t) ])
 
   module _ (xs : List Strike) (good : AreGood g d candidate [] xs) (i : ℕ) (x : Strike) (at : slice_get xs i ≡ Some x) where
     good_at : IsGood g d candidate (take i xs) x
-    good_at = let w = good_behind [] xs good i x at in good_more g d candidate candidate (λ s a h. h) w.0 (take i xs) (λ s a h. elim (w.2 s a h) [ inl bad ↦ absurd bad | inr t ↦ t ]) x w.1
+    good_at = let w = good_after [] xs good i x at in good_more g d candidate candidate (λ s a h. h) w.0 (take i xs) (λ s a h. elim (w.2 s a h) [ inl bad ↦ absurd bad | inr t ↦ t ]) x w.1
 
     is_candidate : candidate x.symbol x.attr
     is_candidate = strikes_open g d candidate [] xs good x.symbol x.attr (has_strikes xs x (i, at))

@@ -9,7 +9,7 @@ use Rattle.passassign.specs.Certificate.{Attributes, AreGood, IsStruckBy}
 use Rattle.passassign.specs.Chains.{AreAwaitedBefore, AreLinked, IsChainOf, StartsWith, WaitsFor, WaitsForNone, strike_at}
 use Rattle.passassign.proofs.slots.Lists.{get_push_cases}
 use Rattle.passassign.proofs.strikes.Chained.{good_awaited, linked_chain}
-use Rattle.passassign.proofs.strikes.Told.{in_take}
+use Rattle.passassign.proofs.strikes.ReportedStrikes.{in_take}
 
 abbrev pub none : Strike
 none = record { symbol = 0; attr = 0; production = 0; rule = 0; arg = 0 }

@@ -12,7 +12,7 @@ use Rattle.ag_grammar.specs.grammars.Passes.{Passes, HasPass}
 use Rattle.ag_grammar.proofs.grammars.Counting.{count_more}
 use Rattle.passcode.specs.declared.instr.Instr.{Instr}
 use Rattle.passcode.specs.declared.instr.Instr.TheVariants as instr
-use Rattle.passcode.specs.Agreement.{IsGiving, IsListFor, IsRuleAt, StandsOnceIf, giving, instruction_of}
+use Rattle.passcode.specs.Agreement.{IsGiving, IsListFor, IsRuleAt, OccursOnceIf, def_of, instruction_of}
 use Rattle.passcode.specs.Counts.{is_giving}
 use Rattle.passcode.specs.Laws.{ListsEvaluateRules}
 
@@ -110,7 +110,7 @@ count_one f (i ∷ xs) (suc at) x e is only =
     omega (arith, first, count_more f i xs, count_one f xs at x e is (λ n j h ne. only (suc n) j h (λ z. ne (omega arith))))
 
 -- what evaluates a rule of a number in a list that agrees is that rule's own instruction
-own_number : (place attr r k : ℕ) → evaluates k (giving place attr r) ≡ nat_eq r k
+own_number : (place attr r k : ℕ) → evaluates k (def_of place attr r) ≡ nat_eq r k
 own_number zero a r k = refl
 own_number (suc j) a r k = refl
 
@@ -129,8 +129,8 @@ by_bool false never = refl
 module _ (m : Passes) (q : Production) (k : ℕ) (xs : List Instr) (is : IsListFor m q k xs) where
   own : (n r : ℕ) (u : Rule) (i : Instr) → IsRuleAt q r u → slice_get xs n ≡ Some i → evaluates r i ≡ true
       → i ≡ instruction_of u r
-  own n r u i at stands e =
-      let o = is.gives.own i (is_given i r e) (n, stands) in
+  own n r u i at occurs e =
+      let o = is.gives.own i (is_given i r e) (n, occurs) in
       let same_number : o.0 ≡ r = eqb-true o.0 r
       (sym (own_number o.1.target.place o.1.target.attr o.0 r) ∙ ap (evaluates r) (sym o.3) ∙ e) in
       let z : Some o.1 ≡ Some u = sym o.2 ∙ ap (slice_get q.rules) same_number ∙ at in
@@ -140,7 +140,7 @@ module _ (m : Passes) (q : Production) (k : ℕ) (xs : List Instr) (is : IsListF
   one_rule : (r : ℕ) (u : Rule) → IsRuleAt q r u → count_by (evaluates r) xs ≡ cond (is_of_pass m k q u) 1 0
   one_rule r u at = go (pass_at m q u.target) refl
     where
-      once : StandsOnceIf (HasPass m q u.target k) xs (instruction_of u r)
+      once : OccursOnceIf (HasPass m q u.target k) xs (instruction_of u r)
       once = is.gives.given r u at
 
       here : evaluates r (instruction_of u r) ≡ true
@@ -153,9 +153,9 @@ module _ (m : Passes) (q : Production) (k : ℕ) (xs : List Instr) (is : IsListF
 
       always : HasPass m q u.target k → count_by (evaluates r) xs ≡ 1
       always has =
-          let stands = once.there has in
-          count_one (evaluates r) xs stands.0 (instruction_of u r) stands.1 here
-          (λ n i e ne. by_bool (evaluates r i) (λ t. ne (once.once n stands.0 (e ∙ ap Some (own n r u i at e t)) stands.1)))
+          let occurs = once.there has in
+          count_one (evaluates r) xs occurs.0 (instruction_of u r) occurs.1 here
+          (λ n i e ne. by_bool (evaluates r i) (λ t. ne (once.once n occurs.0 (e ∙ ap Some (own n r u i at e t)) occurs.1)))
 
       go : (o : Option ℕ) → pass_at m q u.target ≡ o → count_by (evaluates r) xs ≡ cond (is_pass k (pass_at m q u.target)) 1 0
       go None e = not_there (λ has. let z : None ≡ Some k = sym e ∙ has in let bad : ⊥ = cc in bad)
@@ -180,9 +180,9 @@ module _ (m : Passes) (q : Production) (k : ℕ) (xs : List Instr) (is : IsListF
       omega (arith, count_more (is_of_pass m k q) u us, one_rule n u first, others)
 
   numbered : (n : ℕ) (i : Instr) → slice_get xs n ≡ Some i → (r : ℕ) → ((k : ℕ) → evaluates k i ≡ nat_eq r k) → r < length q.rules
-  numbered n i stands r e =
+  numbered n i occurs r e =
       let there : evaluates r i ≡ true = e r ∙ eq-eqb r r refl in
-      let o = is.gives.own i (is_given i r there) (n, stands) in
+      let o = is.gives.own i (is_given i r there) (n, occurs) in
       let same : o.0 ≡ r = eqb-true o.0 r
       (sym (own_number o.1.target.place o.1.target.attr o.0 r) ∙ ap (evaluates r) (sym o.3) ∙ there) in
       let w = slice_get_within q.rules o.0 o.1 o.2 in

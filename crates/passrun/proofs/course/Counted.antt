@@ -4,14 +4,14 @@ use Rattle.std.proofs.lemmas.List.Sums.{count_by-le-length}
 use Rattle.ag_value.specs.declared.value.Value.{Value}
 use Rattle.ag_grammar.specs.declared.grammar.Production.{Production}
 use Rattle.ag_grammar.specs.declared.direction.Direction.{Direction}
-use Rattle.ag_grammar.specs.grammars.Accepted.{most_rules}
+use Rattle.ag_grammar.specs.grammars.Accepted.{max_rules}
 use Rattle.ag_grammar.specs.grammars.AttributeGrammar.{Grammar, stored_items}
 use Rattle.ag_grammar.specs.grammars.Passes.{Passes}
 use Rattle.ag_grammar.specs.grammars.Solution.{Valuation, children}
 use Rattle.ag_grammar.specs.grammars.Tree.{Tree, Forest, leaf, node, none, more, node_count, node_counts}
 use Rattle.ag_grammar.specs.grammars.Counts.{is_of_pass, pass_rule_count, rules_of_pass, totals}
 use Rattle.treefile.specs.records.Orders.{postfix, postfix_all, prefix, prefix_all}
-use Rattle.treefile.specs.ways.Awaited.{ToCome}
+use Rattle.treefile.specs.framing.ExpectedRecords.{Pending}
 use Rattle.treefile.specs.records.Records.{bodies_of, bodies_of_all, node_body}
 use Rattle.treefile.specs.records.TreeFile.{version_two}
 use Rattle.passcode.specs.declared.phase.Phase.{Phase}
@@ -21,7 +21,7 @@ use Rattle.planchecker.specs.courses.Settings.{Setting, way}
 use Rattle.planchecker.specs.courses.Sound.{IsSound}
 use Rattle.passassign.proofs.slots.Few.{few_rules}
 use Rattle.passrun.specs.declared.passing.open_node.OpenNode.{OpenNode}
-use Rattle.passrun.specs.passing.Passing.{Tapes, Awaits, IsCurrent, Passing, IsRootReady, Stays, below, met, put_of, rules_at, state_of}
+use Rattle.passrun.specs.passing.NodeInvariant.{Transcript, Expects, IsCurrent, NodeInvariant, IsRootReady, Preserves, below, after_reading, put_of, rules_at, state_of}
 use Rattle.passrun.specs.passing.Places.{Table, copies, in_children}
 use Rattle.treefile.proofs.records.Orders.{length-postfix, length-postfix_all, length-prefix_all}
 use Rattle.treefile.proofs.records.Records.{bodies_count, bodies_counts}
@@ -43,7 +43,7 @@ below_count d g m k (leaf c x) v = refl
 below_count d g m k (node p ts) v = ap suc (post_of_all d g m k ts (children v))
 
 module _ (c : Setting) (sound : IsSound c) where
-  few_of : (p : ℕ) (o : Option Production) → slice_get c.grammar.productions p ≡ o → pass_rule_count c.passes c.write o ≤ most_rules
+  few_of : (p : ℕ) (o : Option Production) → slice_get c.grammar.productions p ≡ o → pass_rule_count c.passes c.write o ≤ max_rules
   few_of p None e = omega arith
   few_of p (Some q) e = omega (arith, few_rules c.grammar sound.accepted p q e, count_by-le-length (is_of_pass c.passes c.write q) q.rules)
 
@@ -63,15 +63,15 @@ module _ (c : Setting) (sound : IsSound c) where
         omega arith
 
   -- The counts after the visited children of a node whose record was read.
-  stays_counted : (s : ℕ) (f : ℕ → Value) (level p : ℕ) (q : Production) (state : State) (e : Table) (ts : Forest) (ws : ℕ → Valuation) (old new : Tapes) (before opened : ℕ)
-      → Stays c s f level p q state e ts ws old new
+  stays_counted : (s : ℕ) (f : ℕ → Value) (level p : ℕ) (q : Production) (state : State) (e : Table) (ts : Forest) (ws : ℕ → Valuation) (old new : Transcript) (before opened : ℕ)
+      → Preserves c s f level p q state e ts ws old new
       → length old.put + opened ≡ length old.read → before ≤ 65536 * length old.read
       → (length new.put + suc opened ≡ length new.read) × (before + rules_at c q ts ≤ 65536 * length new.read)
   stays_counted s f level p q state e ts ws old new before opened stays balanced few =
       let pre = count_of_all (way c) c.grammar c.passes c.read ts ws in
       let post = post_of_all (way c) c.grammar c.passes c.write ts ws in
       let a = ap length stays.visits.read in
-      let b = length-append (met c p f (copies c c.read (stored_items q.items) (in_children e)) old).read (prefix_all (way c) (bodies_of_all version_two c.grammar c.passes c.read ts ws)) in
+      let b = length-append (after_reading c p f (copies c c.read (stored_items q.items) (in_children e)) old).read (prefix_all (way c) (bodies_of_all version_two c.grammar c.passes c.read ts ws)) in
       let d = length-append old.read (node_body version_two c.grammar c.passes c.read p f (copies c c.read (stored_items q.items) (in_children e)) ∷ []) in
       let e' = ap length stays.visits.put in
       let f' = length-append old.put (postfix_all (way c) (bodies_of_all version_two c.grammar c.passes c.write ts ws)) in
@@ -79,7 +79,7 @@ module _ (c : Setting) (sound : IsSound c) where
       let most = few_of p (Some q) stays.there in
       (omega arith, omega arith)
 
-  waits_counted : (root : ℕ) (xs : List OpenNode) (s p : ℕ) (f : ℕ → Value) (under : List Value) (old : Tapes) (before : ℕ) (others : ToCome) → Awaits c root xs s p f under old before others → (length old.put + length xs ≡ length old.read) × (before ≤ 65536 * length old.read)
+  waits_counted : (root : ℕ) (xs : List OpenNode) (s p : ℕ) (f : ℕ → Value) (under : List Value) (old : Transcript) (before : ℕ) (others : Pending) → Expects c root xs s p f under old before others → (length old.put + length xs ≡ length old.read) × (before ≤ 65536 * length old.read)
   waits_counted root [] s p f under old before others w =
       let a = ap (λ z. length z.put) w.3 in
       let b = ap (λ z. length z.read) w.3 in
@@ -92,7 +92,7 @@ module _ (c : Setting) (sound : IsSound c) where
       let m = k.1 in
       (k.0, omega arith)
 
-  current_counted : (q : Production) (ph : Phase) (i level p : ℕ) (e of_child : Table) (row : List Value) (old new : Tapes) (count : ℕ) → IsCurrent c q ph i level p e of_child row old new count → (length new.put + length old.read ≤ length new.read + length old.put) × (count + 65536 * length old.read ≤ 65536 * length new.read)
+  current_counted : (q : Production) (ph : Phase) (i level p : ℕ) (e of_child : Table) (row : List Value) (old new : Transcript) (count : ℕ) → IsCurrent c q ph i level p e of_child row old new count → (length new.put + length old.read ≤ length new.read + length old.put) × (count + 65536 * length old.read ≤ 65536 * length new.read)
   current_counted q Between i level p e of_child row old new count h =
       let a = ap (λ z. length z.put) h.0 in
       let b = ap (λ z. length z.read) h.0 in
@@ -125,7 +125,7 @@ module _ (c : Setting) (sound : IsSound c) where
 
   -- While nodes are open, fewer bodies were written than read, and no more rules were run than the bodies
   -- that were read allow.
-  pub passing_counted : (root : ℕ) (x : OpenNode) (xs : List OpenNode) (values : List Value) (t : Tapes) (now : ℕ) (todo : ToCome) → Passing c root (x ∷ xs) values t now todo → (length t.put < length t.read) × (now ≤ 65536 * length t.read)
+  pub passing_counted : (root : ℕ) (x : OpenNode) (xs : List OpenNode) (values : List Value) (t : Transcript) (now : ℕ) (todo : Pending) → NodeInvariant c root (x ∷ xs) values t now todo → (length t.put < length t.read) × (now ≤ 65536 * length t.read)
   passing_counted root x xs values t now todo (s, f, under, old, before, others, waits, ph, o) =
       let h = waits_counted root xs s x.production f under old before others waits in
       let m = stays_counted s f (suc (length xs)) x.production o.production (state_of ph o.i o.done) o.table o.trees o.valuations old o.mid before (length xs) o.stays h.0 h.1 in
@@ -137,7 +137,7 @@ module _ (c : Setting) (sound : IsSound c) where
       let e = k.1 in
       (omega arith, omega arith)
 
-  pub ready_counted : (root : ℕ) (values : List Value) (t : Tapes) (now : ℕ) (todo : ToCome) → IsRootReady c root values t now todo → suc (length t.put) ≡ length t.read
+  pub ready_counted : (root : ℕ) (values : List Value) (t : Transcript) (now : ℕ) (todo : Pending) → IsRootReady c root values t now todo → suc (length t.put) ≡ length t.read
   ready_counted root values t now todo h =
       let a = ap length h.ready.read in
       let b = count_of (way c) c.grammar c.passes c.read h.tree h.valuation in

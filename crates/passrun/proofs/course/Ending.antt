@@ -8,20 +8,20 @@ use Rattle.std.proofs.lemmas.List.Elements.{All-append}
 use Rattle.ag_grammar.specs.declared.grammar.Item.TheVariants as item
 use Rattle.ag_grammar.specs.grammars.AttributeGrammar.{stored_items}
 use Rattle.ag_grammar.specs.grammars.Passes.{direction_of, other}
-use Rattle.passrun.specs.passing.Ahead.{behind, children_of, of_node}
-use Rattle.ag_grammar.specs.grammars.Tree.{most_nodes}
+use Rattle.passrun.specs.passing.Ahead.{following, children_of, records_of_node}
+use Rattle.ag_grammar.specs.grammars.Tree.{max_nodes}
 use Rattle.treefile.specs.declared.reading.FrameFault.{FrameFault}
-use Rattle.treefile.specs.ways.Backward.{ReadsTo, before_frame, next_before}
+use Rattle.treefile.specs.framing.Backward.{ReadsTo, before_frame, next_before}
 use Rattle.treefile.specs.devices.Device.{LeavesContent, WhenHonest}
 use Rattle.treefile.specs.records.Records.{values_up_to}
 use Rattle.treefile.specs.declared.body.Kind.TheVariants.{Node}
-use Rattle.treefile.specs.ways.Awaited.{before_others}
+use Rattle.treefile.specs.framing.ExpectedRecords.{before_others}
 use Rattle.treefile.specs.records.TreeFile.{body_of, header, version_two}
-use Rattle.treefile.specs.ways.Writing as writing
-use Rattle.treefile.proofs.ways.Backward.{none_at_header}
+use Rattle.treefile.specs.framing.Writing as writing
+use Rattle.treefile.proofs.framing.Backward.{none_at_header}
 use Rattle.treefile.proofs.records.Values.{values_well}
 use Rattle.backreader.specs.BackState.{HasRead, BackState, IsOver, lent_body, progress_after}
-use Rattle.backreader.proofs.Standing.{all_bytes}
+use Rattle.backreader.proofs.EndingAt.{all_bytes}
 use Rattle.passcode.specs.declared.phase.Phase.TheVariants.{Between}
 use Rattle.planchecker.specs.courses.Settings.{Setting}
 use Rattle.planchecker.specs.courses.Sound.{IsSound}
@@ -33,7 +33,7 @@ use Rattle.passrun.specs.passing.Nodes.{first_at}
 use Rattle.passrun.specs.passing.Places.{copies, stored}
 use Rattle.passrun.specs.reading.Fetching.{HasFetched}
 use Rattle.passrun.specs.Passed.{IsPassed, IsRunning}
-use Rattle.passrun.specs.passing.Passing.{Passing, Tapes, met}
+use Rattle.passrun.specs.passing.NodeInvariant.{NodeInvariant, Transcript, after_reading}
 use Rattle.passrun.specs.passing.Putting.{HasPut}
 use Rattle.passrun.specs.passing.Running.{Runs}
 use Rattle.passrun.proofs.course.Ahead.{is_record, of_node_is}
@@ -43,7 +43,7 @@ use Rattle.passrun.proofs.Recorded.{copies_well, first_row}
 use Rattle.passrun.proofs.steps.Running.{put_more}
 use Rattle.passrun.proofs.steps.Steps.{opened}
 
-abbrev empty : Tapes
+abbrev empty : Transcript
 empty = record { read = []; put = [] }
 
 -- No body was returned.
@@ -61,7 +61,7 @@ module _ (c : Setting) (sound : IsSound c) where
       → WhenHonest honest (IsReadable (source c) content) → WhenHonest honest (IsOver content state) → WhenHonest honest (state.progress.at ≡ length content) → state.progress.records ≡ 0 → state.progress.version ≡ version_two → state.progress.fault ≡ None
       → WhenHonest to_honest (to ≡ header version_two c.write) → out ≡ record { written = 0; is_broken = false } → meter ≤ 2 ^ 63
       → Runs c honest' content' to_honest to meter (record { back = back; writer = out; values = values; waiting = waiting; root = p; begun = began }) (Some (first_at p 0))
-  begun_runs p meter began first honest honest' to_honest content content' to state back out old values waiting none alone is_start is_meter h' same leaves readable over end fresh version unbroken head begun low =
+  begun_runs p meter began first honest honest' to_honest content content' to state back out old values waiting none single_value is_start is_meter h' same leaves readable over end fresh version unbroken head begun low =
       let h = subst (λ s. HasFetched c (item.Symbol s) p 0 honest content state back old.items values.items) is_start h' in
       let t = h.taken in
       let f = t.values in
@@ -72,18 +72,18 @@ module _ (c : Setting) (sound : IsSound c) where
       let own = values_up_to c.write (c.passes start) f in
       let kept = copies c c.write (stored_items q.items) t.table in
       let row : values.items ≡ stored c q f e = t.row ∙ ap (λ vs. vs ++ (own ++ kept)) none ∙ ap (λ s. values_up_to c.write (c.passes s) f ++ kept) (sym t.left) in
-      let todo = behind c q e 0 2 [] in
+      let todo = following c q e 0 2 [] in
       let node = opened c sound p start q f e 1 0 [] empty 0 [] t.there t.left (omega arith) refl in
-      let passing : Passing c p (first_at p 0 ∷ []) (stored c q f e) (met c p f cs empty) 0 todo = (start, f, [], empty, 0, [], (refl, refl, refl, refl, refl, refl), Between, node) in
-      let tape : met c p f cs empty ≡ record { read = [] ++ h.body ∷ []; put = [] } = ap (λ b. record { read = b ∷ []; put = [] }) (sym t.same) in
-      let passing' : Passing c p (first_at p 0 ∷ []) values.items (record { read = [] ++ h.body ∷ []; put = [] }) 0 todo = subst (λ z. Passing c p (first_at p 0 ∷ []) values.items z 0 todo) tape (subst (λ vs. Passing c p (first_at p 0 ∷ []) vs (met c p f cs empty) 0 todo) (sym row) passing) in
+      let passing : NodeInvariant c p (first_at p 0 ∷ []) (stored c q f e) (after_reading c p f cs empty) 0 todo = (start, f, [], empty, 0, [], (refl, refl, refl, refl, refl, refl), Between, node) in
+      let tape : after_reading c p f cs empty ≡ record { read = [] ++ h.body ∷ []; put = [] } = ap (λ b. record { read = b ∷ []; put = [] }) (sym t.same) in
+      let passing' : NodeInvariant c p (first_at p 0 ∷ []) values.items (record { read = [] ++ h.body ∷ []; put = [] }) 0 todo = subst (λ z. NodeInvariant c p (first_at p 0 ∷ []) values.items z 0 todo) tape (subst (λ vs. NodeInvariant c p (first_at p 0 ∷ []) vs (after_reading c p f cs empty) 0 todo) (sym row) passing) in
       let children = children_of c q e in
-      let come : todo ≡ before_others (other (direction_of c.read)) 2 children [] = ap (λ o. of_node c o e 2 []) (sym t.there) ∙ of_node_is c sound p q e 2 [] t.there in
+      let come : todo ≡ before_others (other (direction_of c.read)) 2 children [] = ap (λ o. records_of_node c o e 2 []) (sym t.there) ∙ of_node_is c sound p q e 2 [] t.there in
       let zero' : 0 ≡ meter - began = omega arith in
       let at = ap (λ g. g.at) h.progress in
       let records = ap (λ g. g.records) h.progress in
       record {
-        running = subst (λ xs. IsRunning c p honest' content' to_honest to back out values.items (first_at p 0 ∷ reverse xs) (meter - began)) (sym alone) (subst (λ n. IsRunning c p honest' content' to_honest to back out values.items (first_at p 0 ∷ []) n) zero' (record {
+        running = subst (λ xs. IsRunning c p honest' content' to_honest to back out values.items (first_at p 0 ∷ reverse xs) (meter - began)) (sym single_value) (subst (λ n. IsRunning c p honest' content' to_honest to back out values.items (first_at p 0 ∷ []) n) zero' (record {
           tapes = record { read = [] ++ h.body ∷ []; put = [] };
           todo = todo;
           passing = passing';
@@ -110,7 +110,7 @@ module _ (c : Setting) (sound : IsSound c) where
       }
 
   pub ready_of : (honest : Bool) (content : List ℕ) (to_honest : Bool) (to : List ℕ) (m : Machine) → RunsBetween c honest content to_honest to m None
-      → (length m.values.items ≤ version_two.most_values) × (All IsWell m.values.items) × (m.writer.written < 2 ^ 64 - 1) × (m.writer.is_broken ≡ false)
+      → (length m.values.items ≤ version_two.max_values) × (All IsWell m.values.items) × (m.writer.written < 2 ^ 64 - 1) × (m.writer.is_broken ≡ false)
   ready_of honest content to_honest to m (meter, r) =
       let h = r.running.passing in
       let k = ready_counted c sound m.root m.values.items r.running.tapes (meter - m.begun) r.running.todo h in
@@ -119,7 +119,7 @@ module _ (c : Setting) (sound : IsSound c) where
       (h.few, r.running.well, omega arith, r.running.whole)
 
   -- The number of records written is the number of records read.
-  pub as_many : (honest : Bool) (content : List ℕ) (to_honest : Bool) (to : List ℕ) (m : Machine) → RunsBetween c honest content to_honest to m None → (m.writer.written + 1 ≡ m.back.progress.records) × (m.back.progress.records ≤ most_nodes)
+  pub as_many : (honest : Bool) (content : List ℕ) (to_honest : Bool) (to : List ℕ) (m : Machine) → RunsBetween c honest content to_honest to m None → (m.writer.written + 1 ≡ m.back.progress.records) × (m.back.progress.records ≤ max_nodes)
   as_many honest content to_honest to m (meter, r) =
       let k = ready_counted c sound m.root m.values.items r.running.tapes (meter - m.begun) r.running.todo r.running.passing in
       let few = r.running.few in

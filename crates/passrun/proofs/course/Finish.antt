@@ -7,21 +7,21 @@ use Rattle.ag_grammar.specs.declared.direction.Direction.{Direction}
 use Rattle.ag_grammar.specs.grammars.AttributeGrammar.{Grammar}
 use Rattle.ag_grammar.specs.grammars.Passes.{Passes, direction_of, other}
 use Rattle.ag_grammar.specs.grammars.Solution.{Valuation, NoRule, OfPass, WellAt}
-use Rattle.ag_grammar.specs.grammars.Tree.{Tree, node_count, most_nodes}
+use Rattle.ag_grammar.specs.grammars.Tree.{Tree, node_count, max_nodes}
 use Rattle.ag_grammar.proofs.grammars.EachNode.{each_map, solves_wider}
-use Rattle.treefile.specs.ways.Backward.{ReadsTo, next_before, pass_of}
-use Rattle.treefile.specs.ways.Ending.{IsBytes, is_tree_file, version_two_usable}
+use Rattle.treefile.specs.framing.Backward.{ReadsTo, next_before, pass_of}
+use Rattle.treefile.specs.framing.Ending.{IsBytes, is_tree_file, version_two_usable}
 use Rattle.treefile.specs.records.Orders.{BodyTree, branch, prefix, postfix}
 use Rattle.treefile.specs.records.Records.{bodies_of}
 use Rattle.treefile.specs.records.TreeFile.{version_two, file, frame, header}
-use Rattle.treefile.proofs.ways.Backward.{back_is_file, reads_whole}
+use Rattle.treefile.proofs.framing.Backward.{back_is_file, reads_whole}
 use Rattle.treefile.proofs.records.Orders.{length-prefix, turned}
 use Rattle.treefile.proofs.records.Records.{bodies_count}
 use Rattle.planchecker.specs.courses.Settings.{Setting, way}
 use Rattle.planchecker.specs.courses.Sound.{IsSound}
 use Rattle.passrun.specs.Passed.{IsPassed}
-use Rattle.treefile.specs.ways.Awaited.{ToCome}
-use Rattle.passrun.specs.passing.Passing.{Tapes, IsRootReady, below, root_body}
+use Rattle.treefile.specs.framing.ExpectedRecords.{Pending}
+use Rattle.passrun.specs.passing.NodeInvariant.{Transcript, IsRootReady, below, root_body}
 
 -- One body is read for each node.
 pub count_of : (d : Direction) (g : Grammar) (m : Passes) (k : ℕ) (t : Tree) (v : Valuation) → length (prefix d (bodies_of version_two g m k t v)) ≡ node_count t
@@ -31,11 +31,11 @@ whole : (d : Direction) (b : BodyTree) → below d b ++ root_body b ∷ [] ≡ p
 whole d (branch body ts) = refl
 
 -- The pass is done.
-pub finished : (c : Setting) → IsSound c → (root : ℕ) (content to : List ℕ) (values : List Value) (tapes : Tapes) (place count evals : ℕ) (body : List ℕ) (todo : ToCome)
+pub finished : (c : Setting) → IsSound c → (root : ℕ) (content to : List ℕ) (values : List Value) (tapes : Transcript) (place count evals : ℕ) (body : List ℕ) (todo : Pending)
     → (ready : IsRootReady c root values tapes evals todo) → body ≡ root_body (bodies_of version_two c.grammar c.passes c.write ready.tree ready.valuation)
     → IsBytes content → is_tree_file version_two content ≡ true → pass_of content ≡ c.read
     → ReadsTo version_two content (length content) tapes.read place → next_before version_two content place ≡ Ok None
-    → to ≡ header version_two c.write ++ flat_map frame (tapes.put ++ body ∷ []) → count ≡ length tapes.read → length tapes.read ≤ most_nodes
+    → to ≡ header version_two c.write ++ flat_map frame (tapes.put ++ body ∷ []) → count ≡ length tapes.read → length tapes.read ≤ max_nodes
     → IsPassed c content to count evals
 finished c sound root content to values tapes place count evals body todo ready own bytes is_file pass read end put counted few =
     let t = ready.tree in
@@ -51,13 +51,13 @@ finished c sound root content to values tapes place count evals body todo ready 
       values = w;
       fits = ready.ready.took.fits;
       from = record {
-        stands = back_is_file version_two content bytes tapes.read version_two_usable is_file (reads_whole version_two content tapes.read (length content) place read end)
+        occurs = back_is_file version_two content bytes tapes.read version_two_usable is_file (reads_whole version_two content tapes.read (length content) place read end)
             ∙ ap (λ k. file version_two k (reverse tapes.read)) pass ∙ ap (file version_two c.read) back;
         texts = solves_wider (OfPass c.passes c.write) NoRule c.grammar (λ p q r production rule bad. absurd bad) t w ready.ready.took.solved;
         well = each_map (WellAt (λ p. p ≤ c.write)) (WellAt (λ p. p ≤ c.read)) c.grammar c.passes (λ ps d e r a p is le. r a p is (let s = sound.next in omega arith)) t w w ready.ready.took.well;
       };
       written = record {
-        stands = put ∙ ap (λ xs. header version_two c.write ++ flat_map frame xs) (ap (λ b. tapes.put ++ b ∷ []) own ∙ ap (λ xs. xs ++ root_body (bodies_of version_two c.grammar c.passes c.write t w) ∷ []) ready.ready.put ∙ whole (way c) (bodies_of version_two c.grammar c.passes c.write t w));
+        occurs = put ∙ ap (λ xs. header version_two c.write ++ flat_map frame xs) (ap (λ b. tapes.put ++ b ∷ []) own ∙ ap (λ xs. xs ++ root_body (bodies_of version_two c.grammar c.passes c.write t w) ∷ []) ready.ready.put ∙ whole (way c) (bodies_of version_two c.grammar c.passes c.write t w));
         texts = solves_wider (OfPass c.passes c.write) NoRule c.grammar (λ p q r production rule bad. absurd bad) t w ready.ready.took.solved;
         well = ready.ready.took.well;
       };

@@ -11,7 +11,7 @@ use Rattle.passassign.specs.Rows.{IsGreatest, passes_of}
 use Rattle.passcode.specs.Rows.{Lists}
 use Rattle.planchecker.specs.courses.Settings.{Setting, setting_of}
 use Rattle.treefile.specs.devices.Device.{HasRisen, Persists, WhenHonest}
-use Rattle.treefile.specs.ways.Beginning.{BeginsFile, LeavesBeginning}
+use Rattle.treefile.specs.framing.Beginning.{BeginsFile, LeavesBeginning}
 use Rattle.treefile.specs.Runs.{RunsPass, RunsPasses}
 use Rattle.treefile.specs.records.TreeFile.{version_two}
 use Rattle.treefile.proofs.Run.{goes_on_run, starts_run}
@@ -23,7 +23,7 @@ use Rattle.passrun.specs.passing.Ahead.{IsRunFault}
 use Rattle.passrun.specs.Passed.{IsPassed}
 use Rattle.passrun.specs.Laws.{CountsPass}
 use Rattle.passrun.specs.Rounds.{CountsPasses, HasRunAll, HoldsTree, IsPassedOn, LeavesSomeFile, last_content, one_more, other_content, other_last}
-use Rattle.passrun.proofs.Telling.{passes_are_told, refused_back}
+use Rattle.passrun.proofs.RecordedPasses.{passes_are_recorded, refused_back}
 
 -- The device from which the pass ran.
 module _ (c : Setting) (a b : List ℕ) where
@@ -66,10 +66,10 @@ counts_start g m k start t u tree file = record {
 }
 
 counts_go_on : (g : Grammar) (m : Passes) (k count evals more : ℕ) (start now before : List ℕ) (sum passed : Passed) → RunsPasses version_two g m k (k + count) start now before → CountsPasses g m k count start evals sum → CountsPass g m (k + count) now passed.nodes more → passed.read ≡ passed.nodes → passed.written ≡ passed.nodes → CountsPasses g m k (suc count) start (evals + more) (one_more sum passed)
-counts_go_on g m k count evals more start now before sum passed runs counts told read written t u tree file =
+counts_go_on g m k count evals more start now before sum passed runs counts exact read written t u tree file =
     let run = runs t u tree file in
     let old = counts t u tree file in
-    let here = told t run.values tree run.file in
+    let here = exact t run.values tree run.file in
     let a = old.evals_are in
     let b = here.1 in
     let n = suc-mul count (node_count t) in
@@ -99,15 +99,15 @@ all_starts g m k n a b evals same fresh =
 -- After `last` passes one more ran, pass n, from the device with the last file to the other.
 module _ (g : Grammar) (plan : List (List ℕ) × Lists) (k last n : ℕ) (start a b a_new b_new : List ℕ) (which : Last) (evals more : ℕ) (sum passed : Passed) (accepted : IsAccepted g) (legal : IsLegal g (passes_of plan.0)) (le : k ≤ last) (is : n ≡ suc last) (before : HasRunAll g (passes_of plan.0) k last start which a b evals sum)
     (step : IsPassedOn (setting_of g plan n) which a b a_new b_new passed.nodes more) (read : passed.read ≡ passed.nodes) (written : passed.written ≡ passed.nodes) where
-  told : RunsPass version_two g (passes_of plan.0) last (last_content which a b) (other_content which a_new b_new) × CountsPass g (passes_of plan.0) last (last_content which a b) passed.nodes more
-  told =
+  exact : RunsPass version_two g (passes_of plan.0) last (last_content which a b) (other_content which a_new b_new) × CountsPass g (passes_of plan.0) last (last_content which a b) passed.nodes more
+  exact =
       let here : n - 1 ≡ last = omega arith in
       subst (λ j. RunsPass version_two g (passes_of plan.0) j (last_content which a b) (other_content which a_new b_new) × CountsPass g (passes_of plan.0) j (last_content which a b) passed.nodes more) here
-      (passes_are_told g plan n (last_content which a b) (other_content which a_new b_new) passed.nodes more accepted legal (omega arith) step.passed)
+      (passes_are_recorded g plan n (last_content which a b) (other_content which a_new b_new) passed.nodes more accepted legal (omega arith) step.passed)
 
   runs_on : RunsPasses version_two g (passes_of plan.0) k (suc last) start (last_content (other_last which) a_new b_new) (other_content (other_last which) a_new b_new)
   runs_on =
-      let runs : RunsPasses version_two g (passes_of plan.0) k (suc last) start (other_content which a_new b_new) (last_content which a b) = goes_on_run version_two g (passes_of plan.0) k last start (last_content which a b) (other_content which a b) (other_content which a_new b_new) legal le before.runs told.0 in
+      let runs : RunsPasses version_two g (passes_of plan.0) k (suc last) start (other_content which a_new b_new) (last_content which a b) = goes_on_run version_two g (passes_of plan.0) k last start (last_content which a b) (other_content which a b) (other_content which a_new b_new) legal le before.runs exact.0 in
       let back : last_content which a b ≡ other_content (other_last which) a_new b_new = sym step.kept ∙ sym (turned_other which a_new b_new) in
       subst (RunsPasses version_two g (passes_of plan.0) k (suc last) start (last_content (other_last which) a_new b_new)) back
       (subst (λ (c : List ℕ). RunsPasses version_two g (passes_of plan.0) k (suc last) start c (last_content which a b)) (sym (turned_last which a_new b_new)) runs)
@@ -119,7 +119,7 @@ module _ (g : Grammar) (plan : List (List ℕ) × Lists) (k last n : ℕ) (start
       subst (λ n. CountsPasses g (passes_of plan.0) k n start (evals + more) (one_more sum passed)) there
       (counts_go_on g (passes_of plan.0) k (last - k) evals more start (last_content which a b) (other_content which a b) sum passed
       (subst (λ n. RunsPasses version_two g (passes_of plan.0) k n start (last_content which a b) (other_content which a b)) (sym here) before.runs) before.counts
-      (subst (λ n. CountsPass g (passes_of plan.0) n (last_content which a b) passed.nodes more) (sym here) told.1) read written)
+      (subst (λ n. CountsPass g (passes_of plan.0) n (last_content which a b) passed.nodes more) (sym here) exact.1) read written)
 
   held_on : k < suc last → HoldsTree g (passes_of plan.0) k start
   held_on less = elim (cases_lt k last) [

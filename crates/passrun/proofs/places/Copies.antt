@@ -12,7 +12,7 @@ use Rattle.ag_grammar.specs.grammars.AttributeGrammar.{item_at, stored_items}
 use Rattle.ag_grammar.specs.grammars.Passes.{HasPass, item_passes}
 use Rattle.ag_grammar.specs.grammars.Solution.{Solves, SolvesAll, Valuation, rest}
 use Rattle.ag_grammar.specs.grammars.Tree.{Tree, Forest, leaf, node, none, more, Fits, FitsAll}
-use Rattle.treefile.specs.ways.Awaited.{Child, children_with_copies}
+use Rattle.treefile.specs.framing.ExpectedRecords.{Child, children_with_copies}
 use Rattle.treefile.specs.records.Records.{copies_of, copy_of, left_synthesized, synthesized_passes, values_up_to}
 use Rattle.treefile.proofs.records.Values.{count_of_values}
 use Rattle.planchecker.specs.courses.Settings.{Setting}
@@ -23,25 +23,25 @@ use Rattle.passrun.proofs.Recorded.{count_copied}
 use Rattle.passrun.proofs.places.Slots.{copied_is, copies_same, same_at}
 use Rattle.passrun.proofs.places.Tables.{same_values, set_other, with_here, with_other}
 
-pub told_length : (c : Setting) (k : ℕ) (xs : List Item) (vs : List Value) → length (children_with_copies true c.grammar c.passes k xs vs) ≡ length xs
-told_length c k [] vs = refl
-told_length c k (x ∷ xs) vs = ap suc (told_length c k xs (drop _ vs))
+pub copies_length : (c : Setting) (k : ℕ) (xs : List Item) (vs : List Value) → length (children_with_copies true c.grammar c.passes k xs vs) ≡ length xs
+copies_length c k [] vs = refl
+copies_length c k (x ∷ xs) vs = ap suc (copies_length c k xs (drop _ vs))
 
 -- The copy of a child's values in the record of its parent.
-pub told_at : (c : Setting) (k : ℕ) (xs : List Item) (e : Table) (j : ℕ) (x : Item) → slice_get xs j ≡ Some x → slice_get (children_with_copies true c.grammar c.passes k xs (copies c k xs e)) j ≡ Some (x, Some (values_up_to k (copied_passes c x) (e j)))
-told_at c k [] e j x at = let bad : ⊥ = cc in absurd bad
-told_at c k (y ∷ xs) e zero x at =
+pub copies_at : (c : Setting) (k : ℕ) (xs : List Item) (e : Table) (j : ℕ) (x : Item) → slice_get xs j ≡ Some x → slice_get (children_with_copies true c.grammar c.passes k xs (copies c k xs e)) j ≡ Some (x, Some (values_up_to k (copied_passes c x) (e j)))
+copies_at c k [] e j x at = let bad : ⊥ = cc in absurd bad
+copies_at c k (y ∷ xs) e zero x at =
     let same : y ≡ x = cc in
-    let front = values_up_to k (copied_passes c y) (e 0) in
+    let prefix = values_up_to k (copied_passes c y) (e 0) in
     let long = count_of_values k (copied_passes c y) (e 0) ∙ sym (count_copied c k y) in
-    ap (λ vs. child y vs) (take_at front (copies c k xs (λ j. e (suc j))) _ long) ∙ ap (λ z. child z (values_up_to k (copied_passes c z) (e 0))) same
+    ap (λ vs. child y vs) (take_at prefix (copies c k xs (λ j. e (suc j))) _ long) ∙ ap (λ z. child z (values_up_to k (copied_passes c z) (e 0))) same
   where
     child : Item → List Value → Option Child
     child y vs = Some (y, Some vs)
-told_at c k (y ∷ xs) e (suc j) x at =
-    let front = values_up_to k (copied_passes c y) (e 0) in
+copies_at c k (y ∷ xs) e (suc j) x at =
+    let prefix = values_up_to k (copied_passes c y) (e 0) in
     let long = count_of_values k (copied_passes c y) (e 0) ∙ sym (count_copied c k y) in
-    ap (λ vs. slice_get (children_with_copies true c.grammar c.passes k xs vs) j) (drop_at front (copies c k xs (λ j. e (suc j))) _ long) ∙ told_at c k xs (λ j. e (suc j)) j x at
+    ap (λ vs. slice_get (children_with_copies true c.grammar c.passes k xs vs) j) (drop_at prefix (copies c k xs (λ j. e (suc j))) _ long) ∙ copies_at c k xs (λ j. e (suc j)) j x at
 
 -- The copy of a tree consists of the values at its root.
 copy_is : (c : Setting) (W : Production → Rule → Type 0) (k : ℕ) (x : Item) (t : Tree) (w : Valuation) → Fits c.grammar x t → Solves W c.grammar t w → copy_of c.grammar c.passes k t w ≡ values_up_to k (copied_passes c x) (w [])
@@ -92,11 +92,11 @@ copies_row c q e j x h at agree = copies_same c c.read (stored_items q.items) (i
 
 -- A rule whose value is not known in the copies yet does not change the known copies.
 pub shown_set : (c : Setting) (q : Production) (n : ℕ) (e s : Table) (j a : ℕ) (v : Value) → HasPass c.passes q (record { place = j; attr = a }) c.write → (IsKnown c q n j → j ≡ 0) → IsShown c q n e s → IsShown c q n (set e j a v) s
-shown_set c q n e s j a v pass unless shown b m p x at is le when = shown b m p x at is le when ∙ sym (set_other e j a v (suc b) m (λ both.
+shown_set c q n e s j a v pass fault_unless shown b m p x at is le when = shown b m p x at is le when ∙ sym (set_other e j a v (suc b) m (λ both.
     let w = written_there c q b m p j a x pass at is both.0 both.1 in
     elim when [
       | inl less ↦ omega arith
-      | inr known ↦ (let z = unless (subst (IsKnown c q n) both.0 known) in let bj = both.0 in omega arith)
+      | inr known ↦ (let z = fault_unless (subst (IsKnown c q n) both.0 known) in let bj = both.0 in omega arith)
     ]))
 
 -- Reading a child's record that agrees with the copies does not change the known copies.

@@ -9,12 +9,12 @@ use Rattle.ag_grammar.specs.declared.grammar.Rule.{Rule}
 use Rattle.ag_grammar.specs.declared.grammar.Target.{Target}
 use Rattle.ag_grammar.specs.grammars.AttributeGrammar.{IsProduction, item_at, stored_items}
 use Rattle.planchecker.specs.courses.Settings.{Setting}
-use Rattle.passrun.specs.declared.laid.laying.PlaceRow.{PlaceRow}
-use Rattle.passrun.specs.declared.laid.laying.ProductionRow.{ProductionRow}
-use Rattle.passrun.specs.declared.laid.laying.RuleSlots.{RuleSlots}
-use Rattle.passrun.specs.laid.Layouts.{AreSlotsOf, IsLayout, IsRowOf}
-use Rattle.passrun.specs.laid.Laid.{layout_of, place_rows, production_row, rows_behind, rows_from, rule_slots}
-use Rattle.passrun.specs.laid.Slots.{argument_slot, copied_before, copied_width, copy_start, known_width, own_width}
+use Rattle.passrun.specs.declared.layouts.building.PlaceRow.{PlaceRow}
+use Rattle.passrun.specs.declared.layouts.building.ProductionRow.{ProductionRow}
+use Rattle.passrun.specs.declared.layouts.building.RuleSlots.{RuleSlots}
+use Rattle.passrun.specs.layouts.Layouts.{AreSlotsOf, IsLayout, IsRowOf}
+use Rattle.passrun.specs.layouts.BuiltLayouts.{layout_of, place_rows, production_row, rows_after, rows_from, rule_slots}
+use Rattle.passrun.specs.layouts.Slots.{argument_slot, copied_before, copied_width, copy_start, known_width, own_width}
 
 mapped : {A B : Type 0} (f : A → B) (xs : List A) (k : ℕ) (x : A) → slice_get xs k ≡ Some x → slice_get (map f xs) k ≡ Some (f x)
 mapped f [] k x e = let bad : ⊥ = cc in absurd bad
@@ -51,8 +51,8 @@ is_row c p q = record {
   );
 }
 
-pub laid : (c : Setting) → IsLayout c (layout_of c)
-laid c p q there =
+pub layouts : (c : Setting) → IsLayout c (layout_of c)
+layouts c p q there =
     let n : 0 + p ≡ p = omega arith in
     (production_row c p q, row_from c 0 c.grammar.productions p q there ∙ ap (λ n. Some (production_row c n q)) n, is_row c p q)
 
@@ -94,24 +94,24 @@ slots_found c p r q u row xs slots is num same at =
     subst (AreSlotsOf c q u) one s.2
 
 -- The item at a place, and where its copies begin.
-row_behind : (c : Setting) (start : ℕ) (xs : List Item) (b : ℕ) (x : Item) → slice_get xs b ≡ Some x → slice_get (rows_behind c start xs) b ≡ Some (record { item = x; start = start + copied_before c xs b; width = copied_width c x; known = known_width c x })
-row_behind c start [] b x at = let bad : ⊥ = cc in absurd bad
-row_behind c start (y ∷ xs) zero x at =
+row_after : (c : Setting) (start : ℕ) (xs : List Item) (b : ℕ) (x : Item) → slice_get xs b ≡ Some x → slice_get (rows_after c start xs) b ≡ Some (record { item = x; start = start + copied_before c xs b; width = copied_width c x; known = known_width c x })
+row_after c start [] b x at = let bad : ⊥ = cc in absurd bad
+row_after c start (y ∷ xs) zero x at =
     let same : y ≡ x = cc in
     let n : start ≡ start + 0 = omega arith in
     ap (λ y. at_start y start) same ∙ ap (at_start x) n
   where
     at_start : Item → ℕ → Option PlaceRow
     at_start y n = Some (record { item = y; start = n; width = copied_width c y; known = known_width c y })
-row_behind c start (y ∷ xs) (suc b) x at =
+row_after c start (y ∷ xs) (suc b) x at =
     let n : start + copied_width c y + copied_before c xs b ≡ start + (copied_width c y + copied_before c xs b) = omega arith in
-    row_behind c (start + copied_width c y) xs b x at ∙ ap at_start n
+    row_after c (start + copied_width c y) xs b x at ∙ ap at_start n
   where
     at_start : ℕ → Option PlaceRow
     at_start n = Some (record { item = x; start = n; width = copied_width c x; known = known_width c x })
 
 pub place_found : (c : Setting) (q : Production) (b : ℕ) (x : Item) → slice_get (stored_items q.items) b ≡ Some x → slice_get (place_rows c q) (suc b) ≡ Some (record { item = x; start = copy_start c q (suc b); width = copied_width c x; known = known_width c x })
-place_found c q b x at = row_behind c (own_width c q) (stored_items q.items) b x at
+place_found c q b x at = row_after c (own_width c q) (stored_items q.items) b x at
 
 -- The row found at the place of a child is the child's.
 pub place_is : (c : Setting) (q : Production) (j : ℕ) (row : PlaceRow) (x : Item) → 0 < j → Some row ≡ slice_get (place_rows c q) j → item_at q j ≡ Some x → (row.item ≡ x) × (row.start ≡ copy_start c q j) × (row.width ≡ copied_width c x) × (row.known ≡ known_width c x)

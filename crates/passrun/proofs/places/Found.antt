@@ -1,7 +1,7 @@
 -- Entries in the rows of the places.
 use Rattle.std.proofs.Common.{ℕ, zero, suc, ◌≡◌, ◌<◌, List, [], ◌∷◌, Some, get_or, length, refl, arith}
-use Rattle.passrun.specs.declared.laid.laying.PlaceRow.{PlaceRow}
-use Rattle.passrun.specs.laid.Laid.{item_in, start_in}
+use Rattle.passrun.specs.declared.layouts.building.PlaceRow.{PlaceRow}
+use Rattle.passrun.specs.layouts.BuiltLayouts.{item_in, start_in}
 
 pub item_found : (rows : List PlaceRow) (j : ℕ) (d : PlaceRow) → j < length rows → item_in rows j ≡ Some (get_or rows j d).item
 item_found [] j d less = absurd (omega arith)

@@ -15,7 +15,7 @@ use Rattle.treefile.specs.records.Records.{synthesized_count, values_up_to}
 use Rattle.treefile.specs.records.Listed.{count_up_to}
 use Rattle.planchecker.specs.courses.Settings.{Setting}
 use Rattle.passrun.specs.passing.Places.{Table, copied_passes, copies, in_children, place_passes, stored}
-use Rattle.passrun.specs.laid.Slots.{argument_slot, copied_all, copied_before, copy_start, rank, stored_width}
+use Rattle.passrun.specs.layouts.Slots.{argument_slot, copied_all, copied_before, copy_start, rank, stored_width}
 use Rattle.passrun.proofs.places.Tables.{same_values}
 
 pub get_left : {X : Type 0} (xs ys : List X) (i : ℕ) (x : X) → slice_get xs i ≡ Some x → slice_get (xs ++ ys) i ≡ Some x
@@ -164,12 +164,12 @@ share_at c q f s row b x at =
     let own = values_up_to c.write (c.passes q.left) f in
     let share = values_up_to c.write (copied_passes c x) (s (suc b)) in
     let copied : copies c c.write xs (in_children s) ≡ r.0 ++ (share ++ r.1) = r.3 (in_children s) (λ j a z. refl) in
-    let front : stored c q f s ++ row ≡ (own ++ r.0) ++ (share ++ (r.1 ++ row)) =
+    let prefix : stored c q f s ++ row ≡ (own ++ r.0) ++ (share ++ (r.1 ++ row)) =
     ap (λ vs. (own ++ vs) ++ row) copied ∙ ap (λ vs. vs ++ row) (sym (append_assoc own r.0 (share ++ r.1))) ∙ append_assoc (own ++ r.0) (share ++ r.1) row ∙ ap (λ vs. (own ++ r.0) ++ vs) (append_assoc share r.1 row) in
     let n = length_row c.write (c.passes q.left) f in
     let m = r.2 in
     let l = length-append own r.0 in
-    (r.1 ++ row, ap (drop (copy_start c q (suc b))) front ∙ drop_at (own ++ r.0) (share ++ (r.1 ++ row)) (copy_start c q (suc b)) (omega arith))
+    (r.1 ++ row, ap (drop (copy_start c q (suc b))) prefix ∙ drop_at (own ++ r.0) (share ++ (r.1 ++ row)) (copy_start c q (suc b)) (omega arith))
 
 -- The slot of an argument at a child has its value.
 pub argument_at : (c : Setting) (q : Production) (f : ℕ → Value) (s : Table) (row : List Value) (b a p : ℕ) (x : Item) → slice_get (stored_items q.items) b ≡ Some x → slice_get (copied_passes c x) a ≡ Some p → p ≤ c.write → slice_get (stored c q f s ++ row) (argument_slot c q (suc b) a) ≡ Some (s (suc b) a)
@@ -179,14 +179,14 @@ argument_at c q f s row b a p x at is le =
     let own = values_up_to c.write (c.passes q.left) f in
     let share = values_up_to c.write (copied_passes c x) (s (suc b)) in
     let copied : copies c c.write xs (in_children s) ≡ r.0 ++ (share ++ r.1) = r.3 (in_children s) (λ j a z. refl) in
-    let front : stored c q f s ++ row ≡ (own ++ r.0) ++ (share ++ (r.1 ++ row)) =
+    let prefix : stored c q f s ++ row ≡ (own ++ r.0) ++ (share ++ (r.1 ++ row)) =
     ap (λ vs. (own ++ vs) ++ row) copied ∙ ap (λ vs. vs ++ row) (sym (append_assoc own r.0 (share ++ r.1))) ∙ append_assoc (own ++ r.0) (share ++ r.1) row ∙ ap (λ vs. (own ++ r.0) ++ vs) (append_assoc share r.1 row) in
     let n = length_row c.write (c.passes q.left) f in
     let m = r.2 in
     let l = length-append own r.0 in
     let ranks = rank_copied x at is in
     let index : argument_slot c q (suc b) a ≡ length (own ++ r.0) + rank c.write (copied_passes c x) a = omega arith in
-    ap (slice_get (stored c q f s ++ row)) index ∙ ap (λ vs. slice_get vs (length (own ++ r.0) + rank c.write (copied_passes c x) a)) front ∙ get_right (own ++ r.0) (share ++ (r.1 ++ row)) (rank c.write (copied_passes c x) a)
+    ap (slice_get (stored c q f s ++ row)) index ∙ ap (λ vs. slice_get vs (length (own ++ r.0) + rank c.write (copied_passes c x) a)) prefix ∙ get_right (own ++ r.0) (share ++ (r.1 ++ row)) (rank c.write (copied_passes c x) a)
     ∙ get_left share (r.1 ++ row) (rank c.write (copied_passes c x) a) (s (suc b) a) (row_at c.write (copied_passes c x) (s (suc b)) a p is le)
   where
     rank_copied : (x : Item) → slice_get (stored_items q.items) b ≡ Some x → slice_get (copied_passes c x) a ≡ Some p → rank c.write (place_passes c q (suc b)) a ≡ rank c.write (copied_passes c x) a

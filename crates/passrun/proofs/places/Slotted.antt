@@ -7,40 +7,40 @@ use Rattle.ag_grammar.specs.declared.grammar.Rule.{Rule}
 use Rattle.ag_grammar.specs.declared.grammar.Target.{Target}
 use Rattle.ag_grammar.specs.declared.grammar.Terminal.TheVariants.{Literal, Class}
 use Rattle.ag_grammar.specs.Lists.{Each}
-use Rattle.ag_grammar.specs.grammars.Accepted.{most_attributes, most_stored}
+use Rattle.ag_grammar.specs.grammars.Accepted.{max_attributes, max_stored}
 use Rattle.ag_grammar.specs.grammars.Passes.{item_passes}
 use Rattle.ag_grammar.specs.grammars.AttributeGrammar.{item_at, places_of, stored_items}
 use Rattle.treefile.specs.records.Records.{synthesized_count}
 use Rattle.treefile.proofs.records.Values.{few_counted}
 use Rattle.passcode.specs.declared.instr.Instr.{Instr}
 use Rattle.planchecker.specs.courses.Settings.{Setting, list_at}
-use Rattle.passrun.specs.declared.laid.laying.ProductionRow.{ProductionRow}
-use Rattle.passrun.specs.declared.laid.laying.PlaceRow.{PlaceRow}
-use Rattle.passrun.specs.declared.laid.laying.RuleSlots.{RuleSlots}
+use Rattle.passrun.specs.declared.layouts.building.ProductionRow.{ProductionRow}
+use Rattle.passrun.specs.declared.layouts.building.PlaceRow.{PlaceRow}
+use Rattle.passrun.specs.declared.layouts.building.RuleSlots.{RuleSlots}
 use Rattle.passrun.specs.passing.Places.{copied_passes, row_passes}
-use Rattle.passrun.specs.laid.Slots.{argument_slot, copied_before, copied_width, copy_start, own_width, rank, row_start, stored_width, target_slot}
-use Rattle.passrun.specs.laid.Laid.{AreWithin, IsWithin, argument_slot_by, item_in, place_rows, production_row, production_slots, rows_behind, rule_slots, rule_slots_by, start_in, target_slot_by}
-use Rattle.passrun.specs.laid.Starts.{AreLow, AreSmall}
+use Rattle.passrun.specs.layouts.Slots.{argument_slot, copied_before, copied_width, copy_start, own_width, rank, row_start, stored_width, target_slot}
+use Rattle.passrun.specs.layouts.BuiltLayouts.{AreWithin, IsWithin, argument_slot_by, item_in, place_rows, production_row, production_slots, rows_after, rule_slots, rule_slots_by, start_in, target_slot_by}
+use Rattle.passrun.specs.layouts.Starts.{AreLow, AreSmall}
 
-items_behind : (c : Setting) (start : ℕ) (xs : List Item) (b : ℕ) → item_in (rows_behind c start xs) b ≡ slice_get xs b
+items_behind : (c : Setting) (start : ℕ) (xs : List Item) (b : ℕ) → item_in (rows_after c start xs) b ≡ slice_get xs b
 items_behind c start [] b = refl
 items_behind c start (x ∷ xs) zero = refl
 items_behind c start (x ∷ xs) (suc b) = items_behind c (start + copied_width c x) xs b
 
-starts_behind : (c : Setting) (start : ℕ) (xs : List Item) (b : ℕ) → b < length xs → start_in (rows_behind c start xs) b ≡ start + copied_before c xs b
-starts_behind c start [] b less = absurd (omega arith)
-starts_behind c start (x ∷ xs) zero less = omega arith
-starts_behind c start (x ∷ xs) (suc b) less = let h = starts_behind c (start + copied_width c x) xs b (omega arith) in omega arith
+starts_after : (c : Setting) (start : ℕ) (xs : List Item) (b : ℕ) → b < length xs → start_in (rows_after c start xs) b ≡ start + copied_before c xs b
+starts_after c start [] b less = absurd (omega arith)
+starts_after c start (x ∷ xs) zero less = omega arith
+starts_after c start (x ∷ xs) (suc b) less = let h = starts_after c (start + copied_width c x) xs b (omega arith) in omega arith
 
-length_behind : (c : Setting) (start : ℕ) (xs : List Item) → length (rows_behind c start xs) ≡ length xs
-length_behind c start [] = refl
-length_behind c start (x ∷ xs) = ap suc (length_behind c (start + copied_width c x) xs)
+length_after : (c : Setting) (start : ℕ) (xs : List Item) → length (rows_after c start xs) ≡ length xs
+length_after c start [] = refl
+length_after c start (x ∷ xs) = ap suc (length_after c (start + copied_width c x) xs)
 
 pub rows_long : (c : Setting) (q : Production) → length (place_rows c q) ≡ length (places_of q)
-rows_long c q = ap suc (length_behind c (own_width c q) (stored_items q.items))
+rows_long c q = ap suc (length_after c (own_width c q) (stored_items q.items))
 
 -- An item has no more copies than a symbol has attributes.
-pub copied_few : (c : Setting) (x : Item) → AreSmall c.passes → length (copied_passes c x) ≤ most_attributes
+pub copied_few : (c : Setting) (x : Item) → AreSmall c.passes → length (copied_passes c x) ≤ max_attributes
 copied_few c (item.Symbol s) small = let a = small s in let n = length-take (synthesized_count (slice_get c.grammar.symbols s)) (c.passes s) in omega arith
 copied_few c (item.Terminal (Class d)) small = omega arith
 copied_few c (item.Terminal (Literal l)) small = omega arith
@@ -55,7 +55,7 @@ before_few c (x ∷ xs) (suc b) small =
     let h = before_few c xs b small in
     omega arith
 
-starts_low : (c : Setting) (start : ℕ) (xs : List Item) (b : ℕ) → AreSmall c.passes → start_in (rows_behind c start xs) b ≤ start + 16 * length xs
+starts_low : (c : Setting) (start : ℕ) (xs : List Item) (b : ℕ) → AreSmall c.passes → start_in (rows_after c start xs) b ≤ start + 16 * length xs
 starts_low c start [] b small = omega arith
 starts_low c start (x ∷ xs) zero small = omega arith
 starts_low c start (x ∷ xs) (suc b) small =
@@ -64,7 +64,7 @@ starts_low c start (x ∷ xs) (suc b) small =
     let h = starts_low c (start + copied_width c x) xs b small in
     omega arith
 
-pub rows_low : (c : Setting) (q : Production) → AreSmall c.passes → length (places_of q) ≤ most_stored + 1 → AreLow (place_rows c q)
+pub rows_low : (c : Setting) (q : Production) → AreSmall c.passes → length (places_of q) ≤ max_stored + 1 → AreLow (place_rows c q)
 rows_low c q small few zero = omega arith
 rows_low c q small few (suc b) =
     let a = few_counted c.write (c.passes q.left) in
@@ -82,7 +82,7 @@ module _ (c : Setting) (q : Production) where
 
   start_same : (j : ℕ) → j < length (places_of q) → start_in rows j ≡ copy_start c q j
   start_same zero less = refl
-  start_same (suc b) less = starts_behind c (own_width c q) (stored_items q.items) b (omega arith)
+  start_same (suc b) less = starts_after c (own_width c q) (stored_items q.items) b (omega arith)
 
   argument_same : (o : Target) → o.place < length (places_of q) → argument_slot_by c.passes c.write rows o ≡ argument_slot c q o.place o.attr
   argument_same o less = ap₂ (λ (a b : ℕ). a + b) (start_same o.place less) (ap (λ x. rank c.write (item_passes c.passes x) o.attr) (item_same o.place))

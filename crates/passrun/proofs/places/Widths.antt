@@ -6,25 +6,25 @@ use Rattle.ag_grammar.specs.declared.grammar.Item.TheVariants as item
 use Rattle.ag_grammar.specs.declared.grammar.Production.{Production}
 use Rattle.ag_grammar.specs.declared.grammar.Target.{Target}
 use Rattle.ag_grammar.specs.declared.grammar.Terminal.TheVariants.{Literal, Class}
-use Rattle.ag_grammar.specs.grammars.Accepted.{IsAccepted, most_stored}
-use Rattle.ag_grammar.specs.grammars.AttributeGrammar.{Grammar, HasKind, IsProduction, Kind, found_kind, given_kind, item_at, item_kinds, stored_items, places_of}
+use Rattle.ag_grammar.specs.grammars.Accepted.{IsAccepted, max_stored}
+use Rattle.ag_grammar.specs.grammars.AttributeGrammar.{Grammar, HasKind, IsProduction, Kind, used_kind, defined_kind, item_at, item_kinds, stored_items, places_of}
 use Rattle.ag_grammar.specs.grammars.Passes.{IsLegal, Passes}
-use Rattle.treefile.specs.records.Records.{most_copied, most_copies}
+use Rattle.treefile.specs.records.Records.{max_copied, max_copies}
 use Rattle.treefile.specs.records.TreeFile.{version_two}
 use Rattle.treefile.proofs.records.Fitting.{few_passes, fits_version_two}
 use Rattle.treefile.proofs.records.Values.{few_counted}
 use Rattle.planchecker.specs.courses.Settings.{Setting}
 use Rattle.planchecker.specs.courses.Sound.{IsSound}
 use Rattle.passrun.specs.passing.Places.{copied_passes}
-use Rattle.passrun.specs.laid.Slots.{copied_all, copied_width, stored_width}
-use Rattle.passrun.specs.laid.Laid.{AreWithin}
-use Rattle.passrun.specs.laid.Starts.{AreSmall}
+use Rattle.passrun.specs.layouts.Slots.{copied_all, copied_width, stored_width}
+use Rattle.passrun.specs.layouts.BuiltLayouts.{AreWithin}
+use Rattle.passrun.specs.layouts.Starts.{AreSmall}
 
 -- No symbol has more attributes than a grammar allows.
 pub are_small : (g : Grammar) (m : Passes) → IsAccepted g → IsLegal g m → AreSmall m
 are_small g m accepted legal s = few_passes g m s accepted legal
 
-pub few_places : (g : Grammar) (p : ℕ) (q : Production) → IsAccepted g → IsProduction g p q → length (places_of q) ≤ most_stored + 1
+pub few_places : (g : Grammar) (p : ℕ) (q : Production) → IsAccepted g → IsProduction g p q → length (places_of q) ≤ max_stored + 1
 few_places g p q accepted is = let few = accepted.limits.stored_count p q is in omega arith
 
 -- An existing attribute is at an existing place.
@@ -41,23 +41,23 @@ place_within g q o k is = go o.place (item_at q o.place) refl (there (item_at q 
 
 pub are_within : (g : Grammar) (p : ℕ) (q : Production) → IsAccepted g → IsProduction g p q → AreWithin (length (places_of q)) q.rules
 are_within g p q accepted is r u at = record {
-  target = place_within g q u.target (given_kind u.target.place) ((accepted.complete p q is).no_other r u at);
-  args = λ i o arg. place_within g q o (found_kind o.place) (accepted.normal p q is r u at i o arg);
+  target = place_within g q u.target (defined_kind u.target.place) ((accepted.complete p q is).no_other r u at);
+  args = λ i o arg. place_within g q o (used_kind o.place) (accepted.normal p q is r u at i o arg);
 }
 
 -- No row has more values than a record may have.
-pub few_values : (c : Setting) → IsSound c → (p : ℕ) (q : Production) → IsProduction c.grammar p q → stored_width c q ≤ version_two.most_values
+pub few_values : (c : Setting) → IsSound c → (p : ℕ) (q : Production) → IsProduction c.grammar p q → stored_width c q ≤ version_two.max_values
 few_values c sound p q there =
     let fits = (fits_version_two c.grammar c.passes sound.accepted sound.legal).1.nodes p q there in
     let own = few_counted c.write (c.passes q.left) in
     let copied = few_copies (stored_items q.items) in
     omega arith
   where
-    few_item : (x : Item) → copied_width c x ≤ most_copied c.grammar c.passes x
+    few_item : (x : Item) → copied_width c x ≤ max_copied c.grammar c.passes x
     few_item (item.Symbol s) = few_counted c.write (copied_passes c (item.Symbol s))
     few_item (item.Terminal (Class d)) = few_counted c.write (0 ∷ [])
     few_item (item.Terminal (Literal l)) = omega arith
 
-    few_copies : (xs : List Item) → copied_all c xs ≤ most_copies c.grammar c.passes xs
+    few_copies : (xs : List Item) → copied_all c xs ≤ max_copies c.grammar c.passes xs
     few_copies [] = omega arith
     few_copies (x ∷ xs) = let a = few_item x in let b = few_copies xs in omega arith

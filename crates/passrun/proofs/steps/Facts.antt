@@ -8,7 +8,7 @@ use Rattle.ag_grammar.specs.declared.grammar.Production.{Production}
 use Rattle.ag_grammar.specs.declared.grammar.Rule.{Rule}
 use Rattle.ag_grammar.specs.grammars.AttributeGrammar.{IsProduction, item_at, stored_items}
 use Rattle.ag_grammar.specs.grammars.Passes.{item_passes, nth}
-use Rattle.treefile.specs.ways.Awaited.{ToCome}
+use Rattle.treefile.specs.framing.ExpectedRecords.{Pending}
 use Rattle.treefile.specs.records.Listed.{count_up_to}
 use Rattle.treefile.specs.records.Records.{values_up_to}
 use Rattle.passcode.specs.declared.instr.Instr.{Instr}
@@ -16,17 +16,17 @@ use Rattle.passcode.specs.declared.instr.Instr.TheVariants as instr
 use Rattle.passcode.specs.declared.phase.Phase.{Phase}
 use Rattle.passcode.specs.declared.phase.Phase.TheVariants.{Between, Gone}
 use Rattle.passcode.specs.Course.{MayGive, Runs, arity, place_of}
-use Rattle.passcode.proofs.Turns.{has_place}
+use Rattle.passcode.proofs.Turns.{is_stored_child}
 use Rattle.planchecker.specs.courses.Settings.{Setting, list_at, way}
 use Rattle.planchecker.specs.courses.Sound.{IsSound}
 use Rattle.passrun.specs.declared.passing.open_node.OpenNode.{OpenNode}
 use Rattle.passrun.specs.passing.Ahead.{goes_next}
-use Rattle.passrun.specs.passing.Passing.{IsCurrent, Tapes, Passing, state_of}
+use Rattle.passrun.specs.passing.NodeInvariant.{IsCurrent, Transcript, NodeInvariant, state_of}
 use Rattle.passrun.specs.passing.Places.{Table, copied_passes, rest_of, stored}
-use Rattle.passrun.specs.laid.Slots.{copied_all, copied_before, copied_width, copy_start, rank, stored_width, target_slot}
+use Rattle.passrun.specs.layouts.Slots.{copied_all, copied_before, copied_width, copy_start, rank, stored_width, target_slot}
 use Rattle.passrun.proofs.places.Slots.{begins_with_copy, length_row, length_stored, row_at}
 use Rattle.passrun.proofs.steps.Giving.{IsPlaced}
-use Rattle.passrun.proofs.steps.Stays.{goes_nowhere}
+use Rattle.passrun.proofs.steps.Preserves.{goes_nowhere}
 use Rattle.passrun.proofs.steps.Steps.{IsGivingOf, at_end, at_get, at_put, give_next, runs_next}
 
 -- An open node has a next instruction.
@@ -40,7 +40,7 @@ pub record HasPlace (c : Setting) (x : OpenNode) (j : ℕ) (values : List Value)
   pub production : Production
   pub there : IsProduction c.grammar x.production production
   pub item : Item
-  pub stands : item_at production j ≡ Some item
+  pub occurs : item_at production j ≡ Some item
   pub some : 0 < j
   pub within : x.base + (copy_start c production j + copied_width c item) ≤ length values
 
@@ -55,7 +55,7 @@ pub record HasWaited (c : Setting) (y : OpenNode) (base : ℕ) (values : List Va
   pub production : Production
   pub there : IsProduction c.grammar y.production production
   pub item : Item
-  pub stands : item_at production y.place ≡ Some item
+  pub occurs : item_at production y.place ≡ Some item
   pub some : 0 < y.place
   pub within : y.base + (copy_start c production y.place + copied_width c item) ≤ base
   pub wide : base + copied_width c item ≤ length values
@@ -79,7 +79,7 @@ row_within : (c : Setting) (q : Production) (b : ℕ) (x : Item) → slice_get (
 row_within c q b x at = let n = copies_within c (stored_items q.items) b x at in omega arith
 
 module _ (c : Setting) (sound : IsSound c) where
-  pub here : (root : ℕ) (x : OpenNode) (xs : List OpenNode) (values : List Value) (t : Tapes) (now : ℕ) (todo : ToCome) → Passing c root (x ∷ xs) values t now todo → IsHere c x
+  pub here : (root : ℕ) (x : OpenNode) (xs : List OpenNode) (values : List Value) (t : Transcript) (now : ℕ) (todo : Pending) → NodeInvariant c root (x ∷ xs) values t now todo → IsHere c x
   here root x xs values t now todo (s, f, under, old, before, others, waits, ph, o) =
       let some = some_left ph (rest_of c x) o.runs o.current in
       let n = length-drop x.at (list_at c x.production) in
@@ -92,35 +92,35 @@ module _ (c : Setting) (sound : IsSound c) where
   -- The copies for the child at the next place are among the values.
   copies_in : (x : OpenNode) (q : Production) (i : ℕ) (under row values : List Value) (f : ℕ → Value) (e : Table) (x' : Item) → IsProduction c.grammar x.production q → item_at q (place_of q c.write i) ≡ Some x' → x.base ≡ length under → values ≡ under ++ (stored c q f e ++ row)
       → x.base + (copy_start c q (place_of q c.write i) + copied_width c x') ≤ length values
-  copies_in x q i under row values f e x' there stands base is =
-      let n = row_within c q (nth (way c) (arity q) i) x' stands in
+  copies_in x q i under row values f e x' there occurs base is =
+      let n = row_within c q (nth (way c) (arity q) i) x' occurs in
       let m = length_stored c q f e in
       let a = length-append under (stored c q f e ++ row) in
       let b = length-append (stored c q f e) row in
       let d = ap length is in
       omega arith
 
-  pub put_place : (root : ℕ) (x : OpenNode) (xs : List OpenNode) (values : List Value) (t : Tapes) (now : ℕ) (todo : ToCome) (j : ℕ) → slice_get (list_at c x.production) x.at ≡ Some (instr.Put j) → Passing c root (x ∷ xs) values t now todo → HasPlace c x j values
+  pub put_place : (root : ℕ) (x : OpenNode) (xs : List OpenNode) (values : List Value) (t : Transcript) (now : ℕ) (todo : Pending) (j : ℕ) → slice_get (list_at c x.production) x.at ≡ Some (instr.Put j) → NodeInvariant c root (x ∷ xs) values t now todo → HasPlace c x j values
   put_place root x xs values t now todo j at (s, f, under, old, before, others, waits, ph, here) =
       let o = at_put here j at in
       let q = o.production in
       let place = (runs_next c x (instr.Put j) at q Gone o.i o.done o.runs).0.place in
       let g = o.current.0 in
-      let within = copies_in x q o.i under o.row values (o.table 0) o.copied g.item o.stays.there g.stands o.base o.values_are in
-      record { production = q; there = o.stays.there; item = g.item; stands = ap (item_at q) place ∙ g.stands; some = omega arith; within = subst (λ j. x.base + (copy_start c q j + copied_width c g.item) ≤ length values) (sym place) within }
+      let within = copies_in x q o.i under o.row values (o.table 0) o.copied g.item o.stays.there g.occurs o.base o.values_are in
+      record { production = q; there = o.stays.there; item = g.item; occurs = ap (item_at q) place ∙ g.occurs; some = omega arith; within = subst (λ j. x.base + (copy_start c q j + copied_width c g.item) ≤ length values) (sym place) within }
 
-  pub get_place : (root : ℕ) (x : OpenNode) (xs : List OpenNode) (values : List Value) (t : Tapes) (now : ℕ) (todo : ToCome) (j : ℕ) → slice_get (list_at c x.production) x.at ≡ Some (instr.Get j) → Passing c root (x ∷ xs) values t now todo → HasPlace c x j values
+  pub get_place : (root : ℕ) (x : OpenNode) (xs : List OpenNode) (values : List Value) (t : Transcript) (now : ℕ) (todo : Pending) (j : ℕ) → slice_get (list_at c x.production) x.at ≡ Some (instr.Get j) → NodeInvariant c root (x ∷ xs) values t now todo → HasPlace c x j values
   get_place root x xs values t now todo j at (s, f, under, old, before, others, waits, ph, here) =
       let o = at_get here j at in
       let q = o.production in
       let turn = (runs_next c x (instr.Get j) at q Between o.i o.done o.runs).0 in
       let place = turn.place in
-      let item = has_place q c.write o.i turn.within in
+      let item = is_stored_child q c.write o.i turn.within in
       let within = copies_in x q o.i under o.row values (o.table 0) o.copied item.0 o.stays.there item.1.1 o.base o.values_are in
-      record { production = q; there = o.stays.there; item = item.0; stands = ap (item_at q) place ∙ item.1.1; some = omega arith; within = subst (λ j. x.base + (copy_start c q j + copied_width c item.0) ≤ length values) (sym place) within }
+      record { production = q; there = o.stays.there; item = item.0; occurs = ap (item_at q) place ∙ item.1.1; some = omega arith; within = subst (λ j. x.base + (copy_start c q j + copied_width c item.0) ≤ length values) (sym place) within }
 
   -- When a node ends, its row is the last one.
-  pub own_row : (root : ℕ) (x : OpenNode) (xs : List OpenNode) (values : List Value) (t : Tapes) (now : ℕ) (todo : ToCome) → slice_get (list_at c x.production) x.at ≡ Some instr.End → Passing c root (x ∷ xs) values t now todo → HasOwn c x values
+  pub own_row : (root : ℕ) (x : OpenNode) (xs : List OpenNode) (values : List Value) (t : Transcript) (now : ℕ) (todo : Pending) → slice_get (list_at c x.production) x.at ≡ Some instr.End → NodeInvariant c root (x ∷ xs) values t now todo → HasOwn c x values
   own_row root x xs values t now todo at (s, f, under, old, before, others, waits, ph, here) =
       let o = at_end here at in
       let q = o.production in
@@ -133,17 +133,17 @@ module _ (c : Setting) (sound : IsSound c) where
       record { production = q; there = o.stays.there; within = omega arith }
 
   -- When a node ends, the copies for it come before its row.
-  pub waited : (root : ℕ) (x y : OpenNode) (ys : List OpenNode) (values : List Value) (t : Tapes) (now : ℕ) (todo : ToCome) → slice_get (list_at c x.production) x.at ≡ Some instr.End → Passing c root (x ∷ y ∷ ys) values t now todo → HasWaited c y x.base values
+  pub waited : (root : ℕ) (x y : OpenNode) (ys : List OpenNode) (values : List Value) (t : Transcript) (now : ℕ) (todo : Pending) → slice_get (list_at c x.production) x.at ≡ Some instr.End → NodeInvariant c root (x ∷ y ∷ ys) values t now todo → HasWaited c y x.base values
   waited root x y ys values t now todo at h =
       let own = own_row root x (y ∷ ys) values t now todo at h in
       go own h
     where
-      go : HasOwn c x values → Passing c root (x ∷ y ∷ ys) values t now todo → HasWaited c y x.base values
+      go : HasOwn c x values → NodeInvariant c root (x ∷ y ∷ ys) values t now todo → HasWaited c y x.base values
       go own (s, f, under, old, before, others, (s', f', under', old', before', others', waits, z), ph, o) =
           let same : Some o.production ≡ Some own.production = sym o.stays.there ∙ own.there in
           let one : o.production ≡ own.production = cc in
           let left : own.production.left ≡ s = ap (λ q. q.left) (sym one) ∙ o.stays.left in
-          let within = copies_in y z.production z.i under' [] (under' ++ (stored c z.production (z.table 0) z.copied ++ [])) (z.table 0) z.copied (item.Symbol s) z.stays.there z.stands z.base refl in
+          let within = copies_in y z.production z.i under' [] (under' ++ (stored c z.production (z.table 0) z.copied ++ [])) (z.table 0) z.copied (item.Symbol s) z.stays.there z.occurs z.base refl in
           let n = length-append under' (stored c z.production (z.table 0) z.copied ++ []) in
           let m = length-append under' (stored c z.production (z.table 0) z.copied) in
           let l = length-append (stored c z.production (z.table 0) z.copied) [] in
@@ -160,13 +160,13 @@ module _ (c : Setting) (sound : IsSound c) where
             production = z.production;
             there = z.stays.there;
             item = item.Symbol s;
-            stands = ap (item_at z.production) z.place_is ∙ z.stands;
+            occurs = ap (item_at z.production) z.place_is ∙ z.occurs;
             some = let p = z.place_is in omega arith;
             within = subst (λ j. y.base + (copy_start c z.production j + copied_width c (item.Symbol s)) ≤ x.base) (sym z.place_is) before_it;
             wide = omega arith;
           }
 
-  pub given_rule : (root : ℕ) (x : OpenNode) (xs : List OpenNode) (values : List Value) (t : Tapes) (now : ℕ) (todo : ToCome) (j a r : ℕ) (z : Instr) → IsGivingOf j a r z → slice_get (list_at c x.production) x.at ≡ Some z → Passing c root (x ∷ xs) values t now todo → HasRule c x j a r values
+  pub given_rule : (root : ℕ) (x : OpenNode) (xs : List OpenNode) (values : List Value) (t : Transcript) (now : ℕ) (todo : Pending) (j a r : ℕ) (z : Instr) → IsGivingOf j a r z → slice_get (list_at c x.production) x.at ≡ Some z → NodeInvariant c root (x ∷ xs) values t now todo → HasRule c x j a r values
   given_rule root x xs values t now todo j a r z giving at (s, f, under, old, before, others, waits, ph, o) =
       record { production = q; there = o.stays.there; rule = next.0.rule; numbered = next.0.numbered; target = next.0.target; within = within next.1 }
     where
@@ -203,7 +203,7 @@ module _ (c : Setting) (sound : IsSound c) where
           let current = subst (λ ph. IsCurrent c q ph o.i (suc (length xs)) x.child o.table o.of_child o.row o.mid t o.count) turn.phase_is o.current in
           let g = current.0 in
           let pl = place_of q c.write o.i in
-          let ps : item_passes c.passes (item_at q j) ≡ c.passes g.production.left = ap (λ j. item_passes c.passes (item_at q j)) turn.place ∙ ap (item_passes c.passes) g.stands ∙ ap c.passes (sym g.left) in
+          let ps : item_passes c.passes (item_at q j) ≡ c.passes g.production.left = ap (λ j. item_passes c.passes (item_at q j)) turn.place ∙ ap (item_passes c.passes) g.occurs ∙ ap c.passes (sym g.left) in
           let at1 : slice_get (c.passes g.production.left) a ≡ Some c.write = ap (λ ps. slice_get ps a) (sym ps) ∙ pass in
           let less = slice_get_within (values_up_to c.write (c.passes g.production.left) (o.table pl)) (rank c.write (c.passes g.production.left) a) (o.table pl a) (row_at c.write (c.passes g.production.left) (o.table pl) a c.write at1 (omega arith)) in
           let n = length_row c.write (c.passes g.production.left) (o.table pl) in
@@ -215,12 +215,12 @@ module _ (c : Setting) (sound : IsSound c) where
           omega arith
 
   -- After a `Put`, and in the node that waits, the pass does not enter a child next.
-  pub put_stays : (root : ℕ) (x : OpenNode) (xs : List OpenNode) (values : List Value) (t : Tapes) (now : ℕ) (todo : ToCome) (j : ℕ) → slice_get (list_at c x.production) x.at ≡ Some (instr.Put j) → Passing c root (x ∷ xs) values t now todo → goes_next (drop (x.at + 1) (list_at c x.production)) ≡ false
+  pub put_stays : (root : ℕ) (x : OpenNode) (xs : List OpenNode) (values : List Value) (t : Transcript) (now : ℕ) (todo : Pending) (j : ℕ) → slice_get (list_at c x.production) x.at ≡ Some (instr.Put j) → NodeInvariant c root (x ∷ xs) values t now todo → goes_next (drop (x.at + 1) (list_at c x.production)) ≡ false
   put_stays root x xs values t now todo j at (s, f, under, old, before, others, waits, ph, o) =
       let next = runs_next c x (instr.Put j) at o.production ph o.i o.done o.runs in
       goes_nowhere c o.production (state_of Between (suc o.i) o.done) (drop (x.at + 1) (list_at c x.production)) (λ e. let bad : ⊥ = cc in bad) next.1
 
-  pub waits_stay : (root : ℕ) (x : OpenNode) (xs : List OpenNode) (values : List Value) (t : Tapes) (now : ℕ) (todo : ToCome) (y : OpenNode) (ys : List OpenNode) → xs ≡ y ∷ ys → Passing c root (x ∷ xs) values t now todo → goes_next (rest_of c y) ≡ false
+  pub waits_stay : (root : ℕ) (x : OpenNode) (xs : List OpenNode) (values : List Value) (t : Transcript) (now : ℕ) (todo : Pending) (y : OpenNode) (ys : List OpenNode) → xs ≡ y ∷ ys → NodeInvariant c root (x ∷ xs) values t now todo → goes_next (rest_of c y) ≡ false
   waits_stay root x [] values t now todo y ys e p = absurd (cc)
   waits_stay root x (w ∷ ws) values t now todo y ys e (s, f, under, old, before, others, (s', f', under', old', before', others', waits, z), ph, o) =
       let same : w ≡ y = cc in

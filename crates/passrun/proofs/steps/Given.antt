@@ -4,19 +4,19 @@ use Rattle.ag_grammar.specs.declared.grammar.Production.{Production}
 use Rattle.ag_grammar.specs.declared.grammar.Rule.{Rule}
 use Rattle.ag_grammar.specs.declared.grammar.Target.{Target}
 use Rattle.ag_grammar.specs.grammars.Accepted.{IsAccepted}
-use Rattle.ag_grammar.specs.grammars.AttributeGrammar.{Grammar, IsProduction, IsArgument, HasKind, given_kind, found_kind}
+use Rattle.ag_grammar.specs.grammars.AttributeGrammar.{Grammar, IsProduction, IsArgument, HasKind, defined_kind, used_kind}
 
 module _ (g : Grammar) (accepted : IsAccepted g) (p : ℕ) (q : Production) (there : IsProduction g p q) where
-  pub target_kind : (r : ℕ) (u : Rule) → slice_get q.rules r ≡ Some u → HasKind g q u.target (given_kind u.target.place)
+  pub target_kind : (r : ℕ) (u : Rule) → slice_get q.rules r ≡ Some u → HasKind g q u.target (defined_kind u.target.place)
   target_kind r u is = (accepted.complete p q there).no_other r u is
 
-  pub argument_kind : (r : ℕ) (u : Rule) (o : Target) → slice_get q.rules r ≡ Some u → IsArgument u o → HasKind g q o (found_kind o.place)
+  pub argument_kind : (r : ℕ) (u : Rule) (o : Target) → slice_get q.rules r ≡ Some u → IsArgument u o → HasKind g q o (used_kind o.place)
   argument_kind r u o is (m, at) = accepted.normal p q there r u is m o at
 
   pub one_rule : (r r' : ℕ) (u u' : Rule) → slice_get q.rules r ≡ Some u → slice_get q.rules r' ≡ Some u' → u.target ≡ u'.target → r ≡ r'
   one_rule r r' u u' is is' same = (accepted.complete p q there).single r r' u u' is is' same
 
-  kinds_differ : (j : ℕ) → given_kind j ≡ found_kind j → ⊥
+  kinds_differ : (j : ℕ) → defined_kind j ≡ used_kind j → ⊥
   kinds_differ zero e = cc
   kinds_differ (suc j) e = cc
 
@@ -24,7 +24,7 @@ module _ (g : Grammar) (accepted : IsAccepted g) (p : ℕ) (q : Production) (the
   no_argument r r' u u' o is is' arg e =
       let k = target_kind r u is in
       let f = argument_kind r' u' o is' arg in
-      let f2 : HasKind g q u.target (found_kind u.target.place) = subst (λ o. HasKind g q o (found_kind o.place)) e f in
-      let z : Some (given_kind u.target.place) ≡ Some (found_kind u.target.place) = sym k ∙ f2 in
-      let y : given_kind u.target.place ≡ found_kind u.target.place = cc in
+      let f2 : HasKind g q u.target (used_kind u.target.place) = subst (λ o. HasKind g q o (used_kind o.place)) e f in
+      let z : Some (defined_kind u.target.place) ≡ Some (used_kind u.target.place) = sym k ∙ f2 in
+      let y : defined_kind u.target.place ≡ used_kind u.target.place = cc in
       kinds_differ u.target.place y

@@ -8,7 +8,7 @@ use Rattle.ag_grammar.specs.declared.direction.Direction.{Direction}
 use Rattle.ag_grammar.specs.declared.direction.Direction.TheVariants.{LeftToRight, RightToLeft}
 use Rattle.ag_grammar.specs.Lists.{Has}
 use Rattle.ag_grammar.specs.expressions.Evaluation.{value_of}
-use Rattle.ag_grammar.specs.grammars.AttributeGrammar.{IsArgument, HasKind, symbol_kinds, Synthesized, given_kind}
+use Rattle.ag_grammar.specs.grammars.AttributeGrammar.{IsArgument, HasKind, symbol_kinds, Synthesized, defined_kind}
 use Rattle.ag_grammar.specs.grammars.Passes.{HasPass, nth}
 use Rattle.ag_grammar.specs.grammars.Solution.{Valuation, Holds, Lends}
 use Rattle.ag_grammar.specs.grammars.Tree.{Forest}
@@ -17,7 +17,7 @@ use Rattle.passcode.specs.Course.{IsTurnOf, MayGive, State, arity, place_of, rea
 use Rattle.planchecker.specs.courses.Settings.{Setting, way}
 use Rattle.planchecker.specs.courses.Sound.{IsSound}
 use Rattle.passrun.specs.passing.Change.{set}
-use Rattle.passrun.specs.passing.Passing.{Tapes, Keeps, Visited, IsHeld, AreHeld, Stays, met}
+use Rattle.passrun.specs.passing.NodeInvariant.{Transcript, Keeps, Visited, IsHeld, AreHeld, Preserves, after_reading}
 use Rattle.passrun.specs.passing.Places.{IsKnown, Table, leftmost}
 use Rattle.passrun.proofs.places.Copies.{copies_set}
 use Rattle.passrun.proofs.places.Tables.{set_here, set_other, set_target}
@@ -46,16 +46,16 @@ place_known c q state j h = elim h [
 ]
 
 module _ (c : Setting) (sound : IsSound c) where
-  pub given : (s : ℕ) (f : ℕ → Value) (level p : ℕ) (q : Production) (state : State) (e : Table) (ts : Forest) (ws : ℕ → Valuation) (old new : Tapes) (j a r : ℕ) (v : Value)
+  pub given : (s : ℕ) (f : ℕ → Value) (level p : ℕ) (q : Production) (state : State) (e : Table) (ts : Forest) (ws : ℕ → Valuation) (old new : Transcript) (j a r : ℕ) (v : Value)
       → (g : MayGive c.passes q c.write state j a r) → ((env : ℕ → Value) → Lends g.rule e env → v ≡ value_of g.rule.expr.0 env) → IsPlaced c q state j
-      → Stays c s f level p q state e ts ws old new
-      → Stays c s f level p q (record state { done = r ∷ state.done }) (set e j a v) ts ws old new
+      → Preserves c s f level p q state e ts ws old new
+      → Preserves c s f level p q (record state { done = r ∷ state.done }) (set e j a v) ts ws old new
   given s f level p q state e ts ws old new j a r v g is placed stays =
       record {
         there = stays.there;
         left = stays.left;
         entered = entered;
-        visits = subst (λ cs. Visited c q state.turn level ts ws (met c p f cs old) new) (sym (copies_set c q e j a v sound.next passed_here)) stays.visits;
+        visits = subst (λ cs. Visited c q state.turn level ts ws (after_reading c p f cs old) new) (sym (copies_set c q e j a v sound.next passed_here)) stays.visits;
         roots = λ b m l. stays.roots b m l ∙ sym (set_other e j a v (suc (leftmost (way c) (arity q) state.turn + b)) m (λ z. not_open b l placed z.0));
         held = held;
       }
@@ -77,7 +77,7 @@ module _ (c : Setting) (sound : IsSound c) where
           let zj : 0 ≡ j = z.0 in
           let zb : b ≡ a = z.1 in
           let pass : HasPass c.passes q (record { place = 0; attr = b }) c.write = subst (λ t. HasPass c.passes q t c.write) (g.target ∙ ap (λ j. record { place = j; attr = a }) (sym zj) ∙ ap (λ b. record { place = 0; attr = b }) (sym zb)) g.passed in
-          let kind : HasKind c.grammar q (record { place = 0; attr = b }) Synthesized = subst (λ t. HasKind c.grammar q t (given_kind t.place)) (g.target ∙ ap (λ j. record { place = j; attr = a }) (sym zj) ∙ ap (λ b. record { place = 0; attr = b }) (sym zb)) (target_kind c.grammar sound.accepted p q stays.there r g.rule g.numbered) in
+          let kind : HasKind c.grammar q (record { place = 0; attr = b }) Synthesized = subst (λ t. HasKind c.grammar q t (defined_kind t.place)) (g.target ∙ ap (λ j. record { place = j; attr = a }) (sym zj) ∙ ap (λ b. record { place = 0; attr = b }) (sym zb)) (target_kind c.grammar sound.accepted p q stays.there r g.rule g.numbered) in
           let at' : slice_get (c.passes q.left) b ≡ Some n = subst (λ s. slice_get (c.passes s) b ≡ Some n) (sym stays.left) at in
           let pp : Some n ≡ Some c.write = sym at' ∙ pass in
           let pw : n ≡ c.write = cc in
@@ -94,7 +94,7 @@ module _ (c : Setting) (sound : IsSound c) where
             ∙ set_here e g.rule.target.place g.rule.target.attr v ∙ is env (λ k o at. lends k o at ∙ sym (argument r g.rule o g.numbered (k, at)));
         passed = g.passed;
         target = subst (IsKnown c q (read_count state.phase state.turn)) (sym target_place) (place_known c q state j placed);
-        at_hand = g.at_hand;
+        available = g.available;
       }
 
       older : (r' : ℕ) (u : Rule) → Has state.done r' → slice_get q.rules r' ≡ Some u → IsHeld c q (record state { done = r ∷ state.done }) (set e j a v) u
@@ -104,7 +104,7 @@ module _ (c : Setting) (sound : IsSound c) where
             holds = holds_same u e (set e j a v) (sym (set_target e j a v u.target g.rule.target g.target (λ z. let w = one_rule c.grammar sound.accepted p q stays.there r' r u g.rule num g.numbered z in g.fresh (subst (Has state.done) w has)))) (λ o arg. argument r' u o num arg) h.holds;
             passed = h.passed;
             target = h.target;
-            at_hand = h.at_hand;
+            available = h.available;
           }
 
       held : AreHeld c q (record state { done = r ∷ state.done }) (set e j a v)

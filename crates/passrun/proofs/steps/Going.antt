@@ -10,9 +10,9 @@ use Rattle.planchecker.specs.courses.Settings.{Setting, list_at}
 use Rattle.planchecker.specs.courses.Sound.{IsSound}
 use Rattle.passrun.specs.declared.passing.open_node.OpenNode.{OpenNode}
 use Rattle.passrun.specs.passing.Nodes.{first_at, left_at}
-use Rattle.passrun.specs.passing.Passing.{Passing, IsPassing, GoesOn}
+use Rattle.passrun.specs.passing.NodeInvariant.{NodeInvariant, IsConsistent, ContinuesAs}
 use Rattle.passrun.specs.passing.Places.{stored}
-use Rattle.passrun.specs.laid.Slots.{stored_width}
+use Rattle.passrun.specs.layouts.Slots.{stored_width}
 use Rattle.passrun.proofs.places.Slots.{length_stored}
 use Rattle.passrun.proofs.steps.Steps.{at_go, step_go}
 
@@ -22,7 +22,7 @@ pub record HasChild (c : Setting) (p : ℕ) (values : List Value) : Type 0 where
   pub there : IsProduction c.grammar p production
   pub width : stored_width c production ≤ length values
 
-pub child_of : (c : Setting) → IsSound c → (x : OpenNode) (xs : List OpenNode) (values : List Value) (j : ℕ) → slice_get (list_at c x.production) x.at ≡ Some (instr.Go j) → IsPassing c (x ∷ xs) values → HasChild c x.child values
+pub child_of : (c : Setting) → IsSound c → (x : OpenNode) (xs : List OpenNode) (values : List Value) (j : ℕ) → slice_get (list_at c x.production) x.at ≡ Some (instr.Go j) → IsConsistent c (x ∷ xs) values → HasChild c x.child values
 child_of c sound x xs values j at (root, t, now, todo, (s, f, under, old, before, others, waits, ph, here)) =
     let o = at_go here j at in
     let q = o.production in
@@ -37,10 +37,10 @@ child_of c sound x xs values j at (root, t, now, todo, (s, f, under, old, before
 
 pub goes : (c : Setting) → IsSound c → (x : OpenNode) (old new : List OpenNode) (values : List Value) (j width : ℕ) → slice_get (list_at c x.production) x.at ≡ Some (instr.Go j)
     → ((q : Production) → IsProduction c.grammar x.child q → width ≡ stored_width c q) → new ≡ old ++ left_at x j ∷ []
-    → GoesOn c (x ∷ reverse old) values (first_at x.child (length values - width) ∷ reverse new) values
+    → ContinuesAs c (x ∷ reverse old) values (first_at x.child (length values - width) ∷ reverse new) values
 goes c sound x old new values j width at is pushed root t now todo h =
     let child = child_of c sound x (reverse old) values j at (root, t, now, todo, h) in
-    subst (λ ys. Passing c root (first_at x.child (length values - width) ∷ ys) values t now todo) (sym (ap reverse pushed ∙ reverse-append old (left_at x j ∷ [])))
+    subst (λ ys. NodeInvariant c root (first_at x.child (length values - width) ∷ ys) values t now todo) (sym (ap reverse pushed ∙ reverse-append old (left_at x j ∷ [])))
     (step_go c sound root x (reverse old) values t now todo j (length values - width) at (λ q there.
     let same : Some child.production ≡ Some q = sym child.there ∙ there in
     let one : child.production ≡ q = cc in

@@ -11,10 +11,10 @@ use Rattle.ag_grammar.specs.declared.grammar.Rule.{Rule}
 use Rattle.ag_grammar.specs.declared.grammar.Target.{Target}
 use Rattle.ag_grammar.specs.declared.direction.Direction.{Direction}
 use Rattle.ag_grammar.specs.declared.direction.Direction.TheVariants.{LeftToRight, RightToLeft}
-use Rattle.ag_grammar.specs.grammars.AttributeGrammar.{IsArgument, HasKind, Synthesized, Inherited, found_kind, given_kind, item_at, item_kinds, stored_items}
+use Rattle.ag_grammar.specs.grammars.AttributeGrammar.{IsArgument, HasKind, Synthesized, Inherited, used_kind, defined_kind, item_at, item_kinds, stored_items}
 use Rattle.ag_grammar.specs.grammars.Passes.{HasPass, item_passes, nth}
 use Rattle.ag_grammar.specs.grammars.Solution.{Valuation, at, graft, RulesHold, OfPass, WellAt, left_passes}
-use Rattle.ag_grammar.specs.grammars.Tree.{Tree, Forest, node, FitsAll, depth_of, most_depth}
+use Rattle.ag_grammar.specs.grammars.Tree.{Tree, Forest, node, FitsAll, depth_of, max_depth}
 use Rattle.treefile.specs.records.Orders.{BodyTree, prefix, prefix_all, postfix, postfix_all}
 use Rattle.treefile.specs.declared.body.Kind.TheVariants.{Node}
 use Rattle.treefile.specs.records.Records.{bodies_of, bodies_of_all, copies_of, node_body, values_up_to}
@@ -26,7 +26,7 @@ use Rattle.passcode.proofs.Turns.{one_turn, turn_of}
 use Rattle.planchecker.specs.courses.Settings.{Setting, way}
 use Rattle.planchecker.specs.courses.Sound.{IsSound}
 use Rattle.passrun.specs.passing.Change.{with_row}
-use Rattle.passrun.specs.passing.Passing.{Tapes, Keeps, Visited, IsHeld, Stays, IsReady, IsGone, met, root_body, state_of}
+use Rattle.passrun.specs.passing.NodeInvariant.{Transcript, Keeps, Visited, IsHeld, Preserves, IsReady, IsGone, after_reading, root_body, state_of}
 use Rattle.passrun.specs.passing.Places.{IsKnown, IsShown, Table, copied_passes, copies, in_children, leftmost, Roots, stored, visited}
 use Rattle.passrun.specs.reading.Reading.{AgreeAt}
 use Rattle.passrun.proofs.course.Forests.{add_tree, add_values, fits_add, solves_add, each_add, prefix_add, postfix_add, deepest_add, roots_add, all_visited}
@@ -56,17 +56,17 @@ known_last c q i j k = elim k [ inl x ↦ inl (inl x) | inr x ↦ last x.0 x.1 x
 
 module _ (c : Setting) (sound : IsSound c) where
   -- The table of a node has other values, and the phase changes.
-  changed : (s : ℕ) (f : ℕ → Value) (level p : ℕ) (q : Production) (ph ph' : Phase) (i : ℕ) (done : List ℕ) (e e' : Table) (ts : Forest) (ws : ℕ → Valuation) (old new : Tapes)
+  changed : (s : ℕ) (f : ℕ → Value) (level p : ℕ) (q : Production) (ph ph' : Phase) (i : ℕ) (done : List ℕ) (e e' : Table) (ts : Forest) (ws : ℕ → Valuation) (old new : Transcript)
       → ((a : ℕ) → e' 0 a ≡ e 0 a) → ((b a : ℕ) → b < i → e' (suc (leftmost (way c) (arity q) i + b)) a ≡ e (suc (leftmost (way c) (arity q) i + b)) a)
       → copies c c.read (stored_items q.items) (in_children e') ≡ copies c c.read (stored_items q.items) (in_children e)
       → ((r : ℕ) (u : Rule) → slice_get q.rules r ≡ Some u → IsHeld c q (state_of ph i done) e u → IsHeld c q (state_of ph' i done) e' u)
-      → Stays c s f level p q (state_of ph i done) e ts ws old new → Stays c s f level p q (state_of ph' i done) e' ts ws old new
+      → Preserves c s f level p q (state_of ph i done) e ts ws old new → Preserves c s f level p q (state_of ph' i done) e' ts ws old new
   changed s f level p q ph ph' i done e e' ts ws old new own roots copied held stays =
       record {
         there = stays.there;
         left = stays.left;
         entered = λ b n is le other. own b ∙ stays.entered b n is le other;
-        visits = subst (λ cs. Visited c q i level ts ws (met c p f cs old) new) (sym copied) stays.visits;
+        visits = subst (λ cs. Visited c q i level ts ws (after_reading c p f cs old) new) (sym copied) stays.visits;
         roots = λ b a l. stays.roots b a l ∙ sym (roots b a l);
         held = λ r u has num. held r u num (stays.held r u has num);
       }
@@ -76,16 +76,16 @@ module _ (c : Setting) (sound : IsSound c) where
   kept_copy s f h keeps = same_values c.read (copied_passes c (item.Symbol s)) f h (λ a p is le. let n = sound.next in sym (keeps a p (copied_is c (item.Symbol s) a p is) (omega arith) (λ z. let w = z.0 in omega arith)))
 
   -- The row of a child was read, and agrees with its copy.
-  pub met_child : (s : ℕ) (f : ℕ → Value) (level p : ℕ) (q : Production) (ph' : Phase) (i : ℕ) (done : List ℕ) (e : Table) (ts : Forest) (ws : ℕ → Valuation) (old new : Tapes) (x' : Item) (h : ℕ → Value)
+  pub met_child : (s : ℕ) (f : ℕ → Value) (level p : ℕ) (q : Production) (ph' : Phase) (i : ℕ) (done : List ℕ) (e : Table) (ts : Forest) (ws : ℕ → Valuation) (old new : Transcript) (x' : Item) (h : ℕ → Value)
       → i < arity q → item_at q (place_of q c.write i) ≡ Some x' → AgreeAt c x' (e (place_of q c.write i)) h → read_count ph' i ≡ suc i
       → ((j n : ℕ) → IsFinal q c.write (state_of Between i done) j n → IsFinal q c.write (state_of ph' i done) j n)
-      → Stays c s f level p q (state_of Between i done) e ts ws old new
-      → Stays c s f level p q (state_of ph' i done) (with_row e (place_of q c.write i) h) ts ws old new
-  met_child s f level p q ph' i done e ts ws old new x' h within stands agree reads finals stays =
+      → Preserves c s f level p q (state_of Between i done) e ts ws old new
+      → Preserves c s f level p q (state_of ph' i done) (with_row e (place_of q c.write i) h) ts ws old new
+  met_child s f level p q ph' i done e ts ws old new x' h within occurs agree reads finals stays =
       changed s f level p q Between ph' i done e (with_row e pl h) ts ws old new
       (λ a. with_other e pl h 0 a (λ z. omega arith))
       (λ b a l. with_other e pl h (suc (leftmost (way c) (arity q) i + b)) a (seen_differs (way c) (arity q) i b l within))
-      (copies_row c q e (nth (way c) (arity q) i) x' h stands agree)
+      (copies_row c q e (nth (way c) (arity q) i) x' h occurs agree)
       held stays
     where
       pl : ℕ
@@ -99,16 +99,16 @@ module _ (c : Setting) (sound : IsSound c) where
       argument r u o num arg x = elim (cases_eq o.place pl) [
         | inr apart ↦ other o.place o.attr apart
         | inl here ↦ (
-            let z = x.at_hand o arg in
+            let z = x.available o arg in
             let less : z.0 < c.write = elim z.3 [ inl l ↦ l | inr k ↦ absurd (known_differs c q i o.place within k here) ] in
-            let item : item_at q o.place ≡ Some x' = ap (item_at q) here ∙ stands in
+            let item : item_at q o.place ≡ Some x' = ap (item_at q) here ∙ occurs in
             let kind : slice_get (item_kinds c.grammar (Some x')) o.attr ≡ Some Synthesized = ap (λ w. slice_get (item_kinds c.grammar w) o.attr) (sym item) ∙ argument_kind c.grammar sound.accepted p q stays.there r u o num arg ∙ ap Some (found o.place here) in
             let pass : slice_get (item_passes c.passes (Some x')) o.attr ≡ Some z.0 = ap (λ w. slice_get (item_passes c.passes w) o.attr) (sym item) ∙ z.1 in
             let next = sound.next in
             ap (λ j. e j o.attr) here ∙ same_at c.read (copied_passes c x') (e pl) h agree o.attr z.0 (has_copy c x' o.attr z.0 kind pass) (omega arith) ∙ sym (ap (λ j. with_row e pl h j o.attr) here ∙ with_here e pl h o.attr))
       ]
         where
-          found : (j : ℕ) → j ≡ pl → found_kind j ≡ Synthesized
+          found : (j : ℕ) → j ≡ pl → used_kind j ≡ Synthesized
           found zero z = absurd (omega arith)
           found (suc j) z = refl
 
@@ -118,19 +118,19 @@ module _ (c : Setting) (sound : IsSound c) where
             holds = holds_same u e (with_row e pl h) (other u.target.place u.target.attr (known_differs c q i u.target.place within x.target)) (λ o arg. argument r u o num arg x) x.holds;
             passed = x.passed;
             target = subst (λ n. IsKnown c q n u.target.place) (sym reads) (known_more c q i u.target.place x.target);
-            at_hand = λ o arg. let z = x.at_hand o arg in (z.0, z.1, z.2, finals o.place z.0 z.3);
+            available = λ o arg. let z = x.available o arg in (z.0, z.1, z.2, finals o.place z.0 z.3);
           }
 
   -- The child's node is done.
-  pub returned : (s : ℕ) (f : ℕ → Value) (level p : ℕ) (q : Production) (i : ℕ) (done : List ℕ) (e : Table) (ts : Forest) (ws : ℕ → Valuation) (old new : Tapes) (s' : ℕ) (h : ℕ → Value)
+  pub returned : (s : ℕ) (f : ℕ → Value) (level p : ℕ) (q : Production) (i : ℕ) (done : List ℕ) (e : Table) (ts : Forest) (ws : ℕ → Valuation) (old new : Transcript) (s' : ℕ) (h : ℕ → Value)
       → i < arity q → item_at q (place_of q c.write i) ≡ Some (item.Symbol s') → Keeps c s' (e (place_of q c.write i)) h
-      → Stays c s f level p q (state_of Got i done) e ts ws old new
-      → Stays c s f level p q (state_of Gone i done) (with_row e (place_of q c.write i) h) ts ws old new
-  returned s f level p q i done e ts ws old new s' h within stands keeps stays =
+      → Preserves c s f level p q (state_of Got i done) e ts ws old new
+      → Preserves c s f level p q (state_of Gone i done) (with_row e (place_of q c.write i) h) ts ws old new
+  returned s f level p q i done e ts ws old new s' h within occurs keeps stays =
       changed s f level p q Got Gone i done e (with_row e pl h) ts ws old new
       (λ a. with_other e pl h 0 a (λ z. omega arith))
       (λ b a l. with_other e pl h (suc (leftmost (way c) (arity q) i + b)) a (seen_differs (way c) (arity q) i b l within))
-      (copies_row c q e (nth (way c) (arity q) i) (item.Symbol s') h stands (kept_copy s' (e pl) h keeps))
+      (copies_row c q e (nth (way c) (arity q) i) (item.Symbol s') h occurs (kept_copy s' (e pl) h keeps))
       held stays
     where
       pl : ℕ
@@ -141,12 +141,12 @@ module _ (c : Setting) (sound : IsSound c) where
 
       -- The values that the child keeps in its row.
       kept : (o : Target) (n : ℕ) → o.place ≡ pl → HasPass c.passes q o n → n ≤ c.write → ((n ≡ c.write) × HasKind c.grammar q o Synthesized → ⊥) → e o.place o.attr ≡ with_row e pl h o.place o.attr
-      kept o n is pass le unless =
-          let pass' : slice_get (c.passes s') o.attr ≡ Some n = subst (λ z. slice_get (item_passes c.passes z) o.attr ≡ Some n) (ap (item_at q) is ∙ stands) pass in
-          let k = keeps o.attr n pass' le (λ z. unless (z.0, subst (λ w. slice_get (item_kinds c.grammar w) o.attr ≡ Some Synthesized) (sym (ap (item_at q) is ∙ stands)) z.1)) in
+      kept o n is pass le fault_unless =
+          let pass' : slice_get (c.passes s') o.attr ≡ Some n = subst (λ z. slice_get (item_passes c.passes z) o.attr ≡ Some n) (ap (item_at q) is ∙ occurs) pass in
+          let k = keeps o.attr n pass' le (λ z. fault_unless (z.0, subst (λ w. slice_get (item_kinds c.grammar w) o.attr ≡ Some Synthesized) (sym (ap (item_at q) is ∙ occurs)) z.1)) in
           ap (λ j. e j o.attr) is ∙ sym k ∙ sym (with_here e pl h o.attr) ∙ sym (ap (λ j. with_row e pl h j o.attr) is)
 
-      inherited : (j : ℕ) → j ≡ pl → given_kind j ≡ Inherited
+      inherited : (j : ℕ) → j ≡ pl → defined_kind j ≡ Inherited
       inherited zero z = absurd (omega arith)
       inherited (suc j) z = refl
 
@@ -155,15 +155,15 @@ module _ (c : Setting) (sound : IsSound c) where
         | inr apart ↦ other u.target.place u.target.attr apart
         | inl is ↦ kept u.target c.write is z'.passed (omega arith) (λ z.
             let k = target_kind c.grammar sound.accepted p q stays.there r u num in
-            let y : Some (given_kind u.target.place) ≡ Some Synthesized = sym k ∙ z.1 in
-            let w : given_kind u.target.place ≡ Synthesized = cc in
+            let y : Some (defined_kind u.target.place) ≡ Some Synthesized = sym k ∙ z.1 in
+            let w : defined_kind u.target.place ≡ Synthesized = cc in
             let v : Inherited ≡ Synthesized = sym (inherited u.target.place is) ∙ w in
             absurd (cc))
       ]
 
       argument : (u : Rule) (o : Target) → IsArgument u o → IsHeld c q (state_of Got i done) e u → e o.place o.attr ≡ with_row e pl h o.place o.attr
       argument u o arg x =
-          let z = x.at_hand o arg in
+          let z = x.available o arg in
           elim z.3 [
             | inr k ↦ other o.place o.attr (known_differs c q i o.place within k)
             | inl l ↦ elim (cases_eq o.place pl) [
@@ -181,33 +181,33 @@ module _ (c : Setting) (sound : IsSound c) where
             holds = holds_same u e (with_row e pl h) (target r u num x) (λ o arg. argument u o arg x) x.holds;
             passed = x.passed;
             target = x.target;
-            at_hand = λ o arg. let z = x.at_hand o arg in (z.0, z.1, z.2, final o.place z.0 z.3);
+            available = λ o arg. let z = x.available o arg in (z.0, z.1, z.2, final o.place z.0 z.3);
           }
 
   -- The pass leaves the tree at the next place: all of it was written.
-  pub put_child : (s : ℕ) (f : ℕ → Value) (level p child : ℕ) (q : Production) (i : ℕ) (done : List ℕ) (e : Table) (ts : Forest) (ws : ℕ → Valuation) (old mid cur new : Tapes) (count : ℕ)
+  pub put_child : (s : ℕ) (f : ℕ → Value) (level p child : ℕ) (q : Production) (i : ℕ) (done : List ℕ) (e : Table) (ts : Forest) (ws : ℕ → Valuation) (old mid cur new : Transcript) (count : ℕ)
       → i < arity q → (gone : IsGone c q i level child e mid cur count)
       → new.read ≡ cur.read → new.put ≡ mid.put ++ postfix (way c) (bodies_of version_two c.grammar c.passes c.write gone.tree gone.values)
-      → Stays c s f level p q (state_of Gone i done) e ts ws old mid
-      → Stays c s f level p q (state_of Between (suc i) done) e (add_tree (way c) ts gone.tree) (add_values (way c) ts ws gone.values) old new
+      → Preserves c s f level p q (state_of Gone i done) e ts ws old mid
+      → Preserves c s f level p q (state_of Between (suc i) done) e (add_tree (way c) ts gone.tree) (add_values (way c) ts ws gone.values) old new
   put_child s f level p child q i done e ts ws old mid cur new count within gone reads puts stays =
       record {
         there = stays.there;
         left = stays.left;
         entered = stays.entered;
         visits = record {
-          fits = fits_add d c.grammar (stored_items q.items) i ts gone.item t gone.stands within stays.visits.fits gone.took.fits;
+          fits = fits_add d c.grammar (stored_items q.items) i ts gone.item t gone.occurs within stays.visits.fits gone.took.fits;
           solved = solves_add d (OfPass c.passes c.write) c.grammar ts ws t w stays.visits.solved gone.took.solved;
           well = each_add d (WellAt (λ n. n ≤ c.write)) c.grammar c.passes ts ws t w stays.visits.well gone.took.well;
           read = reads ∙ gone.read ∙ ap (λ xs. xs ++ prefix d (bodies_of version_two c.grammar c.passes c.read t w)) stays.visits.read
-              ∙ append_assoc (met c p f copied old).read (prefix_all d (bodies_of_all version_two c.grammar c.passes c.read ts ws)) (prefix d (bodies_of version_two c.grammar c.passes c.read t w))
-              ∙ ap (λ xs. (met c p f copied old).read ++ xs) (sym (prefix_add d c.grammar c.passes c.read ts ws t w));
+              ∙ append_assoc (after_reading c p f copied old).read (prefix_all d (bodies_of_all version_two c.grammar c.passes c.read ts ws)) (prefix d (bodies_of version_two c.grammar c.passes c.read t w))
+              ∙ ap (λ xs. (after_reading c p f copied old).read ++ xs) (sym (prefix_add d c.grammar c.passes c.read ts ws t w));
           put = puts ∙ ap (λ xs. xs ++ postfix d bt) stays.visits.put ∙ append_assoc old.put (postfix_all d (bodies_of_all version_two c.grammar c.passes c.write ts ws)) (postfix d bt)
               ∙ ap (λ xs. old.put ++ xs) (sym (postfix_add d c.grammar c.passes c.write ts ws t w));
-          deep = deepest_add d most_depth ts t level stays.visits.deep gone.deep;
+          deep = deepest_add d max_depth ts t level stays.visits.deep gone.deep;
         };
         roots = roots_add d c.grammar (stored_items q.items) i ts ws w e within stays.visits.fits stays.roots gone.root;
-        held = λ r u has num. let h = stays.held r u has num in record { holds = h.holds; passed = h.passed; target = h.target; at_hand = h.at_hand };
+        held = λ r u has num. let h = stays.held r u has num in record { holds = h.holds; passed = h.passed; target = h.target; available = h.available };
       }
     where
       d : Direction
@@ -226,10 +226,10 @@ module _ (c : Setting) (sound : IsSound c) where
       copied = copies c c.read (stored_items q.items) (in_children e)
 
   -- A node is done, and its row makes its record.
-  pub ended : (s : ℕ) (f : ℕ → Value) (level p : ℕ) (q : Production) (i : ℕ) (done : List ℕ) (e shows : Table) (ts : Forest) (ws : ℕ → Valuation) (old new : Tapes)
+  pub ended : (s : ℕ) (f : ℕ → Value) (level p : ℕ) (q : Production) (i : ℕ) (done : List ℕ) (e shows : Table) (ts : Forest) (ws : ℕ → Valuation) (old new : Transcript)
       → i ≡ arity q → ((j : ℕ) → AreGiven c.passes q c.write (state_of Between i done) j) → All IsWell (values_up_to c.write (c.passes q.left) (e 0)) → IsShown c q i e shows
-      → Stays c s f (suc level) p q (state_of Between i done) e ts ws old new
-      → IsReady c (item.Symbol s) p (e 0) (node p ts) (graft (e 0) ws) old new × (depth_of (node p ts) + level ≤ most_depth)
+      → Preserves c s f (suc level) p q (state_of Between i done) e ts ws old new
+      → IsReady c (item.Symbol s) p (e 0) (node p ts) (graft (e 0) ws) old new × (depth_of (node p ts) + level ≤ max_depth)
       × (root_body (bodies_of version_two c.grammar c.passes c.write (node p ts) (graft (e 0) ws)) ≡ body_of Node p (stored c q (e 0) shows))
   ended s f level p q i done e shows ts ws old new full given well shown stays = (
     record {
@@ -295,7 +295,7 @@ module _ (c : Setting) (sound : IsSound c) where
       rules : RulesHold (OfPass c.passes c.write) (Some q) (at (graft (e 0) ws))
       rules u (r, num) pass =
           let h = stays.held r u (given u.target.place r u num refl pass) num in
-          holds_same u e (at (graft (e 0) ws)) (value u.target.place u.target.attr c.write h.passed) (λ o arg. let z = h.at_hand o arg in value o.place o.attr z.0 z.1) h.holds
+          holds_same u e (at (graft (e 0) ws)) (value u.target.place u.target.attr c.write h.passed) (λ o arg. let z = h.available o arg in value o.place o.attr z.0 z.1) h.holds
 
       passes_are : left_passes c.passes (slice_get c.grammar.productions p) ≡ c.passes s
       passes_are = ap (left_passes c.passes) stays.there ∙ ap c.passes stays.left

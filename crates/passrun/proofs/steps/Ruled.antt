@@ -10,33 +10,33 @@ use Rattle.ag_grammar.specs.declared.grammar.Item.{Item}
 use Rattle.ag_grammar.specs.declared.grammar.Production.{Production}
 use Rattle.ag_grammar.specs.declared.grammar.Rule.{Rule}
 use Rattle.ag_grammar.specs.declared.grammar.Target.{Target}
-use Rattle.ag_grammar.specs.grammars.AttributeGrammar.{IsArgument, IsProduction, Synthesized, found_kind, item_at, item_kinds, stored_items}
+use Rattle.ag_grammar.specs.grammars.AttributeGrammar.{IsArgument, IsProduction, Synthesized, used_kind, item_at, item_kinds, stored_items}
 use Rattle.ag_grammar.specs.grammars.Passes.{HasPass, item_passes}
 use Rattle.ag_grammar.specs.grammars.Solution.{Lends, left_passes}
 use Rattle.ag_grammar.specs.expressions.Evaluation.{value_of}
 use Rattle.ag_grammar.proofs.expressions.Depending.{rule_has_one_value}
-use Rattle.treefile.specs.ways.Awaited.{ToCome}
+use Rattle.treefile.specs.framing.ExpectedRecords.{Pending}
 use Rattle.treefile.specs.records.Records.{values_up_to}
-use Rattle.treefile.specs.ways.Writing as writing
+use Rattle.treefile.specs.framing.Writing as writing
 use Rattle.backreader.specs.BackState.{BackState}
 use Rattle.passcode.specs.declared.instr.Instr.{Instr}
 use Rattle.passcode.specs.Counts.{is_giving}
 use Rattle.passcode.specs.declared.phase.Phase.{Phase}
 use Rattle.passcode.specs.declared.phase.Phase.TheVariants.{Between, Got, Gone, Ended}
-use Rattle.passcode.specs.Course.{IsAtHand, IsFinal, MayGive, Runs, State, place_of, run_count}
+use Rattle.passcode.specs.Course.{IsAvailable, IsFinal, MayGive, Runs, State, place_of, run_count}
 use Rattle.planchecker.specs.courses.Settings.{Setting, list_at}
 use Rattle.planchecker.specs.courses.Sound.{IsSound}
-use Rattle.passrun.specs.declared.laid.laying.RuleSlots.{RuleSlots}
+use Rattle.passrun.specs.declared.layouts.building.RuleSlots.{RuleSlots}
 use Rattle.passrun.specs.declared.passing.open_node.OpenNode.{OpenNode}
-use Rattle.passrun.specs.passing.Ahead.{coming, of_node}
+use Rattle.passrun.specs.passing.Ahead.{pending, records_of_node}
 use Rattle.passrun.specs.passing.Change as change
-use Rattle.passrun.specs.laid.Layouts.{AreSlotsOf}
-use Rattle.passrun.specs.passing.Nodes.{stepped}
+use Rattle.passrun.specs.layouts.Layouts.{AreSlotsOf}
+use Rattle.passrun.specs.passing.Nodes.{after_step}
 use Rattle.passrun.specs.Passed.{IsRunning}
-use Rattle.passrun.specs.passing.Passing.{IsCurrent, Opens, Passing, Tapes, state_of}
+use Rattle.passrun.specs.passing.NodeInvariant.{IsCurrent, Activates, NodeInvariant, Transcript, state_of}
 use Rattle.passrun.specs.passing.Places.{IsKnown, IsShown, Table, copies, in_children, place_passes, stored}
-use Rattle.passrun.specs.laid.Slots.{argument_slot, rank, stored_width, target_slot}
-use Rattle.passrun.proofs.course.Ahead.{behind_same}
+use Rattle.passrun.specs.layouts.Slots.{argument_slot, rank, stored_width, target_slot}
+use Rattle.passrun.proofs.course.Ahead.{after_same}
 use Rattle.passrun.proofs.places.Copies.{copies_set, shown_set}
 use Rattle.passrun.proofs.places.Entries.{some_at}
 use Rattle.passrun.proofs.steps.Given.{argument_kind}
@@ -60,7 +60,7 @@ IsRowNow c q j a v row now = ((j ≡ 0) × (now ≡ row)) ⊎ ((j ≢ 0) × (now
 
 -- Replacing a value of the pass at its target does not change the state at the next place, except for that
 -- value in the child's row.
-current_stays : (c : Setting) (q : Production) (ph : Phase) (i : ℕ) (done : List ℕ) (level p : ℕ) (e of_child : Table) (row now : List Value) (j a : ℕ) (v : Value) (old new : Tapes) (count : ℕ) → c.write ≡ suc c.read → HasPass c.passes q (record { place = j; attr = a }) c.write → IsPlaced c q (state_of ph i done) j → IsRowNow c q j a v row now
+current_stays : (c : Setting) (q : Production) (ph : Phase) (i : ℕ) (done : List ℕ) (level p : ℕ) (e of_child : Table) (row now : List Value) (j a : ℕ) (v : Value) (old new : Transcript) (count : ℕ) → c.write ≡ suc c.read → HasPass c.passes q (record { place = j; attr = a }) c.write → IsPlaced c q (state_of ph i done) j → IsRowNow c q j a v row now
     → IsCurrent c q ph i level p e of_child row old new count → IsCurrent c q ph i level p (change.set e j a v) of_child now old new count
 current_stays c q Between i done level p e of_child row now j a v old new count next pass placed (inl k) h = (h.0, h.1, k.1 ∙ h.2)
 current_stays c q Between i done level p e of_child row now j a v old new count next pass placed (inr k) h = absurd (elim placed [ inl x ↦ k.0 x | inr x ↦ (let y = x.phase_is in let bad : ⊥ = cc in bad) ])
@@ -68,7 +68,7 @@ current_stays c q Gone i done level p e of_child row now j a v old new count nex
 current_stays c q Gone i done level p e of_child row now j a v old new count next pass placed (inl k) (g, nothing) = (
   record {
     item = g.item;
-    stands = g.stands;
+    occurs = g.occurs;
     tree = g.tree;
     values = g.values;
     took = g.took;
@@ -85,7 +85,7 @@ current_stays c q Ended i done level p e of_child row now j a v old new count ne
 current_stays c q Got i done level p e of_child row now j a v old new count next pass placed now_is (g, none, is) = (
   record {
     symbol = g.symbol;
-    stands = g.stands;
+    occurs = g.occurs;
     production = g.production;
     there = g.there;
     left = g.left;
@@ -102,7 +102,7 @@ current_stays c q Got i done level p e of_child row now j a v old new count next
     pl = place_of q c.write i
 
     there : item_passes c.passes (item_at q pl) ≡ c.passes g.symbol
-    there = ap (item_passes c.passes) g.stands
+    there = ap (item_passes c.passes) g.occurs
 
     of_pass : (b n : ℕ) → pl ≡ j → b ≡ a → slice_get (c.passes g.symbol) b ≡ Some n → n ≡ c.write
     of_pass b n bj ba is' =
@@ -121,11 +121,11 @@ current_stays c q Got i done level p e of_child row now j a v old new count next
 
 module _ (c : Setting) (sound : IsSound c) where
   -- An argument is in its slot.
-  argument_there : (p : ℕ) (q : Production) (state : State) (r : ℕ) (u : Rule) (e s : Table) (row : List Value) → IsProduction c.grammar p q → slice_get q.rules r ≡ Some u → IsShown c q (run_count state.phase state.turn) e s → (o : Target) → IsArgument u o → IsAtHand c.passes q c.write state o
+  argument_there : (p : ℕ) (q : Production) (state : State) (r : ℕ) (u : Rule) (e s : Table) (row : List Value) → IsProduction c.grammar p q → slice_get q.rules r ≡ Some u → IsShown c q (run_count state.phase state.turn) e s → (o : Target) → IsArgument u o → IsAvailable c.passes q c.write state o
       → slice_get (stored c q (e 0) s ++ row) (argument_slot c q o.place o.attr) ≡ Some (e o.place o.attr)
   argument_there p q state r u e s row there num shown o arg (n, pass, le, final) = go o.place pass final (argument_kind c.grammar sound.accepted p q there r u o num arg)
     where
-      go : (j : ℕ) → slice_get (item_passes c.passes (item_at q j)) o.attr ≡ Some n → IsFinal q c.write state j n → slice_get (item_kinds c.grammar (item_at q j)) o.attr ≡ Some (found_kind j) → slice_get (stored c q (e 0) s ++ row) (argument_slot c q j o.attr) ≡ Some (e j o.attr)
+      go : (j : ℕ) → slice_get (item_passes c.passes (item_at q j)) o.attr ≡ Some n → IsFinal q c.write state j n → slice_get (item_kinds c.grammar (item_at q j)) o.attr ≡ Some (used_kind j) → slice_get (stored c q (e 0) s ++ row) (argument_slot c q j o.attr) ≡ Some (e j o.attr)
       go zero pass final kind = own_at c q (e 0) s row o.attr n pass le
       go (suc b) pass final kind = child (item_at q (suc b)) refl pass kind
         where
@@ -137,13 +137,13 @@ module _ (c : Setting) (sound : IsSound c) where
 
   -- The values that are lent are those of the occurrences.
   lent_is : (p : ℕ) (q : Production) (state : State) (r : ℕ) (u : Rule) (e s : Table) (row : List Value) (slots : RuleSlots) (spare : Value) → IsProduction c.grammar p q → slice_get q.rules r ≡ Some u → IsShown c q (run_count state.phase state.turn) e s → AreSlotsOf c q u slots
-      → ((o : Target) → IsArgument u o → IsAtHand c.passes q c.write state o) → (k : ℕ) (o : Target) → slice_get u.args k ≡ Some o → get_or (stored c q (e 0) s ++ row) (slice_index slots.args k) spare ≡ e o.place o.attr
-  lent_is p q state r u e s row slots spare there num shown are at_hand k o at =
+      → ((o : Target) → IsArgument u o → IsAvailable c.passes q c.write state o) → (k : ℕ) (o : Target) → slice_get u.args k ≡ Some o → get_or (stored c q (e 0) s ++ row) (slice_index slots.args k) spare ≡ e o.place o.attr
+  lent_is p q state r u e s row slots spare there num shown are available k o at =
       let less : k < length slots.args = let l = slice_get_within u.args k o at in let m = are.args.equally_long in omega arith in
       let z = some_at slots.args k less in
       let is : z.0 ≡ argument_slot c q o.place o.attr = are.args.each k o z.0 at z.1 in
       let index : slice_index slots.args k ≡ argument_slot c q o.place o.attr = get_or_from_slice_get slots.args k z.0 0 z.1 ∙ is in
-      ap (λ i. get_or (stored c q (e 0) s ++ row) i spare) index ∙ get_or_from_slice_get (stored c q (e 0) s ++ row) (argument_slot c q o.place o.attr) (e o.place o.attr) spare (argument_there p q state r u e s row there num shown o (k, at) (at_hand o (k, at)))
+      ap (λ i. get_or (stored c q (e 0) s ++ row) i spare) index ∙ get_or_from_slice_get (stored c q (e 0) s ++ row) (argument_slot c q o.place o.attr) (e o.place o.attr) spare (argument_there p q state r u e s row there num shown o (k, at) (available o (k, at)))
 
   -- The slot of the value among a node's values.
   put_own : (q : Production) (e s : Table) (row : List Value) (a : ℕ) (v : Value) → HasPass c.passes q (record { place = 0; attr = a }) c.write → set (stored c q (e 0) s ++ row) (target_slot c q 0 a) v ≡ stored c q (change.set e 0 a v 0) s ++ row
@@ -166,10 +166,10 @@ module _ (c : Setting) (sound : IsSound c) where
       ∙ ap (λ vs. vs ++ set row r v) (stored_same c q (e 0) (change.set e (suc b) a v 0) s (λ n. sym (set_other e (suc b) a v 0 n (λ both. omega arith))))
 
   -- A rule was run at the innermost open node, which has these values.
-  given_in : (s : ℕ) (f : ℕ → Value) (level : ℕ) (x : OpenNode) (under : List Value) (old : Tapes) (before : ℕ) (others : ToCome) (ph : Phase) (values new : List Value) (t : Tapes) (now : ℕ) (todo : ToCome) (j a r : ℕ) (v spare : Value) (z : Instr) (q0 : Production) (u0 : Rule) (slots : RuleSlots)
+  given_in : (s : ℕ) (f : ℕ → Value) (level : ℕ) (x : OpenNode) (under : List Value) (old : Transcript) (before : ℕ) (others : Pending) (ph : Phase) (values new : List Value) (t : Transcript) (now : ℕ) (todo : Pending) (j a r : ℕ) (v spare : Value) (z : Instr) (q0 : Production) (u0 : Rule) (slots : RuleSlots)
       → IsGivingOf j a r z → slice_get (list_at c x.production) x.at ≡ Some z → IsProduction c.grammar x.production q0 → slice_get q0.rules r ≡ Some u0 → AreSlotsOf c q0 u0 slots
       → v ≡ value_of u0.expr.0 (λ k. get_or (drop x.base values) (slice_index slots.args k) spare) → new ≡ set values (x.base + slots.target) v
-      → Opens c s f level x under old before others ph values t now todo → Opens c s f level (stepped x x.child) under old before others ph new t (now + 1) todo
+      → Activates c s f level x under old before others ph values t now todo → Activates c s f level (after_step x x.child) under old before others ph new t (now + 1) todo
   given_in s f level x under old before others ph values new t now todo j a r v spare z q0 u0 slots giving at there0 num0 are0 is0 written o =
       record {
         production = q;
@@ -185,12 +185,12 @@ module _ (c : Setting) (sound : IsSound c) where
         count = o.count;
         stays = given c sound s f level x.production q (state_of ph o.i o.done) e o.trees o.valuations old o.mid j a r v g value_is next.1 o.stays;
         runs = next.3;
-        shown = shown_set c q (run_count ph o.i) e o.copied j a v pass (unless next.1) o.shown;
+        shown = shown_set c q (run_count ph o.i) e o.copied j a v pass (fault_unless next.1) o.shown;
         current = current_stays c q ph o.i o.done level x.child e o.of_child o.row row_now j a v o.mid t o.count sound.next pass next.1 (both j refl).1 o.current;
         counted = let n = o.counted in let l = rules_next c x z at in let one : ◌≡◌ {A = ℕ} (cond (is_giving z) 1 0) 1 = ap (λ b. cond b 1 0) next.2 in omega arith;
         values_are =
-            written ∙ ap (λ vs. set vs (x.base + slots.target) v) o.values_are ∙ ap (λ i. set (under ++ front) i v) sum ∙ set-append_right under front (length under) (length under + target_slot c q j a) v refl (omega arith)
-            ∙ ap (λ i. under ++ set front i v) (let minus : length under + target_slot c q j a - length under ≡ target_slot c q j a = omega arith in minus) ∙ ap (λ vs. under ++ vs) (both j refl).0;
+            written ∙ ap (λ vs. set vs (x.base + slots.target) v) o.values_are ∙ ap (λ i. set (under ++ prefix) i v) sum ∙ set-append_right under prefix (length under) (length under + target_slot c q j a) v refl (omega arith)
+            ∙ ap (λ i. under ++ set prefix i v) (let minus : length under + target_slot c q j a - length under ≡ target_slot c q j a = omega arith in minus) ∙ ap (λ vs. under ++ vs) (both j refl).0;
         base = o.base;
         todo_is = o.todo_is ∙ coming_same ph;
       }
@@ -201,8 +201,8 @@ module _ (c : Setting) (sound : IsSound c) where
       e : Table
       e = o.table
 
-      front : List Value
-      front = stored c q (e 0) o.copied ++ o.row
+      prefix : List Value
+      prefix = stored c q (e 0) o.copied ++ o.row
 
       next : MayGive c.passes q c.write (state_of ph o.i o.done) j a r × IsPlaced c q (state_of ph o.i o.done) j × (is_giving z ≡ true) × Runs c.passes q c.write (state_of ph o.i (r ∷ o.done)) (drop (x.at + 1) (list_at c x.production))
       next = give_next c q ph o.i o.done j a r z (drop (x.at + 1) (list_at c x.production)) giving (runs_next c x z at q ph o.i o.done o.runs)
@@ -232,10 +232,10 @@ module _ (c : Setting) (sound : IsSound c) where
 
       value_is : (env : ℕ → Value) → Lends g.rule e env → v ≡ value_of g.rule.expr.0 env
       value_is env lends =
-          let lent : ℕ → Value = λ k. get_or front (slice_index slots.args k) spare in
-          let dropped : drop x.base values ≡ front = ap (drop x.base) o.values_are ∙ drop_at under front x.base (sym o.base) in
+          let lent : ℕ → Value = λ k. get_or prefix (slice_index slots.args k) spare in
+          let dropped : drop x.base values ≡ prefix = ap (drop x.base) o.values_are ∙ drop_at under prefix x.base (sym o.base) in
           is0 ∙ ap (λ u. value_of u.expr.0 (λ k. get_or (drop x.base values) (slice_index slots.args k) spare)) rules_same ∙ ap (λ vs. value_of g.rule.expr.0 (λ k. get_or vs (slice_index slots.args k) spare)) dropped
-          ∙ rule_has_one_value c.grammar q g.rule e lent env (sound.accepted.named.rules_named x.production q o.stays.there r g.rule g.numbered) (λ k o' at'. lent_is x.production q (state_of ph o.i o.done) r g.rule e o.copied o.row slots spare o.stays.there g.numbered o.shown are g.at_hand k o' at') lends
+          ∙ rule_has_one_value c.grammar q g.rule e lent env (sound.accepted.named.rules_named x.production q o.stays.there r g.rule g.numbered) (λ k o' at'. lent_is x.production q (state_of ph o.i o.done) r g.rule e o.copied o.row slots spare o.stays.there g.numbered o.shown are g.available k o' at') lends
 
       row_of : ℕ → List Value
       row_of zero = o.row
@@ -244,33 +244,33 @@ module _ (c : Setting) (sound : IsSound c) where
       row_now : List Value
       row_now = row_of j
 
-      both : (n : ℕ) → n ≡ j → (set front (target_slot c q j a) v ≡ stored c q (change.set e j a v 0) o.copied ++ row_now) × IsRowNow c q j a v o.row row_now
+      both : (n : ℕ) → n ≡ j → (set prefix (target_slot c q j a) v ≡ stored c q (change.set e j a v 0) o.copied ++ row_now) × IsRowNow c q j a v o.row row_now
       both zero is = (
-        ap (λ n. set front (target_slot c q n a) v) (sym is) ∙ put_own q e o.copied o.row a v (subst (λ n. HasPass c.passes q (record { place = n; attr = a }) c.write) (sym is) pass) ∙ ap (λ n. stored c q (change.set e n a v 0) o.copied ++ row_of n) is,
+        ap (λ n. set prefix (target_slot c q n a) v) (sym is) ∙ put_own q e o.copied o.row a v (subst (λ n. HasPass c.passes q (record { place = n; attr = a }) c.write) (sym is) pass) ∙ ap (λ n. stored c q (change.set e n a v 0) o.copied ++ row_of n) is,
         inl (sym is, ap row_of (sym is)),
       )
       both (suc b) is = (
-        ap (λ n. set front (target_slot c q n a) v) (sym is) ∙ put_child_value q e o.copied o.row b a v ∙ ap (λ n. stored c q (change.set e n a v 0) o.copied ++ row_of n) is,
+        ap (λ n. set prefix (target_slot c q n a) v) (sym is) ∙ put_child_value q e o.copied o.row b a v ∙ ap (λ n. stored c q (change.set e n a v 0) o.copied ++ row_of n) is,
         inr ((λ none. omega arith), ap row_of (sym is) ∙ ap (λ n. set o.row (rank c.write (place_passes c q n) a) v) is),
       )
 
-      unless : IsPlaced c q (state_of ph o.i o.done) j → IsKnown c q (run_count ph o.i) j → j ≡ 0
-      unless (inl own) k = own
-      unless (inr turn) k = absurd (known_differs c q o.i j turn.within (subst (λ ph. IsKnown c q (run_count ph o.i) j) turn.phase_is k) turn.place)
+      fault_unless : IsPlaced c q (state_of ph o.i o.done) j → IsKnown c q (run_count ph o.i) j → j ≡ 0
+      fault_unless (inl own) k = own
+      fault_unless (inr turn) k = absurd (known_differs c q o.i j turn.within (subst (λ ph. IsKnown c q (run_count ph o.i) j) turn.phase_is k) turn.place)
 
       copied_same : copies c c.read (stored_items q.items) (in_children e) ≡ copies c c.read (stored_items q.items) (in_children (change.set e j a v))
       copied_same = sym (copies_set c q e j a v sound.next pass)
 
-      coming_same : (ph : Phase) → coming c q ph o.i x.child e o.of_child (suc level) others ≡ coming c q ph o.i x.child (change.set e j a v) o.of_child (suc level) others
-      coming_same Between = behind_same c q e (change.set e j a v) o.i (suc level) others copied_same
-      coming_same Got = ap (of_node c (slice_get c.grammar.productions x.child) o.of_child (suc (suc level))) (behind_same c q e (change.set e j a v) (suc o.i) (suc level) others copied_same)
-      coming_same Gone = behind_same c q e (change.set e j a v) (suc o.i) (suc level) others copied_same
+      coming_same : (ph : Phase) → pending c q ph o.i x.child e o.of_child (suc level) others ≡ pending c q ph o.i x.child (change.set e j a v) o.of_child (suc level) others
+      coming_same Between = after_same c q e (change.set e j a v) o.i (suc level) others copied_same
+      coming_same Got = ap (records_of_node c (slice_get c.grammar.productions x.child) o.of_child (suc (suc level))) (after_same c q e (change.set e j a v) (suc o.i) (suc level) others copied_same)
+      coming_same Gone = after_same c q e (change.set e j a v) (suc o.i) (suc level) others copied_same
       coming_same Ended = refl
 
-  pub step_give : (root : ℕ) (x : OpenNode) (xs : List OpenNode) (values new : List Value) (t : Tapes) (now : ℕ) (todo : ToCome) (j a r : ℕ) (v spare : Value) (z : Instr) (q : Production) (u : Rule) (slots : RuleSlots)
+  pub step_give : (root : ℕ) (x : OpenNode) (xs : List OpenNode) (values new : List Value) (t : Transcript) (now : ℕ) (todo : Pending) (j a r : ℕ) (v spare : Value) (z : Instr) (q : Production) (u : Rule) (slots : RuleSlots)
       → IsGivingOf j a r z → slice_get (list_at c x.production) x.at ≡ Some z → IsProduction c.grammar x.production q → slice_get q.rules r ≡ Some u → AreSlotsOf c q u slots
       → v ≡ value_of u.expr.0 (λ k. get_or (drop x.base values) (slice_index slots.args k) spare) → new ≡ set values (x.base + slots.target) v
-      → Passing c root (x ∷ xs) values t now todo → Passing c root (stepped x x.child ∷ xs) new t (now + 1) todo
+      → NodeInvariant c root (x ∷ xs) values t now todo → NodeInvariant c root (after_step x x.child ∷ xs) new t (now + 1) todo
   step_give root x xs values new t now todo j a r v spare z q u slots giving at there num are is written (s, f, under, old, before, others, waits, ph, o) =
       (s, f, under, old, before, others, waits, ph, given_in s f (suc (length xs)) x under old before others ph values new t now todo j a r v spare z q u slots giving at there num are is written o)
 
@@ -278,7 +278,7 @@ module _ (c : Setting) (sound : IsSound c) where
       → IsGivingOf j a r z → slice_get (list_at c x.production) x.at ≡ Some z → IsProduction c.grammar x.production q → slice_get q.rules r ≡ Some u → AreSlotsOf c q u slots
       → v ≡ value_of u.expr.0 (λ k. get_or (drop x.base values) (slice_index slots.args k) spare) → IsWell v → new ≡ set values (x.base + slots.target) v
       → IsRunning c root honest content to_honest to state out values (x ∷ xs) evals
-      → IsRunning c root honest content to_honest to state out new (stepped x x.child ∷ xs) (evals + 1)
+      → IsRunning c root honest content to_honest to state out new (after_step x x.child ∷ xs) (evals + 1)
   given_runs root honest to_honest content to state out values new x xs evals j a r z q u slots spare v giving at there num are is well written run =
       record {
         tapes = run.tapes;

@@ -12,13 +12,13 @@ use Rattle.ag_grammar.specs.declared.grammar.Production.{Production}
 use Rattle.ag_grammar.specs.grammars.AttributeGrammar.{IsProduction, item_at, stored_items}
 use Rattle.treefile.specs.declared.body.Kind.{Kind}
 use Rattle.treefile.specs.declared.body.Kind.TheVariants.{Node, Token}
-use Rattle.treefile.specs.ways.Awaited.{ToCome}
-use Rattle.treefile.specs.ways.Backward.{ReadsTo, before_frame}
+use Rattle.treefile.specs.framing.ExpectedRecords.{Pending}
+use Rattle.treefile.specs.framing.Backward.{ReadsTo, before_frame}
 use Rattle.treefile.specs.devices.Device.{LeavesContent, WhenHonest}
 use Rattle.treefile.specs.records.Records.{values_up_to}
 use Rattle.treefile.specs.records.TreeFile.{body_of, frame, header, version_two}
-use Rattle.treefile.specs.ways.Writing as writing
-use Rattle.treefile.proofs.ways.Backward.{reads_on}
+use Rattle.treefile.specs.framing.Writing as writing
+use Rattle.treefile.proofs.framing.Backward.{reads_on}
 use Rattle.treefile.proofs.records.Values.{values_well}
 use Rattle.backreader.specs.BackState.{BackState, IsOver}
 use Rattle.passcode.specs.declared.instr.Instr.TheVariants as instr
@@ -27,21 +27,21 @@ use Rattle.planchecker.specs.courses.Sound.{IsSound}
 use Rattle.passrun.specs.declared.passing.open_node.OpenNode.{OpenNode}
 use Rattle.passrun.specs.Damage.{AreRecords, IsReadable, source}
 use Rattle.passrun.specs.reading.Fetching.{HasFetched}
-use Rattle.passrun.specs.passing.Nodes.{stepped}
+use Rattle.passrun.specs.passing.Nodes.{after_step}
 use Rattle.passrun.specs.Passed.{IsRunning}
-use Rattle.passrun.specs.passing.Passing.{GoesOn, Passing}
+use Rattle.passrun.specs.passing.NodeInvariant.{ContinuesAs, NodeInvariant}
 use Rattle.passrun.specs.passing.Places.{copies, kept_values}
 use Rattle.passrun.specs.passing.Putting.{HasPut}
 use Rattle.passrun.specs.reading.Reading.{read_values}
-use Rattle.passrun.specs.laid.Slots.{copied_width, copy_start}
+use Rattle.passrun.specs.layouts.Slots.{copied_width, copy_start}
 use Rattle.passrun.proofs.Recorded.{copies_well}
 use Rattle.passrun.proofs.steps.Steps.{HasAgreed, step_end, step_end_root, step_got, step_leaf, step_put_leaf, step_put_node}
 
 module _ (c : Setting) (sound : IsSound c) where
   -- The reader's state after a body was read.
-  pub read_more : (root : ℕ) (honest honest' to_honest : Bool) (content content' to : List ℕ) (state state' : BackState) (out : writing.Progress) (values read kept : List Value) (xs ys : List OpenNode) (evals p n : ℕ) (x : Item) (todo : ToCome)
+  pub read_more : (root : ℕ) (honest honest' to_honest : Bool) (content content' to : List ℕ) (state state' : BackState) (out : writing.Progress) (values read kept : List Value) (xs ys : List OpenNode) (evals p n : ℕ) (x : Item) (todo : Pending)
       → (h : HasFetched c x p n honest content state state' values read) → honest' ≡ honest → LeavesContent honest content content' → All IsWell kept
-      → (r : IsRunning c root honest content to_honest to state out values xs evals) → Passing c root ys kept (record { read = r.tapes.read ++ h.body ∷ []; put = r.tapes.put }) evals todo
+      → (r : IsRunning c root honest content to_honest to state out values xs evals) → NodeInvariant c root ys kept (record { read = r.tapes.read ++ h.body ∷ []; put = r.tapes.put }) evals todo
       → AreRecords (source c) (r.tapes.read ++ h.body ∷ []) todo
       → IsRunning c root honest' content' to_honest to state' out kept ys evals
   read_more root honest honest' to_honest content content' to state state' out values read kept xs ys evals p n x todo h same leaves well r passing on =
@@ -72,20 +72,20 @@ module _ (c : Setting) (sound : IsSound c) where
       → slice_get (list_at c x.production) x.at ≡ Some (instr.Get j) → IsProduction c.grammar x.production q → item_at q j ≡ Some x'
       → (h : HasFetched c x' p (suc (length xs)) honest content state state' values read) → HasAgreed c q x j x' read (read_values c x' p h.body values read h.taken) → honest' ≡ honest → LeavesContent honest content content'
       → IsRunning c root honest content to_honest to state out values (x ∷ xs) evals
-      → IsRunning c root honest' content' to_honest to state' out (kept_values x' values read) (stepped x p ∷ xs) evals
-  got_runs root honest honest' to_honest content content' to state state' out values read x xs evals j p q (item.Symbol s) at there stands h agreed same leaves r =
+      → IsRunning c root honest' content' to_honest to state' out (kept_values x' values read) (after_step x p ∷ xs) evals
+  got_runs root honest honest' to_honest content content' to state state' out values read x xs evals j p q (item.Symbol s) at there occurs h agreed same leaves r =
       let t = h.taken in
-      let on = step_got c sound root x xs values read r.tapes evals r.todo j p s q h.body t at there stands h.deep agreed r.passing in
+      let on = step_got c sound root x xs values read r.tapes evals r.todo j p s q h.body t at there occurs h.deep agreed r.passing in
       let cs = copies c c.write (stored_items t.production.items) t.table in
       let row_well = All-append IsWell (values_up_to c.write (c.passes s) t.values) cs (values_well c.write (c.passes s) t.values (λ a p is le. t.well a)) (copies_well c c.write (stored_items t.production.items) t.table t.table_well) in
-      read_more root honest honest' to_honest content content' to state state' out values read read (x ∷ xs) (stepped x p ∷ xs) evals p (suc (length xs)) (item.Symbol s) on.0 h same leaves
+      read_more root honest honest' to_honest content content' to state state' out values read read (x ∷ xs) (after_step x p ∷ xs) evals p (suc (length xs)) (item.Symbol s) on.0 h same leaves
       (subst (All IsWell) (sym t.row) (All-append IsWell values (values_up_to c.write (c.passes s) t.values ++ cs) r.well row_well)) r on.2 (on.1 r.ahead)
-  got_runs root honest honest' to_honest content content' to state state' out values read x xs evals j p q (item.Terminal (Class d)) at there stands h agreed same leaves r =
-      let on = step_leaf c sound root x xs values read r.tapes evals r.todo j d q h.body h.taken.1 at there stands h.deep agreed r.passing in
+  got_runs root honest honest' to_honest content content' to state state' out values read x xs evals j p q (item.Terminal (Class d)) at there occurs h agreed same leaves r =
+      let on = step_leaf c sound root x xs values read r.tapes evals r.todo j d q h.body h.taken.1 at there occurs h.deep agreed r.passing in
       let number : d ≡ p = sym h.taken.0 in
-      read_more root honest honest' to_honest content content' to state state' out values read values (x ∷ xs) (stepped x p ∷ xs) evals p (suc (length xs)) (item.Terminal (Class d)) on.0 h same leaves r.well r
-      (subst (λ n. Passing c root (stepped x n ∷ xs) values (record { read = r.tapes.read ++ h.body ∷ []; put = r.tapes.put }) evals on.0) number on.2) (on.1 r.ahead)
-  got_runs root honest honest' to_honest content content' to state state' out values read x xs evals j p q (item.Terminal (Literal l)) at there stands h agreed same leaves r = elim h.taken [ ]
+      read_more root honest honest' to_honest content content' to state state' out values read values (x ∷ xs) (after_step x p ∷ xs) evals p (suc (length xs)) (item.Terminal (Class d)) on.0 h same leaves r.well r
+      (subst (λ n. NodeInvariant c root (after_step x n ∷ xs) values (record { read = r.tapes.read ++ h.body ∷ []; put = r.tapes.put }) evals on.0) number on.2) (on.1 r.ahead)
+  got_runs root honest honest' to_honest content content' to state state' out values read x xs evals j p q (item.Terminal (Literal l)) at there occurs h agreed same leaves r = elim h.taken [ ]
 
   -- The writer's state after a body was written.
   pub put_more : (honest honest' : Bool) (to to' : List ℕ) (out out' : writing.Progress) (kind : Kind) (number : ℕ) (values : List Value) (put : List (List ℕ))
@@ -100,7 +100,7 @@ module _ (c : Setting) (sound : IsSound c) where
   -- A record was written, and the pass continues.
   put_on : (root : ℕ) (honest to_honest to_honest' : Bool) (content to to' : List ℕ) (state : BackState) (out out' : writing.Progress) (values new : List Value) (xs ys : List OpenNode) (evals : ℕ) (kind : Kind) (number : ℕ) (put : List Value)
       → HasPut kind number put to_honest to to' out out' → to_honest' ≡ to_honest → All IsWell new → (r : IsRunning c root honest content to_honest to state out values xs evals)
-      → Passing c root ys new (record { read = r.tapes.read; put = r.tapes.put ++ body_of kind number put ∷ [] }) evals r.todo → IsRunning c root honest content to_honest' to' state out' new ys evals
+      → NodeInvariant c root ys new (record { read = r.tapes.read; put = r.tapes.put ++ body_of kind number put ∷ [] }) evals r.todo → IsRunning c root honest content to_honest' to' state out' new ys evals
   put_on root honest to_honest to_honest' content to to' state out out' values new xs ys evals kind number put h same well r passing =
       let written = ap (λ w. w.written) h.counted in
       let len = length-append r.tapes.put (body_of kind number put ∷ []) in
@@ -127,19 +127,19 @@ module _ (c : Setting) (sound : IsSound c) where
       → slice_get (list_at c x.production) x.at ≡ Some (instr.Put j) → IsProduction c.grammar x.production q → item_at q j ≡ Some (item.Terminal (Class d)) → text ≡ take 1 (drop (x.base + copy_start c q j) values)
       → HasPut Token x.child text to_honest to to' out out' → to_honest' ≡ to_honest
       → IsRunning c root honest content to_honest to state out values (x ∷ xs) evals
-      → IsRunning c root honest content to_honest' to' state out' values (stepped x x.child ∷ xs) evals
-  put_runs root honest to_honest to_honest' content to to' state out out' values x xs evals j d q text at there stands is h same r =
-      put_on root honest to_honest to_honest' content to to' state out out' values values (x ∷ xs) (stepped x x.child ∷ xs) evals Token x.child text h same r.well r (step_put_leaf c sound root x xs values r.tapes evals r.todo j d q text at there stands is r.passing)
+      → IsRunning c root honest content to_honest' to' state out' values (after_step x x.child ∷ xs) evals
+  put_runs root honest to_honest to_honest' content to to' state out out' values x xs evals j d q text at there occurs is h same r =
+      put_on root honest to_honest to_honest' content to to' state out out' values values (x ∷ xs) (after_step x x.child ∷ xs) evals Token x.child text h same r.well r (step_put_leaf c sound root x xs values r.tapes evals r.todo j d q text at there occurs is r.passing)
 
   -- Nothing was read, written or evaluated.
-  pub gone_runs : (root : ℕ) (honest to_honest : Bool) (content to : List ℕ) (state : BackState) (out : writing.Progress) (values : List Value) (xs ys : List OpenNode) (evals : ℕ) → GoesOn c xs values ys values
+  pub gone_runs : (root : ℕ) (honest to_honest : Bool) (content to : List ℕ) (state : BackState) (out : writing.Progress) (values : List Value) (xs ys : List OpenNode) (evals : ℕ) → ContinuesAs c xs values ys values
       → IsRunning c root honest content to_honest to state out values xs evals → IsRunning c root honest content to_honest to state out values ys evals
   gone_runs root honest to_honest content to state out values xs ys evals goes r = record { tapes = r.tapes; todo = r.todo; passing = goes root r.tapes evals r.todo r.passing; over = r.over; read = r.read; records = r.records; few = r.few; put = r.put; written = r.written; version = r.version; unbroken = r.unbroken; whole = r.whole; well = r.well; readable = r.readable; ahead = r.ahead }
 
-  pub left_node : (x : OpenNode) (xs : List OpenNode) (values : List Value) (j s : ℕ) (q : Production) → slice_get (list_at c x.production) x.at ≡ Some (instr.Put j) → IsProduction c.grammar x.production q → item_at q j ≡ Some (item.Symbol s) → GoesOn c (x ∷ xs) values (stepped x x.child ∷ xs) values
-  left_node x xs values j s q at there stands root t now todo h = step_put_node c sound root x xs values t now todo j s q at there stands h
+  pub left_node : (x : OpenNode) (xs : List OpenNode) (values : List Value) (j s : ℕ) (q : Production) → slice_get (list_at c x.production) x.at ≡ Some (instr.Put j) → IsProduction c.grammar x.production q → item_at q j ≡ Some (item.Symbol s) → ContinuesAs c (x ∷ xs) values (after_step x x.child ∷ xs) values
+  left_node x xs values j s q at there occurs root t now todo h = step_put_node c sound root x xs values t now todo j s q at there occurs h
 
-  pub root_ended : (x : OpenNode) (values : List Value) → slice_get (list_at c x.production) x.at ≡ Some instr.End → All IsWell values → GoesOn c (x ∷ []) values [] values
+  pub root_ended : (x : OpenNode) (values : List Value) → slice_get (list_at c x.production) x.at ≡ Some instr.End → All IsWell values → ContinuesAs c (x ∷ []) values [] values
   root_ended x values at well root t now todo h = step_end_root c sound root x values t now todo at well h
 
   pub ended_runs : (root : ℕ) (honest to_honest to_honest' : Bool) (content to to' : List ℕ) (state : BackState) (out out' : writing.Progress) (values result : List Value) (x y : OpenNode) (ys : List OpenNode) (evals from count : ℕ)

@@ -14,11 +14,11 @@ use Rattle.ag_grammar.specs.declared.grammar.Production.{Production}
 use Rattle.ag_grammar.specs.grammars.AttributeGrammar.{IsProduction, item_at, stored_items}
 use Rattle.ag_grammar.specs.grammars.Passes.{direction_of, nth, other}
 use Rattle.ag_grammar.specs.grammars.Solution.{Valuation, graft}
-use Rattle.ag_grammar.specs.grammars.Tree.{Tree, leaf, node, none, depth_of, most_depth}
+use Rattle.ag_grammar.specs.grammars.Tree.{Tree, leaf, node, none, depth_of, max_depth}
 use Rattle.ag_grammar.specs.grammars.Counts.{pass_rule_count, rules_of_pass}
 use Rattle.ag_grammar.proofs.grammars.Counting.{count_more}
 use Rattle.treefile.specs.declared.body.Kind.TheVariants.{Node, Token}
-use Rattle.treefile.specs.ways.Awaited.{Child, ToCome, before_others, root_to_come}
+use Rattle.treefile.specs.framing.ExpectedRecords.{Child, Pending, before_others, pending_root}
 use Rattle.treefile.specs.records.Orders.{BodyTree, branch, postfix}
 use Rattle.treefile.specs.records.Records.{bodies_of, values_up_to}
 use Rattle.treefile.specs.records.TreeFile.{body_of, version_two}
@@ -33,15 +33,15 @@ use Rattle.passcode.proofs.lists.Counting.{lists_evaluate_rules}
 use Rattle.planchecker.specs.courses.Settings.{Setting, way, list_at}
 use Rattle.planchecker.specs.courses.Sound.{IsSound}
 use Rattle.passrun.specs.declared.passing.open_node.OpenNode.{OpenNode}
-use Rattle.passrun.specs.passing.Ahead.{behind, children_of, of_node}
+use Rattle.passrun.specs.passing.Ahead.{following, children_of, records_of_node}
 use Rattle.passrun.specs.passing.Change.{over, with_row}
 use Rattle.passrun.specs.Damage.{AreRecords, source}
-use Rattle.passrun.specs.passing.Nodes.{first_at, left_at, stepped}
-use Rattle.passrun.specs.passing.Passing.{Tapes, Keeps, Took, Stays, IsReady, Opens, Awaits, Passing, below, met, put_of, root_body, root_number, rules_left, state_of}
+use Rattle.passrun.specs.passing.Nodes.{first_at, left_at, after_step}
+use Rattle.passrun.specs.passing.NodeInvariant.{Transcript, Keeps, AfterRule, Preserves, IsReady, Activates, Expects, NodeInvariant, below, after_reading, put_of, root_body, root_number, rules_left, state_of}
 use Rattle.passrun.specs.passing.Places.{Table, copied_passes, copies, in_children, rest_of, stored}
 use Rattle.passrun.specs.reading.Reading.{AgreeAt, IsNodeRead, IsTokenRead}
-use Rattle.passrun.specs.laid.Slots.{copied_width, copy_start, stored_width}
-use Rattle.passrun.proofs.course.Ahead.{behind_last, behind_next, behind_same, is_record, of_node_is}
+use Rattle.passrun.specs.layouts.Slots.{copied_width, copy_start, stored_width}
+use Rattle.passrun.proofs.course.Ahead.{after_last, behind_next, after_same, is_record, of_node_is}
 use Rattle.passrun.proofs.places.Copies.{agree_table, copies_row, shown_both, shown_row}
 use Rattle.passrun.proofs.Damage.{leaves_on}
 use Rattle.passrun.proofs.course.Forests.{add_tree, add_values, fits_none, rules_add}
@@ -76,10 +76,10 @@ abbrev pub HasAgreed : Setting → Production → OpenNode → ℕ → Item → 
 HasAgreed c q x j x' values h = (f : ℕ → Value) (rest : List Value) → drop (x.base + copy_start c q j) values ≡ values_up_to c.write (copied_passes c x') f ++ rest → AgreeAt c x' f h
 
 -- A node continues after a record that was read.
-pub record Arrives (c : Setting) (s : ℕ) (f : ℕ → Value) (level : ℕ) (x : OpenNode) (under : List Value) (old : Tapes) (before : ℕ) (others : ToCome) (phase : Phase) (values : List Value) (t : Tapes) (body : List ℕ) (now : ℕ) (todo : ToCome) : Type 0 where
-  pub next : ToCome
+pub record ArrivesAtNode (c : Setting) (s : ℕ) (f : ℕ → Value) (level : ℕ) (x : OpenNode) (under : List Value) (old : Transcript) (before : ℕ) (others : Pending) (phase : Phase) (values : List Value) (t : Transcript) (body : List ℕ) (now : ℕ) (todo : Pending) : Type 0 where
+  pub next : Pending
   pub records : AreRecords (source c) t.read todo → AreRecords (source c) (t.read ++ body ∷ []) next
-  pub opens : Opens c s f level x under old before others phase values (record { read = t.read ++ body ∷ []; put = t.put }) now next
+  pub opens : Activates c s f level x under old before others phase values (record { read = t.read ++ body ∷ []; put = t.put }) now next
 
 -- The copies at a place, in a row that comes after other values.
 pub copies_there : (c : Setting) (q : Production) (f : ℕ → Value) (s : Table) (under row : List Value) (b base : ℕ) (x : Item) → base ≡ length under → slice_get (stored_items q.items) b ≡ Some x
@@ -105,10 +105,10 @@ module _ (c : Setting) (x : OpenNode) (z : Instr) (at : slice_get (list_at c x.p
   rules_next = ap (count_by is_giving) (next_is (list_at c x.production) x.at z at) ∙ count_more is_giving z (drop (x.at + 1) (list_at c x.production))
 
 -- The innermost open node is in the phase in which its next instruction may run.
-module _ {c : Setting} {s : ℕ} {f : ℕ → Value} {level : ℕ} {x : OpenNode} {under : List Value} {old : Tapes} {before : ℕ} {others : ToCome} {ph : Phase} {values : List Value} {t : Tapes} {now : ℕ} {todo : ToCome}
-    (o : Opens c s f level x under old before others ph values t now todo) where
+module _ {c : Setting} {s : ℕ} {f : ℕ → Value} {level : ℕ} {x : OpenNode} {under : List Value} {old : Transcript} {before : ℕ} {others : Pending} {ph : Phase} {values : List Value} {t : Transcript} {now : ℕ} {todo : Pending}
+    (o : Activates c s f level x under old before others ph values t now todo) where
   abbrev pub IsIn : Phase → Type 0
-  IsIn ph = Opens c s f level x under old before others ph values t now todo
+  IsIn ph = Activates c s f level x under old before others ph values t now todo
 
   may_run : (z : Instr) → slice_get (list_at c x.production) x.at ≡ Some z → MayRun c.passes o.production c.write (state_of ph o.i o.done) z
   may_run z at = (runs_next c x z at o.production ph o.i o.done o.runs).0
@@ -129,7 +129,7 @@ module _ {c : Setting} {s : ℕ} {f : ℕ → Value} {level : ℕ} {x : OpenNode
   -- others are still to be read.
   pub record IsDone : Type 0 where
     pub ready : IsReady c (item.Symbol s) x.production (o.table 0) (node x.production o.trees) (graft (o.table 0) o.valuations) old t
-    pub deep : depth_of (node x.production o.trees) + level ≤ suc most_depth
+    pub deep : depth_of (node x.production o.trees) + level ≤ suc max_depth
     pub record_is : root_body (bodies_of version_two c.grammar c.passes c.write (node x.production o.trees) (graft (o.table 0) o.valuations)) ≡ body_of Node x.production (stored c o.production (o.table 0) o.copied)
     pub whole : values ≡ under ++ stored c o.production (o.table 0) o.copied
     pub counted : now ≡ before + rules_of_pass c.passes c.write c.grammar (node x.production o.trees)
@@ -163,10 +163,10 @@ module _ (c : Setting) (sound : IsSound c) where
       omega arith
 
   -- The record of a node was read.
-  got_in : (s : ℕ) (f : ℕ → Value) (level : ℕ) (x : OpenNode) (under : List Value) (old : Tapes) (before : ℕ) (others : ToCome) (ph : Phase) (values new : List Value) (t : Tapes) (now : ℕ) (todo : ToCome) (j p s' : ℕ) (q0 : Production) (body : List ℕ) (read : IsNodeRead c s' p body values new)
-      → slice_get (list_at c x.production) x.at ≡ Some (instr.Get j) → IsProduction c.grammar x.production q0 → item_at q0 j ≡ Some (item.Symbol s') → level < most_depth → HasAgreed c q0 x j (item.Symbol s') new read.values
-      → Opens c s f level x under old before others ph values t now todo → Arrives c s f level (stepped x p) under old before others Got new t body now todo
-  got_in s f level x under old before others ph values new t now todo j p s' q0 body read at there0 stands0 deep agreed here =
+  got_in : (s : ℕ) (f : ℕ → Value) (level : ℕ) (x : OpenNode) (under : List Value) (old : Transcript) (before : ℕ) (others : Pending) (ph : Phase) (values new : List Value) (t : Transcript) (now : ℕ) (todo : Pending) (j p s' : ℕ) (q0 : Production) (body : List ℕ) (read : IsNodeRead c s' p body values new)
+      → slice_get (list_at c x.production) x.at ≡ Some (instr.Get j) → IsProduction c.grammar x.production q0 → item_at q0 j ≡ Some (item.Symbol s') → level < max_depth → HasAgreed c q0 x j (item.Symbol s') new read.values
+      → Activates c s f level x under old before others ph values t now todo → ArrivesAtNode c s f level (after_step x p) under old before others Got new t body now todo
+  got_in s f level x under old before others ph values new t now todo j p s' q0 body read at there0 occurs0 deep agreed here =
       let o = at_get here j at in
       let q = o.production in
       let next = runs_next c x (instr.Get j) at q Between o.i o.done o.runs in
@@ -178,26 +178,26 @@ module _ (c : Setting) (sound : IsSound c) where
       let e = with_row o.table pl h in
       let of_child = first_row h read.table in
       let same : q0 ≡ q = same_production c x.production q0 q there0 o.stays.there in
-      let item_is : item_at q j ≡ Some (item.Symbol s') = ap (λ q. item_at q j) (sym same) ∙ stands0 in
-      let stands : item_at q pl ≡ Some (item.Symbol s') = ap (item_at q) (sym place) ∙ item_is in
+      let item_is : item_at q j ≡ Some (item.Symbol s') = ap (λ q. item_at q j) (sym same) ∙ occurs0 in
+      let occurs : item_at q pl ≡ Some (item.Symbol s') = ap (item_at q) (sym place) ∙ item_is in
       let child_row = stored c read.production h of_child in
       let row : child_row ≡ values_up_to c.write (c.passes s') h ++ copies c c.write (stored_items read.production.items) read.table = ap (λ s. values_up_to c.write (c.passes s) h ++ copies c c.write (stored_items read.production.items) read.table) read.left in
       let whole : new ≡ under ++ (stored c q (o.table 0) o.copied ++ child_row) =
       read.row ∙ ap (λ vs. vs ++ (values_up_to c.write (c.passes s') h ++ copies c c.write (stored_items read.production.items) read.table)) (o.values_are ∙ ap (λ r. under ++ (stored c q (o.table 0) o.copied ++ r)) o.current.2 ∙ ap (λ vs. under ++ vs) (append-nil (stored c q (o.table 0) o.copied)))
       ∙ ap (λ vs. (under ++ stored c q (o.table 0) o.copied) ++ vs) (sym row) ∙ append_assoc under (stored c q (o.table 0) o.copied) child_row in
-      let found = copies_there c q (o.table 0) o.copied under child_row b x.base (item.Symbol s') o.base stands in
+      let found = copies_there c q (o.table 0) o.copied under child_row b x.base (item.Symbol s') o.base occurs in
       let slot : copy_start c q0 j ≡ copy_start c q pl = ap (λ q. copy_start c q j) same ∙ ap (copy_start c q) place in
       let agree = agreed (o.copied pl) found.0 (ap (λ n. drop (x.base + n) new) slot ∙ ap (drop (x.base + copy_start c q pl)) whole ∙ found.1) in
-      let agree' = agree_table c q o.i o.table o.copied b (item.Symbol s') h stands sound.next o.shown agree in
-      let copied = copies_row c q o.table b (item.Symbol s') h stands agree' in
+      let agree' = agree_table c q o.i o.table o.copied b (item.Symbol s') h occurs sound.next o.shown agree in
+      let copied = copies_row c q o.table b (item.Symbol s') h occurs agree' in
       let copy = values_up_to c.read (copied_passes c (item.Symbol s')) (o.table pl) in
-      let rest = behind c q o.table (suc o.i) (suc level) others in
+      let rest = following c q o.table (suc o.i) (suc level) others in
       let ys : List Child = children_of c read.production of_child in
-      let first : todo ≡ (suc level, (item.Symbol s', Some copy)) ∷ rest = o.todo_is ∙ behind_next c q o.table o.i (suc level) others (item.Symbol s') within stands in
+      let first : todo ≡ (suc level, (item.Symbol s', Some copy)) ∷ rest = o.todo_is ∙ behind_next c q o.table o.i (suc level) others (item.Symbol s') within occurs in
       let next_todo = before_others (other (direction_of c.read)) (suc (suc level)) ys rest in
       record {
         next = next_todo;
-        records = λ here. leaves_on (source c) (other (direction_of c.read)) t.read body (suc level) (item.Symbol s', Some copy) ys (root_to_come c.grammar) rest (subst (AreRecords (source c) t.read) first here) (omega arith) (is_record c (item.Symbol s') p body values new read (Some copy) (sym agree'));
+        records = λ here. leaves_on (source c) (other (direction_of c.read)) t.read body (suc level) (item.Symbol s', Some copy) ys (pending_root c.grammar) rest (subst (AreRecords (source c) t.read) first here) (omega arith) (is_record c (item.Symbol s') p body values new read (Some copy) (sym agree'));
         opens = record {
           production = q;
           i = o.i;
@@ -210,17 +210,17 @@ module _ (c : Setting) (sound : IsSound c) where
           valuations = o.valuations;
           mid = o.mid;
           count = 0;
-          stays = met_child c sound s f level x.production q Got o.i o.done o.table o.trees o.valuations old o.mid (item.Symbol s') h within stands agree' refl (λ j n k. k) o.stays;
+          stays = met_child c sound s f level x.production q Got o.i o.done o.table o.trees o.valuations old o.mid (item.Symbol s') h within occurs agree' refl (λ j n k. k) o.stays;
           runs = subst (λ x'. Runs c.passes q c.write (state_of (after_get x') o.i o.done) (drop (x.at + 1) (list_at c x.production))) item_is next.1;
-          shown = shown_row c q o.i o.i o.table o.copied b (item.Symbol s') h stands agree sound.next (λ b apart k. k) (λ a n at k. absurd (known_differs c q o.i pl within k refl)) o.shown;
+          shown = shown_row c q o.i o.i o.table o.copied b (item.Symbol s') h occurs agree sound.next (λ b apart k. k) (λ a n at k. absurd (known_differs c q o.i pl within k refl)) o.shown;
           current = (
             record {
               symbol = s';
-              stands = stands;
+              occurs = occurs;
               production = read.production;
               there = read.there;
               left = read.left;
-              tapes = ap (λ bs. record { read = t.read ++ bs ∷ []; put = t.put }) read.same ∙ ap (met c p h (copies c c.read (stored_items read.production.items) read.table)) o.current.0 ∙ sym (ap (λ f. met c p f (copies c c.read (stored_items read.production.items) read.table) o.mid) (with_is o.table pl h));
+              tapes = ap (λ bs. record { read = t.read ++ bs ∷ []; put = t.put }) read.same ∙ ap (after_reading c p h (copies c c.read (stored_items read.production.items) read.table)) o.current.0 ∙ sym (ap (λ f. after_reading c p f (copies c c.read (stored_items read.production.items) read.table) o.mid) (with_is o.table pl h));
               deep = deep;
             },
             refl,
@@ -229,15 +229,15 @@ module _ (c : Setting) (sound : IsSound c) where
           counted = let n = o.counted in let m = o.current.1 in let l = rules_next c x (instr.Get j) at in omega arith;
           values_are = whole ∙ ap (λ vs. under ++ (vs ++ child_row)) (stored_same c q (o.table 0) (e 0) o.copied (λ a. sym (with_other o.table pl h 0 a (λ z. omega arith))));
           base = o.base;
-          todo_is = ap (before_others (other (direction_of c.read)) (suc (suc level)) ys) (sym (behind_same c q e o.table (suc o.i) (suc level) others copied)) ∙ sym (of_node_is c sound p read.production of_child (suc (suc level)) (behind c q e (suc o.i) (suc level) others) read.there);
+          todo_is = ap (before_others (other (direction_of c.read)) (suc (suc level)) ys) (sym (after_same c q e o.table (suc o.i) (suc level) others copied)) ∙ sym (of_node_is c sound p read.production of_child (suc (suc level)) (following c q e (suc o.i) (suc level) others) read.there);
         };
       }
 
   -- The record of a token was read.
-  leaf_in : (s : ℕ) (f : ℕ → Value) (level : ℕ) (x : OpenNode) (under : List Value) (old : Tapes) (before : ℕ) (others : ToCome) (ph : Phase) (values new : List Value) (t : Tapes) (now : ℕ) (todo : ToCome) (j d : ℕ) (q0 : Production) (body : List ℕ) (read : IsTokenRead d body values new)
-      → slice_get (list_at c x.production) x.at ≡ Some (instr.Get j) → IsProduction c.grammar x.production q0 → item_at q0 j ≡ Some (item.Terminal (Class d)) → level < most_depth → HasAgreed c q0 x j (item.Terminal (Class d)) new (λ a. Text read.text)
-      → Opens c s f level x under old before others ph values t now todo → Arrives c s f level (stepped x d) under old before others Gone values t body now todo
-  leaf_in s f level x under old before others ph values new t now todo j d q0 body read at there0 stands0 deep agreed here =
+  leaf_in : (s : ℕ) (f : ℕ → Value) (level : ℕ) (x : OpenNode) (under : List Value) (old : Transcript) (before : ℕ) (others : Pending) (ph : Phase) (values new : List Value) (t : Transcript) (now : ℕ) (todo : Pending) (j d : ℕ) (q0 : Production) (body : List ℕ) (read : IsTokenRead d body values new)
+      → slice_get (list_at c x.production) x.at ≡ Some (instr.Get j) → IsProduction c.grammar x.production q0 → item_at q0 j ≡ Some (item.Terminal (Class d)) → level < max_depth → HasAgreed c q0 x j (item.Terminal (Class d)) new (λ a. Text read.text)
+      → Activates c s f level x under old before others ph values t now todo → ArrivesAtNode c s f level (after_step x d) under old before others Gone values t body now todo
+  leaf_in s f level x under old before others ph values new t now todo j d q0 body read at there0 occurs0 deep agreed here =
       let o = at_get here j at in
       let q = o.production in
       let next = runs_next c x (instr.Get j) at q Between o.i o.done o.runs in
@@ -249,21 +249,21 @@ module _ (c : Setting) (sound : IsSound c) where
       let h : ℕ → Value = λ a. Text read.text in
       let e = with_row o.table pl h in
       let same : q0 ≡ q = same_production c x.production q0 q there0 o.stays.there in
-      let item_is : item_at q j ≡ Some x' = ap (λ q. item_at q j) (sym same) ∙ stands0 in
-      let stands : item_at q pl ≡ Some x' = ap (item_at q) (sym place) ∙ item_is in
+      let item_is : item_at q j ≡ Some x' = ap (λ q. item_at q j) (sym same) ∙ occurs0 in
+      let occurs : item_at q pl ≡ Some x' = ap (item_at q) (sym place) ∙ item_is in
       let whole : new ≡ under ++ (stored c q (o.table 0) o.copied ++ Text read.text ∷ []) =
       read.row ∙ ap (λ vs. vs ++ Text read.text ∷ []) (o.values_are ∙ ap (λ r. under ++ (stored c q (o.table 0) o.copied ++ r)) o.current.2 ∙ ap (λ vs. under ++ vs) (append-nil (stored c q (o.table 0) o.copied))) ∙ append_assoc under (stored c q (o.table 0) o.copied) (Text read.text ∷ []) in
-      let found = copies_there c q (o.table 0) o.copied under (Text read.text ∷ []) b x.base x' o.base stands in
+      let found = copies_there c q (o.table 0) o.copied under (Text read.text ∷ []) b x.base x' o.base occurs in
       let slot : copy_start c q0 j ≡ copy_start c q pl = ap (λ q. copy_start c q j) same ∙ ap (copy_start c q) place in
       let agree = agreed (o.copied pl) found.0 (ap (λ n. drop (x.base + n) new) slot ∙ ap (drop (x.base + copy_start c q pl)) whole ∙ found.1) in
-      let agree' = agree_table c q o.i o.table o.copied b x' h stands sound.next o.shown agree in
-      let copied = copies_row c q o.table b x' h stands agree' in
+      let agree' = agree_table c q o.i o.table o.copied b x' h occurs sound.next o.shown agree in
+      let copied = copies_row c q o.table b x' h occurs agree' in
       let copy = values_up_to c.read (copied_passes c x') (o.table pl) in
-      let rest = behind c q o.table (suc o.i) (suc level) others in
-      let first : todo ≡ (suc level, (x', Some copy)) ∷ rest = o.todo_is ∙ behind_next c q o.table o.i (suc level) others x' within stands in
+      let rest = following c q o.table (suc o.i) (suc level) others in
+      let first : todo ≡ (suc level, (x', Some copy)) ∷ rest = o.todo_is ∙ behind_next c q o.table o.i (suc level) others x' within occurs in
       record {
         next = rest;
-        records = λ here. leaves_on (source c) (other (direction_of c.read)) t.read body (suc level) (x', Some copy) [] (root_to_come c.grammar) rest (subst (AreRecords (source c) t.read) first here) (omega arith) (is_record c x' d body values new (refl, read) (Some copy) (sym agree'));
+        records = λ here. leaves_on (source c) (other (direction_of c.read)) t.read body (suc level) (x', Some copy) [] (pending_root c.grammar) rest (subst (AreRecords (source c) t.read) first here) (omega arith) (is_record c x' d body values new (refl, read) (Some copy) (sym agree'));
         opens = record {
           production = q;
           i = o.i;
@@ -276,13 +276,13 @@ module _ (c : Setting) (sound : IsSound c) where
           valuations = o.valuations;
           mid = o.mid;
           count = 0;
-          stays = met_child c sound s f level x.production q Gone o.i o.done o.table o.trees o.valuations old o.mid x' h within stands agree' refl (λ j n k. elim k [ inl l ↦ inl l | inr l ↦ inr (known_more c q o.i j l) ]) o.stays;
+          stays = met_child c sound s f level x.production q Gone o.i o.done o.table o.trees o.valuations old o.mid x' h within occurs agree' refl (λ j n k. elim k [ inl l ↦ inl l | inr l ↦ inr (known_more c q o.i j l) ]) o.stays;
           runs = subst (λ x'. Runs c.passes q c.write (state_of (after_get x') o.i o.done) (drop (x.at + 1) (list_at c x.production))) item_is next.1;
-          shown = shown_row c q o.i (suc o.i) o.table o.copied b x' h stands agree sound.next (λ b' apart k. elim (known_last c q o.i (suc b') k) [ inl l ↦ l | inr here ↦ absurd (apart (omega arith)) ]) (λ a n at k. zero_pass a n at) o.shown;
+          shown = shown_row c q o.i (suc o.i) o.table o.copied b x' h occurs agree sound.next (λ b' apart k. elim (known_last c q o.i (suc b') k) [ inl l ↦ l | inr here ↦ absurd (apart (omega arith)) ]) (λ a n at k. zero_pass a n at) o.shown;
           current = (
             record {
               item = x';
-              stands = stands;
+              occurs = occurs;
               tree = leaf d read.text;
               values = λ path. h;
               took = record { fits = (refl, read.fits); solved = refl; well = λ a p at le. read.well };
@@ -298,7 +298,7 @@ module _ (c : Setting) (sound : IsSound c) where
           counted = let n = o.counted in let m = o.current.1 in let l = rules_next c x (instr.Get j) at in omega arith;
           values_are = o.values_are ∙ ap (λ r. under ++ (stored c q (o.table 0) o.copied ++ r)) o.current.2 ∙ ap (λ vs. under ++ (vs ++ [])) (stored_same c q (o.table 0) (e 0) o.copied (λ a. sym (with_other o.table pl h 0 a (λ z. omega arith))));
           base = o.base;
-          todo_is = sym (behind_same c q e o.table (suc o.i) (suc level) others copied);
+          todo_is = sym (after_same c q e o.table (suc o.i) (suc level) others copied);
         };
       }
     where
@@ -306,23 +306,23 @@ module _ (c : Setting) (sound : IsSound c) where
       zero_pass zero n at = let e : 0 ≡ n = cc in let next = sound.next in omega arith
       zero_pass (suc a) n at = absurd (let bad : ⊥ = cc in bad)
 
-  pub step_got : (root : ℕ) (x : OpenNode) (xs : List OpenNode) (values new : List Value) (t : Tapes) (now : ℕ) (todo : ToCome) (j p s' : ℕ) (q0 : Production) (body : List ℕ) (read : IsNodeRead c s' p body values new)
-      → slice_get (list_at c x.production) x.at ≡ Some (instr.Get j) → IsProduction c.grammar x.production q0 → item_at q0 j ≡ Some (item.Symbol s') → suc (length xs) < most_depth → HasAgreed c q0 x j (item.Symbol s') new read.values
-      → Passing c root (x ∷ xs) values t now todo → (next : ToCome) × (AreRecords (source c) t.read todo → AreRecords (source c) (t.read ++ body ∷ []) next) × Passing c root (stepped x p ∷ xs) new (record { read = t.read ++ body ∷ []; put = t.put }) now next
-  step_got root x xs values new t now todo j p s' q0 body read at there0 stands0 deep agreed (s, f, under, old, before, others, waits, ph, o) =
-      let on = got_in s f (suc (length xs)) x under old before others ph values new t now todo j p s' q0 body read at there0 stands0 deep agreed o in
+  pub step_got : (root : ℕ) (x : OpenNode) (xs : List OpenNode) (values new : List Value) (t : Transcript) (now : ℕ) (todo : Pending) (j p s' : ℕ) (q0 : Production) (body : List ℕ) (read : IsNodeRead c s' p body values new)
+      → slice_get (list_at c x.production) x.at ≡ Some (instr.Get j) → IsProduction c.grammar x.production q0 → item_at q0 j ≡ Some (item.Symbol s') → suc (length xs) < max_depth → HasAgreed c q0 x j (item.Symbol s') new read.values
+      → NodeInvariant c root (x ∷ xs) values t now todo → (next : Pending) × (AreRecords (source c) t.read todo → AreRecords (source c) (t.read ++ body ∷ []) next) × NodeInvariant c root (after_step x p ∷ xs) new (record { read = t.read ++ body ∷ []; put = t.put }) now next
+  step_got root x xs values new t now todo j p s' q0 body read at there0 occurs0 deep agreed (s, f, under, old, before, others, waits, ph, o) =
+      let on = got_in s f (suc (length xs)) x under old before others ph values new t now todo j p s' q0 body read at there0 occurs0 deep agreed o in
       (on.next, on.records, (s, f, under, old, before, others, waits, Got, on.opens))
 
-  pub step_leaf : (root : ℕ) (x : OpenNode) (xs : List OpenNode) (values new : List Value) (t : Tapes) (now : ℕ) (todo : ToCome) (j d : ℕ) (q0 : Production) (body : List ℕ) (read : IsTokenRead d body values new)
-      → slice_get (list_at c x.production) x.at ≡ Some (instr.Get j) → IsProduction c.grammar x.production q0 → item_at q0 j ≡ Some (item.Terminal (Class d)) → suc (length xs) < most_depth → HasAgreed c q0 x j (item.Terminal (Class d)) new (λ a. Text read.text)
-      → Passing c root (x ∷ xs) values t now todo → (next : ToCome) × (AreRecords (source c) t.read todo → AreRecords (source c) (t.read ++ body ∷ []) next) × Passing c root (stepped x d ∷ xs) values (record { read = t.read ++ body ∷ []; put = t.put }) now next
-  step_leaf root x xs values new t now todo j d q0 body read at there0 stands0 deep agreed (s, f, under, old, before, others, waits, ph, o) =
-      let on = leaf_in s f (suc (length xs)) x under old before others ph values new t now todo j d q0 body read at there0 stands0 deep agreed o in
+  pub step_leaf : (root : ℕ) (x : OpenNode) (xs : List OpenNode) (values new : List Value) (t : Transcript) (now : ℕ) (todo : Pending) (j d : ℕ) (q0 : Production) (body : List ℕ) (read : IsTokenRead d body values new)
+      → slice_get (list_at c x.production) x.at ≡ Some (instr.Get j) → IsProduction c.grammar x.production q0 → item_at q0 j ≡ Some (item.Terminal (Class d)) → suc (length xs) < max_depth → HasAgreed c q0 x j (item.Terminal (Class d)) new (λ a. Text read.text)
+      → NodeInvariant c root (x ∷ xs) values t now todo → (next : Pending) × (AreRecords (source c) t.read todo → AreRecords (source c) (t.read ++ body ∷ []) next) × NodeInvariant c root (after_step x d ∷ xs) values (record { read = t.read ++ body ∷ []; put = t.put }) now next
+  step_leaf root x xs values new t now todo j d q0 body read at there0 occurs0 deep agreed (s, f, under, old, before, others, waits, ph, o) =
+      let on = leaf_in s f (suc (length xs)) x under old before others ph values new t now todo j d q0 body read at there0 occurs0 deep agreed o in
       (on.next, on.records, (s, f, under, old, before, others, waits, Gone, on.opens))
 
   -- A node whose record was just read.
-  pub opened : (p s : ℕ) (q : Production) (f : ℕ → Value) (e : Table) (level base : ℕ) (under : List Value) (old : Tapes) (before : ℕ) (others : ToCome) → IsProduction c.grammar p q → q.left ≡ s → level ≤ most_depth → base ≡ length under
-      → Opens c s f level (first_at p base) under old before others Between (under ++ stored c q f e) (met c p f (copies c c.read (stored_items q.items) (in_children e)) old) before (behind c q e 0 (suc level) others)
+  pub opened : (p s : ℕ) (q : Production) (f : ℕ → Value) (e : Table) (level base : ℕ) (under : List Value) (old : Transcript) (before : ℕ) (others : Pending) → IsProduction c.grammar p q → q.left ≡ s → level ≤ max_depth → base ≡ length under
+      → Activates c s f level (first_at p base) under old before others Between (under ++ stored c q f e) (after_reading c p f (copies c c.read (stored_items q.items) (in_children e)) old) before (following c q e 0 (suc level) others)
   opened p s q f e level base under old before others there left deep is =
       record {
         production = q;
@@ -334,7 +334,7 @@ module _ (c : Setting) (sound : IsSound c) where
         row = [];
         trees = none;
         valuations = λ i path a. f a;
-        mid = met c p f (copies c c.read (stored_items q.items) (in_children e)) old;
+        mid = after_reading c p f (copies c c.read (stored_items q.items) (in_children e)) old;
         count = 0;
         stays = record {
           there = there;
@@ -344,7 +344,7 @@ module _ (c : Setting) (sound : IsSound c) where
             fits = fits_none (way c) c.grammar (stored_items q.items);
             solved = tt;
             well = tt;
-            read = sym (append-nil (met c p f (copies c c.read (stored_items q.items) (in_children e)) old).read);
+            read = sym (append-nil (after_reading c p f (copies c c.read (stored_items q.items) (in_children e)) old).read);
             put = sym (append-nil old.put);
             deep = let d = deep in omega arith;
           };
@@ -360,10 +360,10 @@ module _ (c : Setting) (sound : IsSound c) where
         todo_is = refl;
       }
 
-  gone_in : (root s : ℕ) (f : ℕ → Value) (x : OpenNode) (xs : List OpenNode) (under : List Value) (old : Tapes) (before : ℕ) (others : ToCome) (ph : Phase) (values : List Value) (t : Tapes) (now : ℕ) (todo : ToCome) (j base : ℕ)
-      → slice_get (list_at c x.production) x.at ≡ Some (instr.Go j) → Awaits c root xs s x.production f under old before others → Opens c s f (suc (length xs)) x under old before others ph values t now todo
+  gone_in : (root s : ℕ) (f : ℕ → Value) (x : OpenNode) (xs : List OpenNode) (under : List Value) (old : Transcript) (before : ℕ) (others : Pending) (ph : Phase) (values : List Value) (t : Transcript) (now : ℕ) (todo : Pending) (j base : ℕ)
+      → slice_get (list_at c x.production) x.at ≡ Some (instr.Go j) → Expects c root xs s x.production f under old before others → Activates c s f (suc (length xs)) x under old before others ph values t now todo
       → ((q : Production) → IsProduction c.grammar x.child q → base + stored_width c q ≡ length values)
-      → Passing c root (first_at x.child base ∷ left_at x j ∷ xs) values t now todo
+      → NodeInvariant c root (first_at x.child base ∷ left_at x j ∷ xs) values t now todo
   gone_in root s f x xs under old before others ph values t now todo j base at waits here is =
       let o = at_go here j at in
       let q = o.production in
@@ -382,15 +382,15 @@ module _ (c : Setting) (sound : IsSound c) where
       let m = ap length vs in
       omega arith in
       let deep = g.deep in
-      let behind_it = behind c q o.table (suc o.i) (suc level) others in
-      let child = opened x.child g.symbol g.production h o.of_child (suc level) base rest o.mid now behind_it g.there g.left (omega arith) base' in
-      let same_todo : todo ≡ behind c g.production o.of_child 0 (suc (suc level)) behind_it = o.todo_is ∙ ap (λ p. of_node c p o.of_child (suc (suc level)) behind_it) g.there in (
+      let following_it = following c q o.table (suc o.i) (suc level) others in
+      let child = opened x.child g.symbol g.production h o.of_child (suc level) base rest o.mid now following_it g.there g.left (omega arith) base' in
+      let same_todo : todo ≡ following c g.production o.of_child 0 (suc (suc level)) following_it = o.todo_is ∙ ap (λ p. records_of_node c p o.of_child (suc (suc level)) following_it) g.there in (
         g.symbol,
         h,
         rest,
         o.mid,
         now,
-        behind_it,
+        following_it,
         (
           s,
           f,
@@ -412,7 +412,7 @@ module _ (c : Setting) (sound : IsSound c) where
             counted = let n = o.counted in let m = o.current.1 in let l = rules_next c x (instr.Go j) at in omega arith;
             shown = o.shown;
             within = next.0.0.within;
-            stands = g.stands;
+            occurs = g.occurs;
             place_is = next.0.0.place;
             number = refl;
             row_is = λ a. refl;
@@ -423,21 +423,21 @@ module _ (c : Setting) (sound : IsSound c) where
           },
         ),
         Between,
-        subst (λ (z : ToCome). Opens c g.symbol h (suc level) (first_at x.child base) rest o.mid now behind_it Between values t now z) (sym same_todo)
-            (subst (λ t. Opens c g.symbol h (suc level) (first_at x.child base) rest o.mid now behind_it Between values t now (behind c g.production o.of_child 0 (suc (suc level)) behind_it)) (sym g.tapes)
-            (subst (λ vs. Opens c g.symbol h (suc level) (first_at x.child base) rest o.mid now behind_it Between vs (met c x.child h (copies c c.read (stored_items g.production.items) (in_children o.of_child)) o.mid) now (behind c g.production o.of_child 0 (suc (suc level)) behind_it)) (sym vs) child)),
+        subst (λ (z : Pending). Activates c g.symbol h (suc level) (first_at x.child base) rest o.mid now following_it Between values t now z) (sym same_todo)
+            (subst (λ t. Activates c g.symbol h (suc level) (first_at x.child base) rest o.mid now following_it Between values t now (following c g.production o.of_child 0 (suc (suc level)) following_it)) (sym g.tapes)
+            (subst (λ vs. Activates c g.symbol h (suc level) (first_at x.child base) rest o.mid now following_it Between vs (after_reading c x.child h (copies c c.read (stored_items g.production.items) (in_children o.of_child)) o.mid) now (following c g.production o.of_child 0 (suc (suc level)) following_it)) (sym vs) child)),
       )
 
-  pub step_go : (root : ℕ) (x : OpenNode) (xs : List OpenNode) (values : List Value) (t : Tapes) (now : ℕ) (todo : ToCome) (j base : ℕ) → slice_get (list_at c x.production) x.at ≡ Some (instr.Go j)
+  pub step_go : (root : ℕ) (x : OpenNode) (xs : List OpenNode) (values : List Value) (t : Transcript) (now : ℕ) (todo : Pending) (j base : ℕ) → slice_get (list_at c x.production) x.at ≡ Some (instr.Go j)
       → ((q : Production) → IsProduction c.grammar x.child q → base + stored_width c q ≡ length values)
-      → Passing c root (x ∷ xs) values t now todo → Passing c root (first_at x.child base ∷ left_at x j ∷ xs) values t now todo
+      → NodeInvariant c root (x ∷ xs) values t now todo → NodeInvariant c root (first_at x.child base ∷ left_at x j ∷ xs) values t now todo
   step_go root x xs values t now todo j base at is (s, f, under, old, before, others, waits, ph, o) = gone_in root s f x xs under old before others ph values t now todo j base at waits o is
 
   -- The pass leaves the tree at the next place, all of which was written.
-  left_in : (s : ℕ) (f : ℕ → Value) (level : ℕ) (x : OpenNode) (under : List Value) (old : Tapes) (before : ℕ) (others : ToCome) (values : List Value) (t new : Tapes) (now : ℕ) (todo : ToCome) (j : ℕ)
-      → slice_get (list_at c x.production) x.at ≡ Some (instr.Put j) → (o : Opens c s f level x under old before others Gone values t now todo) → new.read ≡ t.read
+  left_in : (s : ℕ) (f : ℕ → Value) (level : ℕ) (x : OpenNode) (under : List Value) (old : Transcript) (before : ℕ) (others : Pending) (values : List Value) (t new : Transcript) (now : ℕ) (todo : Pending) (j : ℕ)
+      → slice_get (list_at c x.production) x.at ≡ Some (instr.Put j) → (o : Activates c s f level x under old before others Gone values t now todo) → new.read ≡ t.read
       → new.put ≡ o.mid.put ++ postfix (way c) (bodies_of version_two c.grammar c.passes c.write o.current.0.tree o.current.0.values)
-      → Opens c s f level (stepped x x.child) under old before others Between values new now todo
+      → Activates c s f level (after_step x x.child) under old before others Between values new now todo
   left_in s f level x under old before others values t new now todo j at o reads puts =
       let q = o.production in
       let next = runs_next c x (instr.Put j) at q Gone o.i o.done o.runs in
@@ -465,33 +465,33 @@ module _ (c : Setting) (sound : IsSound c) where
       }
 
   -- Nothing is written for a node, all of which was written.
-  put_node_in : (s : ℕ) (f : ℕ → Value) (level : ℕ) (x : OpenNode) (under : List Value) (old : Tapes) (before : ℕ) (others : ToCome) (ph : Phase) (values : List Value) (t : Tapes) (now : ℕ) (todo : ToCome) (j s' : ℕ) (q0 : Production)
+  put_node_in : (s : ℕ) (f : ℕ → Value) (level : ℕ) (x : OpenNode) (under : List Value) (old : Transcript) (before : ℕ) (others : Pending) (ph : Phase) (values : List Value) (t : Transcript) (now : ℕ) (todo : Pending) (j s' : ℕ) (q0 : Production)
       → slice_get (list_at c x.production) x.at ≡ Some (instr.Put j) → IsProduction c.grammar x.production q0 → item_at q0 j ≡ Some (item.Symbol s')
-      → Opens c s f level x under old before others ph values t now todo → Opens c s f level (stepped x x.child) under old before others Between values t now todo
-  put_node_in s f level x under old before others ph values t now todo j s' q0 at there0 stands0 here =
+      → Activates c s f level x under old before others ph values t now todo → Activates c s f level (after_step x x.child) under old before others Between values t now todo
+  put_node_in s f level x under old before others ph values t now todo j s' q0 at there0 occurs0 here =
       let o = at_put here j at in
       let q = o.production in
       let place = (runs_next c x (instr.Put j) at q Gone o.i o.done o.runs).0.place in
       let g = o.current.0 in
       let same : q0 ≡ q = same_production c x.production q0 q there0 o.stays.there in
-      let items : Some g.item ≡ Some (item.Symbol s') = sym (ap (item_at q) place ∙ g.stands) ∙ ap (λ q. item_at q j) (sym same) ∙ stands0 in
+      let items : Some g.item ≡ Some (item.Symbol s') = sym (ap (item_at q) place ∙ g.occurs) ∙ ap (λ q. item_at q j) (sym same) ∙ occurs0 in
       let is : g.item ≡ item.Symbol s' = cc in
-      left_in s f level x under old before others values t t now todo j at o refl (g.put ∙ ap (λ xs. o.mid.put ++ xs) (whole g.tree g.values (subst (λ x. Took c x g.tree g.values) is g.took)))
+      left_in s f level x under old before others values t t now todo j at o refl (g.put ∙ ap (λ xs. o.mid.put ++ xs) (whole g.tree g.values (subst (λ x. AfterRule c x g.tree g.values) is g.took)))
     where
-      whole : (u : Tree) (w : Valuation) → Took c (item.Symbol s') u w → put_of (way c) u (bodies_of version_two c.grammar c.passes c.write u w) ≡ postfix (way c) (bodies_of version_two c.grammar c.passes c.write u w)
+      whole : (u : Tree) (w : Valuation) → AfterRule c (item.Symbol s') u w → put_of (way c) u (bodies_of version_two c.grammar c.passes c.write u w) ≡ postfix (way c) (bodies_of version_two c.grammar c.passes c.write u w)
       whole (leaf d text) w took = elim took.fits [ ]
       whole (node p ts) w took = refl
 
-  pub step_put_node : (root : ℕ) (x : OpenNode) (xs : List OpenNode) (values : List Value) (t : Tapes) (now : ℕ) (todo : ToCome) (j s' : ℕ) (q0 : Production) → slice_get (list_at c x.production) x.at ≡ Some (instr.Put j) → IsProduction c.grammar x.production q0 → item_at q0 j ≡ Some (item.Symbol s')
-      → Passing c root (x ∷ xs) values t now todo → Passing c root (stepped x x.child ∷ xs) values t now todo
-  step_put_node root x xs values t now todo j s' q0 at there0 stands0 (s, f, under, old, before, others, waits, ph, o) =
-      (s, f, under, old, before, others, waits, Between, put_node_in s f (suc (length xs)) x under old before others ph values t now todo j s' q0 at there0 stands0 o)
+  pub step_put_node : (root : ℕ) (x : OpenNode) (xs : List OpenNode) (values : List Value) (t : Transcript) (now : ℕ) (todo : Pending) (j s' : ℕ) (q0 : Production) → slice_get (list_at c x.production) x.at ≡ Some (instr.Put j) → IsProduction c.grammar x.production q0 → item_at q0 j ≡ Some (item.Symbol s')
+      → NodeInvariant c root (x ∷ xs) values t now todo → NodeInvariant c root (after_step x x.child ∷ xs) values t now todo
+  step_put_node root x xs values t now todo j s' q0 at there0 occurs0 (s, f, under, old, before, others, waits, ph, o) =
+      (s, f, under, old, before, others, waits, Between, put_node_in s f (suc (length xs)) x under old before others ph values t now todo j s' q0 at there0 occurs0 o)
 
   -- The record of a token is written, whose text is among the copies.
-  put_leaf_in : (s : ℕ) (f : ℕ → Value) (level : ℕ) (x : OpenNode) (under : List Value) (old : Tapes) (before : ℕ) (others : ToCome) (ph : Phase) (values : List Value) (t : Tapes) (now : ℕ) (todo : ToCome) (j d : ℕ) (q0 : Production) (text : List Value)
+  put_leaf_in : (s : ℕ) (f : ℕ → Value) (level : ℕ) (x : OpenNode) (under : List Value) (old : Transcript) (before : ℕ) (others : Pending) (ph : Phase) (values : List Value) (t : Transcript) (now : ℕ) (todo : Pending) (j d : ℕ) (q0 : Production) (text : List Value)
       → slice_get (list_at c x.production) x.at ≡ Some (instr.Put j) → IsProduction c.grammar x.production q0 → item_at q0 j ≡ Some (item.Terminal (Class d)) → text ≡ take 1 (drop (x.base + copy_start c q0 j) values)
-      → Opens c s f level x under old before others ph values t now todo → Opens c s f level (stepped x x.child) under old before others Between values (record { read = t.read; put = t.put ++ body_of Token x.child text ∷ [] }) now todo
-  put_leaf_in s f level x under old before others ph values t now todo j d q0 text at there0 stands0 is here =
+      → Activates c s f level x under old before others ph values t now todo → Activates c s f level (after_step x x.child) under old before others Between values (record { read = t.read; put = t.put ++ body_of Token x.child text ∷ [] }) now todo
+  put_leaf_in s f level x under old before others ph values t now todo j d q0 text at there0 occurs0 is here =
       let o = at_put here j at in
       let q = o.production in
       let place = (runs_next c x (instr.Put j) at q Gone o.i o.done o.runs).0.place in
@@ -500,32 +500,32 @@ module _ (c : Setting) (sound : IsSound c) where
       let pl = place_of q c.write o.i in
       let x' = item.Terminal (Class d) in
       let same : q0 ≡ q = same_production c x.production q0 q there0 o.stays.there in
-      let stands : item_at q pl ≡ Some (item.Terminal (Class d)) = ap (item_at q) (sym place) ∙ ap (λ q. item_at q j) (sym same) ∙ stands0 in
-      let items : Some g.item ≡ Some (item.Terminal (Class d)) = sym g.stands ∙ stands in
+      let occurs : item_at q pl ≡ Some (item.Terminal (Class d)) = ap (item_at q) (sym place) ∙ ap (λ q. item_at q j) (sym same) ∙ occurs0 in
+      let items : Some g.item ≡ Some (item.Terminal (Class d)) = sym g.occurs ∙ occurs in
       let item_is : g.item ≡ item.Terminal (Class d) = cc in
-      let found = copies_there c q (o.table 0) o.copied under o.row b x.base x' o.base stands in
+      let found = copies_there c q (o.table 0) o.copied under o.row b x.base x' o.base occurs in
       let slot : copy_start c q0 j ≡ copy_start c q pl = ap (λ q. copy_start c q j) same ∙ ap (copy_start c q) place in
       let first : text ≡ o.copied pl 0 ∷ [] = is ∙ ap (λ n. take 1 (drop (x.base + n) values)) slot ∙ ap (λ vs. take 1 (drop (x.base + copy_start c q pl) vs)) o.values_are ∙ ap (take 1) found.1 ∙ ap (λ b. take 1 (((if b then o.copied pl 0 ∷ [] else []) ++ []) ++ found.0)) (le-leb 0 c.write (omega arith)) in
-      let shown : o.copied pl 0 ≡ o.table pl 0 = o.shown b 0 0 x' stands refl (omega arith) (inr (known_here c q o.i pl refl)) in
-      let took = subst (λ x. Took c x g.tree g.values) item_is g.took in
+      let shown : o.copied pl 0 ≡ o.table pl 0 = o.shown b 0 0 x' occurs refl (omega arith) (inr (known_here c q o.i pl refl)) in
+      let took = subst (λ x. AfterRule c x g.tree g.values) item_is g.took in
       left_in s f level x under old before others values t (record { read = t.read; put = t.put ++ body_of Token x.child text ∷ [] }) now todo j at o refl
       (put_all g.tree g.values (o.mid.put) t.put text took g.number g.put (first ∙ ap (λ v. v ∷ []) (shown ∙ sym (g.root 0))))
     where
-      put_all : (u : Tree) (w : Valuation) (before_it put : List (List ℕ)) (text : List Value) → Took c (item.Terminal (Class d)) u w → root_number u ≡ x.child → put ≡ before_it ++ put_of (way c) u (bodies_of version_two c.grammar c.passes c.write u w) → text ≡ w [] 0 ∷ []
+      put_all : (u : Tree) (w : Valuation) (before_it put : List (List ℕ)) (text : List Value) → AfterRule c (item.Terminal (Class d)) u w → root_number u ≡ x.child → put ≡ before_it ++ put_of (way c) u (bodies_of version_two c.grammar c.passes c.write u w) → text ≡ w [] 0 ∷ []
           → put ++ body_of Token x.child text ∷ [] ≡ before_it ++ postfix (way c) (bodies_of version_two c.grammar c.passes c.write u w)
       put_all (node p ts) w before_it put text took number is same = elim took.fits [ ]
       put_all (leaf e string) w before_it put text took number is same =
           ap (λ xs. xs ++ body_of Token x.child text ∷ []) (is ∙ append-nil before_it) ∙ ap (λ n. before_it ++ body_of Token n text ∷ []) (sym number) ∙ ap (λ vs. before_it ++ body_of Token e vs ∷ []) (same ∙ ap (λ v. v ∷ []) took.solved)
 
-  pub step_put_leaf : (root : ℕ) (x : OpenNode) (xs : List OpenNode) (values : List Value) (t : Tapes) (now : ℕ) (todo : ToCome) (j d : ℕ) (q0 : Production) (text : List Value)
+  pub step_put_leaf : (root : ℕ) (x : OpenNode) (xs : List OpenNode) (values : List Value) (t : Transcript) (now : ℕ) (todo : Pending) (j d : ℕ) (q0 : Production) (text : List Value)
       → slice_get (list_at c x.production) x.at ≡ Some (instr.Put j) → IsProduction c.grammar x.production q0 → item_at q0 j ≡ Some (item.Terminal (Class d)) → text ≡ take 1 (drop (x.base + copy_start c q0 j) values)
-      → Passing c root (x ∷ xs) values t now todo → Passing c root (stepped x x.child ∷ xs) values (record { read = t.read; put = t.put ++ body_of Token x.child text ∷ [] }) now todo
-  step_put_leaf root x xs values t now todo j d q0 text at there0 stands0 is (s, f, under, old, before, others, waits, ph, o) =
-      (s, f, under, old, before, others, waits, Between, put_leaf_in s f (suc (length xs)) x under old before others ph values t now todo j d q0 text at there0 stands0 is o)
+      → NodeInvariant c root (x ∷ xs) values t now todo → NodeInvariant c root (after_step x x.child ∷ xs) values (record { read = t.read; put = t.put ++ body_of Token x.child text ∷ [] }) now todo
+  step_put_leaf root x xs values t now todo j d q0 text at there0 occurs0 is (s, f, under, old, before, others, waits, ph, o) =
+      (s, f, under, old, before, others, waits, Between, put_leaf_in s f (suc (length xs)) x under old before others ph values t now todo j d q0 text at there0 occurs0 is o)
 
   -- A node is done, whose row is the last one.
-  node_done : (s : ℕ) (f : ℕ → Value) (level : ℕ) (x : OpenNode) (under : List Value) (old : Tapes) (before : ℕ) (others : ToCome) (values : List Value) (t : Tapes) (now : ℕ) (todo : ToCome) → slice_get (list_at c x.production) x.at ≡ Some instr.End → All IsWell values
-      → (o : Opens c s f (suc level) x under old before others Between values t now todo)
+  node_done : (s : ℕ) (f : ℕ → Value) (level : ℕ) (x : OpenNode) (under : List Value) (old : Transcript) (before : ℕ) (others : Pending) (values : List Value) (t : Transcript) (now : ℕ) (todo : Pending) → slice_get (list_at c x.production) x.at ≡ Some instr.End → All IsWell values
+      → (o : Activates c s f (suc level) x under old before others Between values t now todo)
       → IsDone o
   node_done s f level x under old before others values t now todo at well o =
       let q = o.production in
@@ -536,7 +536,7 @@ module _ (c : Setting) (sound : IsSound c) where
       let copied = copies c c.write (stored_items q.items) (in_children o.copied) in
       let own_well : All IsWell own = All-before IsWell own copied (All-after IsWell under (own ++ copied) (subst (All IsWell) whole well)) in
       let done = ended c sound s f level x.production q o.i o.done o.table o.copied o.trees o.valuations old t next.1 next.2 own_well o.shown
-      (subst (λ t. Stays c s f (suc level) x.production q (state_of Between o.i o.done) o.table o.trees o.valuations old t) (sym o.current.0) o.stays) in
+      (subst (λ t. Preserves c s f (suc level) x.production q (state_of Between o.i o.done) o.table o.trees o.valuations old t) (sym o.current.0) o.stays) in
       record {
         ready = done.0;
         deep = let d = done.1 in omega arith;
@@ -548,11 +548,11 @@ module _ (c : Setting) (sound : IsSound c) where
             let l = rules_last x q o.stays.there at in
             let k = ap (pass_rule_count c.passes c.write) o.stays.there in
             omega arith;
-        todo_is = o.todo_is ∙ behind_last c q o.table o.i (suc (suc level)) others next.1;
+        todo_is = o.todo_is ∙ after_last c q o.table o.i (suc (suc level)) others next.1;
       }
 
   -- The root is done.
-  pub step_end_root : (root : ℕ) (x : OpenNode) (values : List Value) (t : Tapes) (now : ℕ) (todo : ToCome) → slice_get (list_at c x.production) x.at ≡ Some instr.End → All IsWell values → Passing c root (x ∷ []) values t now todo → Passing c root [] values t now todo
+  pub step_end_root : (root : ℕ) (x : OpenNode) (values : List Value) (t : Transcript) (now : ℕ) (todo : Pending) → slice_get (list_at c x.production) x.at ≡ Some instr.End → All IsWell values → NodeInvariant c root (x ∷ []) values t now todo → NodeInvariant c root [] values t now todo
   step_end_root root x values t now todo at well (s, f, under, old, before, others, (first, number, none_under, tapes, none_before, none_left), ph, here) =
       let o = at_end here at in
       let q = o.production in
@@ -560,7 +560,7 @@ module _ (c : Setting) (sound : IsSound c) where
       let tree = node x.production o.trees in
       let values_at = graft (o.table 0) o.valuations in
       let done = node_done s f 0 x under old before others values t now todo at well o in
-      let alone : values ≡ row = done.whole ∙ ap (λ vs. vs ++ row) none_under in
+      let single_value : values ≡ row = done.whole ∙ ap (λ vs. vs ++ row) none_under in
       record {
         tree = tree;
         valuation = values_at;
@@ -568,46 +568,46 @@ module _ (c : Setting) (sound : IsSound c) where
             (subst (λ p. IsReady c (item.Symbol c.grammar.start) p (o.table 0) tree values_at old t) number (subst (λ s. IsReady c (item.Symbol s) x.production (o.table 0) tree values_at old t) first done.ready));
         counted = let n = done.counted in omega arith;
         deep = let d = done.deep in omega arith;
-        few = let w = few_values c sound x.production q o.stays.there in let n = length_stored c q (o.table 0) o.copied in let l = ap length alone in omega arith;
-        record_is = done.record_is ∙ ap (body_of Node x.production) (sym alone) ∙ ap (λ n. body_of Node n values) number;
+        few = let w = few_values c sound x.production q o.stays.there in let n = length_stored c q (o.table 0) o.copied in let l = ap length single_value in omega arith;
+        record_is = done.record_is ∙ ap (body_of Node x.production) (sym single_value) ∙ ap (λ n. body_of Node n values) number;
         nothing = done.todo_is ∙ none_left;
       }
 
   -- The values of a node's synthesized attributes were moved to the copies in the row of the node that
   -- waited.
-  handed_over : (q : Production) (f : ℕ → Value) (s : Table) (under row others : List Value) (b : ℕ) (x : Item) (h : ℕ → Value) (to count from : ℕ) (values : List Value)
+  moved_copies : (q : Production) (f : ℕ → Value) (s : Table) (under row others : List Value) (b : ℕ) (x : Item) (h : ℕ → Value) (to count from : ℕ) (values : List Value)
       → slice_get (stored_items q.items) b ≡ Some x → to ≡ length under + copy_start c q (suc b) → count ≡ copied_width c x → from ≡ length (under ++ stored c q f s) → row ≡ values_up_to c.write (copied_passes c x) h ++ others → values ≡ (under ++ stored c q f s) ++ row
       → take to values ++ (take count (drop from values) ++ drop (to + count) (take from values)) ≡ under ++ stored c q f (with_row s (suc b) h)
-  handed_over q f s under row others b x h to count from values at to_is count_is from_is row_is values_are =
+  moved_copies q f s under row others b x h to count from values at to_is count_is from_is row_is values_are =
       let xs = stored_items q.items in
       let ps = copied_passes c x in
       let r = shares c xs b x at (in_children s) in
       let own = values_up_to c.write (c.passes q.left) f in
       let old_share = values_up_to c.write ps (s (suc b)) in
       let share = values_up_to c.write ps h in
-      let front = under ++ (own ++ r.0) in
-      let joined : (vs : List Value) → under ++ (own ++ (r.0 ++ vs)) ≡ front ++ vs = λ vs. ap (λ ws. under ++ ws) (sym (append_assoc own r.0 vs)) ∙ sym (append_assoc under (own ++ r.0) vs) in
-      let was : under ++ stored c q f s ≡ front ++ (old_share ++ r.1) = ap (λ vs. under ++ (own ++ vs)) (r.3 (in_children s) (λ j a z. refl)) ∙ joined (old_share ++ r.1) in
-      let now : under ++ stored c q f (with_row s (suc b) h) ≡ front ++ (share ++ r.1) =
-      ap (λ vs. under ++ (own ++ vs)) (r.3 (in_children (with_row s (suc b) h)) (λ j a z. with_other s (suc b) h (suc j) a (λ y. z (omega arith)))) ∙ joined (values_up_to c.write ps (with_row s (suc b) h (suc b)) ++ r.1) ∙ ap (λ g. front ++ (values_up_to c.write ps g ++ r.1)) (with_is s (suc b) h) in
+      let prefix = under ++ (own ++ r.0) in
+      let joined : (vs : List Value) → under ++ (own ++ (r.0 ++ vs)) ≡ prefix ++ vs = λ vs. ap (λ ws. under ++ ws) (sym (append_assoc own r.0 vs)) ∙ sym (append_assoc under (own ++ r.0) vs) in
+      let was : under ++ stored c q f s ≡ prefix ++ (old_share ++ r.1) = ap (λ vs. under ++ (own ++ vs)) (r.3 (in_children s) (λ j a z. refl)) ∙ joined (old_share ++ r.1) in
+      let now : under ++ stored c q f (with_row s (suc b) h) ≡ prefix ++ (share ++ r.1) =
+      ap (λ vs. under ++ (own ++ vs)) (r.3 (in_children (with_row s (suc b) h)) (λ j a z. with_other s (suc b) h (suc j) a (λ y. z (omega arith)))) ∙ joined (values_up_to c.write ps (with_row s (suc b) h (suc b)) ++ r.1) ∙ ap (λ g. prefix ++ (values_up_to c.write ps g ++ r.1)) (with_is s (suc b) h) in
       let n = length_row c.write (c.passes q.left) f in
       let m = r.2 in
       let l = length-append own r.0 in
       let k = length-append under (own ++ r.0) in
       let o = length_row c.write ps (s (suc b)) in
       let w = length_row c.write ps h in
-      let z = length-append front old_share in
-      let long : length front ≡ to = omega arith in
-      let beginning : take to values ≡ front = ap (take to) (values_are ∙ ap (λ vs. vs ++ row) was ∙ append_assoc front (old_share ++ r.1) row) ∙ take_at front ((old_share ++ r.1) ++ row) to long in
+      let z = length-append prefix old_share in
+      let long : length prefix ≡ to = omega arith in
+      let beginning : take to values ≡ prefix = ap (take to) (values_are ∙ ap (λ vs. vs ++ row) was ∙ append_assoc prefix (old_share ++ r.1) row) ∙ take_at prefix ((old_share ++ r.1) ++ row) to long in
       let middle : take count (drop from values) ≡ share = ap (take count) (ap (drop from) values_are ∙ drop_at (under ++ stored c q f s) row from (sym from_is) ∙ row_is) ∙ take_at share others count (omega arith) in
-      let end : drop (to + count) (take from values) ≡ r.1 = ap (drop (to + count)) (ap (take from) values_are ∙ take_at (under ++ stored c q f s) row from (sym from_is) ∙ was ∙ sym (append_assoc front old_share r.1)) ∙ drop_at (front ++ old_share) r.1 (to + count) (omega arith) in
-      ap (λ vs. vs ++ (take count (drop from values) ++ drop (to + count) (take from values))) beginning ∙ ap (λ vs. front ++ (vs ++ drop (to + count) (take from values))) middle ∙ ap (λ vs. front ++ (share ++ vs)) end ∙ sym now
+      let end : drop (to + count) (take from values) ≡ r.1 = ap (drop (to + count)) (ap (take from) values_are ∙ take_at (under ++ stored c q f s) row from (sym from_is) ∙ was ∙ sym (append_assoc prefix old_share r.1)) ∙ drop_at (prefix ++ old_share) r.1 (to + count) (omega arith) in
+      ap (λ vs. vs ++ (take count (drop from values) ++ drop (to + count) (take from values))) beginning ∙ ap (λ vs. prefix ++ (vs ++ drop (to + count) (take from values))) middle ∙ ap (λ vs. prefix ++ (share ++ vs)) end ∙ sym now
 
   -- A node is done, and another one waits for it.
-  pub step_end : (root : ℕ) (x y : OpenNode) (ys : List OpenNode) (values result : List Value) (t : Tapes) (now : ℕ) (todo : ToCome) (to count : ℕ) → slice_get (list_at c x.production) x.at ≡ Some instr.End → All IsWell values
+  pub step_end : (root : ℕ) (x y : OpenNode) (ys : List OpenNode) (values result : List Value) (t : Transcript) (now : ℕ) (todo : Pending) (to count : ℕ) → slice_get (list_at c x.production) x.at ≡ Some instr.End → All IsWell values
       → ((q : Production) (x' : Item) → IsProduction c.grammar y.production q → item_at q y.place ≡ Some x' → (to ≡ y.base + copy_start c q y.place) × (count ≡ copied_width c x'))
       → result ≡ take to values ++ (take count (drop x.base values) ++ drop (to + count) (take x.base values))
-      → Passing c root (x ∷ y ∷ ys) values t now todo → Passing c root (y ∷ ys) result (record { read = t.read; put = t.put ++ body_of Node x.production (drop x.base values) ∷ [] }) now todo
+      → NodeInvariant c root (x ∷ y ∷ ys) values t now todo → NodeInvariant c root (y ∷ ys) result (record { read = t.read; put = t.put ++ body_of Node x.production (drop x.base values) ∷ [] }) now todo
   step_end root x y ys values result t now todo to count at well slots result_is (s, f, under, old, before, others, (s', f', under', old', before', others', waits, z), ph, here) =
       let o = at_end here at in
       let done = node_done s f (suc (length ys)) x under old before others values t now todo at well o in
@@ -616,8 +616,8 @@ module _ (c : Setting) (sound : IsSound c) where
       let b = nth (way c) (arity q) z.i in
       let pl = place_of q c.write z.i in
       let e = with_row z.table pl h in
-      let tape : Tapes = record { read = t.read; put = t.put ++ body_of Node x.production (drop x.base values) ∷ [] } in
-      let at_place : item_at q y.place ≡ Some (item.Symbol s) = ap (item_at q) z.place_is ∙ z.stands in
+      let tape : Transcript = record { read = t.read; put = t.put ++ body_of Node x.production (drop x.base values) ∷ [] } in
+      let at_place : item_at q y.place ≡ Some (item.Symbol s) = ap (item_at q) z.place_is ∙ z.occurs in
       let slot = slots q (item.Symbol s) z.stays.there at_place in
       let begins = begins_with_copy c (item.Symbol s) h in
       let child_row = stored c o.production h o.copied in
@@ -649,13 +649,13 @@ module _ (c : Setting) (sound : IsSound c) where
           valuations = z.values;
           mid = old;
           count = rules_of_pass c.passes c.write c.grammar (node x.production o.trees);
-          stays = returned c sound s' f' (suc (length ys)) y.production q z.i z.done z.table z.trees z.values old' old s h z.within z.stands keeps' z.stays;
+          stays = returned c sound s' f' (suc (length ys)) y.production q z.i z.done z.table z.trees z.values old' old s h z.within z.occurs keeps' z.stays;
           runs = z.runs;
           shown = shown_both c q z.i (suc z.i) z.table z.copied b h (λ b' apart k. elim (known_last c q z.i (suc b') k) [ inl l ↦ l | inr here ↦ absurd (apart (omega arith)) ]) z.shown;
           current = (
             record {
               item = item.Symbol s;
-              stands = z.stands;
+              occurs = z.occurs;
               tree = node x.production o.trees;
               values = graft h o.valuations;
               took = done.ready.took;
@@ -670,10 +670,10 @@ module _ (c : Setting) (sound : IsSound c) where
           );
           counted = let n = z.counted in let m = done.counted in omega arith;
           values_are =
-              result_is ∙ handed_over q (z.table 0) z.copied under' child_row (begins.0 ++ copied_rest) b (item.Symbol s) h to count x.base values z.stands to_is slot.1 (o.base ∙ ap length z.under_is) row (done.whole ∙ ap (λ vs. vs ++ child_row) z.under_is)
+              result_is ∙ moved_copies q (z.table 0) z.copied under' child_row (begins.0 ++ copied_rest) b (item.Symbol s) h to count x.base values z.occurs to_is slot.1 (o.base ∙ ap length z.under_is) row (done.whole ∙ ap (λ vs. vs ++ child_row) z.under_is)
               ∙ ap (λ vs. under' ++ vs) (stored_same c q (z.table 0) (e 0) (with_row z.copied pl h) (λ a. sym (with_other z.table pl h 0 a (λ y. omega arith)))) ∙ ap (λ vs. under' ++ vs) (sym (append-nil (stored c q (e 0) (with_row z.copied pl h))));
           base = z.base;
-          todo_is = done.todo_is ∙ z.todo_is ∙ sym (behind_same c q e z.table (suc z.i) (suc (suc (length ys))) others' (copies_row c q z.table b (item.Symbol s) h z.stands agree));
+          todo_is = done.todo_is ∙ z.todo_is ∙ sym (after_same c q e z.table (suc z.i) (suc (suc (length ys))) others' (copies_row c q z.table b (item.Symbol s) h z.occurs agree));
         },
       )
     where
@@ -681,11 +681,11 @@ module _ (c : Setting) (sound : IsSound c) where
       whole d (branch body ts) = refl
 
   -- The first child to be read at a `Get`, with the copy of its values in the row of the node.
-  pub get_first : (root : ℕ) (x : OpenNode) (xs : List OpenNode) (values : List Value) (t : Tapes) (now : ℕ) (todo : ToCome) (j : ℕ) (q0 : Production) (x' : Item)
-      → slice_get (list_at c x.production) x.at ≡ Some (instr.Get j) → IsProduction c.grammar x.production q0 → item_at q0 j ≡ Some x' → Passing c root (x ∷ xs) values t now todo
-      → (f : ℕ → Value) × (left : ToCome) × (todo ≡ (suc (suc (length xs)), (x', Some (values_up_to c.read (copied_passes c x') f))) ∷ left)
+  pub get_first : (root : ℕ) (x : OpenNode) (xs : List OpenNode) (values : List Value) (t : Transcript) (now : ℕ) (todo : Pending) (j : ℕ) (q0 : Production) (x' : Item)
+      → slice_get (list_at c x.production) x.at ≡ Some (instr.Get j) → IsProduction c.grammar x.production q0 → item_at q0 j ≡ Some x' → NodeInvariant c root (x ∷ xs) values t now todo
+      → (f : ℕ → Value) × (left : Pending) × (todo ≡ (suc (suc (length xs)), (x', Some (values_up_to c.read (copied_passes c x') f))) ∷ left)
       × ((row : List Value) → (rest : List Value) × (drop (x.base + copy_start c q0 j) (values ++ row) ≡ values_up_to c.write (copied_passes c x') f ++ rest))
-  get_first root x xs values t now todo j q0 x' at there0 stands0 (s, f, under, old, before, others, waits, ph, here) =
+  get_first root x xs values t now todo j q0 x' at there0 occurs0 (s, f, under, old, before, others, waits, ph, here) =
       let o = at_get here j at in
       let q = o.production in
       let level = suc (suc (length xs)) in
@@ -693,19 +693,19 @@ module _ (c : Setting) (sound : IsSound c) where
       let b = nth (way c) (arity q) o.i in
       let pl = place_of q c.write o.i in
       let same : q0 ≡ q = same_production c x.production q0 q there0 o.stays.there in
-      let stands : item_at q pl ≡ Some x' = ap (item_at q) (sym turn.place) ∙ ap (λ q. item_at q j) (sym same) ∙ stands0 in
+      let occurs : item_at q pl ≡ Some x' = ap (item_at q) (sym turn.place) ∙ ap (λ q. item_at q j) (sym same) ∙ occurs0 in
       let n = sound.next in
       let copies_same : values_up_to c.read (copied_passes c x') (o.table pl) ≡ values_up_to c.read (copied_passes c x') (o.copied pl) =
-      same_values c.read (copied_passes c x') (o.table pl) (o.copied pl) (λ a p is le. sym (o.shown b a p x' stands is (omega arith) (inl (omega arith)))) in
+      same_values c.read (copied_passes c x') (o.table pl) (o.copied pl) (λ a p is le. sym (o.shown b a p x' occurs is (omega arith) (inl (omega arith)))) in
       let slot : copy_start c q0 j ≡ copy_start c q pl = ap (λ q. copy_start c q j) same ∙ ap (copy_start c q) turn.place in
       let kept : values ≡ under ++ stored c q (o.table 0) o.copied = o.values_are ∙ ap (λ r. under ++ (stored c q (o.table 0) o.copied ++ r)) o.current.2 ∙ ap (λ vs. under ++ vs) (append-nil (stored c q (o.table 0) o.copied)) in (
         o.copied pl,
-        behind c q o.table (suc o.i) level others,
-        o.todo_is ∙ behind_next c q o.table o.i level others x' turn.within stands ∙ ap (λ vs. first level vs (behind c q o.table (suc o.i) level others)) copies_same,
+        following c q o.table (suc o.i) level others,
+        o.todo_is ∙ behind_next c q o.table o.i level others x' turn.within occurs ∙ ap (λ vs. first level vs (following c q o.table (suc o.i) level others)) copies_same,
         (λ row.
-            let found = copies_there c q (o.table 0) o.copied under row b x.base x' o.base stands in
+            let found = copies_there c q (o.table 0) o.copied under row b x.base x' o.base occurs in
             (found.0, ap (λ n. drop (x.base + n) (values ++ row)) slot ∙ ap (λ vs. drop (x.base + copy_start c q pl) (vs ++ row)) kept ∙ ap (drop (x.base + copy_start c q pl)) (append_assoc under (stored c q (o.table 0) o.copied) row) ∙ found.1)),
       )
     where
-      first : ℕ → List Value → ToCome → ToCome
+      first : ℕ → List Value → Pending → Pending
       first level vs left = (level, (x', Some vs)) ∷ left

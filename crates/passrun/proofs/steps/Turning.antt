@@ -20,27 +20,27 @@ use Rattle.ag_grammar.specs.expressions.Evaluation.{value_of}
 use Rattle.treefile.specs.declared.body.Kind.TheVariants.{Node, Token}
 use Rattle.treefile.specs.devices.Device.{LeavesContent}
 use Rattle.treefile.specs.records.Records.{values_up_to}
-use Rattle.treefile.specs.ways.Writing as writing
+use Rattle.treefile.specs.framing.Writing as writing
 use Rattle.backreader.specs.BackState.{BackState}
 use Rattle.passcode.specs.declared.instr.Instr.TheVariants as instr
 use Rattle.passcode.specs.Rows.{Lists}
 use Rattle.planchecker.specs.courses.Settings.{Setting, list_at, setting_of}
 use Rattle.planchecker.specs.courses.Sound.{IsSound}
-use Rattle.passrun.specs.declared.laid.laying.PlaceRow.{PlaceRow}
-use Rattle.passrun.specs.declared.laid.laying.RuleSlots.{RuleSlots}
+use Rattle.passrun.specs.declared.layouts.building.PlaceRow.{PlaceRow}
+use Rattle.passrun.specs.declared.layouts.building.RuleSlots.{RuleSlots}
 use Rattle.passrun.specs.declared.passing.machine.Machine.{Machine}
 use Rattle.passrun.specs.declared.passing.open_node.OpenNode.{OpenNode}
 use Rattle.passrun.specs.reading.Fetching.{HasFetched}
-use Rattle.passrun.specs.laid.Laid.{place_rows}
-use Rattle.passrun.specs.laid.Layouts.{AreSlotsOf}
-use Rattle.passrun.specs.passing.Nodes.{stepped}
+use Rattle.passrun.specs.layouts.BuiltLayouts.{place_rows}
+use Rattle.passrun.specs.layouts.Layouts.{AreSlotsOf}
+use Rattle.passrun.specs.passing.Nodes.{after_step}
 use Rattle.passrun.specs.Passed.{IsRunning}
-use Rattle.passrun.specs.passing.Passing.{GoesOn, IsPassing, Passing}
+use Rattle.passrun.specs.passing.NodeInvariant.{ContinuesAs, IsConsistent, NodeInvariant}
 use Rattle.passrun.specs.passing.Places.{copied_passes, copies, kept_values}
 use Rattle.passrun.specs.passing.Putting.{HasPut}
 use Rattle.passrun.specs.reading.Reading.{Agrees, IsRead, read_values}
 use Rattle.passrun.specs.passing.Running.{GivesNext, RunsAt, RunsFrom, RunsSomehow, Turns, TurnsAt, TurnsFrom, TurnsTo, stack_of}
-use Rattle.passrun.specs.laid.Slots.{copied_width, copy_start, known_width, target_slot}
+use Rattle.passrun.specs.layouts.Slots.{copied_width, copy_start, known_width, target_slot}
 use Rattle.treefile.proofs.records.Values.{count_of_values}
 use Rattle.passrun.proofs.places.Agreeing.{Agree}
 use Rattle.passrun.proofs.course.Counted.{passing_counted}
@@ -62,8 +62,8 @@ pub agrees_by : (g : Grammar) (plan : List (List ℕ) × Lists) (k : ℕ) (x : I
 agrees_by g plan k x ps ours theirs answer is h = subst (λ (ps : List ℕ). Agree ps k ours theirs (IsTrue answer)) is h
 
 -- Two rows agree if no earlier pass computed a copied value.
-pub nothing_told : (c : Setting) (x : Item) (ours theirs : List Value) → known_width c x ≡ 0 → Agrees c x ours theirs true
-nothing_told c x ours theirs none f h rest others ours_are theirs_are = ((λ yes. nothing f ∙ sym (nothing h)), (λ same. refl))
+pub nothing_read : (c : Setting) (x : Item) (ours theirs : List Value) → known_width c x ≡ 0 → Agrees c x ours theirs true
+nothing_read c x ours theirs none f h rest others ours_are theirs_are = ((λ yes. nothing f ∙ sym (nothing h)), (λ same. refl))
   where
     nothing : (f : ℕ → Value) → values_up_to c.read (copied_passes c x) f ≡ []
     nothing f = empty_is (values_up_to c.read (copied_passes c x) f) (let n = count_of_values c.read (copied_passes c x) f in omega arith)
@@ -82,9 +82,9 @@ begins_so c (item.Terminal (Literal l)) p body old new h = elim h [ ]
 -- The values that agree.
 pub has_agreed : (c : Setting) (q : Production) (x : OpenNode) (j : ℕ) (x' : Item) (p : ℕ) (body : List ℕ) (old new ours theirs : List Value) (from start : ℕ) (answer : Bool) (h : IsRead c x' p body old new) → Agrees c x' ours theirs answer → IsTrue answer
     → ours ≡ drop from new → theirs ≡ drop start new → from ≡ x.base + copy_start c q j → start ≡ length old → HasAgreed c q x j x' new (read_values c x' p body old new h)
-has_agreed c q x j x' p body old new ours theirs from start answer h agrees true_is ours_are theirs_are from_is start_is f rest front =
+has_agreed c q x j x' p body old new ours theirs from start answer h agrees true_is ours_are theirs_are from_is start_is f rest prefix =
     let back = begins_so c x' p body old new h in
-    (agrees f (read_values c x' p body old new h) rest back.0 (ours_are ∙ ap (λ n. drop n new) from_is ∙ front) (theirs_are ∙ ap (λ n. drop n new) start_is ∙ back.1)).0 true_is
+    (agrees f (read_values c x' p body old new h) rest back.0 (ours_are ∙ ap (λ n. drop n new) from_is ∙ prefix) (theirs_are ∙ ap (λ n. drop n new) start_is ∙ back.1)).0 true_is
 
 -- An item that is not a terminal is a symbol.
 pub symbol_there : (x : Item) → ((t : Terminal) → x ≡ item.Terminal t → ⊥) → (s : ℕ) × (x ≡ item.Symbol s)
@@ -139,15 +139,15 @@ popped (Some x) xs ys e none = ap reverse e ∙ reverse-append ys (x ∷ [])
 pub record IsPlace (c : Setting) (x : OpenNode) (j : ℕ) (row : PlaceRow) (values : List Value) : Type 0 where
   pub production : Production
   pub there : IsProduction c.grammar x.production production
-  pub stands : item_at production j ≡ Some row.item
+  pub occurs : item_at production j ≡ Some row.item
   pub start : row.start ≡ copy_start c production j
   pub known : row.known ≡ known_width c row.item
   pub within : x.base + (copy_start c production j + copied_width c row.item) ≤ length values
 
 the_place : (c : Setting) (x : OpenNode) (j : ℕ) (row : PlaceRow) (values : List Value) → HasPlace c x j values → Answers c x j (Some row) → IsPlace c x j row values
 the_place c x j row values h is =
-    let z = place_is c h.production j row h.item h.some (is h.production h.there) h.stands in
-    record { production = h.production; there = h.there; stands = h.stands ∙ ap Some (sym z.0); start = z.1; known = z.3 ∙ ap (known_width c) (sym z.0); within = subst (λ x'. x.base + (copy_start c h.production j + copied_width c x') ≤ length values) (sym z.0) h.within }
+    let z = place_is c h.production j row h.item h.some (is h.production h.there) h.occurs in
+    record { production = h.production; there = h.there; occurs = h.occurs ∙ ap Some (sym z.0); start = z.1; known = z.3 ∙ ap (known_width c) (sym z.0); within = subst (λ x'. x.base + (copy_start c h.production j + copied_width c x') ≤ length values) (sym z.0) h.within }
 
 -- A node's production and rule, as the code finds them, and the slot of the rule's target.
 pub record Giver (c : Setting) (m : Machine) (x : OpenNode) (r : ℕ) (q : Production) (u : Rule) : Type 0 where
@@ -161,7 +161,7 @@ module _ (c : Setting) (sound : IsSound c) where
   get_at honest content m x j (to_honest, to, meter, r) at = get_place c sound m.root x (reverse m.waiting.items) m.values.items r.running.tapes (meter - m.begun) r.running.todo j at r.running.passing
 
   pub no_item : (honest : Bool) (content : List ℕ) (m : Machine) (x : OpenNode) (j : ℕ) (answer : Option PlaceRow) → RunsFrom c honest content m (Some x) → slice_get (list_at c x.production) x.at ≡ Some (instr.Get j) → Answers c x j answer → answer ≡ None → ⊥
-  no_item honest content m x j answer runs at is none = let h = get_at honest content m x j runs at in place_there c h.production j h.item h.stands answer (is h.production h.there) none
+  no_item honest content m x j answer runs at is none = let h = get_at honest content m x j runs at in place_there c h.production j h.item h.occurs answer (is h.production h.there) none
 
   -- The returned row is that of the place.
   pub got_place : (honest : Bool) (content : List ℕ) (m : Machine) (x : OpenNode) (j : ℕ) (row : PlaceRow) → RunsFrom c honest content m (Some x) → slice_get (list_at c x.production) x.at ≡ Some (instr.Get j) → Answers c x j (Some row) → IsPlace c x j row m.values.items
@@ -170,15 +170,15 @@ module _ (c : Setting) (sound : IsSound c) where
   pub got_turns : (m : Machine) (back : BackState) (values : Vec Value) (honest honest' : Bool) (content content' : List ℕ) (x next : OpenNode) (j p n : ℕ) (row : PlaceRow) (read : List Value)
       → slice_get (list_at c x.production) x.at ≡ Some (instr.Get j) → Answers c x j (Some row) → (h : HasFetched c row.item p n honest content m.back back m.values.items read) → n ≡ length m.waiting.items + 1
       → ((q : Production) → IsProduction c.grammar x.production q → row.start ≡ copy_start c q j → HasAgreed c q x j row.item read (read_values c row.item p h.body m.values.items read h.taken))
-      → values.items ≡ kept_values row.item m.values.items read → honest' ≡ honest → LeavesContent honest content content' → next ≡ stepped x p
+      → values.items ≡ kept_values row.item m.values.items read → honest' ≡ honest → LeavesContent honest content content' → next ≡ after_step x p
       → TurnsFrom c honest honest' content content' m (record { back = back; writer = m.writer; values = values; waiting = m.waiting; root = m.root; begun = m.begun }) (Some x) (Some next)
   got_turns m back values honest honest' content content' x next j p n row read at is h count agreed kept same leaves on to_honest to meter r =
       let i = got_place honest content m x j row (to_honest, to, meter, r) at is in
       let levels : n ≡ suc (length (reverse m.waiting.items)) = let l = length-reverse m.waiting.items in omega arith in
-      let run = got_runs c sound m.root honest honest' to_honest content content' to m.back back m.writer m.values.items read x (reverse m.waiting.items) (meter - m.begun) j p i.production row.item at i.there i.stands (fetched levels) (agreed i.production i.there i.start) same leaves r.running in
+      let run = got_runs c sound m.root honest honest' to_honest content content' to m.back back m.writer m.values.items read x (reverse m.waiting.items) (meter - m.begun) j p i.production row.item at i.there i.occurs (fetched levels) (agreed i.production i.there i.start) same leaves r.running in
       record {
         running = subst (λ next. IsRunning c m.root honest' content' to_honest to back m.writer values.items (next ∷ reverse m.waiting.items) (meter - m.begun)) (sym on)
-            (subst (λ vs. IsRunning c m.root honest' content' to_honest to back m.writer vs (stepped x p ∷ reverse m.waiting.items) (meter - m.begun)) (sym kept) run);
+            (subst (λ vs. IsRunning c m.root honest' content' to_honest to back m.writer vs (after_step x p ∷ reverse m.waiting.items) (meter - m.begun)) (sym kept) run);
         begun = r.begun;
         low = r.low;
       }
@@ -190,7 +190,7 @@ module _ (c : Setting) (sound : IsSound c) where
   put_at m x j (honest, content, to_honest, to, meter, r) at = put_place c sound m.root x (reverse m.waiting.items) m.values.items r.running.tapes (meter - m.begun) r.running.todo j at r.running.passing
 
   pub no_row : (m : Machine) (x : OpenNode) (j : ℕ) (answer : Option PlaceRow) → RunsSomehow c m (Some x) → slice_get (list_at c x.production) x.at ≡ Some (instr.Put j) → Answers c x j answer → answer ≡ None → ⊥
-  no_row m x j answer runs at is none = let h = put_at m x j runs at in place_there c h.production j h.item h.stands answer (is h.production h.there) none
+  no_row m x j answer runs at is none = let h = put_at m x j runs at in place_there c h.production j h.item h.occurs answer (is h.production h.there) none
 
   pub put_is : (m : Machine) (x : OpenNode) (j : ℕ) (row : PlaceRow) → RunsSomehow c m (Some x) → slice_get (list_at c x.production) x.at ≡ Some (instr.Put j) → Answers c x j (Some row) → IsPlace c x j row m.values.items
   put_is m x j row runs at is = the_place c x j row m.values.items (put_at m x j runs at) is
@@ -199,7 +199,7 @@ module _ (c : Setting) (sound : IsSound c) where
   pub text_within : (m : Machine) (x : OpenNode) (j : ℕ) (row : PlaceRow) (t : Terminal) → RunsSomehow c m (Some x) → slice_get (list_at c x.production) x.at ≡ Some (instr.Put j) → Answers c x j (Some row) → row.item ≡ item.Terminal t → x.base + row.start + 1 ≤ length m.values.items
   text_within m x j row t runs at is token =
       let i = put_is m x j row runs at is in
-      let d = class_at i.production j t (i.stands ∙ ap Some token) in
+      let d = class_at i.production j t (i.occurs ∙ ap Some token) in
       let one : copied_width c row.item ≡ 1 = ap (copied_width c) (token ∙ ap item.Terminal d.1) ∙ token_width d.0 in
       let w = i.within in
       let s = i.start in
@@ -220,40 +220,40 @@ module _ (c : Setting) (sound : IsSound c) where
   whole_of m next (honest, content, to_honest, to, meter, r) = (r.running.whole, r.running.well)
 
   pub put_turns : (m : Machine) (out : writing.Progress) (honest honest' : Bool) (content content' : List ℕ) (x next : OpenNode) (j : ℕ) (row : PlaceRow) (t : Terminal) (text : List Value)
-      → RunsSomehow c m (Some x) → slice_get (list_at c x.production) x.at ≡ Some (instr.Put j) → Answers c x j (Some row) → row.item ≡ item.Terminal t → text ≡ take 1 (drop (x.base + row.start) m.values.items) → HasPut Token x.child text honest content content' m.writer out → honest' ≡ honest → next ≡ stepped x x.child
+      → RunsSomehow c m (Some x) → slice_get (list_at c x.production) x.at ≡ Some (instr.Put j) → Answers c x j (Some row) → row.item ≡ item.Terminal t → text ≡ take 1 (drop (x.base + row.start) m.values.items) → HasPut Token x.child text honest content content' m.writer out → honest' ≡ honest → next ≡ after_step x x.child
       → TurnsTo c honest honest' content content' m (record { back = m.back; writer = out; values = m.values; waiting = m.waiting; root = m.root; begun = m.begun }) (Some x) (Some next)
   put_turns m out honest honest' content content' x next j row t text runs at is token text_is h same on from_honest from meter r =
       let i = put_is m x j row runs at is in
-      let d = class_at i.production j t (i.stands ∙ ap Some token) in
-      let stands : item_at i.production j ≡ Some (item.Terminal (Class d.0)) = i.stands ∙ ap Some (token ∙ ap item.Terminal d.1) in
+      let d = class_at i.production j t (i.occurs ∙ ap Some token) in
+      let occurs : item_at i.production j ≡ Some (item.Terminal (Class d.0)) = i.occurs ∙ ap Some (token ∙ ap item.Terminal d.1) in
       record {
         running = subst (λ next. IsRunning c m.root from_honest from honest' content' m.back out m.values.items (next ∷ reverse m.waiting.items) (meter - m.begun)) (sym on)
-            (put_runs c sound m.root from_honest honest honest' from content content' m.back m.writer out m.values.items x (reverse m.waiting.items) (meter - m.begun) j d.0 i.production text at i.there stands (text_is ∙ ap (λ n. take 1 (drop (x.base + n) m.values.items)) i.start) h same r.running);
+            (put_runs c sound m.root from_honest honest honest' from content content' m.back m.writer out m.values.items x (reverse m.waiting.items) (meter - m.begun) j d.0 i.production text at i.there occurs (text_is ∙ ap (λ n. take 1 (drop (x.base + n) m.values.items)) i.start) h same r.running);
         begun = r.begun;
         low = r.low;
       }
 
   pub left_turns : (m : Machine) (honest : Bool) (content : List ℕ) (x next : OpenNode) (j s : ℕ) (row : PlaceRow)
-      → RunsSomehow c m (Some x) → slice_get (list_at c x.production) x.at ≡ Some (instr.Put j) → Answers c x j (Some row) → row.item ≡ item.Symbol s → next ≡ stepped x x.child → TurnsTo c honest honest content content m m (Some x) (Some next)
+      → RunsSomehow c m (Some x) → slice_get (list_at c x.production) x.at ≡ Some (instr.Put j) → Answers c x j (Some row) → row.item ≡ item.Symbol s → next ≡ after_step x x.child → TurnsTo c honest honest content content m m (Some x) (Some next)
   left_turns m honest content x next j s row runs at is node on from_honest from meter r =
       let i = put_is m x j row runs at is in
-      let goes = left_node c sound x (reverse m.waiting.items) m.values.items j s i.production at i.there (i.stands ∙ ap Some node) in
+      let goes = left_node c sound x (reverse m.waiting.items) m.values.items j s i.production at i.there (i.occurs ∙ ap Some node) in
       record {
         running = subst (λ next. IsRunning c m.root from_honest from honest content m.back m.writer m.values.items (next ∷ reverse m.waiting.items) (meter - m.begun)) (sym on)
-            (gone_runs c sound m.root from_honest honest from content m.back m.writer m.values.items (x ∷ reverse m.waiting.items) (stepped x x.child ∷ reverse m.waiting.items) (meter - m.begun) goes r.running);
+            (gone_runs c sound m.root from_honest honest from content m.back m.writer m.values.items (x ∷ reverse m.waiting.items) (after_step x x.child ∷ reverse m.waiting.items) (meter - m.begun) goes r.running);
         begun = r.begun;
         low = r.low;
       }
 
-  pub is_passing : (m : Machine) (x : OpenNode) (values : List Value) → values ≡ m.values.items → RunsSomehow c m (Some x) → IsPassing c (x ∷ reverse m.waiting.items) values
-  is_passing m x values vs (honest, content, to_honest, to, meter, r) = subst (IsPassing c (x ∷ reverse m.waiting.items)) (sym vs) (m.root, r.running.tapes, meter - m.begun, r.running.todo, r.running.passing)
+  pub is_passing : (m : Machine) (x : OpenNode) (values : List Value) → values ≡ m.values.items → RunsSomehow c m (Some x) → IsConsistent c (x ∷ reverse m.waiting.items) values
+  is_passing m x values vs (honest, content, to_honest, to, meter, r) = subst (IsConsistent c (x ∷ reverse m.waiting.items)) (sym vs) (m.root, r.running.tapes, meter - m.begun, r.running.todo, r.running.passing)
 
   pub entered : (m : Machine) (x : OpenNode) (waiting : Vec OpenNode) (values : List Value) (result : Result OpenNode NoMemory) → values ≡ m.values.items
-      → IfOk result (λ child. GoesOn c (x ∷ reverse m.waiting.items) values (child ∷ reverse waiting.items) values)
+      → IfOk result (λ child. ContinuesAs c (x ∷ reverse m.waiting.items) values (child ∷ reverse waiting.items) values)
       → IfOk result (λ child. Turns c m (record { back = m.back; writer = m.writer; values = m.values; waiting = waiting; root = m.root; begun = m.begun }) (Some x) (Some child))
   entered m x waiting values (Err e) vs goes = goes
   entered m x waiting values (Ok child) vs goes = λ meter honest content to_honest to r.
-      let g = subst (λ vs. GoesOn c (x ∷ reverse m.waiting.items) vs (child ∷ reverse waiting.items) vs) vs goes in
+      let g = subst (λ vs. ContinuesAs c (x ∷ reverse m.waiting.items) vs (child ∷ reverse waiting.items) vs) vs goes in
       record {
         running = gone_runs c sound m.root honest to_honest content to m.back m.writer m.values.items (x ∷ reverse m.waiting.items) (child ∷ reverse waiting.items) (meter - m.begun) g r.running;
         begun = r.begun;
@@ -268,14 +268,14 @@ module _ (c : Setting) (sound : IsSound c) where
   pub waited_for : (m : Machine) (waiting : List OpenNode) (x y : OpenNode) → RunsSomehow c m (Some x) → slice_get (list_at c x.production) x.at ≡ Some instr.End → m.waiting.items ≡ waiting ++ y ∷ [] → HasWaited c y x.base m.values.items
   waited_for m waiting x y (honest, content, to_honest, to, meter, r) at is =
       let stack : reverse m.waiting.items ≡ y ∷ reverse waiting = ap reverse is ∙ reverse-append waiting (y ∷ []) in
-      waited c sound m.root x y (reverse waiting) m.values.items r.running.tapes (meter - m.begun) r.running.todo at (subst (λ xs. Passing c m.root (x ∷ xs) m.values.items r.running.tapes (meter - m.begun) r.running.todo) stack r.running.passing)
+      waited c sound m.root x y (reverse waiting) m.values.items r.running.tapes (meter - m.begun) r.running.todo at (subst (λ xs. NodeInvariant c m.root (x ∷ xs) m.values.items r.running.tapes (meter - m.begun) r.running.todo) stack r.running.passing)
 
   pub no_waited : (y : OpenNode) (base : ℕ) (values : List Value) (answer : Option PlaceRow) → HasWaited c y base values → Answers c y y.place answer → answer ≡ None → ⊥
-  no_waited y base values answer h is none = place_there c h.production y.place h.item h.stands answer (is h.production h.there) none
+  no_waited y base values answer h is none = place_there c h.production y.place h.item h.occurs answer (is h.production h.there) none
 
   pub waited_place : (y : OpenNode) (base : ℕ) (values : List Value) (row : PlaceRow) → HasWaited c y base values → Answers c y y.place (Some row) → (y.base + row.start + row.width ≤ base) × (base + row.width ≤ length values)
   waited_place y base values row h is =
-      let z = place_is c h.production y.place row h.item h.some (is h.production h.there) h.stands in
+      let z = place_is c h.production y.place row h.item h.some (is h.production h.there) h.occurs in
       let a = z.1 in
       let b = z.2 in
       let w = h.within in
@@ -293,7 +293,7 @@ module _ (c : Setting) (sound : IsSound c) where
       let running = subst (λ xs. IsRunning c m.root from_honest from_content honest content m.back m.writer m.values.items (x ∷ xs) (meter - m.begun)) stack r.running in
       record {
         running = ended_runs c sound m.root from_honest honest honest' from_content content content' m.back m.writer out m.values.items values.items x y (reverse waiting.items) (meter - m.begun) from row.width at
-            (λ q x' there stands. let z = place_is c q y.place row x' w.some (is q there) stands in (from_is ∙ ap (λ n. y.base + n) z.1, z.2)) vs (subst (λ vs. HasPut Node x.production vs honest content content' m.writer out) put_is' h) same running;
+            (λ q x' there occurs. let z = place_is c q y.place row x' w.some (is q there) occurs in (from_is ∙ ap (λ n. y.base + n) z.1, z.2)) vs (subst (λ vs. HasPut Node x.production vs honest content content' m.writer out) put_is' h) same running;
         begun = r.begun;
         low = r.low;
       }
@@ -346,9 +346,9 @@ module _ (c : Setting) (sound : IsSound c) where
   -- The value of a rule over the values that are lent.
   pub lent_value : (q : Production) (u : Rule) (slots : RuleSlots) (m : Machine) (base : ℕ) (values lent : List Value) (numbers : List ℕ) (spare v : Value) → values ≡ m.values.items → lent ≡ drop base values → numbers ≡ slots.args
       → v ≡ value_of u.expr.0 (λ k. get_or lent (slice_index numbers k) spare) → v ≡ value_of u.expr.0 (λ k. get_or (drop base m.values.items) (slice_index slots.args k) spare)
-  lent_value q u slots m base values lent numbers spare v vs front ns is =
+  lent_value q u slots m base values lent numbers spare v vs prefix ns is =
       subst (λ vs. v ≡ value_of u.expr.0 (λ k. get_or (drop base vs) (slice_index slots.args k) spare)) vs
-      (subst (λ lent. v ≡ value_of u.expr.0 (λ k. get_or lent (slice_index slots.args k) spare)) front
+      (subst (λ lent. v ≡ value_of u.expr.0 (λ k. get_or lent (slice_index slots.args k) spare)) prefix
       (subst (λ ns. v ≡ value_of u.expr.0 (λ k. get_or lent (slice_index ns k) spare)) ns is))
 
   pub well_of : (m : Machine) (next : Option OpenNode) (meter : ℕ) → RunsAt c meter m next → All IsWell m.values.items
@@ -366,7 +366,7 @@ module _ (c : Setting) (sound : IsSound c) where
   pub given_turns : (m : Machine) (values : Vec Value) (x next : OpenNode) (meter meter' rule : ℕ) (q : Production) (u : Rule) (slots : RuleSlots) (spare v : Value)
       → GivesNext c x rule → IsProduction c.grammar x.production q → slice_get q.rules rule ≡ Some u → AreSlotsOf c q u slots
       → v ≡ value_of u.expr.0 (λ k. get_or (drop x.base m.values.items) (slice_index slots.args k) spare) → IsWell v → values.items ≡ set m.values.items (x.base + slots.target) v
-      → meter' ≡ meter + 1 → next ≡ stepped x x.child
+      → meter' ≡ meter + 1 → next ≡ after_step x x.child
       → TurnsAt c meter meter' m (record { back = m.back; writer = m.writer; values = values; waiting = m.waiting; root = m.root; begun = m.begun }) (Some x) (Some next)
   given_turns m values x next meter meter' rule q u slots spare v (j, a, z, giving, at) there num are is well vs count on honest content to_honest to r =
       let b = r.begun in

@@ -2,7 +2,7 @@
 use Rattle.std.specs.Prelude.{ℕ, suc, Bool, true, false, List, [], ◌∷◌, Option, Some, None, slice_get}
 use Rattle.ag_grammar.specs.declared.grammar.Production.{Production}
 use Rattle.ag_grammar.specs.grammars.AttributeGrammar.{stored_items}
-use Rattle.treefile.specs.ways.Awaited.{Child, ToCome, before_others, children_with_copies, unvisited}
+use Rattle.treefile.specs.framing.ExpectedRecords.{Child, Pending, before_others, children_with_copies, remaining_of}
 use Rattle.passcode.specs.declared.instr.Instr.{Instr}
 use Rattle.passcode.specs.declared.instr.Instr.TheVariants as instr
 use Rattle.passcode.specs.declared.phase.Phase.{Phase}
@@ -29,21 +29,21 @@ abbrev pub children_of : Setting → Production → Table → List Child
 children_of c q e = children_with_copies true c.grammar c.passes c.read (stored_items q.items) (copies c c.read (stored_items q.items) (in_children e))
 
 -- The children still to be read after the first n, at a level, before others.
-abbrev pub behind : Setting → Production → Table → (n level : ℕ) → ToCome → ToCome
-behind c q e n level others = before_others (way c) level (unvisited (way c) (children_of c q e) n) others
+abbrev pub following : Setting → Production → Table → (n level : ℕ) → Pending → Pending
+following c q e n level others = before_others (way c) level (remaining_of (way c) (children_of c q e) n) others
 
 -- All children of the node whose record was read last.
-abbrev pub of_node : Setting → Option Production → Table → (level : ℕ) → ToCome → ToCome
-of_node c None e level others = others
-of_node c (Some q) e level others = behind c q e 0 level others
+abbrev pub records_of_node : Setting → Option Production → Table → (level : ℕ) → Pending → Pending
+records_of_node c None e level others = others
+records_of_node c (Some q) e level others = following c q e 0 level others
 
 -- The children still to be read at an open node: those of the child whose record was read last, then the
 -- node's own that were not read, then the others.
-abbrev pub coming : Setting → Production → Phase → (i child : ℕ) → Table → Table → (level : ℕ) → ToCome → ToCome
-coming c q Between i child e of_child level others = behind c q e i level others
-coming c q Got i child e of_child level others = of_node c (slice_get c.grammar.productions child) of_child (suc level) (behind c q e (suc i) level others)
-coming c q Gone i child e of_child level others = behind c q e (suc i) level others
-coming c q Ended i child e of_child level others = others
+abbrev pub pending : Setting → Production → Phase → (i child : ℕ) → Table → Table → (level : ℕ) → Pending → Pending
+pending c q Between i child e of_child level others = following c q e i level others
+pending c q Got i child e of_child level others = records_of_node c (slice_get c.grammar.productions child) of_child (suc level) (following c q e (suc i) level others)
+pending c q Gone i child e of_child level others = following c q e (suc i) level others
+pending c q Ended i child e of_child level others = others
 
 -- R1: the content is the file of no tree, and the damage shows at the offset. P2: it is the file of no tree
 -- within the limit of levels, and reading exceeds that limit before it meets any damage. P3: the same for the
@@ -56,9 +56,9 @@ IsRunFault c content fault.Device = Unit {0}
 IsRunFault c content fault.NoMemory = Unit {0}
 
 -- A fault of a resource (the device or memory), which says nothing about what is read.
-abbrev pub IsWant : RunFault → Type 0
-IsWant (fault.Damaged at) = ⊥
-IsWant fault.TooDeep = ⊥
-IsWant fault.TooManyNodes = ⊥
-IsWant fault.Device = Unit {0}
-IsWant fault.NoMemory = Unit {0}
+abbrev pub IsResourceFault : RunFault → Type 0
+IsResourceFault (fault.Damaged at) = ⊥
+IsResourceFault fault.TooDeep = ⊥
+IsResourceFault fault.TooManyNodes = ⊥
+IsResourceFault fault.Device = Unit {0}
+IsResourceFault fault.NoMemory = Unit {0}

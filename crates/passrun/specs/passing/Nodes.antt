@@ -7,8 +7,8 @@ abbrev pub first_at : (production base : ℕ) → OpenNode
 first_at p base = record { production = p; child = 0; place = 0; at = 0; base = base }
 
 -- A node after its next instruction. The number is that of the child that was read last.
-abbrev pub stepped : OpenNode → ℕ → OpenNode
-stepped x p = record { production = x.production; child = p; place = x.place; at = x.at + 1; base = x.base }
+abbrev pub after_step : OpenNode → ℕ → OpenNode
+after_step x p = record { production = x.production; child = p; place = x.place; at = x.at + 1; base = x.base }
 
 -- A node after its next instruction, which enters the child at a place.
 abbrev pub left_at : OpenNode → ℕ → OpenNode

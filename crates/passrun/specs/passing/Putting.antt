@@ -2,10 +2,10 @@
 use Rattle.std.specs.Prelude.{ℕ, ◌≡◌, ◌+◌, Bool, List, ◌++◌, Ok, Err}
 use Rattle.ag_value.specs.declared.value.Value.{Value}
 use Rattle.treefile.specs.declared.body.Kind.{Kind}
-use Rattle.treefile.specs.ways.Beginning as beginning
+use Rattle.treefile.specs.framing.Beginning as beginning
 use Rattle.treefile.specs.devices.Device.{WhenHonest}
 use Rattle.treefile.specs.records.TreeFile.{body_of, frame}
-use Rattle.treefile.specs.ways.Writing as writing
+use Rattle.treefile.specs.framing.Writing as writing
 use Rattle.passrun.specs.declared.run_fault.RunFault.{RunFault}
 
 -- A record with these values was written.

@@ -1,7 +1,7 @@
 -- A measure of the remaining work of a pass, which falls with each instruction. All definitions are this
 -- project's.
 use Rattle.std.specs.Prelude.{ℕ, suc, ◌+◌, ◌*◌, ◌-◌, if◌then◌else◌, List, [], ◌∷◌, Option, Some, None, length, slice_index_or}
-use Rattle.ag_grammar.specs.grammars.Tree.{most_nodes}
+use Rattle.ag_grammar.specs.grammars.Tree.{max_nodes}
 use Rattle.passcode.specs.Rows.{Lists}
 use Rattle.planchecker.specs.courses.Settings.{Setting}
 use Rattle.passrun.specs.declared.passing.machine.Machine.{Machine}
@@ -11,9 +11,9 @@ use Rattle.passrun.specs.passing.Places.{rest_of}
 use Rattle.passrun.specs.passing.Running.{stack_of}
 
 -- The number of remaining instructions of all open nodes, plus one for each node.
-abbrev pub left_of : Setting → List OpenNode → ℕ
-left_of c [] = 0
-left_of c (x ∷ xs) = suc (length (rest_of c x)) + left_of c xs
+abbrev pub remaining_work : Setting → List OpenNode → ℕ
+remaining_work c [] = 0
+remaining_work c (x ∷ xs) = suc (length (rest_of c x)) + remaining_work c xs
 
 -- The number of instructions of a pass in all lists.
 abbrev pub all_of : Lists → ℕ → ℕ
@@ -21,15 +21,15 @@ all_of [] k = 0
 all_of (row ∷ rows) k = length (slice_index_or row k []) + all_of rows k
 
 -- More than any node has: the number of instructions in all lists, plus two.
-abbrev pub bulk : Setting → ℕ
-bulk c = suc (suc (all_of c.code c.read))
+abbrev pub node_cost : Setting → ℕ
+node_cost c = suc (suc (all_of c.code c.read))
 
 -- The amount reserved for the child that the innermost node enters next.
-abbrev pub going : Setting → Option OpenNode → ℕ
-going c None = 0
-going c (Some x) = if goes_next (rest_of c x) then bulk c else 0
+abbrev pub reserved_work : Setting → Option OpenNode → ℕ
+reserved_work c None = 0
+reserved_work c (Some x) = if goes_next (rest_of c x) then node_cost c else 0
 
 -- The measure: the bound of one node for each record that may still be read, plus the remaining instructions,
 -- plus the amount reserved.
-abbrev pub work : Setting → Machine → Option OpenNode → ℕ
-work c m next = bulk c * (most_nodes - m.back.progress.records) + (left_of c (stack_of next m.waiting.items) + going c next)
+abbrev pub measure : Setting → Machine → Option OpenNode → ℕ
+measure c m next = node_cost c * (max_nodes - m.back.progress.records) + (remaining_work c (stack_of next m.waiting.items) + reserved_work c next)

@@ -2,9 +2,9 @@
 use Rattle.std.specs.Prelude.{ℕ, ◌≡◌, ◌+◌, ◌<◌, ◌≤◌, Bool, List, Option, Some, None, Result, Ok, Err}
 use Rattle.ag_value.specs.declared.value.Value.{Value}
 use Rattle.ag_grammar.specs.declared.grammar.Item.{Item}
-use Rattle.ag_grammar.specs.grammars.Tree.{most_depth, most_nodes}
+use Rattle.ag_grammar.specs.grammars.Tree.{max_depth, max_nodes}
 use Rattle.treefile.specs.declared.reading.FrameFault.{FrameFault}
-use Rattle.treefile.specs.ways.Backward.{before_frame, next_before}
+use Rattle.treefile.specs.framing.Backward.{before_frame, next_before}
 use Rattle.treefile.specs.devices.Device.{WhenHonest}
 use Rattle.treefile.specs.records.TreeFile.{version_two}
 use Rattle.backreader.specs.BackState.{IsOver, BackState}
@@ -21,8 +21,8 @@ pub record HasFetched (c : Setting) (x : Item) (p open_count : ℕ) (honest : Bo
   pub taken : IsRead c x p body values now
   pub over : WhenHonest honest (IsOver content new)
   pub progress : new.progress ≡ record old.progress { at = before_frame old.progress.at body; records = old.progress.records + 1 }
-  pub deep : open_count < most_depth
-  pub few : old.progress.records < most_nodes
+  pub deep : open_count < max_depth
+  pub few : old.progress.records < max_nodes
 
 -- Reading before an offset returned no record of an item: a fault, no frame, or another body.
 abbrev pub IsMissing : Setting → Item → Result (Option (List ℕ)) FrameFault → Type 0
@@ -33,8 +33,8 @@ IsMissing c x (Ok (Some body)) = IsNoRecord c x body
 -- The reason why no record of an item was read. R1: none ends at the offset that the reader has reached, and
 -- no limit is exceeded. P2: it would be too deep. P3: it would be one too many, and not too deep.
 abbrev pub IsUnfetched : Setting → Item → ℕ → List ℕ → BackState → RunFault → Type 0
-IsUnfetched c x open_count content old (fault.Damaged at) = (at ≡ old.progress.at) × IsMissing c x (next_before version_two content old.progress.at) × (open_count < most_depth) × (old.progress.records < most_nodes)
-IsUnfetched c x open_count content old fault.TooDeep = most_depth ≤ open_count
-IsUnfetched c x open_count content old fault.TooManyNodes = (most_nodes ≤ old.progress.records) × (open_count < most_depth)
+IsUnfetched c x open_count content old (fault.Damaged at) = (at ≡ old.progress.at) × IsMissing c x (next_before version_two content old.progress.at) × (open_count < max_depth) × (old.progress.records < max_nodes)
+IsUnfetched c x open_count content old fault.TooDeep = max_depth ≤ open_count
+IsUnfetched c x open_count content old fault.TooManyNodes = (max_nodes ≤ old.progress.records) × (open_count < max_depth)
 IsUnfetched c x open_count content old fault.Device = Unit {0}
 IsUnfetched c x open_count content old fault.NoMemory = Unit {0}

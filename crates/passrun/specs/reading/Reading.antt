@@ -21,8 +21,8 @@ abbrev pub one_value : ℕ → ℕ → Value → List Value
 one_value k pass value = if nat_le pass k then value ∷ [] else []
 
 -- The new list begins with the old values.
-abbrev pub StandInFront : (old new : List Value) → Type 0
-StandInFront old new = (more : List Value) × (new ≡ old ++ more)
+abbrev pub PrependsTo : (old new : List Value) → Type 0
+PrependsTo old new = (more : List Value) × (new ≡ old ++ more)
 
 -- A value was taken for an attribute of a pass: from the bytes if the pass is at most `read`. It is in the
 -- row if the pass is at most `write`; if it was not read, it can be any value.

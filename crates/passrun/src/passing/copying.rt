@@ -3,14 +3,14 @@
 ghost use Rattle.std.specs.Prelude.{ℕ, ◌≡◌, ◌+◌, ◌-◌, ◌<◌, ◌≤◌, ◌++◌, ◌↔◌, IsTrue, List, drop, length, set, take};
 ghost use Rattle.ag_eval.specs.Operands.{scalar_value};
 ghost use Rattle.ag_value.specs.declared.value.Value.{Value as AttributeValue, Num};
-ghost use Rattle.passrun.specs.laid.Jobs.{setting};
+ghost use Rattle.passrun.specs.layouts.Contexts.{setting};
 ghost use Rattle.passrun.specs.passing.Places.{kept_values};
 ghost use Rattle.passrun.specs.reading.Reading.{Agrees};
-ghost use Rattle.passrun.specs.laid.Slots.{known_width};
+ghost use Rattle.passrun.specs.layouts.Slots.{known_width};
 ghost use Rattle.treefile.specs.records.Records.{values_up_to};
 
-use crate::laid::job::Job;
-use crate::laid::laying::PlaceRow;
+use crate::layouts::building::PlaceRow;
+use crate::layouts::context::PassContext;
 use ag_carried::Carried;
 use ag_eval::Scalar;
 use ag_grammar::Item;
@@ -46,30 +46,30 @@ pub(crate) fn agree(passes: &[u16], k: u16, ours: &[Carried], theirs: &[Carried]
 /// Returns whether the row that begins at index `start` has the same values as the copies that
 /// begin at index `copied`, as far as earlier passes computed them.
 #[inline(always)]
-pub(crate) fn is_as_told(
-    job: &Job<'_>,
+pub(crate) fn matches_copy(
+    context: &PassContext<'_>,
     row: PlaceRow,
     values: &[Carried],
     copied: usize,
     start: usize,
 ) -> bool
-    requires first { 1 ≤ job.now.pass }
-    requires known { row.known ≡ known_width (setting job.now) row.item }
+    requires first { 1 ≤ context.now.pass }
+    requires known { row.known ≡ known_width (setting context.now) row.item }
     requires copied { copied ≤ length values.now }
     requires start { start ≤ length values.now }
-    ensures { Agrees (setting job.now) row.item (drop copied values.now) (drop start values.now)
+    ensures { Agrees (setting context.now) row.item (drop copied values.now) (drop start values.now)
         result }
 {
     if row.known == 0 {
         return true;
     }
-    let passes = job.copied_passes(row.item);
-    agree(passes, job.pass, &values[copied..], &values[start..])
+    let passes = context.copied_passes(row.item);
+    agree(passes, context.pass, &values[copied..], &values[start..])
 }
 
 /// Returns the values from an index on.
 #[inline(always)]
-pub(crate) fn behind(values: &[Carried], start: usize) -> &[Carried]
+pub(crate) fn following(values: &[Carried], start: usize) -> &[Carried]
     requires { start ≤ length values.now }
     ensures { result.now ≡ drop start values.now }
 {
@@ -78,7 +78,7 @@ pub(crate) fn behind(values: &[Carried], start: usize) -> &[Carried]
 
 /// Returns the value at an index as a slice of length 1.
 #[inline(always)]
-pub(crate) fn alone(values: &[Carried], index: usize) -> &[Carried]
+pub(crate) fn single_value(values: &[Carried], index: usize) -> &[Carried]
     requires { index + 1 ≤ length values.now }
     ensures { result.now ≡ take 1 (drop index values.now) }
 {
@@ -88,7 +88,7 @@ pub(crate) fn alone(values: &[Carried], index: usize) -> &[Carried]
 /// Truncates the values to `start` if a token was read, since its text is among the copies. Keeps
 /// the row of a node.
 #[inline(always)]
-pub(crate) fn keep_row(item: Item, values: &mut Vec<Carried>, start: usize)
+pub(crate) fn truncate_row(item: Item, values: &mut Vec<Carried>, start: usize)
     ensures { values.new.items ≡ kept_values item (take start values.old.items) values.old.items }
 {
     if let Item::Terminal(_) = item {
@@ -131,7 +131,7 @@ pub(crate) fn put_scalar(values: &mut Vec<Carried>, index: usize, scalar: Scalar
 
 /// Moves values into the place of as many others. What remains in `theirs` is unspecified.
 #[inline(always)]
-fn take_over(ours: &mut [Carried], theirs: &mut [Carried])
+fn take_copies(ours: &mut [Carried], theirs: &mut [Carried])
     requires { length ours.old ≡ length theirs.old }
     ensures ours { ours.new ≡ theirs.old }
     ensures theirs { length theirs.new ≡ length theirs.old }
@@ -171,14 +171,14 @@ fn cut(values: &mut Vec<Carried>, from: usize)
 /// Moves the first `count` values of the last row, which begins at index `from`, to index `to`, and
 /// removes that row.
 #[inline(always)]
-pub(crate) fn hand_over(values: &mut Vec<Carried>, from: usize, to: usize, count: usize)
-    requires front { to + count ≤ from }
+pub(crate) fn move_copies(values: &mut Vec<Carried>, from: usize, to: usize, count: usize)
+    requires prefix { to + count ≤ from }
     requires row { from + count ≤ length values.old.items }
     ensures { values.new.items ≡ take to values.old.items
         ++ (take count (drop from values.old.items)
         ++ drop (to + count) (take from values.old.items)) }
 {
     let (rows, last) = values.split_at_mut(from);
-    take_over(&mut rows[to..to + count], &mut last[..count]);
+    take_copies(&mut rows[to..to + count], &mut last[..count]);
     cut(values, from);
 }

@@ -2,21 +2,21 @@
 
 ghost use Rattle.std.specs.Prelude.{◌≡◌, ◌-◌, ◌^◌, ◌≤◌, ℕ, None, Some, IfErr, IfOk, IsErrOf};
 ghost use Rattle.std.specs.Prelude.{OnErr, OnOk};
-ghost use Rattle.ag_grammar.specs.grammars.Tree.{most_nodes};
+ghost use Rattle.ag_grammar.specs.grammars.Tree.{max_nodes};
 ghost use Rattle.passrun.specs.passing.Ahead.{IsRunFault};
 ghost use Rattle.passrun.specs.passing.Ends.{RunsBetween};
 ghost use Rattle.passrun.specs.passing.Nodes.{first_at};
-ghost use Rattle.passrun.specs.laid.Jobs.{CanRun, setting};
+ghost use Rattle.passrun.specs.layouts.Contexts.{CanRun, setting};
 ghost use Rattle.passrun.specs.Passed.{IsPassed};
 ghost use Rattle.passrun.specs.passing.Putting.{AddsFrames, LeavesFrames};
 ghost use Rattle.passrun.specs.passing.Running.{Runs};
-ghost use Rattle.treefile.specs.ways.Beginning.{LeavesBeginning};
+ghost use Rattle.treefile.specs.framing.Beginning.{LeavesBeginning};
 ghost use Rattle.treefile.specs.devices.Device.{LeavesContent, WhenHonest};
-ghost use Rattle.treefile.specs.devices.Several.{BothLast};
+ghost use Rattle.treefile.specs.devices.Several.{BothPersist};
 ghost use Rattle.treefile.specs.records.TreeFile.{header, version_two};
 
-use crate::laid::hints::Site;
-use crate::laid::job::Job;
+use crate::layouts::context::PassContext;
+use crate::layouts::hints::ChildLocation;
 use crate::passing::machine::Machine;
 use crate::passing::open_node::OpenNode;
 use crate::passing::putting::put_record;
@@ -34,7 +34,7 @@ const PASS_OFFSET: u64 = 4;
 /// The counts of one pass, or of several passes over one tree.
 #[derive(Clone, Copy, Debug, PartialEq, Eq)]
 pub struct Passed {
-    /// The number of stored nodes of the tree, from 1 to `MOST_NODES`; 0 if no pass ran.
+    /// The number of stored nodes of the tree, from 1 to `MAX_NODES`; 0 if no pass ran.
     pub nodes: u32,
     /// The number of records read: one for each stored node in each pass.
     pub read: u64,
@@ -46,42 +46,42 @@ pub struct Passed {
 /// file is that of another pass.
 pub(crate) fn begin<D: Device, E: Device>(
     alloc: Global,
-    job: &Job<'_>,
+    context: &PassContext<'_>,
     from: &mut D,
     to: &mut E,
     meter: &Meter,
 ) -> Result<Machine, RunFault>
-    requires job { CanRun job.now }
+    requires context { CanRun context.now }
     requires meter { meter.now ≤ 2 ^ 63 }
-    ensures runs { IfOk result (λ m. Runs (setting job.now)
+    ensures runs { IfOk result (λ m. Runs (setting context.now)
         (D.is_honest from.new) (D.content from.new)
         (E.is_honest to.new) (E.content to.new) meter.now m (Some (first_at m.root 0))) }
     ensures header { OnOk result (WhenHonest (E.is_honest to.new)
-        (E.content to.new ≡ header version_two (setting job.now).write)) }
+        (E.content to.new ≡ header version_two (setting context.now).write)) }
     // the content of the second device is unchanged, or a prefix of the file
     ensures left { OnErr result (WhenHonest (E.is_honest to.new)
-        (LeavesBeginning (setting job.now).write (E.content to.old) (E.content to.new))) }
+        (LeavesBeginning (setting context.now).write (E.content to.old) (E.content to.new))) }
     ensures refused { IfErr result (λ f. WhenHonest (D.is_honest from.new)
-        (IsRunFault (setting job.now) (D.content from.old) f)) }
+        (IsRunFault (setting context.now) (D.content from.old) f)) }
     ensures begun { IfOk result (λ m. m.begun ≡ meter.now) }
     ensures content { LeavesContent (D.is_honest from.new)
         (D.content from.old) (D.content from.new) }
     // D1 only if the number of failures rose on one of the two
-    ensures devices { BothLast D.is_honest D.failures from.old from.new
+    ensures devices { BothPersist D.is_honest D.failures from.old from.new
         E.is_honest E.failures to.old to.new (IsErrOf result RunFault.Device) }
 {
     let mut back = Back::start(alloc, from)?;
-    if back.pass() != job.file_pass() {
+    if back.pass() != context.file_pass() {
         return Err(RunFault::Damaged(PASS_OFFSET));
     }
-    let writer = Writer::begin(alloc, to, job.pass)?;
+    let writer = Writer::begin(alloc, to, context.pass)?;
     let mut values = Vec::new(alloc);
-    let start = Item::Symbol(job.grammar.start());
+    let start = Item::Symbol(context.grammar.start());
     let root = fetch(
         alloc,
-        job,
+        context,
         start,
-        Site::default(),
+        ChildLocation::default(),
         0,
         &mut back,
         &mut values,
@@ -100,32 +100,32 @@ pub(crate) fn begin<D: Device, E: Device>(
 /// Ends a pass whose root is done: writes the root's record. Fails with R1 and the offset of the
 /// next frame's end if any frame is left to read.
 pub(crate) fn finish<D: Device, E: Device>(
-    job: &Job<'_>,
+    context: &PassContext<'_>,
     machine: &mut Machine,
     from: &mut D,
     to: &mut E,
 ) -> Result<Passed, RunFault>
-    requires job { CanRun job.now }
-    requires runs { RunsBetween (setting job.now) (D.is_honest from.old) (D.content from.old)
+    requires context { CanRun context.now }
+    requires runs { RunsBetween (setting context.now) (D.is_honest from.old) (D.content from.old)
         (E.is_honest to.old) (E.content to.old) machine.old None }
-    ensures passed { (meter : ℕ) → Runs (setting job.now) (D.is_honest from.old)
+    ensures passed { (meter : ℕ) → Runs (setting context.now) (D.is_honest from.old)
         (D.content from.old) (E.is_honest to.old) (E.content to.old) meter machine.old None →
         WhenHonest (D.is_honest from.new) (WhenHonest (E.is_honest to.new)
-        (IfOk result (λ p. IsPassed (setting job.now) (D.content from.old) (E.content to.new)
+        (IfOk result (λ p. IsPassed (setting context.now) (D.content from.old) (E.content to.new)
         p.nodes (meter - machine.old.begun)))) }
     ensures added { OnOk result (AddsFrames (E.is_honest to.new)
         (E.content to.old) (E.content to.new)) }
     ensures left { IfErr result (LeavesFrames (E.is_honest to.new)
         (E.content to.old) (E.content to.new)) }
     ensures refused { IfErr result (λ f. WhenHonest (D.is_honest from.new)
-        (IsRunFault (setting job.now) (D.content from.old) f)) }
+        (IsRunFault (setting context.now) (D.content from.old) f)) }
     ensures counts { IfOk result (λ p. (p.read ≡ p.nodes) × (p.written ≡ p.nodes)) }
     // for any devices, honest or not
-    ensures few { IfOk result (λ p. p.nodes ≤ most_nodes) }
+    ensures few { IfOk result (λ p. p.nodes ≤ max_nodes) }
     ensures content { LeavesContent (D.is_honest from.new)
         (D.content from.old) (D.content from.new) }
     // D1 only if the number of failures rose on one of the two
-    ensures devices { BothLast D.is_honest D.failures from.old from.new
+    ensures devices { BothPersist D.is_honest D.failures from.old from.new
         E.is_honest E.failures to.old to.new (IsErrOf result RunFault.Device) }
 {
     let values = machine.values.as_slice();

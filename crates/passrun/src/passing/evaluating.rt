@@ -7,8 +7,8 @@ ghost use Rattle.ag_grammar.specs.expressions.Evaluation.{value_of};
 ghost use Rattle.ag_value.specs.Well.{IsWell};
 ghost use Rattle.ag_value.specs.declared.value.Value.{Num};
 
-use crate::laid::laying::RuleSlots;
-use crate::passing::copying::{behind, put_scalar, put_value};
+use crate::layouts::building::RuleSlots;
+use crate::passing::copying::{following, put_scalar, put_value};
 use ag_carried::Carried;
 use ag_eval::{CarriedEnvironment, Meter, Scalar, eval_carried, eval_number, eval_scalar};
 use ag_grammar::{Expr, Rule};
@@ -65,7 +65,7 @@ pub(crate) fn put_rule_value(
         put_scalar(values, target, Scalar::Number(number));
         return Ok(());
     }
-    let row = behind(values.as_slice(), base);
+    let row = following(values.as_slice(), base);
     if let Some(scalar) = evaluate_scalar(alloc, &rule.expr, slots.args.as_slice(), row, meter) {
         put_scalar(values, target, scalar);
         return Ok(());

@@ -3,23 +3,23 @@
 ghost use Rattle.std.specs.Prelude.{◌≡◌, ◌+◌, ◌^◌, ◌<◌, ◌≤◌, ◌∷◌, ◌++◌, [], Some, IfErr, IfOk};
 ghost use Rattle.std.specs.Prelude.{IsErrOf, OnOk, length, reverse, slice_get};
 ghost use Rattle.passcode.specs.declared.instr.Instr.TheVariants as instr;
-ghost use Rattle.passrun.specs.passing.Passing.{IsPassing, GoesOn};
-ghost use Rattle.passrun.specs.passing.Ahead.{IsRunFault, IsWant};
-ghost use Rattle.passrun.specs.laid.Jobs.{CanRun, setting};
-ghost use Rattle.passrun.specs.laid.Layouts.{IsRowAt};
+ghost use Rattle.passrun.specs.passing.NodeInvariant.{IsConsistent, ContinuesAs};
+ghost use Rattle.passrun.specs.passing.Ahead.{IsRunFault, IsResourceFault};
+ghost use Rattle.passrun.specs.layouts.Contexts.{CanRun, setting};
+ghost use Rattle.passrun.specs.layouts.Layouts.{IsRowAt};
 ghost use Rattle.passrun.specs.passing.Nodes.{left_at};
 ghost use Rattle.passrun.specs.passing.Putting.{AddsFrames, LeavesFrames};
 ghost use Rattle.passrun.specs.passing.Running.{GivesNext, Runs, RunsAt, RunsFrom, RunsSomehow, RunsTo};
 ghost use Rattle.passrun.specs.passing.Running.{Turns, TurnsAt, TurnsFrom, TurnsTo};
-ghost use Rattle.passrun.specs.passing.Working.{work};
+ghost use Rattle.passrun.specs.passing.Working.{measure};
 ghost use Rattle.planchecker.specs.courses.Settings.{list_at};
 ghost use Rattle.treefile.specs.devices.Device.{LeavesContent, Persists, WhenHonest};
-ghost use Rattle.treefile.specs.devices.Several.{BothLast};
+ghost use Rattle.treefile.specs.devices.Several.{BothPersist};
 
-use crate::laid::hints::Site;
-use crate::laid::job::Job;
-use crate::laid::laying::ProductionRow;
-use crate::passing::copying::{alone, behind, hand_over, is_as_told, keep_row};
+use crate::layouts::building::ProductionRow;
+use crate::layouts::context::PassContext;
+use crate::layouts::hints::ChildLocation;
+use crate::passing::copying::{following, matches_copy, move_copies, single_value, truncate_row};
 use crate::passing::evaluating::put_rule_value;
 use crate::passing::open_node::OpenNode;
 use crate::passing::putting::put_record;
@@ -50,27 +50,27 @@ pub(crate) struct Machine {
 /// Enters the child at a place, whose record was read last. Returns the child's node, which is the
 /// innermost one now, and pushes the other one on `waiting`. Fails with `NoMemory` if memory cannot
 /// be allocated.
-pub(crate) fn go(
-    job: &Job<'_>,
+pub(crate) fn open_child(
+    context: &PassContext<'_>,
     node: OpenNode,
     place: u16,
     values: &[Carried],
     waiting: &mut Vec<OpenNode>,
 ) -> Result<OpenNode, NoMemory>
-    requires job { CanRun job.now }
+    requires context { CanRun context.now }
     requires room { node.at + 1 < 2 ^ 64 }
-    requires next { slice_get (list_at (setting job.now) node.production) node.at
+    requires next { slice_get (list_at (setting context.now) node.production) node.at
         ≡ Some (instr.Go place) }
-    requires passing { IsPassing (setting job.now)
+    requires passing { IsConsistent (setting context.now)
         (node ∷ reverse waiting.old.items) values.now }
-    ensures goes { IfOk result (λ child. GoesOn (setting job.now)
+    ensures goes { IfOk result (λ child. ContinuesAs (setting context.now)
         (node ∷ reverse waiting.old.items) values.now
         (child ∷ reverse waiting.new.items) values.now) }
     ensures child { IfOk result (λ child. (child.production ≡ node.child) × (child.at ≡ 0)) }
     ensures pushed { OnOk result (waiting.new.items
         ≡ waiting.old.items ++ left_at node place ∷ []) }
 {
-    let width = job.width(node.child);
+    let width = context.width(node.child);
     waiting.push(node.left_at(place))?;
     Ok(OpenNode::begun(node.child, values.len() - width))
 }
@@ -82,60 +82,60 @@ impl Machine {
     pub(crate) fn get<D: Device>(
         &mut self,
         alloc: Global,
-        job: &Job<'_>,
-        asked: &ProductionRow,
+        context: &PassContext<'_>,
+        layout: &ProductionRow,
         node: OpenNode,
         place: u16,
         from: &mut D,
     ) -> Result<OpenNode, RunFault>
-        requires job { CanRun job.now }
-        requires asked { IsRowAt (setting job.now) node.production asked.now }
-        requires runs { RunsFrom (setting job.now) (D.is_honest from.old) (D.content from.old)
+        requires context { CanRun context.now }
+        requires layout { IsRowAt (setting context.now) node.production layout.now }
+        requires runs { RunsFrom (setting context.now) (D.is_honest from.old) (D.content from.old)
             self.old (Some node) }
-        requires next { slice_get (list_at (setting job.now) node.production) node.at
+        requires next { slice_get (list_at (setting context.now) node.production) node.at
             ≡ Some (instr.Get place) }
         requires room { node.at + 1 < 2 ^ 64 }
-        ensures runs { IfOk result (λ next. TurnsFrom (setting job.now)
+        ensures runs { IfOk result (λ next. TurnsFrom (setting context.now)
             (D.is_honest from.old) (D.is_honest from.new)
             (D.content from.old) (D.content from.new) self.old self.new (Some node) (Some next)) }
         ensures production { IfOk result (λ next. next.production ≡ node.production) }
         ensures refused { IfErr result (λ f. WhenHonest (D.is_honest from.new)
-            (IsRunFault (setting job.now) (D.content from.old) f)) }
+            (IsRunFault (setting context.now) (D.content from.old) f)) }
         ensures less { IfOk result (λ next.
-            work (setting job.now) self.new (Some next)
-            < work (setting job.now) self.old (Some node)) }
+            measure (setting context.now) self.new (Some next)
+            < measure (setting context.now) self.old (Some node)) }
         ensures begun { self.new.begun ≡ self.old.begun }
         ensures content { LeavesContent (D.is_honest from.new)
             (D.content from.old) (D.content from.new) }
         ensures persists { Persists (D.is_honest from.old) (D.is_honest from.new)
             (D.failures from.old) (D.failures from.new) (IsErrOf result RunFault.Device) }
     {
-        let Some(row) = job.place(asked, node, place) else {
+        let Some(row) = context.place(layout, node, place) else {
             unreachable!();
         };
         let open_count = self.waiting.len() + 1;
         let end = self.back.end();
         let start = self.values.len();
-        let site = Site {
+        let location = ChildLocation {
             production: node.production,
             place,
         };
         let number = fetch(
             alloc,
-            job,
+            context,
             row.item,
-            site,
+            location,
             open_count,
             &mut self.back,
             &mut self.values,
             from,
         )?;
         let copied = node.base + row.start as usize;
-        if !is_as_told(job, row, self.values.as_slice(), copied, start) {
+        if !matches_copy(context, row, self.values.as_slice(), copied, start) {
             return Err(RunFault::Damaged(end));
         }
-        keep_row(row.item, &mut self.values, start);
-        Ok(node.stepped(number))
+        truncate_row(row.item, &mut self.values, start);
+        Ok(node.after_step(number))
     }
 
     /// Writes the record of the token at a place, whose text is among the copies. The record of a
@@ -144,128 +144,128 @@ impl Machine {
     #[inline(always)]
     pub(crate) fn put<E: Device>(
         &mut self,
-        job: &Job<'_>,
-        asked: &ProductionRow,
+        context: &PassContext<'_>,
+        layout: &ProductionRow,
         node: OpenNode,
         place: u16,
         to: &mut E,
     ) -> Result<OpenNode, RunFault>
-        requires job { CanRun job.now }
-        requires asked { IsRowAt (setting job.now) node.production asked.now }
-        requires runs { RunsSomehow (setting job.now) self.old (Some node) }
-        requires next { slice_get (list_at (setting job.now) node.production) node.at
+        requires context { CanRun context.now }
+        requires layout { IsRowAt (setting context.now) node.production layout.now }
+        requires runs { RunsSomehow (setting context.now) self.old (Some node) }
+        requires next { slice_get (list_at (setting context.now) node.production) node.at
             ≡ Some (instr.Put place) }
         requires room { node.at + 1 < 2 ^ 64 }
-        ensures runs { IfOk result (λ next. TurnsTo (setting job.now)
+        ensures runs { IfOk result (λ next. TurnsTo (setting context.now)
             (E.is_honest to.old) (E.is_honest to.new)
             (E.content to.old) (E.content to.new) self.old self.new (Some node) (Some next)) }
         ensures added { OnOk result (AddsFrames (E.is_honest to.new)
             (E.content to.old) (E.content to.new)) }
         ensures left { IfErr result (LeavesFrames (E.is_honest to.new)
             (E.content to.old) (E.content to.new)) }
-        ensures want { IfErr result IsWant }
+        ensures resource { IfErr result IsResourceFault }
         ensures less { IfOk result (λ next.
-            work (setting job.now) self.new (Some next)
-            < work (setting job.now) self.old (Some node)) }
+            measure (setting context.now) self.new (Some next)
+            < measure (setting context.now) self.old (Some node)) }
         ensures begun { self.new.begun ≡ self.old.begun }
         ensures persists { Persists (E.is_honest to.old) (E.is_honest to.new)
             (E.failures to.old) (E.failures to.new) (IsErrOf result RunFault.Device) }
     {
-        let Some(row) = job.place(asked, node, place) else {
+        let Some(row) = context.place(layout, node, place) else {
             unreachable!();
         };
         let Item::Terminal(_) = row.item else {
-            return Ok(node.stepped(node.child));
+            return Ok(node.after_step(node.child));
         };
         let text = node.base + row.start as usize;
-        let values = alone(self.values.as_slice(), text);
+        let values = single_value(self.values.as_slice(), text);
         put_record(Kind::Token, node.child, values, &mut self.writer, to)?;
-        Ok(node.stepped(node.child))
+        Ok(node.after_step(node.child))
     }
 
     /// Runs a rule and puts its value into the slot of its target. Fails with `NoMemory` if memory
     /// cannot be allocated.
     #[inline(always)]
-    pub(crate) fn give(
+    pub(crate) fn run_rule(
         &mut self,
         alloc: Global,
-        job: &Job<'_>,
-        asked: &ProductionRow,
+        context: &PassContext<'_>,
+        layout: &ProductionRow,
         node: OpenNode,
         rule: u16,
         meter: &mut Meter,
     ) -> Result<OpenNode, NoMemory>
-        requires job { CanRun job.now }
-        requires asked { IsRowAt (setting job.now) node.production asked.now }
-        requires runs { RunsAt (setting job.now) meter.old self.old (Some node) }
-        requires next { GivesNext (setting job.now) node rule }
+        requires context { CanRun context.now }
+        requires layout { IsRowAt (setting context.now) node.production layout.now }
+        requires runs { RunsAt (setting context.now) meter.old self.old (Some node) }
+        requires next { GivesNext (setting context.now) node rule }
         requires room { node.at + 1 < 2 ^ 64 }
-        ensures runs { IfOk result (λ next. TurnsAt (setting job.now) meter.old meter.new
+        ensures runs { IfOk result (λ next. TurnsAt (setting context.now) meter.old meter.new
             self.old self.new (Some node) (Some next)) }
         ensures production { IfOk result (λ next. next.production ≡ node.production) }
         ensures rises { meter.old ≤ meter.new }
         ensures less { IfOk result (λ next.
-            work (setting job.now) self.new (Some next)
-            < work (setting job.now) self.old (Some node)) }
+            measure (setting context.now) self.new (Some next)
+            < measure (setting context.now) self.old (Some node)) }
         ensures begun { self.new.begun ≡ self.old.begun }
     {
-        let production = &job.grammar.productions()[node.production as usize];
+        let production = &context.grammar.productions()[node.production as usize];
         let semantic = &production.rules.as_slice()[rule as usize];
-        let slots = &asked.rules.as_slice()[rule as usize];
+        let slots = &layout.rules.as_slice()[rule as usize];
         put_rule_value(alloc, semantic, slots, node.base, &mut self.values, meter)?;
-        Ok(node.stepped(node.child))
+        Ok(node.after_step(node.child))
     }
 
     /// Enters the child whose record was read last. Fails with `NoMemory` if memory cannot be
     /// allocated.
     #[inline(always)]
-    pub(crate) fn enter(
+    pub(crate) fn enter_child(
         &mut self,
-        job: &Job<'_>,
+        context: &PassContext<'_>,
         node: OpenNode,
         place: u16,
     ) -> Result<OpenNode, NoMemory>
-        requires job { CanRun job.now }
-        requires runs { RunsSomehow (setting job.now) self.old (Some node) }
-        requires next { slice_get (list_at (setting job.now) node.production) node.at
+        requires context { CanRun context.now }
+        requires runs { RunsSomehow (setting context.now) self.old (Some node) }
+        requires next { slice_get (list_at (setting context.now) node.production) node.at
             ≡ Some (instr.Go place) }
         requires room { node.at + 1 < 2 ^ 64 }
-        ensures runs { IfOk result (λ next. Turns (setting job.now)
+        ensures runs { IfOk result (λ next. Turns (setting context.now)
             self.old self.new (Some node) (Some next)) }
         ensures less { IfOk result (λ next.
-            work (setting job.now) self.new (Some next)
-            < work (setting job.now) self.old (Some node)) }
+            measure (setting context.now) self.new (Some next)
+            < measure (setting context.now) self.old (Some node)) }
         ensures begun { self.new.begun ≡ self.old.begun }
     {
         let values = self.values.as_slice();
         let waiting = &mut self.waiting;
-        let child = go(job, node, place, values, waiting)?;
+        let child = open_child(context, node, place, values, waiting)?;
         Ok(child)
     }
 
     /// Enters the child whose record was read last, if the next instruction does so, and otherwise
     /// returns the node. Fails with `NoMemory` if memory cannot be allocated.
     #[inline(always)]
-    pub(crate) fn go_on(
+    pub(crate) fn enter_if_next(
         &mut self,
-        job: &Job<'_>,
-        asked: &ProductionRow,
+        context: &PassContext<'_>,
+        layout: &ProductionRow,
         node: OpenNode,
     ) -> Result<OpenNode, NoMemory>
-        requires job { CanRun job.now }
-        requires asked { IsRowAt (setting job.now) node.production asked.now }
-        requires runs { RunsSomehow (setting job.now) self.old (Some node) }
-        ensures runs { IfOk result (λ next. Turns (setting job.now)
+        requires context { CanRun context.now }
+        requires layout { IsRowAt (setting context.now) node.production layout.now }
+        requires runs { RunsSomehow (setting context.now) self.old (Some node) }
+        ensures runs { IfOk result (λ next. Turns (setting context.now)
             self.old self.new (Some node) (Some next)) }
         ensures most { IfOk result (λ next.
-            work (setting job.now) self.new (Some next)
-            ≤ work (setting job.now) self.old (Some node)) }
+            measure (setting context.now) self.new (Some next)
+            ≤ measure (setting context.now) self.old (Some node)) }
         ensures begun { self.new.begun ≡ self.old.begun }
     {
-        let Instr::Go(place) = job.instruction(asked, node) else {
+        let Instr::Go(place) = context.instruction(layout, node) else {
             return Ok(node);
         };
-        let child = self.enter(job, node, place)?;
+        let child = self.enter_child(context, node, place)?;
         Ok(child)
     }
 
@@ -274,27 +274,27 @@ impl Machine {
     /// Returns `None` if the node is the root, whose record `finish` writes. Fails with D1 if the
     /// device fails, and with `NoMemory` if memory cannot be allocated.
     #[inline(always)]
-    pub(crate) fn end<E: Device>(
+    pub(crate) fn finish_node<E: Device>(
         &mut self,
-        job: &Job<'_>,
+        context: &PassContext<'_>,
         node: OpenNode,
         to: &mut E,
     ) -> Result<Option<OpenNode>, RunFault>
-        requires job { CanRun job.now }
-        requires runs { RunsSomehow (setting job.now) self.old (Some node) }
-        requires next { slice_get (list_at (setting job.now) node.production) node.at
+        requires context { CanRun context.now }
+        requires runs { RunsSomehow (setting context.now) self.old (Some node) }
+        requires next { slice_get (list_at (setting context.now) node.production) node.at
             ≡ Some instr.End }
-        ensures runs { IfOk result (λ next. TurnsTo (setting job.now)
+        ensures runs { IfOk result (λ next. TurnsTo (setting context.now)
             (E.is_honest to.old) (E.is_honest to.new)
             (E.content to.old) (E.content to.new) self.old self.new (Some node) next) }
         ensures added { OnOk result (AddsFrames (E.is_honest to.new)
             (E.content to.old) (E.content to.new)) }
         ensures left { IfErr result (LeavesFrames (E.is_honest to.new)
             (E.content to.old) (E.content to.new)) }
-        ensures want { IfErr result IsWant }
+        ensures resource { IfErr result IsResourceFault }
         ensures less { IfOk result (λ next.
-            work (setting job.now) self.new next
-            < work (setting job.now) self.old (Some node)) }
+            measure (setting context.now) self.new next
+            < measure (setting context.now) self.old (Some node)) }
         ensures begun { self.new.begun ≡ self.old.begun }
         ensures persists { Persists (E.is_honest to.old) (E.is_honest to.new)
             (E.failures to.old) (E.failures to.new) (IsErrOf result RunFault.Device) }
@@ -302,80 +302,80 @@ impl Machine {
         let Some(outer) = self.waiting.pop() else {
             return Ok(None);
         };
-        let values = behind(self.values.as_slice(), node.base);
+        let values = following(self.values.as_slice(), node.base);
         put_record(Kind::Node, node.production, values, &mut self.writer, to)?;
-        let asked = job.row(outer.production);
-        let Some(row) = job.place(asked, outer, outer.place) else {
+        let layout = context.row(outer.production);
+        let Some(row) = context.place(layout, outer, outer.place) else {
             unreachable!();
         };
         let copied = outer.base + row.start as usize;
-        hand_over(&mut self.values, node.base, copied, row.width as usize);
+        move_copies(&mut self.values, node.base, copied, row.width as usize);
         Ok(Some(outer))
     }
 
     /// Returns the node after its next instruction if that puts the record of a child node, which
     /// was written already, and otherwise the node itself.
     #[inline(always)]
-    pub(crate) fn put_before(&self, job: &Job<'_>, node: OpenNode) -> OpenNode
-        requires job { CanRun job.now }
-        requires runs { RunsSomehow (setting job.now) self.now (Some node) }
-        ensures runs { Turns (setting job.now) self.now self.now (Some node) (Some result) }
-        ensures most { work (setting job.now) self.now (Some result)
-            ≤ work (setting job.now) self.now (Some node) }
+    pub(crate) fn skip_put(&self, context: &PassContext<'_>, node: OpenNode) -> OpenNode
+        requires context { CanRun context.now }
+        requires runs { RunsSomehow (setting context.now) self.now (Some node) }
+        ensures runs { Turns (setting context.now) self.now self.now (Some node) (Some result) }
+        ensures most { measure (setting context.now) self.now (Some result)
+            ≤ measure (setting context.now) self.now (Some node) }
     {
-        let asked = job.row(node.production);
-        let Instr::Put(place) = job.instruction(asked, node) else {
+        let layout = context.row(node.production);
+        let Instr::Put(place) = context.instruction(layout, node) else {
             return node;
         };
-        let Some(row) = job.place(asked, node, place) else {
+        let Some(row) = context.place(layout, node, place) else {
             unreachable!();
         };
         let Item::Symbol(_) = row.item else {
             return node;
         };
-        node.stepped(node.child)
+        node.after_step(node.child)
     }
 
     /// Ends a node if its next instruction does so, and passes over the instruction that puts its
     /// record. Returns the node that continues, or `None` if the root is done.
     #[inline(always)]
-    pub(crate) fn leave<E: Device>(
+    pub(crate) fn finish_if_ended<E: Device>(
         &mut self,
-        job: &Job<'_>,
-        asked: &ProductionRow,
+        context: &PassContext<'_>,
+        layout: &ProductionRow,
         node: OpenNode,
         to: &mut E,
     ) -> Result<Option<OpenNode>, RunFault>
-        requires job { CanRun job.now }
-        requires asked { IsRowAt (setting job.now) node.production asked.now }
-        requires runs { RunsTo (setting job.now) (E.is_honest to.old) (E.content to.old)
+        requires context { CanRun context.now }
+        requires layout { IsRowAt (setting context.now) node.production layout.now }
+        requires runs { RunsTo (setting context.now) (E.is_honest to.old) (E.content to.old)
             self.old (Some node) }
-        ensures runs { IfOk result (λ next. TurnsTo (setting job.now)
+        ensures runs { IfOk result (λ next. TurnsTo (setting context.now)
             (E.is_honest to.old) (E.is_honest to.new)
             (E.content to.old) (E.content to.new) self.old self.new (Some node) next) }
         ensures added { OnOk result (AddsFrames (E.is_honest to.new)
             (E.content to.old) (E.content to.new)) }
         ensures left { IfErr result (LeavesFrames (E.is_honest to.new)
             (E.content to.old) (E.content to.new)) }
-        ensures want { IfErr result IsWant }
+        ensures resource { IfErr result IsResourceFault }
         ensures most { IfOk result (λ next.
-            work (setting job.now) self.new next
-            ≤ work (setting job.now) self.old (Some node)) }
-        ensures less { slice_get (list_at (setting job.now) node.production) node.at
+            measure (setting context.now) self.new next
+            ≤ measure (setting context.now) self.old (Some node)) }
+        ensures less { slice_get (list_at (setting context.now) node.production) node.at
             ≡ Some instr.End → IfOk result (λ next.
-            work (setting job.now) self.new next
-            < work (setting job.now) self.old (Some node)) }
+            measure (setting context.now) self.new next
+            < measure (setting context.now) self.old (Some node)) }
         ensures begun { self.new.begun ≡ self.old.begun }
         ensures persists { Persists (E.is_honest to.old) (E.is_honest to.new)
             (E.failures to.old) (E.failures to.new) (IsErrOf result RunFault.Device) }
     {
-        let Instr::End = job.instruction(asked, node) else {
+        let Instr::End = context.instruction(layout, node) else {
             return Ok(Some(node));
         };
-        let Some(outer) = self.end(job, node, to)? else {
+        let Some(outer) = self.finish_node(context, node, to)? else {
             return Ok(None);
         };
-        Ok(Some(self.put_before(job, outer)))
+        Ok(Some(self.skip_put(context, outer)))
     }
 
     /// Executes the next instruction of the innermost open node: a `Get` with a `Go` that follows
@@ -386,16 +386,16 @@ impl Machine {
     pub(crate) fn step<D: Device, E: Device>(
         &mut self,
         alloc: Global,
-        job: &Job<'_>,
+        context: &PassContext<'_>,
         node: OpenNode,
         from: &mut D,
         to: &mut E,
         meter: &mut Meter,
     ) -> Result<Option<OpenNode>, RunFault>
-        requires job { CanRun job.now }
-        requires runs { Runs (setting job.now) (D.is_honest from.old) (D.content from.old)
+        requires context { CanRun context.now }
+        requires runs { Runs (setting context.now) (D.is_honest from.old) (D.content from.old)
             (E.is_honest to.old) (E.content to.old) meter.old self.old (Some node) }
-        ensures runs { IfOk result (λ next. Runs (setting job.now)
+        ensures runs { IfOk result (λ next. Runs (setting context.now)
             (D.is_honest from.new) (D.content from.new)
             (E.is_honest to.new) (E.content to.new) meter.new self.new next) }
         ensures added { OnOk result (AddsFrames (E.is_honest to.new)
@@ -403,33 +403,35 @@ impl Machine {
         ensures left { IfErr result (LeavesFrames (E.is_honest to.new)
             (E.content to.old) (E.content to.new)) }
         ensures refused { IfErr result (λ f. WhenHonest (D.is_honest from.new)
-            (IsRunFault (setting job.now) (D.content from.old) f)) }
+            (IsRunFault (setting context.now) (D.content from.old) f)) }
         ensures less { IfOk result (λ next.
-            work (setting job.now) self.new next < work (setting job.now) self.old (Some node)) }
+            measure (setting context.now) self.new next < measure (setting context.now) self.old (Some node)) }
         ensures begun { self.new.begun ≡ self.old.begun }
         ensures rises { meter.old ≤ meter.new }
         ensures content { LeavesContent (D.is_honest from.new)
             (D.content from.old) (D.content from.new) }
         // D1 only if the number of failures rose on one of the two
-        ensures devices { BothLast D.is_honest D.failures from.old from.new
+        ensures devices { BothPersist D.is_honest D.failures from.old from.new
             E.is_honest E.failures to.old to.new (IsErrOf result RunFault.Device) }
     {
-        let asked = job.row(node.production);
-        let ended = match job.instruction(asked, node) {
+        let layout = context.row(node.production);
+        let ended = match context.instruction(layout, node) {
             Instr::Get(place) => {
-                let stepped = self.get(alloc, job, asked, node, place, from)?;
-                return Ok(Some(self.go_on(job, asked, stepped)?));
+                let after_step = self.get(alloc, context, layout, node, place, from)?;
+                return Ok(Some(self.enter_if_next(context, layout, after_step)?));
             }
             Instr::Set {
                 place: _,
                 attr: _,
                 rule,
-            } => return Ok(Some(self.give(alloc, job, asked, node, rule, meter)?)),
-            Instr::Def { attr: _, rule } => self.give(alloc, job, asked, node, rule, meter)?,
-            Instr::Go(place) => return Ok(Some(self.enter(job, node, place)?)),
-            Instr::Put(place) => return Ok(Some(self.put(job, asked, node, place, to)?)),
+            } => return Ok(Some(self.run_rule(alloc, context, layout, node, rule, meter)?)),
+            Instr::Def { attr: _, rule } => self.run_rule(
+                alloc, context, layout, node, rule, meter,
+            )?,
+            Instr::Go(place) => return Ok(Some(self.enter_child(context, node, place)?)),
+            Instr::Put(place) => return Ok(Some(self.put(context, layout, node, place, to)?)),
             Instr::End => node,
         };
-        self.leave(job, asked, ended, to)
+        self.finish_if_ended(context, layout, ended, to)
     }
 }

@@ -1,7 +1,7 @@
 //! A node whose instructions a pass is executing.
 
 ghost use Rattle.std.specs.Prelude.{◌≡◌, ◌+◌, ◌<◌, ◌^◌};
-ghost use Rattle.passrun.specs.passing.Nodes.{first_at, left_at, stepped};
+ghost use Rattle.passrun.specs.passing.Nodes.{first_at, left_at, after_step};
 
 /// An open node: one whose record was read, and whose list of instructions is not finished.
 #[derive(Clone, Copy, Debug, PartialEq, Eq)]
@@ -41,9 +41,9 @@ impl OpenNode {
 
     /// Returns the node after its next instruction. `child` is the number in the record of the
     /// child that was read last.
-    pub(crate) fn stepped(self, child: u16) -> OpenNode
+    pub(crate) fn after_step(self, child: u16) -> OpenNode
         requires { self.at + 1 < 2 ^ 64 }
-        ensures { result ≡ stepped self child }
+        ensures { result ≡ after_step self child }
     {
         OpenNode {
             production: self.production,

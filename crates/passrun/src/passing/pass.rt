@@ -2,22 +2,22 @@
 
 ghost use Rattle.std.specs.Prelude.{◌≡◌, ◌+◌, ◌-◌, ◌^◌, ◌≤◌, ℕ, IfErr, IfOk, IsErrOf};
 ghost use Rattle.std.specs.Prelude.{OnErr, OnOk};
-ghost use Rattle.ag_grammar.specs.grammars.Tree.{most_nodes};
+ghost use Rattle.ag_grammar.specs.grammars.Tree.{max_nodes};
 ghost use Rattle.passassign.specs.Rows.{IsGreatest, passes_of};
 ghost use Rattle.passrun.specs.passing.Ahead.{IsRunFault};
-ghost use Rattle.passrun.specs.laid.Jobs.{CanRun, setting};
+ghost use Rattle.passrun.specs.layouts.Contexts.{CanRun, setting};
 ghost use Rattle.passrun.specs.Laws.{CountsPass};
 ghost use Rattle.passrun.specs.Passed.{IsPassed};
 ghost use Rattle.planchecker.specs.courses.Settings.{setting_of};
 ghost use Rattle.planchecker.specs.Plans.{IsPlan};
-ghost use Rattle.treefile.specs.ways.Beginning.{BeginsFile, LeavesBeginning};
+ghost use Rattle.treefile.specs.framing.Beginning.{BeginsFile, LeavesBeginning};
 ghost use Rattle.treefile.specs.devices.Device.{LeavesContent, WhenHonest};
 ghost use Rattle.treefile.specs.Runs.{RunsPass};
-ghost use Rattle.treefile.specs.devices.Several.{BothLast};
+ghost use Rattle.treefile.specs.devices.Several.{BothPersist};
 ghost use Rattle.treefile.specs.records.TreeFile.{version_two};
 
-use crate::laid::job::Job;
-use crate::laid::laying::lay_out;
+use crate::layouts::building::build_layout;
+use crate::layouts::context::PassContext;
 use crate::passing::ends::{Passed, begin, finish};
 use crate::passing::open_node::OpenNode;
 use crate::passing::run::run;
@@ -30,43 +30,43 @@ use treefile::Device;
 
 /// Runs the pass of a job: reads the file of the previous pass backward, and writes the file of the
 /// pass.
-pub(crate) fn run_job<D: Device, E: Device>(
+pub(crate) fn run_in_context<D: Device, E: Device>(
     alloc: Global,
-    job: &Job<'_>,
+    context: &PassContext<'_>,
     from: &mut D,
     to: &mut E,
     meter: &mut Meter,
 ) -> Result<Passed, RunFault>
-    requires job { CanRun job.now }
+    requires context { CanRun context.now }
     requires meter { meter.old ≤ 2 ^ 63 }
     ensures passed { WhenHonest (D.is_honest from.new) (WhenHonest (E.is_honest to.new)
-        (IfOk result (λ p. IsPassed (setting job.now) (D.content from.old) (E.content to.new)
+        (IfOk result (λ p. IsPassed (setting context.now) (D.content from.old) (E.content to.new)
         p.nodes (meter.new - meter.old)))) }
     // R1, P2 and P3 only if they are true of the file
     ensures refused { IfErr result (λ f. WhenHonest (D.is_honest from.new)
-        (IsRunFault (setting job.now) (D.content from.old) f)) }
+        (IsRunFault (setting context.now) (D.content from.old) f)) }
     // the content of the second device is unchanged, or a prefix of the file
     ensures left { OnErr result (WhenHonest (E.is_honest to.new)
-        (LeavesBeginning (setting job.now).write (E.content to.old) (E.content to.new))) }
+        (LeavesBeginning (setting context.now).write (E.content to.old) (E.content to.new))) }
     // for any first device, honest or not
     ensures begins { OnOk result (WhenHonest (E.is_honest to.new)
-        (BeginsFile (setting job.now).write (E.content to.new))) }
+        (BeginsFile (setting context.now).write (E.content to.new))) }
     ensures counts { IfOk result (λ p. (p.read ≡ p.nodes) × (p.written ≡ p.nodes)) }
     // for any devices, honest or not
-    ensures few { IfOk result (λ p. p.nodes ≤ most_nodes) }
+    ensures few { IfOk result (λ p. p.nodes ≤ max_nodes) }
     // for any devices, honest or not
     ensures rises { meter.old ≤ meter.new }
     ensures meter { OnOk result (meter.new ≤ meter.old + 2 ^ 36) }
     ensures content { LeavesContent (D.is_honest from.new)
         (D.content from.old) (D.content from.new) }
     // D1 only if the number of failures rose on one of the two
-    ensures devices { BothLast D.is_honest D.failures from.old from.new
+    ensures devices { BothPersist D.is_honest D.failures from.old from.new
         E.is_honest E.failures to.old to.new (IsErrOf result RunFault.Device) }
 {
-    let mut machine = begin(alloc, job, from, to, &*meter)?;
+    let mut machine = begin(alloc, context, from, to, &*meter)?;
     let root = OpenNode::first(machine.root);
-    run(alloc, job, &mut machine, root, from, to, meter)?;
-    finish(job, &mut machine, from, to)
+    run(alloc, context, &mut machine, root, from, to, meter)?;
+    finish(context, &mut machine, from, to)
 }
 
 /// Runs a pass of a plan for a grammar. `pass` is a number from 1 to the greatest pass of the plan.
@@ -78,8 +78,8 @@ pub(crate) fn run_job<D: Device, E: Device>(
 /// of the grammar. The offset is 0 if the file does not begin as a tree file, and 4 if it is that
 /// of another pass. Otherwise it is the end of the frame that shows the damage, or the offset at
 /// which a frame should end. Fails with P2 (`TooDeep`) if the file encodes no tree of at most
-/// `MOST_DEPTH` levels, before a record one level deeper is read. Fails with P3 (`TooManyNodes`) if
-/// it encodes no tree of at most `MOST_NODES` stored nodes, before one record more is read. Fails
+/// `MAX_DEPTH` levels, before a record one level deeper is read. Fails with P3 (`TooManyNodes`) if
+/// it encodes no tree of at most `MAX_NODES` stored nodes, before one record more is read. Fails
 /// with D1 (`Device`) if a call of one of the devices failed, and with `NoMemory` if memory cannot
 /// be allocated.
 ///
@@ -104,7 +104,7 @@ pub fn run_pass<D: Device, E: Device>(
         (IfOk result (λ p. IsPassed (setting_of grammar.now plan.now pass) (D.content from.old)
         (E.content to.new) p.nodes (meter.new - meter.old)))) }
     // for every tree and values that the file encodes: there is only one tree
-    ensures told { WhenHonest (D.is_honest from.new) (WhenHonest (E.is_honest to.new)
+    ensures exact { WhenHonest (D.is_honest from.new) (WhenHonest (E.is_honest to.new)
         (IfOk result (λ p. RunsPass version_two grammar.now (passes_of plan.now.0) (pass - 1)
         (D.content from.old) (E.content to.new)
         × CountsPass grammar.now (passes_of plan.now.0) (pass - 1) (D.content from.old)
@@ -120,23 +120,23 @@ pub fn run_pass<D: Device, E: Device>(
         (BeginsFile pass (E.content to.new))) }
     ensures counts { IfOk result (λ p. (p.read ≡ p.nodes) × (p.written ≡ p.nodes)) }
     // for any devices, honest or not
-    ensures few { IfOk result (λ p. p.nodes ≤ most_nodes) }
+    ensures few { IfOk result (λ p. p.nodes ≤ max_nodes) }
     // for any devices, honest or not
     ensures rises { meter.old ≤ meter.new }
     ensures meter { OnOk result (meter.new ≤ meter.old + 2 ^ 36) }
     ensures content { LeavesContent (D.is_honest from.new)
         (D.content from.old) (D.content from.new) }
     // D1 only if the number of failures rose on one of the two
-    ensures devices { BothLast D.is_honest D.failures from.old from.new
+    ensures devices { BothPersist D.is_honest D.failures from.old from.new
         E.is_honest E.failures to.old to.new (IsErrOf result RunFault.Device) }
 {
-    let layout = lay_out(alloc, grammar, plan, pass)?;
-    let job = Job {
+    let layout = build_layout(alloc, grammar, plan, pass)?;
+    let context = PassContext {
         grammar,
         plan,
         rows: layout.productions.as_slice(),
         hints: &layout.hints,
         pass,
     };
-    run_job(alloc, &job, from, to, meter)
+    run_in_context(alloc, &context, from, to, meter)
 }

@@ -3,7 +3,7 @@
 ghost use Rattle.std.specs.Prelude.{◌≡◌, ◌<◌, ◌≤◌, ◌-◌, ◌^◌, All, false, length, IfErr, IsErrOf};
 ghost use Rattle.std.specs.Prelude.{OnOk};
 ghost use Rattle.ag_value.specs.Well.{IsWell};
-ghost use Rattle.passrun.specs.passing.Ahead.{IsWant};
+ghost use Rattle.passrun.specs.passing.Ahead.{IsResourceFault};
 ghost use Rattle.passrun.specs.passing.Putting.{AddsFrames, HasPut, LeavesFrames};
 ghost use Rattle.treefile.specs.devices.Device.{Persists};
 ghost use Rattle.treefile.specs.records.TreeFile.{version_two};
@@ -22,7 +22,7 @@ pub(crate) fn put_record<E: Device>(
     writer: &mut Writer,
     to: &mut E,
 ) -> Result<(), RunFault>
-    requires few { length values.now ≤ version_two.most_values }
+    requires few { length values.now ≤ version_two.max_values }
     requires well { All IsWell values.now }
     requires room { writer.old.written < 2 ^ 64 - 1 }
     requires whole { writer.old.is_broken ≡ false }
@@ -32,7 +32,7 @@ pub(crate) fn put_record<E: Device>(
         (E.content to.old) (E.content to.new)) }
     ensures left { IfErr result (LeavesFrames (E.is_honest to.new)
         (E.content to.old) (E.content to.new)) }
-    ensures want { IfErr result IsWant }
+    ensures resource { IfErr result IsResourceFault }
     ensures persists { Persists (E.is_honest to.old) (E.is_honest to.new)
         (E.failures to.old) (E.failures to.new) (IsErrOf result RunFault.Device) }
 {

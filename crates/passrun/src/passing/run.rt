@@ -2,13 +2,13 @@
 
 ghost use Rattle.std.specs.Prelude.{◌≡◌, ◌≤◌, None, Some, IfErr, IsErrOf, OnOk};
 ghost use Rattle.passrun.specs.passing.Ahead.{IsRunFault};
-ghost use Rattle.passrun.specs.laid.Jobs.{CanRun, setting};
+ghost use Rattle.passrun.specs.layouts.Contexts.{CanRun, setting};
 ghost use Rattle.passrun.specs.passing.Putting.{AddsFrames, LeavesFrames};
 ghost use Rattle.passrun.specs.passing.Running.{Runs};
 ghost use Rattle.treefile.specs.devices.Device.{LeavesContent, WhenHonest};
-ghost use Rattle.treefile.specs.devices.Several.{BothLast};
+ghost use Rattle.treefile.specs.devices.Several.{BothPersist};
 
-use crate::laid::job::Job;
+use crate::layouts::context::PassContext;
 use crate::passing::machine::Machine;
 use crate::passing::open_node::OpenNode;
 use crate::run_fault::RunFault;
@@ -19,35 +19,35 @@ use treefile::Device;
 /// Runs a pass from the node of its root until the root is done.
 pub(crate) fn run<D: Device, E: Device>(
     alloc: Global,
-    job: &Job<'_>,
+    context: &PassContext<'_>,
     machine: &mut Machine,
     root: OpenNode,
     from: &mut D,
     to: &mut E,
     meter: &mut Meter,
 ) -> Result<(), RunFault>
-    requires job { CanRun job.now }
-    requires runs { Runs (setting job.now) (D.is_honest from.old) (D.content from.old)
+    requires context { CanRun context.now }
+    requires runs { Runs (setting context.now) (D.is_honest from.old) (D.content from.old)
         (E.is_honest to.old) (E.content to.old) meter.old machine.old (Some root) }
-    ensures runs { OnOk result (Runs (setting job.now) (D.is_honest from.new) (D.content from.new)
+    ensures runs { OnOk result (Runs (setting context.now) (D.is_honest from.new) (D.content from.new)
         (E.is_honest to.new) (E.content to.new) meter.new machine.new None) }
     ensures added { OnOk result (AddsFrames (E.is_honest to.new)
         (E.content to.old) (E.content to.new)) }
     ensures left { IfErr result (LeavesFrames (E.is_honest to.new)
         (E.content to.old) (E.content to.new)) }
     ensures refused { IfErr result (λ f. WhenHonest (D.is_honest from.new)
-        (IsRunFault (setting job.now) (D.content from.old) f)) }
+        (IsRunFault (setting context.now) (D.content from.old) f)) }
     ensures begun { OnOk result (machine.new.begun ≡ machine.old.begun) }
     ensures rises { meter.old ≤ meter.new }
     ensures content { LeavesContent (D.is_honest from.new)
         (D.content from.old) (D.content from.new) }
     // D1 only if the number of failures rose on one of the two
-    ensures devices { BothLast D.is_honest D.failures from.old from.new
+    ensures devices { BothPersist D.is_honest D.failures from.old from.new
         E.is_honest E.failures to.old to.new (IsErrOf result RunFault.Device) }
 {
     let mut next = Some(root);
     while let Some(node) = next {
-        next = machine.step(alloc, job, node, from, to, meter)?;
+        next = machine.step(alloc, context, node, from, to, meter)?;
     }
     Ok(())
 }

@@ -3,18 +3,18 @@
 ghost use Rattle.std.specs.Prelude.{◌≡◌, ◌≤◌, None, IfErr, IfOk, IsErrOf};
 ghost use Rattle.backreader.specs.BackState.{IsOver};
 ghost use Rattle.passrun.specs.reading.Fetching.{HasFetched, IsUnfetched};
-ghost use Rattle.passrun.specs.laid.Jobs.{CanRun, setting};
+ghost use Rattle.passrun.specs.layouts.Contexts.{CanRun, setting};
 ghost use Rattle.treefile.specs.devices.Device.{LeavesContent, Persists, WhenHonest};
 ghost use Rattle.treefile.specs.records.TreeFile.{version_two};
 
-use crate::laid::hints::Site;
-use crate::laid::job::Job;
+use crate::layouts::context::PassContext;
+use crate::layouts::hints::ChildLocation;
 use crate::reading::lent::read_lent;
 use crate::reading::record::{RecordFault, read_record};
 use crate::run_fault::RunFault;
 use ag_carried::Carried;
 use ag_grammar::Item;
-use ag_grammar::limits::{MOST_DEPTH, MOST_NODES};
+use ag_grammar::limits::{MAX_DEPTH, MAX_NODES};
 use backreader::Back;
 use std::alloc::Global;
 use treefile::Device;
@@ -22,44 +22,44 @@ use treefile::Device;
 /// Reads the record of an item below `open_count` open nodes, and appends its row to the values.
 /// Returns the number in the record: that of the production, or that of the token's class.
 ///
-/// Fails with P2 if the record would be deeper than `MOST_DEPTH` levels, and with P3 if
-/// `MOST_NODES` records were read already. Fails with R1 and the offset at which the record should
+/// Fails with P2 if the record would be deeper than `MAX_DEPTH` levels, and with P3 if
+/// `MAX_NODES` records were read already. Fails with R1 and the offset at which the record should
 /// end if no frame ends there or its body is not a record of the item. Fails with D1 if the device
 /// fails, and with `NoMemory` if memory cannot be allocated.
 #[inline(always)]
 pub(crate) fn fetch<D: Device>(
     alloc: Global,
-    job: &Job<'_>,
+    context: &PassContext<'_>,
     item: Item,
-    site: Site,
+    location: ChildLocation,
     open_count: usize,
     back: &mut Back,
     values: &mut Vec<Carried>,
     from: &mut D,
 ) -> Result<u16, RunFault>
-    requires job { CanRun job.now }
+    requires context { CanRun context.now }
     requires over { WhenHonest (D.is_honest from.old) (IsOver (D.content from.old) back.old) }
     requires version { back.old.progress.version ≡ version_two }
     requires unbroken { back.old.progress.fault ≡ None }
-    ensures fetched { IfOk result (λ p. HasFetched (setting job.now) item p open_count
+    ensures fetched { IfOk result (λ p. HasFetched (setting context.now) item p open_count
         (D.is_honest from.new) (D.content from.old) back.old back.new
         values.old.items values.new.items) }
     ensures refused { IfErr result (λ f. WhenHonest (D.is_honest from.new)
-        (IsUnfetched (setting job.now) item open_count (D.content from.old) back.old f)) }
+        (IsUnfetched (setting context.now) item open_count (D.content from.old) back.old f)) }
     ensures content { LeavesContent (D.is_honest from.new)
         (D.content from.old) (D.content from.new) }
     ensures persists { Persists (D.is_honest from.old) (D.is_honest from.new)
         (D.failures from.old) (D.failures from.new) (IsErrOf result RunFault.Device) }
 {
-    if open_count >= MOST_DEPTH {
+    if open_count >= MAX_DEPTH {
         return Err(RunFault::TooDeep);
     }
-    if back.records() >= u64::from(MOST_NODES) {
+    if back.records() >= u64::from(MAX_NODES) {
         return Err(RunFault::TooManyNodes);
     }
     let end = back.end();
     if let Some(body) = back.lend_back(from) {
-        return match read_lent(alloc, job, item, site, body, values) {
+        return match read_lent(alloc, context, item, location, body, values) {
             Ok(number) => Ok(number),
             Err(RecordFault::Damaged) => Err(RunFault::Damaged(end)),
             Err(RecordFault::NoMemory) => Err(RunFault::NoMemory),
@@ -68,7 +68,7 @@ pub(crate) fn fetch<D: Device>(
     let Some(body) = back.back(from)? else {
         return Err(RunFault::Damaged(end));
     };
-    match read_record(alloc, job, item, site, body, values) {
+    match read_record(alloc, context, item, location, body, values) {
         Ok(number) => Ok(number),
         Err(RecordFault::Damaged) => Err(RunFault::Damaged(end)),
         Err(RecordFault::NoMemory) => Err(RunFault::NoMemory),

@@ -2,12 +2,12 @@
 
 ghost use Rattle.std.specs.Prelude.{◌≡◌, ◌<◌, ◌≤◌, ◌-◌, [], IfOk, IfSome, IsErrOf, IsTrue, length, take};
 ghost use Rattle.ag_grammar.specs.declared.grammar.Item.TheVariants as item;
-ghost use Rattle.passrun.specs.laid.Jobs.{CanRun, setting};
+ghost use Rattle.passrun.specs.layouts.Contexts.{CanRun, setting};
 ghost use Rattle.passrun.specs.reading.Reading.{AreTaken, IsBodyOf, IsNodeRead, IsNoRecord, IsRead, IsTaken};
-ghost use Rattle.passrun.specs.reading.Reading.{StandInFront};
+ghost use Rattle.passrun.specs.reading.Reading.{PrependsTo};
 
-use crate::laid::hints::Site;
-use crate::laid::job::Job;
+use crate::layouts::context::PassContext;
+use crate::layouts::hints::ChildLocation;
 use crate::reading::record::{RecordFault, node_in, read_record};
 use ag_carried::Carried;
 use ag_grammar::{Grammar, Item};
@@ -31,7 +31,7 @@ fn take_value<'b>(
     requires { 1 ≤ k }
     ensures taken { IfOk result (λ found. IfSome found (λ rest.
         IsTaken (k - 1) k pass body.entry rest values.old.items values.new.items)) }
-    ensures front { StandInFront values.old.items values.new.items }
+    ensures prefix { PrependsTo values.old.items values.new.items }
 {
     if pass > k {
         return Ok(Some(body));
@@ -59,7 +59,7 @@ fn take_row(
     requires { 1 ≤ k }
     ensures taken { IfOk result (λ all. IsTrue all → AreTaken (k - 1) k passes.now body.entry []
         values.old.items values.new.items) }
-    ensures front { StandInFront values.old.items values.new.items }
+    ensures prefix { PrependsTo values.old.items values.new.items }
 {
     let mut rest = body;
     for pass in passes {
@@ -88,21 +88,21 @@ fn node_of<'b>(grammar: &Grammar, symbol: u16, body: Body<'b>) -> Option<(u16, B
 /// them may have been appended then.
 fn read_node(
     alloc: Global,
-    job: &Job<'_>,
+    context: &PassContext<'_>,
     symbol: u16,
     body: Body<'_>,
     values: &mut Vec<Carried>,
 ) -> Result<Option<u16>, NoMemory>
-    requires { CanRun job.now }
-    ensures read { IfOk result (λ found. IfSome found (λ p. IsNodeRead (setting job.now) symbol p
+    requires { CanRun context.now }
+    ensures read { IfOk result (λ found. IfSome found (λ p. IsNodeRead (setting context.now) symbol p
         body.entry values.old.items values.new.items)) }
-    ensures front { StandInFront values.old.items values.new.items }
+    ensures prefix { PrependsTo values.old.items values.new.items }
 {
-    let Some((number, rest)) = node_of(job.grammar, symbol, body) else {
+    let Some((number, rest)) = node_of(context.grammar, symbol, body) else {
         return Ok(None);
     };
-    let row = job.row(number);
-    if take_row(alloc, row.passes.as_slice(), job.pass, rest, values)? {
+    let row = context.row(number);
+    if take_row(alloc, row.passes.as_slice(), context.pass, rest, values)? {
         return Ok(Some(number));
     }
     Ok(None)
@@ -111,68 +111,75 @@ fn read_node(
 /// Reads the record of an item from a copy of a body, as `read_record` does.
 fn read_copy(
     alloc: Global,
-    job: &Job<'_>,
+    context: &PassContext<'_>,
     item: Item,
-    site: Site,
+    location: ChildLocation,
     body: &Body<'_>,
     values: &mut Vec<Carried>,
 ) -> Result<u16, RecordFault>
-    requires { CanRun job.now }
-    ensures read { IfOk result (λ p. IsRead (setting job.now) item p
+    requires { CanRun context.now }
+    ensures read { IfOk result (λ p. IsRead (setting context.now) item p
         body.now values.old.items values.new.items) }
-    ensures none { IsErrOf result RecordFault.Damaged → IsNoRecord (setting job.now) item body.now }
+    ensures none { IsErrOf result RecordFault.Damaged → IsNoRecord (setting context.now) item body.now }
 {
     let mut bytes = Vec::new(alloc);
     let Ok(()) = body.append_to(&mut bytes) else {
         return Err(RecordFault::NoMemory);
     };
-    read_record(alloc, job, item, site, bytes.as_slice(), values)
+    read_record(alloc, context, item, location, bytes.as_slice(), values)
 }
 
 /// Reads the body of a node of a symbol in which values are shared, as `read_record` does.
 fn read_shared_node(
     alloc: Global,
-    job: &Job<'_>,
+    context: &PassContext<'_>,
     symbol: u16,
-    site: Site,
+    location: ChildLocation,
     body: Body<'_>,
     values: &mut Vec<Carried>,
 ) -> Result<u16, RecordFault>
-    requires { CanRun job.now }
-    ensures read { IfOk result (λ p. IsRead (setting job.now) (item.Symbol symbol) p
+    requires { CanRun context.now }
+    ensures read { IfOk result (λ p. IsRead (setting context.now) (item.Symbol symbol) p
         body.entry values.old.items values.new.items) }
     ensures none { IsErrOf result RecordFault.Damaged
-        → IsNoRecord (setting job.now) (item.Symbol symbol) body.entry }
+        → IsNoRecord (setting context.now) (item.Symbol symbol) body.entry }
 {
     let start = values.len();
-    let Ok(found) = read_node(alloc, job, symbol, body.again(), values) else {
+    let Ok(found) = read_node(alloc, context, symbol, body.again(), values) else {
         return Err(RecordFault::NoMemory);
     };
     if let Some(number) = found {
         return Ok(number);
     }
     values.truncate(start);
-    read_copy(alloc, job, Item::Symbol(symbol), site, &body, values)
+    read_copy(
+        alloc,
+        context,
+        Item::Symbol(symbol),
+        location,
+        &body,
+        values,
+    )
 }
 
 /// Reads a body in which values are shared, as `read_record` does.
 fn read_shared(
     alloc: Global,
-    job: &Job<'_>,
+    context: &PassContext<'_>,
     item: Item,
-    site: Site,
+    location: ChildLocation,
     body: Body<'_>,
     values: &mut Vec<Carried>,
 ) -> Result<u16, RecordFault>
-    requires { CanRun job.now }
-    ensures read { IfOk result (λ p. IsRead (setting job.now) item p
+    requires { CanRun context.now }
+    ensures read { IfOk result (λ p. IsRead (setting context.now) item p
         body.entry values.old.items values.new.items) }
     ensures none { IsErrOf result RecordFault.Damaged
-        → IsNoRecord (setting job.now) item body.entry }
+        → IsNoRecord (setting context.now) item body.entry }
 {
     match item {
-        Item::Symbol(symbol) => read_shared_node(alloc, job, symbol, site, body, values),
-        Item::Terminal(_) => read_copy(alloc, job, item, site, &body, values),
+        Item::Symbol(symbol) => read_shared_node(alloc, context, symbol, location, body, values),
+        Item::Terminal(_) => read_copy(alloc, context, item, location, &body, values),
     }
 }
 
@@ -180,20 +187,20 @@ fn read_shared(
 #[inline(never)]
 pub(crate) fn read_lent(
     alloc: Global,
-    job: &Job<'_>,
+    context: &PassContext<'_>,
     item: Item,
-    site: Site,
+    location: ChildLocation,
     body: Body<'_>,
     values: &mut Vec<Carried>,
 ) -> Result<u16, RecordFault>
-    requires { CanRun job.now }
-    ensures read { IfOk result (λ p. IsRead (setting job.now) item p
+    requires { CanRun context.now }
+    ensures read { IfOk result (λ p. IsRead (setting context.now) item p
         body.entry values.old.items values.new.items) }
     ensures none { IsErrOf result RecordFault.Damaged
-        → IsNoRecord (setting job.now) item body.entry }
+        → IsNoRecord (setting context.now) item body.entry }
 {
     match body.as_slice() {
-        Some(bytes) => read_record(alloc, job, item, site, bytes, values),
-        None => read_shared(alloc, job, item, site, body, values),
+        Some(bytes) => read_record(alloc, context, item, location, bytes, values),
+        None => read_shared(alloc, context, item, location, body, values),
     }
 }

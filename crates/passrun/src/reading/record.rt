@@ -5,18 +5,18 @@ ghost use Rattle.std.specs.Prelude.{List, MatchResult, ◌+◌, length, take, ve
 ghost use Rattle.ag_value.specs.Spelling.{spelling_of};
 ghost use Rattle.ag_value.specs.Well.{IsWell};
 ghost use Rattle.ag_value.specs.declared.value.Value.{Value as AttributeValue, Num};
-ghost use Rattle.passrun.specs.laid.Jobs.{CanRun, setting};
+ghost use Rattle.passrun.specs.layouts.Contexts.{CanRun, setting};
 ghost use Rattle.passrun.specs.reading.Reading.{AreTaken, AreUntaken, IsNoNodeBody, IsNoRow, IsNodeBody};
-ghost use Rattle.passrun.specs.reading.Reading.{IsTaken, IsUntaken, IsNodeRead, IsNoNode, StandInFront};
+ghost use Rattle.passrun.specs.reading.Reading.{IsTaken, IsUntaken, IsNodeRead, IsNoNode, PrependsTo};
 ghost use Rattle.passrun.specs.reading.Reading.{IsTextOf, IsTokenRead, IsNoToken, IsRead, IsNoRecord};
 ghost use Rattle.passrun.specs.Faults.{record_fault_of};
 ghost use Rattle.planchecker.specs.courses.Settings.{setting_of};
 
-use crate::laid::hints::{Hints, RowContext, RowSite, Site};
-use crate::laid::job::Job;
-use crate::laid::rows::row_passes;
+use crate::layouts::context::PassContext;
+use crate::layouts::hints::{ChildLocation, Hints, RowContext, RowLocation};
+use crate::layouts::rows::row_passes;
 use ag_carried::Carried;
-use ag_grammar::limits::MOST_TOKEN_BYTES;
+use ag_grammar::limits::MAX_TOKEN_BYTES;
 use ag_grammar::{Grammar, Item, Terminal};
 use ag_value::{Value, ValueFault, decode};
 use planchecker::Plan;
@@ -50,15 +50,15 @@ fn number_in(bytes: &[u8]) -> Option<(i64, &[u8])>
         (λ found. bytes.now ≡ spelling_of (Num found.0) ++ found.1.now) }
     ensures well { IfSome result (λ found. IsWell (Num found.0)) }
 {
-    let [tag, behind @ ..] = bytes else {
+    let [tag, following @ ..] = bytes else {
         return None;
     };
-    if *tag != 0 || behind.len() < 8 {
+    if *tag != 0 || following.len() < 8 {
         return None;
     }
-    let (front, rest) = behind.split_at(8);
+    let (prefix, rest) = following.split_at(8);
     let number = u64::from_be_bytes([
-        front[0], front[1], front[2], front[3], front[4], front[5], front[6], front[7],
+        prefix[0], prefix[1], prefix[2], prefix[3], prefix[4], prefix[5], prefix[6], prefix[7],
     ]);
     Some((number.cast_signed(), rest))
 }
@@ -99,7 +99,7 @@ fn take_number<'b>(
     ensures taken { IfSome result (λ rest. IsTaken (k - 1) k pass bytes.now rest.now
         values.old.items values.new.items) }
     ensures none { result ≡ None → (pass < k) × (values.new.items ≡ values.old.items) }
-    ensures front { StandInFront values.old.items values.new.items }
+    ensures prefix { PrependsTo values.old.items values.new.items }
     ensures len { vec_len values.new ≤ vec_len values.old + 1 }
     ensures capacity { vec_capacity values.new ≡ vec_capacity values.old }
 {
@@ -124,15 +124,15 @@ fn read_value<'b>(
     k: u16,
     bytes: &'b [u8],
     values: &mut Vec<Carried>,
-    context: &RowContext<'_>,
+    row_context: &RowContext<'_>,
 ) -> Result<&'b [u8], RecordFault>
     requires known { pass < k }
     ensures taken { IfOk result (λ rest. IsTaken (k - 1) k pass bytes.now rest.now
         values.old.items values.new.items) }
     ensures untaken { IsErrOf result RecordFault.Damaged → IsUntaken (k - 1) pass bytes.now }
-    ensures front { StandInFront values.old.items values.new.items }
+    ensures prefix { PrependsTo values.old.items values.new.items }
 {
-    let candidate = context.candidate(values.as_slice());
+    let candidate = row_context.candidate(values.as_slice());
     let (value, length) = read_beside(alloc, candidate, bytes)?;
     let Ok(()) = values.push(value) else {
         return Err(RecordFault::NoMemory);
@@ -148,20 +148,20 @@ fn take_value<'b>(
     k: u16,
     bytes: &'b [u8],
     values: &mut Vec<Carried>,
-    context: &RowContext<'_>,
+    row_context: &RowContext<'_>,
 ) -> Result<&'b [u8], RecordFault>
     requires { 1 ≤ k }
     ensures taken { IfOk result (λ rest. IsTaken (k - 1) k pass bytes.now rest.now
         values.old.items values.new.items) }
     ensures untaken { IsErrOf result RecordFault.Damaged → IsUntaken (k - 1) pass bytes.now }
-    ensures front { StandInFront values.old.items values.new.items }
+    ensures prefix { PrependsTo values.old.items values.new.items }
 {
     let Ok(()) = values.reserve(1) else {
         return Err(RecordFault::NoMemory);
     };
     match take_number(pass, k, bytes, values) {
         Some(rest) => Ok(rest),
-        None => read_value(alloc, pass, k, bytes, values, context),
+        None => read_value(alloc, pass, k, bytes, values, row_context),
     }
 }
 
@@ -186,18 +186,18 @@ fn take_values(
     k: u16,
     bytes: &[u8],
     values: &mut Vec<Carried>,
-    row: RowSite<'_>,
+    row: RowLocation<'_>,
 ) -> Result<(), RecordFault>
     requires { 1 ≤ k }
     ensures taken { OnOk result (AreTaken (k - 1) k passes.now bytes.now []
         values.old.items values.new.items) }
     ensures none { IsErrOf result RecordFault.Damaged → IsNoRow (k - 1) passes.now bytes.now }
-    ensures front { StandInFront values.old.items values.new.items }
+    ensures prefix { PrependsTo values.old.items values.new.items }
 {
-    let context = row.context(values.len(), passes, k);
+    let row_context = row.row_context(values.len(), passes, k);
     let mut rest = bytes;
     for pass in passes {
-        rest = take_value(alloc, *pass, k, rest, values, &context)?;
+        rest = take_value(alloc, *pass, k, rest, values, &row_context)?;
     }
     check_end(rest)
 }
@@ -211,13 +211,13 @@ fn take_row(
     k: u16,
     bytes: &[u8],
     values: &mut Vec<Carried>,
-    row: RowSite<'_>,
+    row: RowLocation<'_>,
 ) -> Result<(), RecordFault>
     requires { 1 ≤ k }
     ensures taken { OnOk result (AreTaken (k - 1) k passes.now bytes.now []
         values.old.items values.new.items) }
     ensures none { IsErrOf result RecordFault.Damaged → IsNoRow (k - 1) passes.now bytes.now }
-    ensures front { StandInFront values.old.items values.new.items }
+    ensures prefix { PrependsTo values.old.items values.new.items }
 {
     let Ok(()) = values.reserve(passes.len()) else {
         return Err(RecordFault::NoMemory);
@@ -275,7 +275,7 @@ pub fn read_node(
         body.now values.old.items values.new.items) }
     ensures none { IsErrOf result RecordFault.Damaged →
         IsNoNode (setting_of grammar.now plan.now k) symbol body.now }
-    ensures front { StandInFront values.old.items values.new.items }
+    ensures prefix { PrependsTo values.old.items values.new.items }
 {
     let Some((number, spellings)) = node_in(grammar, symbol, body) else {
         return Err(RecordFault::Damaged);
@@ -285,10 +285,10 @@ pub fn read_node(
         return Err(RecordFault::NoMemory);
     };
     let hints = Hints::none(alloc);
-    let row = RowSite {
+    let row = RowLocation {
         hints: &hints,
         production: number,
-        parent: Site::default(),
+        parent: ChildLocation::default(),
     };
     take_row(alloc, passes.as_slice(), k, spellings, values, row)?;
     Ok(number)
@@ -298,30 +298,30 @@ pub fn read_node(
 #[inline(always)]
 fn read_laid_node(
     alloc: Global,
-    job: &Job<'_>,
+    context: &PassContext<'_>,
     symbol: u16,
-    site: Site,
+    location: ChildLocation,
     body: &[u8],
     values: &mut Vec<Carried>,
 ) -> Result<u16, RecordFault>
-    requires { CanRun job.now }
-    ensures read { IfOk result (λ p. IsNodeRead (setting job.now) symbol p
+    requires { CanRun context.now }
+    ensures read { IfOk result (λ p. IsNodeRead (setting context.now) symbol p
         body.now values.old.items values.new.items) }
-    ensures none { IsErrOf result RecordFault.Damaged → IsNoNode (setting job.now) symbol body.now }
+    ensures none { IsErrOf result RecordFault.Damaged → IsNoNode (setting context.now) symbol body.now }
 {
-    let Some((number, spellings)) = node_in(job.grammar, symbol, body) else {
+    let Some((number, spellings)) = node_in(context.grammar, symbol, body) else {
         return Err(RecordFault::Damaged);
     };
-    let layout = job.row(number);
-    let row = RowSite {
-        hints: job.hints,
+    let layout = context.row(number);
+    let row = RowLocation {
+        hints: context.hints,
         production: number,
-        parent: site,
+        parent: location,
     };
     take_row(
         alloc,
         layout.passes.as_slice(),
-        job.pass,
+        context.pass,
         spellings,
         values,
         row,
@@ -330,7 +330,7 @@ fn read_laid_node(
 }
 
 /// Returns the text in the body of a token of a class. Fails with `Damaged` if the body is not that
-/// of such a token, with a text of at most `MOST_TOKEN_BYTES` bytes.
+/// of such a token, with a text of at most `MAX_TOKEN_BYTES` bytes.
 #[inline(always)]
 pub(crate) fn text_in(alloc: Global, class: u16, body: &[u8]) -> Result<Value, RecordFault>
     ensures text { IfOk result (λ v. IsTextOf class body.now v) }
@@ -346,7 +346,7 @@ pub(crate) fn text_in(alloc: Global, class: u16, body: &[u8]) -> Result<Value, R
     let Value::Text(text) = value else {
         return Err(RecordFault::Damaged);
     };
-    if text.as_str().len() > MOST_TOKEN_BYTES {
+    if text.as_str().len() > MAX_TOKEN_BYTES {
         return Err(RecordFault::Damaged);
     }
     Ok(Value::Text(text))
@@ -378,19 +378,19 @@ fn read_token(
 #[inline(always)]
 pub(crate) fn read_record(
     alloc: Global,
-    job: &Job<'_>,
+    context: &PassContext<'_>,
     item: Item,
-    site: Site,
+    location: ChildLocation,
     body: &[u8],
     values: &mut Vec<Carried>,
 ) -> Result<u16, RecordFault>
-    requires { CanRun job.now }
-    ensures read { IfOk result (λ p. IsRead (setting job.now) item p
+    requires { CanRun context.now }
+    ensures read { IfOk result (λ p. IsRead (setting context.now) item p
         body.now values.old.items values.new.items) }
-    ensures none { IsErrOf result RecordFault.Damaged → IsNoRecord (setting job.now) item body.now }
+    ensures none { IsErrOf result RecordFault.Damaged → IsNoRecord (setting context.now) item body.now }
 {
     match item {
-        Item::Symbol(symbol) => read_laid_node(alloc, job, symbol, site, body, values),
+        Item::Symbol(symbol) => read_laid_node(alloc, context, symbol, location, body, values),
         Item::Terminal(Terminal::Class(class)) => {
             read_token(alloc, class, body, values)?;
             Ok(class)

@@ -12,9 +12,9 @@ use Rattle.ag_grammar.specs.grammars.AttributeGrammar.{Grammar}
 use Rattle.ag_grammar.specs.grammars.Passes.{Passes}
 use Rattle.ag_grammar.specs.grammars.Solution.{AtEachNodeOf, IsWellOn, NoRule, Solves, SolvesAll, Valuation, WellAt, left_passes, rest}
 use Rattle.ag_grammar.specs.grammars.Tree.{Forest, Tree, Fits, FitsAll, leaf, more, node, none}
-use Rattle.treefile.specs.ways.Awaited.{AreCopies, Child, IsAsTold, children_with_copies}
+use Rattle.treefile.specs.framing.ExpectedRecords.{AreCopies, Child, MatchesCopy, children_with_copies}
 use Rattle.treefile.specs.records.Listed.{copied_count, copies_count, count_up_to}
-use Rattle.treefile.specs.records.Records.{copies_of, copy_of, left_synthesized, most_copied, most_copies, synthesized_count, synthesized_passes, with_copies}
+use Rattle.treefile.specs.records.Records.{copies_of, copy_of, left_synthesized, max_copied, max_copies, synthesized_count, synthesized_passes, with_copies}
 use Rattle.treefile.proofs.records.Values.{count_of_values, values_few, values_well}
 
 -- an element of a prefix of a list is one of the list
@@ -48,7 +48,7 @@ module _ (g : Grammar) (m : Passes) (k : ℕ) where
   copies_length (x ∷ xs) none vs f = elim f [ ]
   copies_length (x ∷ xs) (more t ts) vs f = omega (arith, length-append (copy_of g m k t (vs 0)) (copies_of g m k ts (rest vs)), copy_length x t (vs 0) f.0, copies_length xs ts (rest vs) f.1)
 
-  copy_few : (x : Item) (t : Tree) (v : Valuation) → Fits g x t → length (copy_of g m k t v) ≤ most_copied g m x
+  copy_few : (x : Item) (t : Tree) (v : Valuation) → Fits g x t → length (copy_of g m k t v) ≤ max_copied g m x
   copy_few (item.Symbol s) (leaf c text) v f = elim f [ ]
   copy_few (item.Symbol s) (node p ts) v f =
       let few = values_few k (left_synthesized g m (slice_get g.productions p)) (v []) in
@@ -57,7 +57,7 @@ module _ (g : Grammar) (m : Passes) (k : ℕ) where
   copy_few (item.Terminal (Literal l)) (leaf d text) v f = elim f [ ]
   copy_few (item.Terminal a) (node p ts) v f = elim f [ ]
 
-  pub copies_few : (xs : List Item) (ts : Forest) (vs : ℕ → Valuation) → FitsAll g xs ts → length (copies_of g m k ts vs) ≤ most_copies g m xs
+  pub copies_few : (xs : List Item) (ts : Forest) (vs : ℕ → Valuation) → FitsAll g xs ts → length (copies_of g m k ts vs) ≤ max_copies g m xs
   copies_few [] none vs f = omega arith
   copies_few [] (more t ts) vs f = elim f [ ]
   copies_few (x ∷ xs) none vs f = elim f [ ]
@@ -75,11 +75,11 @@ module _ (g : Grammar) (m : Passes) (k : ℕ) where
   copies_well (more t ts) vs texts well = All-append IsWell (copy_of g m k t (vs 0)) (copies_of g m k ts (rest vs)) (copy_well t (vs 0) texts.0 well.0) (copies_well ts (rest vs) texts.1 well.1)
 
   -- trees of children, whose values match their copies
-  abbrev pub AreAsTold : List Child → Forest → (ℕ → Valuation) → Type 0
-  AreAsTold [] none vs = Unit {0}
-  AreAsTold [] (more t ts) vs = ⊥
-  AreAsTold (x ∷ xs) none vs = ⊥
-  AreAsTold (x ∷ xs) (more t ts) vs = Fits g x.0 t × IsAsTold x.1 (copy_of g m k t (vs 0)) × AreAsTold xs ts (rest vs)
+  abbrev pub MatchCopies : List Child → Forest → (ℕ → Valuation) → Type 0
+  MatchCopies [] none vs = Unit {0}
+  MatchCopies [] (more t ts) vs = ⊥
+  MatchCopies (x ∷ xs) none vs = ⊥
+  MatchCopies (x ∷ xs) (more t ts) vs = Fits g x.0 t × MatchesCopy x.1 (copy_of g m k t (vs 0)) × MatchCopies xs ts (rest vs)
 
   -- the copies in a node's record, none if the version has no copies
   abbrev pub kept : Bool → List Value → List Value
@@ -87,43 +87,43 @@ module _ (g : Grammar) (m : Passes) (k : ℕ) where
   kept true copies = copies
 
   -- the trees of children match the copies in their parent's record,
-  pub are_as_told : (has : Bool) (xs : List Item) (ts : Forest) (vs : ℕ → Valuation) → FitsAll g xs ts → AreAsTold (children_with_copies has g m k xs (kept has (copies_of g m k ts vs))) ts vs
-  are_as_told has [] none vs f = tt
-  are_as_told has [] (more t ts) vs f = elim f [ ]
-  are_as_told has (x ∷ xs) none vs f = elim f [ ]
-  are_as_told false (x ∷ xs) (more t ts) vs f = (f.0, tt, are_as_told false xs ts (rest vs) f.1)
-  are_as_told true (x ∷ xs) (more t ts) vs f =
+  pub match_copies : (has : Bool) (xs : List Item) (ts : Forest) (vs : ℕ → Valuation) → FitsAll g xs ts → MatchCopies (children_with_copies has g m k xs (kept has (copies_of g m k ts vs))) ts vs
+  match_copies has [] none vs f = tt
+  match_copies has [] (more t ts) vs f = elim f [ ]
+  match_copies has (x ∷ xs) none vs f = elim f [ ]
+  match_copies false (x ∷ xs) (more t ts) vs f = (f.0, tt, match_copies false xs ts (rest vs) f.1)
+  match_copies true (x ∷ xs) (more t ts) vs f =
       let one = copy_of g m k t (vs 0) in
       let others = copies_of g m k ts (rest vs) in
       let long = copy_length x t (vs 0) f.0 in
-      (f.0, sym (take_at one others (copied_count g m k x) long), subst (λ cs. AreAsTold (children_with_copies true g m k xs cs) ts (rest vs)) (sym (drop_at one others (copied_count g m k x) long)) (are_as_told true xs ts (rest vs) f.1))
+      (f.0, sym (take_at one others (copied_count g m k x) long), subst (λ cs. MatchCopies (children_with_copies true g m k xs cs) ts (rest vs)) (sym (drop_at one others (copied_count g m k x) long)) (match_copies true xs ts (rest vs) f.1))
 
   pub are_copies : (has : Bool) (xs : List Item) (ts : Forest) (vs : ℕ → Valuation) → FitsAll g xs ts → SolvesAll NoRule g ts vs → AtEachNodeOf (WellAt (λ p. p ≤ k)) g m ts vs vs → AreCopies has g m k xs (kept has (copies_of g m k ts vs))
   are_copies false xs ts vs f texts well = refl
   are_copies true xs ts vs f texts well = (copies_length xs ts vs f, copies_well ts vs texts well)
 
   -- and trees that match their copies are trees of the items, and have these copies
-  pub fits_told : (has : Bool) (xs : List Item) (cs : List Value) (ts : Forest) (vs : ℕ → Valuation) → AreAsTold (children_with_copies has g m k xs cs) ts vs → FitsAll g xs ts
-  fits_told has [] cs none vs a = tt
-  fits_told has [] cs (more t ts) vs a = elim a [ ]
-  fits_told false (x ∷ xs) cs none vs a = elim a [ ]
-  fits_told true (x ∷ xs) cs none vs a = elim a [ ]
-  fits_told false (x ∷ xs) cs (more t ts) vs a = (a.0, fits_told false xs cs ts (rest vs) a.2)
-  fits_told true (x ∷ xs) cs (more t ts) vs a = (a.0, fits_told true xs (drop (copied_count g m k x) cs) ts (rest vs) a.2)
+  pub fits_exact : (has : Bool) (xs : List Item) (cs : List Value) (ts : Forest) (vs : ℕ → Valuation) → MatchCopies (children_with_copies has g m k xs cs) ts vs → FitsAll g xs ts
+  fits_exact has [] cs none vs a = tt
+  fits_exact has [] cs (more t ts) vs a = elim a [ ]
+  fits_exact false (x ∷ xs) cs none vs a = elim a [ ]
+  fits_exact true (x ∷ xs) cs none vs a = elim a [ ]
+  fits_exact false (x ∷ xs) cs (more t ts) vs a = (a.0, fits_exact false xs cs ts (rest vs) a.2)
+  fits_exact true (x ∷ xs) cs (more t ts) vs a = (a.0, fits_exact true xs (drop (copied_count g m k x) cs) ts (rest vs) a.2)
 
-  copies_told : (xs : List Item) (cs : List Value) (ts : Forest) (vs : ℕ → Valuation) → length cs ≡ copies_count g m k xs → AreAsTold (children_with_copies true g m k xs cs) ts vs → cs ≡ copies_of g m k ts vs
-  copies_told [] [] none vs long a = refl
-  copies_told [] (c ∷ cs) none vs long a = absurd (omega arith)
-  copies_told [] cs (more t ts) vs long a = elim a [ ]
-  copies_told (x ∷ xs) cs none vs long a = elim a [ ]
-  copies_told (x ∷ xs) cs (more t ts) vs long a =
+  copies_exact : (xs : List Item) (cs : List Value) (ts : Forest) (vs : ℕ → Valuation) → length cs ≡ copies_count g m k xs → MatchCopies (children_with_copies true g m k xs cs) ts vs → cs ≡ copies_of g m k ts vs
+  copies_exact [] [] none vs long a = refl
+  copies_exact [] (c ∷ cs) none vs long a = absurd (omega arith)
+  copies_exact [] cs (more t ts) vs long a = elim a [ ]
+  copies_exact (x ∷ xs) cs none vs long a = elim a [ ]
+  copies_exact (x ∷ xs) cs (more t ts) vs long a =
       let n = copied_count g m k x in
-      let others = copies_told xs (drop n cs) ts (rest vs) (omega (arith, length-drop n cs)) a.2 in
+      let others = copies_exact xs (drop n cs) ts (rest vs) (omega (arith, length-drop n cs)) a.2 in
       sym (take-append-drop n cs) ∙ ap (λ (zs : List Value). zs ++ drop n cs) (sym a.1) ∙ ap (λ (zs : List Value). copy_of g m k t (vs 0) ++ zs) others
 
-  pub stored_told : (has : Bool) (xs : List Item) (own cs : List Value) (ts : Forest) (vs : ℕ → Valuation) → AreCopies has g m k xs cs → AreAsTold (children_with_copies has g m k xs cs) ts vs → with_copies has own cs ≡ with_copies has own (copies_of g m k ts vs)
-  stored_told false xs own cs ts vs are a = refl
-  stored_told true xs own cs ts vs are a = ap (λ (zs : List Value). own ++ zs) (copies_told xs cs ts vs are.0 a)
+  pub stored_exact : (has : Bool) (xs : List Item) (own cs : List Value) (ts : Forest) (vs : ℕ → Valuation) → AreCopies has g m k xs cs → MatchCopies (children_with_copies has g m k xs cs) ts vs → with_copies has own cs ≡ with_copies has own (copies_of g m k ts vs)
+  stored_exact false xs own cs ts vs are a = refl
+  stored_exact true xs own cs ts vs are a = ap (λ (zs : List Value). own ++ zs) (copies_exact xs cs ts vs are.0 a)
 
   -- a record's values with the copies that the version has
   pub kept_same : (has : Bool) (own cs : List Value) → with_copies has own (kept has cs) ≡ with_copies has own cs

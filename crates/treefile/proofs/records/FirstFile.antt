@@ -16,7 +16,7 @@ use Rattle.ag_grammar.specs.grammars.Solution.{AtEachNodeOf, IsWellOn, NoRule, S
 use Rattle.ag_grammar.specs.grammars.Tree as tree
 use Rattle.ag_grammar.specs.grammars.Tree.{Fits, FitsAll, Forest, IsTokenText, IsTreeOf, Tree, leaf, node, none, more}
 use Rattle.ag_grammar.proofs.values.Wells.{well_text}
-use Rattle.treefile.specs.records.FirstFile.{AreFromOne, IsFirstFile, first_bodies, first_bodies_all, first_file, leaf_texts, unassigned}
+use Rattle.treefile.specs.records.FirstFile.{AreFromOne, IsFirstFile, first_bodies, first_bodies_all, first_file, leaf_texts, no_passes}
 use Rattle.treefile.specs.records.Orders as orders
 use Rattle.treefile.specs.records.Orders.{BodyForest, branch, postfix}
 use Rattle.treefile.specs.records.Records.{IsFileOfTree, bodies_of, bodies_of_all, copies_of, left_synthesized, node_body, values_up_to, with_copies}
@@ -39,7 +39,7 @@ no_values (p ∷ ps) values each = by_test (nat_le p 0) refl (no_values ps (λ a
     by_test false e later = later
 
 -- an assignment without passes has no pass below 1
-pub unassigned_from_one : AreFromOne unassigned
+pub unassigned_from_one : AreFromOne no_passes
 unassigned_from_one s i x e = absurd (cc)
 
 module _ (version : Version) (g : Grammar) (m : Passes) (from_one : AreFromOne m) where
@@ -96,7 +96,7 @@ module _ (version : Version) (g : Grammar) (m : Passes) (from_one : AreFromOne m
 -- a content with the records of a tree is its only file of pass 0
 pub is_first_file : (version : Version) (g : Grammar) (t : Tree) (content : List ℕ) → IsTreeOf g t → content ≡ first_file version t → IsFirstFile version g t content
 is_first_file version g t content fits is m v from_one texts = record {
-  stands = is ∙ ap (λ b. file version 0 (postfix (direction_of 0) b)) (sym (bodies_are version g m from_one t v));
+  occurs = is ∙ ap (λ b. file version 0 (postfix (direction_of 0) b)) (sym (bodies_are version g m from_one t v));
   texts = texts;
   well = well version g m from_one (item.Symbol g.start) t v fits texts;
 }
@@ -104,13 +104,13 @@ is_first_file version g t content fits is m v from_one texts = record {
 pub first_file_is : (version : Version) (g : Grammar) (t : Tree) (content : List ℕ) → IsFirstFile version g t content → content ≡ first_file version t
 first_file_is version g t content is =
     let texts = texts_are_given g t in
-    let it = is unassigned texts.0 unassigned_from_one texts.1 in
-    it.stands ∙ ap (λ b. file version 0 (postfix (direction_of 0) b)) (bodies_are version g unassigned unassigned_from_one t texts.0)
+    let it = is no_passes texts.0 unassigned_from_one texts.1 in
+    it.occurs ∙ ap (λ b. file version 0 (postfix (direction_of 0) b)) (bodies_are version g no_passes unassigned_from_one t texts.0)
 
 -- a file of pass 0 is one for all passes from 1 on and all values
 pub first_file_of : (version : Version) (g : Grammar) (m : Passes) (t : Tree) (v : Valuation) (content : List ℕ) → AreFromOne m → IsTreeOf g t → IsFileOfTree version g m 0 t v content → IsFirstFile version g t content
 first_file_of version g m t v content from_one tree is =
-    is_first_file version g t content tree (is.stands ∙ ap (λ b. file version 0 (postfix (direction_of 0) b)) (bodies_are version g m from_one t v))
+    is_first_file version g t content tree (is.occurs ∙ ap (λ b. file version 0 (postfix (direction_of 0) b)) (bodies_are version g m from_one t v))
 
 -- the trees of records are as deep and as large as the tree
 module _ (version : Version) where

@@ -10,7 +10,7 @@ use Rattle.ag_grammar.specs.grammars.AttributeGrammar.{Grammar, Synthesized, Inh
 use Rattle.ag_grammar.specs.grammars.Passes.{IsLegal, Passes}
 use Rattle.treefile.specs.Laws.{FitsAccepted}
 use Rattle.treefile.specs.records.OneTree.{IsNumbered}
-use Rattle.treefile.specs.records.Records.{most_copied, most_copies, synthesized_count}
+use Rattle.treefile.specs.records.Records.{max_copied, max_copies, synthesized_count}
 use Rattle.treefile.specs.records.TreeFile.{version_one, version_two}
 
 -- a symbol has at most 16 attributes
@@ -26,12 +26,12 @@ pub few_passes : (g : Grammar) (m : Passes) (s : ℕ) → IsAccepted g → IsLeg
 few_passes g m s accepted legal = let few = few_kinds g s accepted (slice_get g.symbols s) refl in let same = legal.whole s in omega arith
 
 -- so a copy has at most 16 values,
-few_copied : (g : Grammar) (m : Passes) (x : Item) → IsAccepted g → IsLegal g m → most_copied g m x ≤ 16
+few_copied : (g : Grammar) (m : Passes) (x : Item) → IsAccepted g → IsLegal g m → max_copied g m x ≤ 16
 few_copied g m (item.Symbol s) accepted legal = omega (arith, length-take (synthesized_count (slice_get g.symbols s)) (m s), few_passes g m s accepted legal)
 few_copied g m (item.Terminal (Class c)) accepted legal = omega arith
 few_copied g m (item.Terminal (Literal l)) accepted legal = omega arith
 
-few_copies : (g : Grammar) (m : Passes) (xs : List Item) → IsAccepted g → IsLegal g m → most_copies g m xs ≤ length xs * 16
+few_copies : (g : Grammar) (m : Passes) (xs : List Item) → IsAccepted g → IsLegal g m → max_copies g m xs ≤ length xs * 16
 few_copies g m [] accepted legal = omega arith
 few_copies g m (x ∷ xs) accepted legal = omega (arith, few_copied g m x accepted legal, few_copies g m xs accepted legal)
 

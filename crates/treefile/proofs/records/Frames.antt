@@ -9,7 +9,7 @@ use Rattle.std.proofs.lemmas.Nat.{be_bytes_4, from_be_bytes-to_be_bytes_4}
 use Rattle.treefile.specs.declared.reading.FrameFault.{FrameFault}
 use Rattle.treefile.specs.declared.reading.FrameFault.TheVariants.{Damaged}
 use Rattle.treefile.specs.records.TreeFile.{Version, frame}
-use Rattle.treefile.specs.ways.Ending.{IsBodyBefore, IsBytes, IsUsable, body_before, fits_before, number_before, length_bytes, least_body, greatest_body, header_bytes}
+use Rattle.treefile.specs.framing.Ending.{IsBodyBefore, IsBytes, IsUsable, body_before, fits_before, number_before, length_bytes, least_body, greatest_body, header_bytes}
 
 -- ---- reading a content whose frame is known
 
@@ -22,42 +22,42 @@ unfolding body_before
 read_at version content body at len number part room fit = rw (le-ltb at 10 room, number, fit, part) refl
 
 -- the part after a prefix
-part_behind : (front part rest : List ℕ) (n : ℕ) → length part ≡ n → take n (drop (length front) (front ++ (part ++ rest))) ≡ part
-part_behind front part rest n e = rw (drop_at front (part ++ rest) (length front) refl) (take_at part rest n e)
+part_after : (prefix part rest : List ℕ) (n : ℕ) → length part ≡ n → take n (drop (length prefix) (prefix ++ (part ++ rest))) ≡ part
+part_after prefix part rest n e = rw (drop_at prefix (part ++ rest) (length prefix) refl) (take_at part rest n e)
 
-four_behind : (front part rest : List ℕ) (from at : ℕ) → length front ≡ from → from + 4 ≡ at → length part ≡ 4 → slice_range (front ++ (part ++ rest)) (at - 4) at ≡ part
-four_behind front part rest from at begins ends four =
-    let start : at - 4 ≡ length front = omega arith in
-    let count : at - length front ≡ 4 = omega arith in
-    rw (start, count) (part_behind front part rest 4 four)
+four_after : (prefix part rest : List ℕ) (from at : ℕ) → length prefix ≡ from → from + 4 ≡ at → length part ≡ 4 → slice_range (prefix ++ (part ++ rest)) (at - 4) at ≡ part
+four_after prefix part rest from at begins ends four =
+    let start : at - 4 ≡ length prefix = omega arith in
+    let count : at - length prefix ≡ 4 = omega arith in
+    rw (start, count) (part_after prefix part rest 4 four)
 
 -- the length and the body of a frame between a prefix and a rest
-regrouped : (front body number rest : List ℕ) → front ++ ((body ++ number) ++ rest) ≡ (front ++ body) ++ (number ++ rest)
-regrouped front body number rest = simp append_assoc
+regrouped : (prefix body number rest : List ℕ) → prefix ++ ((body ++ number) ++ rest) ≡ (prefix ++ body) ++ (number ++ rest)
+regrouped prefix body number rest = simp append_assoc
 
-number_of_frame : (front body rest : List ℕ) (at : ℕ) → length front + length body + 4 ≡ at → length body < 2 ^ 32 → number_before (front ++ (frame body ++ rest)) at ≡ length body
-number_of_frame front body rest at ends small =
+number_of_frame : (prefix body rest : List ℕ) (at : ℕ) → length prefix + length body + 4 ≡ at → length body < 2 ^ 32 → number_before (prefix ++ (frame body ++ rest)) at ≡ length body
+number_of_frame prefix body rest at ends small =
     let number = to_be_bytes w32 (length body) in
-    let begins : length (front ++ body) ≡ length front + length body = length-append front body in
-    let part : slice_range ((front ++ body) ++ (number ++ rest)) (at - 4) at ≡ number = four_behind (front ++ body) number rest (length front + length body) at begins ends refl in
-    ap (λ (content : List ℕ). number_before content at) (regrouped front body number rest) ∙ ap (from_be_bytes w32) part ∙ from_be_bytes-to_be_bytes_4 (length body) small
+    let begins : length (prefix ++ body) ≡ length prefix + length body = length-append prefix body in
+    let part : slice_range ((prefix ++ body) ++ (number ++ rest)) (at - 4) at ≡ number = four_after (prefix ++ body) number rest (length prefix + length body) at begins ends refl in
+    ap (λ (content : List ℕ). number_before content at) (regrouped prefix body number rest) ∙ ap (from_be_bytes w32) part ∙ from_be_bytes-to_be_bytes_4 (length body) small
 
-body_of_frame : (front body rest : List ℕ) (at : ℕ) → length front + length body + 4 ≡ at → slice_range (front ++ (frame body ++ rest)) (at - 4 - length body) (at - 4 - length body + length body) ≡ body
-body_of_frame front body rest at ends =
+body_of_frame : (prefix body rest : List ℕ) (at : ℕ) → length prefix + length body + 4 ≡ at → slice_range (prefix ++ (frame body ++ rest)) (at - 4 - length body) (at - 4 - length body + length body) ≡ body
+body_of_frame prefix body rest at ends =
     let number = to_be_bytes w32 (length body) in
-    let start : at - 4 - length body ≡ length front = omega arith in
-    let count : length front + length body - length front ≡ length body = omega arith in
-    rw (start, count, append_assoc body number rest) (part_behind front body (number ++ rest) (length body) refl)
+    let start : at - 4 - length body ≡ length prefix = omega arith in
+    let count : length prefix + length body - length prefix ≡ length body = omega arith in
+    rw (start, count, append_assoc body number rest) (part_after prefix body (number ++ rest) (length body) refl)
 
 pub frame_is_read : (version : Version) (content body : List ℕ) (at : ℕ) → IsUsable version → IsBodyBefore version content at body → body_before version content at ≡ Ok body
 frame_is_read version content body at usable s =
-    let room : header_bytes + length_bytes ≤ at = omega (arith, s.least, s.behind, s.ends) in
+    let room : header_bytes + length_bytes ≤ at = omega (arith, s.least, s.following, s.ends) in
     let small : length body < 2 ^ 32 = omega (arith, s.greatest, usable.narrow) in
-    let enough : header_bytes + length body + length_bytes ≤ at = omega (arith, s.behind, s.ends) in
-    ap (λ (c : List ℕ). body_before version c at) s.stands
-    ∙ read_at version (s.front ++ (frame body ++ s.rest)) body at (length body)
-    (number_of_frame s.front body s.rest at s.ends small)
-    (body_of_frame s.front body s.rest at s.ends)
+    let enough : header_bytes + length body + length_bytes ≤ at = omega (arith, s.following, s.ends) in
+    ap (λ (c : List ℕ). body_before version c at) s.occurs
+    ∙ read_at version (s.prefix ++ (frame body ++ s.rest)) body at (length body)
+    (number_of_frame s.prefix body s.rest at s.ends small)
+    (body_of_frame s.prefix body s.rest at s.ends)
     room
     (fits version at (length body) s.least s.greatest enough)
 
@@ -108,11 +108,11 @@ stands_at version content at len from bytes within number f ends =
     let spelled : to_be_bytes w32 len ≡ slice_range content (at - 4) at = be_bytes_4 (slice_range content (at - 4) at) len four (bytes_part content (at - 4) at bytes) (sym number) in
     let framed : slice_range content (from + len) at ≡ to_be_bytes w32 (length body) = ap (λ (i : ℕ). slice_range content i at) (sym start) ∙ sym spelled ∙ ap (to_be_bytes w32) (sym size) in
     record {
-      front = take from content;
+      prefix = take from content;
       rest = drop at content;
-      stands = parts content from (from + len) at (omega arith) (omega arith) ∙ ap (λ (tail : List ℕ). take from content ++ ((body ++ tail) ++ drop at content)) framed;
+      occurs = parts content from (from + len) at (omega arith) (omega arith) ∙ ap (λ (tail : List ℕ). take from content ++ ((body ++ tail) ++ drop at content)) framed;
       ends = omega (arith, length-take-le from content (omega arith), size);
-      behind = omega (arith, length-take-le from content (omega arith), f.room);
+      following = omega (arith, length-take-le from content (omega arith), f.room);
       least = omega (arith, size, f.least);
       greatest = omega (arith, size, f.greatest);
     }
@@ -138,11 +138,11 @@ answers version content at =
     by_tests false true body fault = inl (body, refl)
     by_tests false false body fault = inr refl
 
-pub told_as_damaged : (version : Version) (content : List ℕ) (at : ℕ) → IsBytes content → at ≤ length content → ((body : List ℕ) → IsBodyBefore version content at body → ⊥) → body_before version content at ≡ Err (Damaged at)
-told_as_damaged version content at bytes within none =
+pub damaged_exact : (version : Version) (content : List ℕ) (at : ℕ) → IsBytes content → at ≤ length content → ((body : List ℕ) → IsBodyBefore version content at body → ⊥) → body_before version content at ≡ Err (Damaged at)
+damaged_exact version content at bytes within none =
     elim (answers version content at) [
       | inl found ↦ absurd (none found.0 (read_is_frame version content found.0 at bytes within found.1))
-      | inr told ↦ told
+      | inr exact ↦ exact
     ]
 
 -- no frame fits before this offset

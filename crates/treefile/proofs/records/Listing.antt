@@ -14,7 +14,7 @@ use Rattle.ag_grammar.specs.declared.grammar.Production.{Production}
 use Rattle.ag_grammar.specs.grammars.AttributeGrammar.{Grammar, stored_items}
 use Rattle.ag_grammar.specs.grammars.Passes.{Passes}
 use Rattle.ag_grammar.specs.grammars.Solution.{WellAt, left_passes}
-use Rattle.treefile.specs.ways.Awaited.{AreCopies, Child, IsRecordOf, children_with_copies}
+use Rattle.treefile.specs.framing.ExpectedRecords.{AreCopies, Child, IsRecordOf, children_with_copies}
 use Rattle.treefile.specs.Laws.{BytesAreLeft, ListedRecord, ValueIsMissing}
 use Rattle.treefile.specs.records.Listed.{IsListedRecord, count_up_to, first_of_values, others_of_values, placed, stored_count}
 use Rattle.treefile.specs.records.Records.{values_up_to, with_copies}
@@ -83,14 +83,14 @@ are_copies_in false g m k q vs count all = refl
 are_copies_in true g m k q vs count all = (omega (arith, length-drop (count_up_to k (m q.left)) vs), All-drop IsWell (count_up_to k (m q.left)) vs all)
 
 -- the children with these copies
-told_in : (has : Bool) (g : Grammar) (m : Passes) (k n : ℕ) (xs : List Item) (vs : List Value) → children_with_copies has g m k xs (copies_in has n vs) ≡ children_with_copies has g m k xs (drop n vs)
-told_in true g m k n xs vs = refl
-told_in false g m k n [] vs = refl
-told_in false g m k n (x ∷ xs) vs = ap (λ (ys : List Child). (x, None) ∷ ys) (told_nothing xs)
+copies_within : (has : Bool) (g : Grammar) (m : Passes) (k n : ℕ) (xs : List Item) (vs : List Value) → children_with_copies has g m k xs (copies_in has n vs) ≡ children_with_copies has g m k xs (drop n vs)
+copies_within true g m k n xs vs = refl
+copies_within false g m k n [] vs = refl
+copies_within false g m k n (x ∷ xs) vs = ap (λ (ys : List Child). (x, None) ∷ ys) (copies_of_none xs)
   where
-    told_nothing : (xs : List Item) → children_with_copies false g m k xs [] ≡ children_with_copies false g m k xs (drop n vs)
-    told_nothing [] = refl
-    told_nothing (x ∷ xs) = ap (λ (ys : List Child). (x, None) ∷ ys) (told_nothing xs)
+    copies_of_none : (xs : List Item) → children_with_copies false g m k xs [] ≡ children_with_copies false g m k xs (drop n vs)
+    copies_of_none [] = refl
+    copies_of_none (x ∷ xs) = ap (λ (ys : List Child). (x, None) ∷ ys) (copies_of_none xs)
 
 -- a listed record is a record, and each record is listed
 module _ (version : Version) (g : Grammar) (m : Passes) (k s : ℕ) (body : List ℕ) where
@@ -113,9 +113,9 @@ module _ (version : Version) (g : Grammar) (m : Passes) (k s : ℕ) (body : List
           well = placed_well k (m s) own long (own_well has n vs is.well);
           copies = copies_in has n vs;
           are_copies = are_copies_in has g m k q vs is.count is.well;
-          stands = is.stands ∙ ap (body_of Node p) (sym parts.1 ∙ ap (λ (zs : List Value). with_copies has zs (copies_in has n vs)) (sym values));
+          occurs = is.occurs ∙ ap (body_of Node p) (sym parts.1 ∙ ap (λ (zs : List Value). with_copies has zs (copies_in has n vs)) (sym values));
         },
-        sym (told_in has g m k n (stored_items q.items) vs ∙ ap (λ ps. children_with_copies has g m k (stored_items q.items) (drop (count_up_to k ps) vs)) symbol),
+        sym (copies_within has g m k n (stored_items q.items) vs ∙ ap (λ ps. children_with_copies has g m k (stored_items q.items) (drop (count_up_to k ps) vs)) symbol),
         tt,
       )
 
@@ -137,13 +137,13 @@ module _ (version : Version) (g : Grammar) (m : Passes) (k s : ℕ) (body : List
           left = is.3.left;
           count = stored.0;
           well = stored.1;
-          stands = is.3.stands ∙ ap (λ ps. body_of Node p (with_copies has (values_up_to k ps e) is.3.copies)) passes;
+          occurs = is.3.occurs ∙ ap (λ ps. body_of Node p (with_copies has (values_up_to k ps e) is.3.copies)) passes;
         },
         is.4 ∙ stored.2 ∙ ap (λ z. children_with_copies has g m k (stored_items q.items) (drop (count_up_to k (m z)) (with_copies has own is.3.copies))) is.3.left,
       )
     where
       listed_parts : (has : Bool) (g : Grammar) (m : Passes) (k : ℕ) (q : Production) (own cs : List Value) → length own ≡ count_up_to k (m q.left) → AreCopies has g m k (stored_items q.items) cs → All IsWell own → (length (with_copies has own cs) ≡ stored_count has g m k q) × All IsWell (with_copies has own cs) × (children_with_copies has g m k (stored_items q.items) cs ≡ children_with_copies has g m k (stored_items q.items) (drop (count_up_to k (m q.left)) (with_copies has own cs)))
-      listed_parts false g m k q own cs count are well = (count, well, ap (children_with_copies false g m k (stored_items q.items)) are ∙ told_in false g m k (count_up_to k (m q.left)) (stored_items q.items) own)
+      listed_parts false g m k q own cs count are well = (count, well, ap (children_with_copies false g m k (stored_items q.items)) are ∙ copies_within false g m k (count_up_to k (m q.left)) (stored_items q.items) own)
       listed_parts true g m k q own cs count are well = (
         omega (arith, length-append own cs, are.0),
         All-append IsWell own cs well are.1,

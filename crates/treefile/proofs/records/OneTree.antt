@@ -16,13 +16,13 @@ use Rattle.ag_grammar.specs.grammars.AttributeGrammar.{Grammar, stored_items, Is
 use Rattle.ag_grammar.specs.grammars.Passes.{Passes, direction_of, other}
 use Rattle.ag_grammar.specs.grammars.Solution.{AtEachNodeOf, IsWellOn, NoRule, Same, SameAt, Solves, SolvesAll, Valuation, WellAt, children, rest}
 use Rattle.ag_grammar.specs.grammars.Tree.{Tree, Forest, Fits, FitsAll, leaf, node, none, more}
-use Rattle.treefile.specs.ways.Backward.{ReadsBack}
-use Rattle.treefile.specs.Laws.{OneReading, OneTreeAtEnd, OneTreeInFront}
+use Rattle.treefile.specs.framing.Backward.{ReadsBack}
+use Rattle.treefile.specs.Laws.{OneReading, OneTreeAtEnd, OneTreeBefore}
 use Rattle.treefile.specs.records.OneTree.{IsNumbered, IsRecorded}
 use Rattle.treefile.specs.records.Orders.{postfix, prefix, prefix_all}
 use Rattle.treefile.specs.records.Records.{bodies_of, bodies_of_all, copies_of, node_body, token_body}
 use Rattle.treefile.specs.records.TreeFile.{Version}
-use Rattle.treefile.proofs.ways.Backward.{reads_same}
+use Rattle.treefile.proofs.framing.Backward.{reads_same}
 use Rattle.treefile.proofs.records.Orders.{turned}
 use Rattle.treefile.proofs.records.Records.{file_back}
 use Rattle.treefile.proofs.records.Spelled.{one_node, one_token}
@@ -84,18 +84,18 @@ module _ (version : Version) (g : Grammar) (m : Passes) (k : ℕ) (few : IsNumbe
         let first = one_tree RightToLeft x t s (us 0) (ws 0) xs ys f.0 h.0 tu.0 tw.0 wu.0 ww.0 others.2 in
         (ap (λ z. more z ts) first.0 ∙ ap (more s) others.0, (first.1, others.1), first.2)
 
-pub tree_in_front : OneTreeInFront
-tree_in_front version g m k d x t s u w rest others few is_t is_s e = one_tree version g m k few d x t s u w rest others is_t.fits is_s.fits is_t.texts is_s.texts is_t.well is_s.well e
+pub leading_tree : OneTreeBefore
+leading_tree version g m k d x t s u w rest others few is_t is_s e = one_tree version g m k few d x t s u w rest others is_t.fits is_s.fits is_t.texts is_s.texts is_t.well is_s.well e
 
 -- read from their ends, lists with postfix lists begin with prefix lists
 pub tree_at_end : OneTreeAtEnd
-tree_at_end version g m k d x t s u w front others few is_t is_s e =
+tree_at_end version g m k d x t s u w leading others few is_t is_s e =
     let a = bodies_of version g m k t u in
     let b = bodies_of version g m k s w in
-    let turned_a : reverse (front ++ postfix d a) ≡ prefix (other d) a ++ reverse front = reverse-append front (postfix d a) ∙ ap (λ (zs : List (List ℕ)). zs ++ reverse front) (turned d a) in
+    let turned_a : reverse (leading ++ postfix d a) ≡ prefix (other d) a ++ reverse leading = reverse-append leading (postfix d a) ∙ ap (λ (zs : List (List ℕ)). zs ++ reverse leading) (turned d a) in
     let turned_b : reverse (others ++ postfix d b) ≡ prefix (other d) b ++ reverse others = reverse-append others (postfix d b) ∙ ap (λ (zs : List (List ℕ)). zs ++ reverse others) (turned d b) in
-    let all = tree_in_front version g m k (other d) x t s u w (reverse front) (reverse others) few is_t is_s (sym turned_a ∙ ap reverse e ∙ turned_b) in
-    (all.0, all.1, sym (reverse-reverse front) ∙ ap reverse all.2 ∙ reverse-reverse others)
+    let all = leading_tree version g m k (other d) x t s u w (reverse leading) (reverse others) few is_t is_s (sym turned_a ∙ ap reverse e ∙ turned_b) in
+    (all.0, all.1, sym (reverse-reverse leading) ∙ ap reverse all.2 ∙ reverse-reverse others)
 
 pub one_file : OneReading
 one_file version g m k t s u w content usable fits few tree_t tree_s is_t is_s =
@@ -105,5 +105,5 @@ one_file version g m k t s u w content usable fits few tree_t tree_s is_t is_s =
     let same = reads_same version content (prefix d (bodies_of version g m k t u)) (prefix d (bodies_of version g m k s w)) (length content) back_t back_s in
     let recorded_t : IsRecorded g m k (item.Symbol g.start) t u = record { fits = tree_t; texts = is_t.texts; well = is_t.well } in
     let recorded_s : IsRecorded g m k (item.Symbol g.start) s w = record { fits = tree_s; texts = is_s.texts; well = is_s.well } in
-    let one = tree_in_front version g m k d (item.Symbol g.start) t s u w [] [] few recorded_t recorded_s (ap (λ (zs : List (List ℕ)). zs ++ []) same) in
+    let one = leading_tree version g m k d (item.Symbol g.start) t s u w [] [] few recorded_t recorded_s (ap (λ (zs : List (List ℕ)). zs ++ []) same) in
     (one.0, one.1)

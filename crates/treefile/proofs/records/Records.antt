@@ -19,26 +19,26 @@ use Rattle.std.specs.List.{flat_map}
 use Rattle.std.specs.Int.{w16, to_be_bytes}
 use Rattle.treefile.specs.declared.body.Kind.{Kind}
 use Rattle.treefile.specs.declared.body.Kind.TheVariants.{Node, Token}
-use Rattle.treefile.specs.ways.Backward.{ReadsBack}
-use Rattle.treefile.specs.ways.Ending.{IsBody, IsUsable}
+use Rattle.treefile.specs.framing.Backward.{ReadsBack}
+use Rattle.treefile.specs.framing.Ending.{IsBody, IsUsable}
 use Rattle.treefile.specs.records.Orders as orders
 use Rattle.treefile.specs.records.Orders.{joined, postfix, postfix_all, prefix}
-use Rattle.treefile.specs.records.Records.{FitsVersion, IsFileOfTree, bodies_of, bodies_of_all, copies_of, file_of_tree, most_stored_values, values_up_to, with_copies}
+use Rattle.treefile.specs.records.Records.{FitsVersion, IsFileOfTree, bodies_of, bodies_of_all, copies_of, file_of_tree, max_stored_values, values_up_to, with_copies}
 use Rattle.treefile.specs.records.TreeFile.{Version, body_of}
-use Rattle.treefile.proofs.ways.Backward.{read_back}
+use Rattle.treefile.proofs.framing.Backward.{read_back}
 use Rattle.treefile.proofs.records.Copies.{copies_few, copies_well, stored_well}
 use Rattle.treefile.proofs.records.Orders.{turned}
 use Rattle.treefile.proofs.records.Sizes.{body_size}
 use Rattle.treefile.proofs.records.Values.{values_few, values_well}
 
-pub is_body : (version : Version) (kind : Kind) (number : ℕ) (values : List Value) → length values ≤ version.most_values → All IsWell values → IsBody version (body_of kind number values)
+pub is_body : (version : Version) (kind : Kind) (number : ℕ) (values : List Value) → length values ≤ version.max_values → All IsWell values → IsBody version (body_of kind number values)
 is_body version kind number values few well = record {
   least = omega (arith, length-append (to_be_bytes w16 number) (flat_map spelling_of values));
   greatest = body_size version kind number values few well;
 }
 
 -- a node of a production has no more values than the version allows
-stored_few : (version : Version) (has : Bool) (g : Grammar) (m : Passes) (k p : ℕ) (q : Production) (e : ℕ → Value) (ts : Forest) (vs : ℕ → Valuation) → slice_get g.productions p ≡ Some q → FitsAll g (stored_items q.items) ts → most_stored_values has g m q ≤ version.most_values → length (with_copies has (values_up_to k (left_passes m (slice_get g.productions p)) e) (copies_of g m k ts vs)) ≤ version.most_values
+stored_few : (version : Version) (has : Bool) (g : Grammar) (m : Passes) (k p : ℕ) (q : Production) (e : ℕ → Value) (ts : Forest) (vs : ℕ → Valuation) → slice_get g.productions p ≡ Some q → FitsAll g (stored_items q.items) ts → max_stored_values has g m q ≤ version.max_values → length (with_copies has (values_up_to k (left_passes m (slice_get g.productions p)) e) (copies_of g m k ts vs)) ≤ version.max_values
 stored_few version false g m k p q e ts vs there f few = omega (arith, values_few k (left_passes m (slice_get g.productions p)) e, ap (λ o. length (left_passes m o)) there)
 stored_few version true g m k p q e ts vs there f few =
     let own = values_up_to k (left_passes m (slice_get g.productions p)) e in
@@ -69,7 +69,7 @@ module _ (version : Version) (g : Grammar) (m : Passes) (k : ℕ) (d : Direction
     bodies_fit (item.Symbol s) (node p ts) v f texts well =
         let ps = left_passes m (slice_get g.productions p) in
         let stored = with_copies version.has_copies (values_up_to k ps (v [])) (copies_of g m k ts (children v)) in
-        let few : length stored ≤ version.most_values = stored_few version version.has_copies g m k p f.0 (v []) ts (children v) f.1 f.3 (fits.nodes p f.0 f.1) in
+        let few : length stored ≤ version.max_values = stored_few version version.has_copies g m k p f.0 (v []) ts (children v) f.1 f.3 (fits.nodes p f.0 f.1) in
         let own = is_body version Node p stored few (stored_well version.has_copies (values_up_to k ps (v [])) (copies_of g m k ts (children v)) (values_well k ps (v []) well.0) (copies_well g m k ts (children v) texts.1 well.1)) in
         All-append (IsBody version) (postfix_all d (bodies_of_all version g m k ts (children v))) (body_of Node p stored ∷ []) (all_fit (stored_items f.0.items) ts (children v) f.3 texts.1 well.1) (All-cons (IsBody version) (body_of Node p stored) [] own (All-nil (IsBody version)))
 
@@ -86,4 +86,4 @@ module _ (version : Version) (g : Grammar) (m : Passes) (k : ℕ) (t : Tree) (v 
   file_back usable =
       let bodies = postfix (direction_of k) (bodies_of version g m k t v) in
       let back : ReadsBack version (file_of_tree version g m k t v) (length (file_of_tree version g m k t v)) (reverse bodies) = read_back version k usable bodies file_fits in
-      subst (ReadsBack version content (length content)) (turned (direction_of k) (bodies_of version g m k t v)) (subst (λ (c : List ℕ). ReadsBack version c (length c) (reverse bodies)) (sym is.stands) back)
+      subst (ReadsBack version content (length content)) (turned (direction_of k) (bodies_of version g m k t v)) (subst (λ (c : List ℕ). ReadsBack version c (length c) (reverse bodies)) (sym is.occurs) back)

@@ -9,7 +9,7 @@ use Rattle.ag_value.specs.Well.{IsWell}
 use Rattle.ag_value.proofs.Lengths.{length-spelling}
 use Rattle.treefile.specs.declared.body.Kind.{Kind}
 use Rattle.treefile.specs.records.TreeFile.{Version, body_of}
-use Rattle.treefile.specs.ways.Ending.{greatest_body}
+use Rattle.treefile.specs.framing.Ending.{greatest_body}
 
 -- the length of the spelling of a well value is its weight
 spelling_size : (value : Value) → IsWell value → length (spelling_of value) ≤ 1048576
@@ -23,5 +23,5 @@ spellings_size (value ∷ values) all =
     omega (arith, length-append (spelling_of value) (flat_map spelling_of values))
 
 -- a kind, a number, and at most as many well values as the version allows
-pub body_size : (version : Version) (kind : Kind) (number : ℕ) (values : List Value) → length values ≤ version.most_values → All IsWell values → length (body_of kind number values) ≤ greatest_body version
+pub body_size : (version : Version) (kind : Kind) (number : ℕ) (values : List Value) → length values ≤ version.max_values → All IsWell values → length (body_of kind number values) ≤ greatest_body version
 body_size version kind number values few all = omega (arith, spellings_size values all)

@@ -19,7 +19,7 @@ use Rattle.ag_grammar.specs.declared.grammar.Production.{Production}
 use Rattle.ag_grammar.specs.grammars.AttributeGrammar.{Grammar, stored_items}
 use Rattle.ag_grammar.specs.grammars.Passes.{Passes}
 use Rattle.ag_grammar.specs.grammars.Solution.{SameAt, WellAt, left_passes}
-use Rattle.treefile.specs.ways.Awaited.{AreCopies, IsNodeRecord}
+use Rattle.treefile.specs.framing.ExpectedRecords.{AreCopies, IsNodeRecord}
 use Rattle.treefile.specs.Laws.{OneNode}
 use Rattle.treefile.specs.records.Records.{node_body, token_body, values_up_to, with_copies}
 use Rattle.treefile.specs.records.TreeFile.{Version}
@@ -111,7 +111,7 @@ pub same_node : OneNode
 same_node version g m k s z p r body q w e f few a b =
     let i = slice_get_within g.productions p q a.production in
     let j = slice_get_within g.productions r w b.production in
-    let one = one_node version g m k p r e f a.copies b.copies (omega arith) (omega arith) (left_well version g m k s p body q e a) (left_well version g m k z r body w f b) (sym a.stands ∙ b.stands) in
+    let one = one_node version g m k p r e f a.copies b.copies (omega arith) (omega arith) (left_well version g m k s p body q e a) (left_well version g m k z r body w f b) (sym a.occurs ∙ b.occurs) in
     let production : w ≡ q = let found : Some w ≡ Some q = sym b.production ∙ ap (slice_get g.productions) (sym one.0) ∙ a.production in cc in
     let copies = subst (λ (y : Production). AreCopies version.has_copies g m k (stored_items y.items) b.copies) production b.are_copies in (
       one.0,

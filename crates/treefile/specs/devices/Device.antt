@@ -5,13 +5,13 @@ use Rattle.treefile.specs.declared.device.DeviceFault.{DeviceFault}
 use Rattle.treefile.specs.declared.device.DeviceFault.TheVariants.{Failed, NoMemory}
 
 -- the greatest number of failures that is counted: the greatest number of 64 bits
-abbrev pub most_failures : ℕ
-most_failures = 2 ^ 64 - 1
+abbrev pub max_failures : ℕ
+max_failures = 2 ^ 64 - 1
 
 -- A call has failed since: the number of failures is greater. At the greatest number that is counted it can't
 -- grow, and each call since may have failed.
 abbrev pub HasRisen : ℕ → ℕ → Type 0
-HasRisen before now = (before < now) ⊎ (now ≡ most_failures)
+HasRisen before now = (before < now) ⊎ (now ≡ max_failures)
 
 -- The effects of a call on a device besides its content. A device that is honest after the call was honest
 -- before it: a call can show that a device is dishonest, and no call makes it honest again. The number of
@@ -20,7 +20,7 @@ HasRisen before now = (before < now) ⊎ (now ≡ most_failures)
 pub record Persists (honest_before honest_now : Bool) (before now : ℕ) (failed : Type 0) : Type 0 where
   pub honest : honest_now ≡ true → honest_before ≡ true
   pub kept : before ≤ now
-  pub bounded : before ≤ most_failures → now ≤ most_failures
+  pub bounded : before ≤ max_failures → now ≤ max_failures
   pub cause : failed → HasRisen before now
 
 -- the fact holds if the device is honest
@@ -36,13 +36,13 @@ abbrev pub TakesNoMemory : {A : Type 0} → Result A DeviceFault → Type 0
 TakesNoMemory result = result ≢ Err NoMemory
 
 -- The new content is the old one and then a prefix of the bytes, possibly none or all of them.
-abbrev pub AppendsFront : List ℕ → List ℕ → List ℕ → Type 0
-AppendsFront bytes old new = (n : ℕ) × (new ≡ old ++ take n bytes)
+abbrev pub AppendsPrefix : List ℕ → List ℕ → List ℕ → Type 0
+AppendsPrefix bytes old new = (n : ℕ) × (new ≡ old ++ take n bytes)
 
 -- The content after an append: all bytes were appended; after Failed a prefix of them; after NoMemory none.
 abbrev pub Appends : List ℕ → List ℕ → List ℕ → Result (Unit {0}) DeviceFault → Type 0
 Appends bytes old new (Ok u) = new ≡ old ++ bytes
-Appends bytes old new (Err Failed) = AppendsFront bytes old new
+Appends bytes old new (Err Failed) = AppendsPrefix bytes old new
 Appends bytes old new (Err NoMemory) = new ≡ old
 
 -- The content after a clear: empty; after an error empty or unchanged.
@@ -59,5 +59,5 @@ pub risen_at_the_most : HasRisen 18446744073709551615 18446744073709551615
 risen_at_the_most = inr refl
 
 -- of two bytes the first was appended
-pub front_of_two : AppendsFront (8 ∷ 9 ∷ []) (7 ∷ []) (7 ∷ 8 ∷ [])
-front_of_two = (1, refl)
+pub prefix_of_two : AppendsPrefix (8 ∷ 9 ∷ []) (7 ∷ []) (7 ∷ 8 ∷ [])
+prefix_of_two = (1, refl)

@@ -1,6 +1,6 @@
 -- A device with a fuse, which fails at one of its calls. All of this is this project's.
 use Rattle.std.specs.Prelude.{◌≡◌, ◌≢◌, ℕ, ◌+◌, ◌-◌, min, Bool}
-use Rattle.treefile.specs.devices.Device.{HasRisen, Persists, most_failures}
+use Rattle.treefile.specs.devices.Device.{HasRisen, Persists, max_failures}
 
 -- the device that gets the calls, the number of calls up to the one that fails (1: the next; 0: none fails
 -- any more), and the number of failed calls that the device did not get
@@ -11,7 +11,7 @@ pub record Fuse (D : Type 0) : Type 0 where
 
 -- all failures: those of the device that gets the calls, and those that it did not get
 abbrev pub failures_of : {D : Type 0} → (D → ℕ) → Fuse D → ℕ
-failures_of failures fuse = min (failures fuse.inner + fuse.failed) most_failures
+failures_of failures fuse = min (failures fuse.inner + fuse.failed) max_failures
 
 -- the effects of a call on a fuse besides its content, in the terms of the device that gets the calls
 abbrev pub FusePersists : {D : Type 0} → (D → Bool) → (D → ℕ) → Fuse D → Fuse D → Type 0 → Type 0
@@ -20,7 +20,7 @@ FusePersists honest failures old new failed = Persists (honest old.inner) (hones
 -- The effect of a call: the number of calls up to the failing one falls by one. The failing call fails, and
 -- the device that gets the calls is unchanged. Any other call is forwarded to that device: no failure is
 -- counted that it did not get, and the call fails only if its failures rose.
-pub record Burns {D : Type 0} (failures : D → ℕ) (old new : Fuse D) (failed : Type 0) : Type 0 where
+pub record FuseEffect {D : Type 0} (failures : D → ℕ) (old new : Fuse D) (failed : Type 0) : Type 0 where
   pub left : new.left ≡ old.left - 1
   pub fails : old.left ≡ 1 → failed × (new.inner ≡ old.inner)
   pub known : old.left ≢ 1 → new.failed ≡ old.failed

@@ -18,8 +18,8 @@ abbrev pub AreFromOne : Passes → Type 0
 AreFromOne m = (s : ℕ) → Each (λ k. 1 ≤ k) (m s)
 
 -- no attribute has a pass
-abbrev pub unassigned : Passes
-unassigned s = []
+abbrev pub no_passes : Passes
+no_passes s = []
 
 -- The content is the file of pass 0 of a tree, for all passes from 1 on and all values that give each leaf
 -- its text.

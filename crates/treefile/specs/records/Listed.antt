@@ -61,7 +61,7 @@ pub record IsListedRecord (version : Version) (g : Grammar) (m : Passes) (k s : 
   pub left : q.left ≡ s
   pub count : length vs ≡ stored_count version.has_copies g m k q
   pub well : All IsWell vs
-  pub stands : body ≡ body_of Node p vs
+  pub occurs : body ≡ body_of Node p vs
 
 -- Some bytes spell n well values, one after the other.
 abbrev pub AreSpelled : ℕ → List ℕ → Type 0

@@ -74,29 +74,29 @@ abbrev pub file_of_tree : Version → Grammar → Passes → ℕ → Tree → Va
 file_of_tree version g m k t v = file version k (postfix (direction_of k) (bodies_of version g m k t v))
 
 -- the greatest number of values in the copy of an item's tree
-abbrev pub most_copied : Grammar → Passes → Item → ℕ
-most_copied g m (item.Symbol s) = length (synthesized_passes g m s)
-most_copied g m (item.Terminal (Class c)) = 1
-most_copied g m (item.Terminal (Literal l)) = 0
+abbrev pub max_copied : Grammar → Passes → Item → ℕ
+max_copied g m (item.Symbol s) = length (synthesized_passes g m s)
+max_copied g m (item.Terminal (Class c)) = 1
+max_copied g m (item.Terminal (Literal l)) = 0
 
 -- the greatest number in the copies of some items
-abbrev pub most_copies : Grammar → Passes → List Item → ℕ
-most_copies g m [] = 0
-most_copies g m (x ∷ xs) = most_copied g m x + most_copies g m xs
+abbrev pub max_copies : Grammar → Passes → List Item → ℕ
+max_copies g m [] = 0
+max_copies g m (x ∷ xs) = max_copied g m x + max_copies g m xs
 
 -- the greatest number of values in the record of a node
-abbrev pub most_stored_values : Bool → Grammar → Passes → Production → ℕ
-most_stored_values false g m q = length (m q.left)
-most_stored_values true g m q = length (m q.left) + most_copies g m (stored_items q.items)
+abbrev pub max_stored_values : Bool → Grammar → Passes → Production → ℕ
+max_stored_values false g m q = length (m q.left)
+max_stored_values true g m q = length (m q.left) + max_copies g m (stored_items q.items)
 
 -- No record has more values than the version allows: neither that of a token nor that of a node.
 pub record FitsVersion (version : Version) (g : Grammar) (m : Passes) : Type 0 where
-  pub tokens : 1 ≤ version.most_values
-  pub nodes : (p : ℕ) (q : Production) → IsProduction g p q → most_stored_values version.has_copies g m q ≤ version.most_values
+  pub tokens : 1 ≤ version.max_values
+  pub nodes : (p : ℕ) (q : Production) → IsProduction g p q → max_stored_values version.has_copies g m q ≤ version.max_values
 
 -- A content is the file of pass k of a tree and its values: these give each leaf its text, and those up to
 -- pass k are well.
 pub record IsFileOfTree (version : Version) (g : Grammar) (m : Passes) (k : ℕ) (t : Tree) (v : Valuation) (content : List ℕ) : Type 0 where
-  pub stands : content ≡ file_of_tree version g m k t v
+  pub occurs : content ≡ file_of_tree version g m k t v
   pub texts : Solves NoRule g t v
   pub well : IsWellOn (λ p. p ≤ k) g m t v

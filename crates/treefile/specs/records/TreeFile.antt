@@ -3,7 +3,7 @@ use Rattle.std.specs.Prelude.{◌≡◌, ℕ, ◌+◌, ◌*◌, Bool, true, fals
 use Rattle.std.proofs.Common.{ap, sym, ◌∙◌}
 use Rattle.std.specs.List.{flat_map}
 use Rattle.std.specs.Int.{w16, w32, to_be_bytes}
-use Rattle.ag_grammar.specs.declared.limits.TheConstants.{MOST_ATTRIBUTES, MOST_STORED}
+use Rattle.ag_grammar.specs.declared.limits.TheConstants.{MAX_ATTRIBUTES, MAX_STORED}
 use Rattle.ag_value.specs.declared.value.Value.{Value}
 use Rattle.ag_value.specs.declared.value.Value.TheVariants as value
 use Rattle.ag_value.specs.declared.value.Value.TheVariants.{rolls-Num}
@@ -19,16 +19,16 @@ use Rattle.treefile.specs.declared.layout.FileVersion.TheVariants.{One, Two}
 -- record, and whether the record of a node has copies of its children's
 pub record Version : Type 0 where
   pub magic : List ℕ
-  pub most_values : ℕ
+  pub max_values : ℕ
   pub has_copies : Bool
 
 -- version 1: AGT1, and at most as many values as a symbol has attributes
 abbrev pub version_one : Version
-version_one = record { magic = 65 ∷ 71 ∷ 84 ∷ 49 ∷ []; most_values = MOST_ATTRIBUTES; has_copies = false }
+version_one = record { magic = 65 ∷ 71 ∷ 84 ∷ 49 ∷ []; max_values = MAX_ATTRIBUTES; has_copies = false }
 
 -- version 2: AGT2, and as many values more for each child
 abbrev pub version_two : Version
-version_two = record { magic = 65 ∷ 71 ∷ 84 ∷ 50 ∷ []; most_values = MOST_ATTRIBUTES + MOST_STORED * MOST_ATTRIBUTES; has_copies = true }
+version_two = record { magic = 65 ∷ 71 ∷ 84 ∷ 50 ∷ []; max_values = MAX_ATTRIBUTES + MAX_STORED * MAX_ATTRIBUTES; has_copies = true }
 
 -- the version of each number
 abbrev pub version_of : FileVersion → Version

@@ -5,7 +5,7 @@ use Rattle.ag_expr.specs.language.State.{IsReadToEnd, everything}
 use Rattle.ag_expr.proofs.language.Agree.{expr_exact}
 use Rattle.ag_expr.proofs.language.Below.{expr_below}
 use Rattle.ag_expr.proofs.language.States.{all_at_end}
-use Rattle.ag_expr.proofs.language.Texts.{passed_on, refused_within, refused_behind, read_all, unnamed}
+use Rattle.ag_expr.proofs.language.Texts.{passed_on, refused_within, refused_after, read_all, unnamed}
 use Rattle.ag_expr.proofs.expression.tree_to_end.Goals as goal
 
 pub returns-in_err-tree-clause-refused : goal.returns-in_err-tree-clause-refused
@@ -14,7 +14,7 @@ returns-in_err-tree-clause-refused c =
     passed_on (λ r. IfErr r (λ e. IsReadToEnd reader (Err e))) _ _ c.from_residual.ensures.1 (refused_within reader _ _ refl (λ memory. unnamed reader c.requires _ (c.in_err-tree.ensures memory)))
 
 pub returns-then-not-is_at_end-clause-refused : goal.returns-then-not-is_at_end-clause-refused
-returns-then-not-is_at_end-clause-refused c = refused_behind c.args.reader.now (Err _) c.refusal.result _ _ refl (unnamed c.args.reader.now c.requires _ c.in_ok-tree.ensures.0) (sym c.if-not-is_at_end.ensures) c.refusal.ensures
+returns-then-not-is_at_end-clause-refused c = refused_after c.args.reader.now (Err _) c.refusal.result _ _ refl (unnamed c.args.reader.now c.requires _ c.in_ok-tree.ensures.0) (sym c.if-not-is_at_end.ensures) c.refusal.ensures
 
 pub returns-clause-read : goal.returns-clause-read
 returns-clause-read c =

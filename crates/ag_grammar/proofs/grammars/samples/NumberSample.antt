@@ -10,8 +10,8 @@ use Rattle.ag_grammar.specs.declared.grammar.Production.{Production}
 use Rattle.ag_grammar.specs.declared.grammar.Rule.{Rule}
 use Rattle.ag_grammar.specs.declared.grammar.Target.{Target}
 use Rattle.ag_grammar.specs.declared.grammar.Terminal.TheVariants.{Literal, Class}
-use Rattle.ag_grammar.specs.grammars.AttributeGrammar.{attribute_names, item_at, item_names, stored_items, IsRule, Kind, HasKind, StandsFor, given_kind, found_kind, Synthesized, Inherited}
-use Rattle.ag_grammar.specs.grammars.Accepted.{out_name, most_attributes, most_items, most_stored, most_literal_bytes, class_count, IsSeparator, IsWithinGrammarLimits, IsInUse, IsNamedItem, IsNamedRule, IsNamed, IsComplete, IsNormal, IsProductive, by_production, nothing, a_symbol, a_word, IsReached, at_start, within, IsAccepted}
+use Rattle.ag_grammar.specs.grammars.AttributeGrammar.{attribute_names, item_at, item_names, stored_items, IsRule, Kind, HasKind, RefersTo, defined_kind, used_kind, Synthesized, Inherited}
+use Rattle.ag_grammar.specs.grammars.Accepted.{out_name, max_attributes, max_items, max_stored, max_literal_bytes, class_count, IsSeparator, IsWithinGrammarLimits, IsInUse, IsNamedItem, IsNamedRule, IsNamed, IsComplete, IsNormal, IsProductive, by_production, nothing, a_symbol, a_word, IsReached, at_start, within, IsAccepted}
 use Rattle.ag_grammar.specs.grammars.Tree.{IsTreeOf}
 use Rattle.ag_grammar.specs.grammars.Solution.{children, at, Holds, Solves, AnyRule, IsTranslation}
 use Rattle.ag_grammar.specs.grammars.Sample.{sample, without_out, doubled, bare, rule_bare, named as named_at, copy_rule, s_name, i_name, production_r, production_a, attribute, symbol_r, symbol_a, rule_out, rule_first, rule_second, rule_s, sample_tree, sample_values}
@@ -30,20 +30,20 @@ translation = (0, (symbol_r, refl, refl), refl)
 abbrev first : Production
 first = production_r (rule_out ∷ rule_first ∷ rule_second ∷ [])
 
-abbrev lacking : Production
-lacking = production_r (rule_first ∷ rule_second ∷ [])
+abbrev underivable : Production
+underivable = production_r (rule_first ∷ rule_second ∷ [])
 
 apart : (o p : Target) → (o.place ≡ p.place → ⊥) → o ≡ p → ⊥
 apart o p h e = h (ap (λ o. o.place) e)
 
-no_rule : (r : Rule) → IsRule lacking r → r.target ≡ attribute 0 0 → ⊥
+no_rule : (r : Rule) → IsRule underivable r → r.target ≡ attribute 0 0 → ⊥
 no_rule r h e = each_more (λ r. r.target ≡ attribute 0 0 → ⊥) rule_first (rule_second ∷ []) (λ t. apart (attribute 1 1) (attribute 0 0) (λ e. cc) t) (each_more (λ r. r.target ≡ attribute 0 0 → ⊥) rule_second [] (λ t. apart (attribute 2 1) (attribute 0 0) (λ e. cc) t) (each_none (λ r. r.target ≡ attribute 0 0 → ⊥))) h.0 r h.1 e
 
-pub missing : IsComplete without_out lacking → ⊥
+pub missing : IsComplete without_out underivable → ⊥
 missing c = let r = c.all (attribute 0 0) refl in no_rule r.0 r.1 r.2
 
 pub refused : IsAccepted without_out → ⊥
-refused a = missing (a.complete 0 lacking refl)
+refused a = missing (a.complete 0 underivable refl)
 
 -- rules 2 and 3 have the same target
 pub doubled_refused : IsAccepted doubled → ⊥
@@ -77,13 +77,13 @@ unsolved s =
     let e : Num (pos 1) ≡ Num (pos 2) = s.0 rule_out (0, refl) tt env (lends rule_out (at (sample_values 1))) ∙ occurrence_gives 0 env in
     cc
 
-given_first : (j a : ℕ) → HasKind sample first (attribute j a) (given_kind j) → (r : Rule) × IsRule first r × (r.target ≡ attribute j a)
+given_first : (j a : ℕ) → HasKind sample first (attribute j a) (defined_kind j) → (r : Rule) × IsRule first r × (r.target ≡ attribute j a)
 given_first zero zero h = (rule_out, (0, refl), refl)
 given_first (suc zero) (suc zero) h = (rule_first, (1, refl), refl)
 given_first (suc (suc zero)) (suc zero) h = (rule_second, (2, refl), refl)
 given_first j a h = cc
 
-given_second : (j a : ℕ) → HasKind sample production_a (attribute j a) (given_kind j) → (r : Rule) × IsRule production_a r × (r.target ≡ attribute j a)
+given_second : (j a : ℕ) → HasKind sample production_a (attribute j a) (defined_kind j) → (r : Rule) × IsRule production_a r × (r.target ≡ attribute j a)
 given_second zero zero h = (rule_s, (0, refl), refl)
 given_second zero (suc zero) h = cc
 given_second zero (suc (suc a)) h = cc
@@ -93,20 +93,20 @@ complete_first : IsComplete sample first
 complete_first = record {
   all = λ o h. given_first o.place o.attr h;
   single = differ_more (λ r. r.target) rule_out (rule_first ∷ rule_second ∷ []) (both (λ r. rule_out.target ≡ r.target → ⊥) rule_first rule_second (λ t. apart (attribute 0 0) (attribute 1 1) (λ e. cc) t) (λ t. apart (attribute 0 0) (attribute 2 1) (λ e. cc) t)) (pair (λ r. r.target) rule_first rule_second (λ t. apart (attribute 1 1) (attribute 2 1) (λ e. cc) t));
-  no_other = three (λ r. HasKind sample first r.target (given_kind r.target.place)) refl refl refl;
+  no_other = three (λ r. HasKind sample first r.target (defined_kind r.target.place)) refl refl refl;
 }
 
 complete_second : IsComplete sample production_a
-complete_second = record { all = λ o h. given_second o.place o.attr h; single = alone (λ r. r.target) rule_s; no_other = only (λ r. HasKind sample production_a r.target (given_kind r.target.place)) rule_s refl }
+complete_second = record { all = λ o h. given_second o.place o.attr h; single = alone (λ r. r.target) rule_s; no_other = only (λ r. HasKind sample production_a r.target (defined_kind r.target.place)) rule_s refl }
 
 normal_first : IsNormal sample first
-normal_first = three (λ r. Each (λ o. HasKind sample first o (found_kind o.place)) r.args)
-    (only (λ o. HasKind sample first o (found_kind o.place)) (attribute 1 0) refl)
-    (only (λ o. HasKind sample first o (found_kind o.place)) (attribute 2 0) refl)
-    (each_none (λ o. HasKind sample first o (found_kind o.place)))
+normal_first = three (λ r. Each (λ o. HasKind sample first o (used_kind o.place)) r.args)
+    (only (λ o. HasKind sample first o (used_kind o.place)) (attribute 1 0) refl)
+    (only (λ o. HasKind sample first o (used_kind o.place)) (attribute 2 0) refl)
+    (each_none (λ o. HasKind sample first o (used_kind o.place)))
 
 normal_second : IsNormal sample production_a
-normal_second = only (λ r. Each (λ o. HasKind sample production_a o (found_kind o.place)) r.args) rule_s (only (λ o. HasKind sample production_a o (found_kind o.place)) (attribute 0 1) refl)
+normal_second = only (λ r. Each (λ o. HasKind sample production_a o (used_kind o.place)) r.args) rule_s (only (λ o. HasKind sample production_a o (used_kind o.place)) (attribute 0 1) refl)
 
 productive_a : IsProductive sample 1
 productive_a = by_production 1 production_a refl refl (a_word nothing)
@@ -124,12 +124,12 @@ reached (suc (suc s)) h = absurd (omega arith)
 limits : IsWithinGrammarLimits sample
 limits = record {
   symbol_count = omega arith;
-  attribute_count = both (λ s. length (attribute_names s) ≤ most_attributes) symbol_r symbol_a (omega arith) (omega arith);
+  attribute_count = both (λ s. length (attribute_names s) ≤ max_attributes) symbol_r symbol_a (omega arith) (omega arith);
   production_count = omega arith;
-  item_count = both (λ q. length q.items ≤ most_items) first production_a (omega arith) (omega arith);
-  stored_count = both (λ q. length (stored_items q.items) ≤ most_stored) first production_a (omega arith) (omega arith);
+  item_count = both (λ q. length q.items ≤ max_items) first production_a (omega arith) (omega arith);
+  stored_count = both (λ q. length (stored_items q.items) ≤ max_stored) first production_a (omega arith) (omega arith);
   literal_count = omega arith;
-  literal_bytes = only (λ x. (1 ≤ length x) × (length x ≤ most_literal_bytes)) (120 ∷ []) (omega arith, omega arith);
+  literal_bytes = only (λ x. (1 ≤ length x) × (length x ≤ max_literal_bytes)) (120 ∷ []) (omega arith, omega arith);
 }
 
 pub no_separator : (b : ℕ) → 32 < b → IsSeparator b → ⊥
@@ -140,14 +140,14 @@ copy_named : (target : Target) (j : ℕ) (name : List ℕ) (a : ℕ) (k : Kind) 
 copy_named target j name a k there is = record {
   target = (k, there);
   listed = occurrence_within 1 0 0 refl;
-  arguments = related_one (StandsFor sample first) (named_at j name) (attribute j a) (record { place = refl; name = is });
+  arguments = related_one (RefersTo sample first) (named_at j name) (attribute j a) (record { place = refl; name = is });
 }
 
 rule_s_named : IsNamedRule sample production_a rule_s
 rule_s_named = record {
   target = (Synthesized, refl);
   listed = in_chain 1 0 (node_of.Occurrence 0) ((Add, node_of.Literal (Num (pos 1))) ∷ []) (occurrence_within 1 0 0 refl) (literal_within 1 0 (Num (pos 1)), tt);
-  arguments = related_one (StandsFor sample production_a) (named_at 0 i_name) (attribute 0 1) (record { place = refl; name = refl });
+  arguments = related_one (RefersTo sample production_a) (named_at 0 i_name) (attribute 0 1) (record { place = refl; name = refl });
 }
 
 used : (l : ℕ) → l < length sample.literals → IsInUse sample (Literal l)
@@ -168,7 +168,7 @@ named = record {
   items_named = both (λ q. Each (IsNamedItem sample) q.items) first production_a (both (IsNamedItem sample) (item.Symbol 1) (item.Symbol 1) (omega arith) (omega arith)) (only (IsNamedItem sample) (item.Terminal (Literal 0)) (omega arith));
   rules_named = both (λ q. Each (IsNamedRule sample q) q.rules) first production_a
       (three (IsNamedRule sample first) (copy_named (attribute 0 0) 1 s_name 0 Synthesized refl refl) (copy_named (attribute 1 1) 2 s_name 0 Inherited refl refl)
-      (record { target = (Inherited, refl); listed = literal_within 0 0 (Num (pos 0)); arguments = related_none (StandsFor sample first) }))
+      (record { target = (Inherited, refl); listed = literal_within 0 0 (Num (pos 0)); arguments = related_none (RefersTo sample first) }))
       (only (IsNamedRule sample production_a) rule_s rule_s_named);
 }
 

@@ -10,8 +10,8 @@ use Rattle.ag_grammar.specs.Lists.{Differ}
 use Rattle.ag_grammar.specs.declared.grammar.Item.TheVariants as item
 use Rattle.ag_grammar.specs.declared.grammar.Rule.{Rule}
 use Rattle.ag_grammar.specs.declared.grammar.Terminal.TheVariants.{Literal, Class}
-use Rattle.ag_grammar.specs.grammars.AttributeGrammar.{attribute_names, lex_name, stored_items, HasKind, IsRule, StandsFor, Synthesized, found_kind, given_kind}
-use Rattle.ag_grammar.specs.grammars.Accepted.{out_name, most_attributes, most_items, most_stored, most_literal_bytes, class_count, IsSeparator, IsWithinGrammarLimits, IsInUse, IsNamedItem, IsNamedRule, IsNamed, IsComplete, IsNormal, IsProductive, by_production, nothing, a_word, IsReached, at_start, IsAccepted}
+use Rattle.ag_grammar.specs.grammars.AttributeGrammar.{attribute_names, lex_name, stored_items, HasKind, IsRule, RefersTo, Synthesized, used_kind, defined_kind}
+use Rattle.ag_grammar.specs.grammars.Accepted.{out_name, max_attributes, max_items, max_stored, max_literal_bytes, class_count, IsSeparator, IsWithinGrammarLimits, IsInUse, IsNamedItem, IsNamedRule, IsNamed, IsComplete, IsNormal, IsProductive, by_production, nothing, a_word, IsReached, at_start, IsAccepted}
 use Rattle.ag_grammar.proofs.grammars.Members.{alone, both, only, related_one}
 use Rattle.ag_grammar.proofs.grammars.samples.NumberSample.{no_separator}
 use Rattle.ag_grammar.proofs.grammars.Rules.{environment, lends}
@@ -47,7 +47,7 @@ unsolved s =
 pub translation : IsTranslation token_sample (token_values iffy) (Text iffy)
 translation = (0, (symbol_s, refl, refl), refl)
 
-given : (j a : ℕ) → HasKind token_sample production_s (attribute j a) (given_kind j) → (r : Rule) × IsRule production_s r × (r.target ≡ attribute j a)
+given : (j a : ℕ) → HasKind token_sample production_s (attribute j a) (defined_kind j) → (r : Rule) × IsRule production_s r × (r.target ≡ attribute j a)
 given zero zero h = (rule_lex, (0, refl), refl)
 given zero (suc a) h = cc
 given (suc zero) zero h = cc
@@ -55,10 +55,10 @@ given (suc zero) (suc a) h = cc
 given (suc (suc j)) a h = cc
 
 complete : IsComplete token_sample production_s
-complete = record { all = λ o h. given o.place o.attr h; single = alone (λ r. r.target) rule_lex; no_other = only (λ r. HasKind token_sample production_s r.target (given_kind r.target.place)) rule_lex refl }
+complete = record { all = λ o h. given o.place o.attr h; single = alone (λ r. r.target) rule_lex; no_other = only (λ r. HasKind token_sample production_s r.target (defined_kind r.target.place)) rule_lex refl }
 
 normal : IsNormal token_sample production_s
-normal = only (λ r. Each (λ o. HasKind token_sample production_s o (found_kind o.place)) r.args) rule_lex (only (λ o. HasKind token_sample production_s o (found_kind o.place)) (attribute 1 0) refl)
+normal = only (λ r. Each (λ o. HasKind token_sample production_s o (used_kind o.place)) r.args) rule_lex (only (λ o. HasKind token_sample production_s o (used_kind o.place)) (attribute 1 0) refl)
 
 first_alone : (P : ℕ → Type 0) → P 0 → (s : ℕ) → s < 1 → P s
 first_alone P h zero lt = h
@@ -79,19 +79,19 @@ named = record {
   rules_named = only (λ q. Each (IsNamedRule token_sample q) q.rules) production_s (only (IsNamedRule token_sample production_s) rule_lex (record {
     target = (Synthesized, refl);
     listed = occurrence_within 1 0 0 refl;
-    arguments = related_one (StandsFor token_sample production_s) (named_at 1 lex_name) (attribute 1 0) (record { place = refl; name = refl });
+    arguments = related_one (RefersTo token_sample production_s) (named_at 1 lex_name) (attribute 1 0) (record { place = refl; name = refl });
   }));
 }
 
 limits : IsWithinGrammarLimits token_sample
 limits = record {
   symbol_count = omega arith;
-  attribute_count = only (λ s. length (attribute_names s) ≤ most_attributes) symbol_s (omega arith);
+  attribute_count = only (λ s. length (attribute_names s) ≤ max_attributes) symbol_s (omega arith);
   production_count = omega arith;
-  item_count = only (λ q. length q.items ≤ most_items) production_s (omega arith);
-  stored_count = only (λ q. length (stored_items q.items) ≤ most_stored) production_s (omega arith);
+  item_count = only (λ q. length q.items ≤ max_items) production_s (omega arith);
+  stored_count = only (λ q. length (stored_items q.items) ≤ max_stored) production_s (omega arith);
   literal_count = omega arith;
-  literal_bytes = only (λ x. (1 ≤ length x) × (length x ≤ most_literal_bytes)) (105 ∷ 102 ∷ []) (omega arith, omega arith);
+  literal_bytes = only (λ x. (1 ≤ length x) × (length x ≤ max_literal_bytes)) (105 ∷ 102 ∷ []) (omega arith, omega arith);
 }
 
 pub accepted : IsAccepted token_sample

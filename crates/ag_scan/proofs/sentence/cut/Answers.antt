@@ -21,14 +21,14 @@ pub loop-rest-smaller : goal.loop-rest-smaller
 loop-rest-smaller c =
     let next = c.skip_separators-rest-in-loop-rest in
     let took = c.in-Ok.ensures.took in
-    shorter (over c.args.literals.now c.args.classes.now) c.args.text.now c.loop-rest.rest.now next.result.now took.0 (chars c.in-Ok.behind.now) c.loop-rest.invariant.0 next.utf8 took.1 next.ensures c.requires.clean.some
+    shorter (over c.args.literals.now c.args.classes.now) c.args.text.now c.loop-rest.rest.now next.result.now took.0 (chars c.in-Ok.following.now) c.loop-rest.invariant.0 next.utf8 took.1 next.ensures c.requires.clean.some
 
 pub loop-rest-preserved : goal.loop-rest-preserved
 loop-rest-preserved c =
     let (utf8, scanned) = c.loop-rest.invariant in
     let next = c.skip_separators-rest-in-loop-rest in
     let took = c.in-Ok.ensures.took in
-    (next.utf8, goes_on (over c.args.literals.now c.args.classes.now) c.args.text.now c.loop-rest.rest.now next.result.now took.0 (chars c.in-Ok.behind.now) utf8 next.utf8 took.1 next.ensures scanned)
+    (next.utf8, goes_on (over c.args.literals.now c.args.classes.now) c.args.text.now c.loop-rest.rest.now next.result.now took.0 (chars c.in-Ok.following.now) utf8 next.utf8 took.1 next.ensures scanned)
 
 pub returns-clause-tokens : goal.returns-clause-tokens
 returns-clause-tokens c =

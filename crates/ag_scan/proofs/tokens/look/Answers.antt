@@ -1,21 +1,21 @@
 use Rattle.std.proofs.Common.{None, Some, arith}
 use Rattle.ag_scan.specs.Cutting.{front_of}
 use Rattle.ag_scan.specs.Words.{over}
-use Rattle.ag_scan.proofs.Handing.{front_told, no_longer}
+use Rattle.ag_scan.proofs.Supplying.{prefix_exact, no_longer}
 use Rattle.ag_scan.proofs.tokens.look.Goals as goal
 
 pub overflow_sub-result : goal.overflow_sub-result
 overflow_sub-result c =
-    omega (arith, c.requires.within, no_longer c.args.behind.now c.skip_separators-left.result.now c.utf8.behind c.skip_separators-left.utf8 c.skip_separators-left.ensures)
+    omega (arith, c.requires.within, no_longer c.args.following.now c.skip_separators-left.result.now c.utf8.following c.skip_separators-left.utf8 c.skip_separators-left.ensures)
 
 pub overflow_cast-result : goal.overflow_cast-result
 overflow_cast-result c = omega (arith, c.requires.has.tokens.readable.short)
 
-pub returns-in-Some-clause-front : goal.returns-in-Some-clause-front
-returns-in-Some-clause-front c =
-    front_told (over c.args.literals.now c.args.classes.now) c.args.text.now c.args.behind.now c.skip_separators-left.result.now c.requires.has c.requires.within c.utf8.behind c.skip_separators-left.utf8 c.skip_separators-left.ensures
-    (Some (front_of c.in-Some.front)) c.in-Some.ensures
+pub returns-in-Some-clause-prefix : goal.returns-in-Some-clause-prefix
+returns-in-Some-clause-prefix c =
+    prefix_exact (over c.args.literals.now c.args.classes.now) c.args.text.now c.args.following.now c.skip_separators-left.result.now c.requires.has c.requires.within c.utf8.following c.skip_separators-left.utf8 c.skip_separators-left.ensures
+    (Some (front_of c.in-Some.prefix)) c.in-Some.ensures
 
-pub returns-in-None-clause-front : goal.returns-in-None-clause-front
-returns-in-None-clause-front c =
-    front_told (over c.args.literals.now c.args.classes.now) c.args.text.now c.args.behind.now c.skip_separators-left.result.now c.requires.has c.requires.within c.utf8.behind c.skip_separators-left.utf8 c.skip_separators-left.ensures None c.in-None.ensures
+pub returns-in-None-clause-prefix : goal.returns-in-None-clause-prefix
+returns-in-None-clause-prefix c =
+    prefix_exact (over c.args.literals.now c.args.classes.now) c.args.text.now c.args.following.now c.skip_separators-left.result.now c.requires.has c.requires.within c.utf8.following c.skip_separators-left.utf8 c.skip_separators-left.ensures None c.in-None.ensures

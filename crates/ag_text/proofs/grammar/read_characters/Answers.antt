@@ -5,4 +5,4 @@ pub returns-in-Ok : goal.returns-in-Ok
 returns-in-Ok c = read_ok c.args.text.now _ _ _ c.new-cursor.ensures c.in-Ok.ensures
 
 pub returns-in-Err : goal.returns-in-Err
-returns-in-Err c = read_err c.args.text.now _ _ _ c.told.ensures c.new-cursor.ensures c.in-Err.ensures
+returns-in-Err c = read_err c.args.text.now _ _ _ c.fault_of_stop.ensures c.new-cursor.ensures c.in-Err.ensures

@@ -2,12 +2,12 @@ use Rattle.std.proofs.Common.{Err, ap, subst}
 use Rattle.std.proofs.lemmas.Result.{err_from_is_err_and}
 use Rattle.ag_grammar.specs.grammars.AttributeGrammar.{Grammar}
 use Rattle.agoutput.specs.Listings.{AppendsPlanBeginning}
-use Rattle.aggen.proofs.Building.{of_plan, write_told}
+use Rattle.aggen.proofs.Building.{of_plan, write_exact}
 use Rattle.aggen.proofs.listing.print_plan.Goals as goal
 
 -- a listing of the translator's grammar is one of the text
 pub returns-in_err-write_plan-clause-write : goal.returns-in_err-write_plan-clause-write
 returns-in_err-write_plan-clause-write g c = λ is.
     let p = err_from_is_err_and c.from_residual-in_err-write_plan.result c.from_residual-in_err-write_plan.ensures.1 in
-    let begins = c.in_err-write_plan.ensures.write (ap Err (write_told c.in_err-write_plan.field-0.0 _ c.from_residual-in_err-write_plan.result p.1 p.2 is)) in
+    let begins = c.in_err-write_plan.ensures.write (ap Err (write_exact c.in_err-write_plan.field-0.0 _ c.from_residual-in_err-write_plan.result p.1 p.2 is)) in
     of_plan _ c.args.text.now _ _ _ c.in_ok-translator.ensures.grammar c.plan.ensures (subst (λ (x : Grammar). AppendsPlanBeginning x c.plan.result.now.0 (g.W.Write.contents c.args.out.now) (g.W.Write.contents c.write_plan.new.out)) c.grammar.ensures.grammar begins)

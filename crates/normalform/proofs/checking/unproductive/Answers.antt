@@ -3,7 +3,7 @@ use Rattle.std.proofs.Common.{◌≡◌, [], length, ap, sym, ◌∙◌}
 use Rattle.std.proofs.lemmas.List.{length-map}
 use Rattle.closure.specs.Clauses.{Clauses}
 use Rattle.normalform.specs.faults.Found.{IsFoundAt}
-use Rattle.normalform.specs.faults.Lacking.{IsFirstLeft}
+use Rattle.normalform.specs.faults.Underivable.{IsFirstUnderivable}
 use Rattle.normalform.specs.numbers.Numbers.{symbol_of}
 use Rattle.normalform.specs.declared.fault.NormalFault.TheVariants as fault
 use Rattle.normalform.proofs.found.Founds.{bounded, unproductive_found, all_productive, found_map, none_map}
@@ -20,11 +20,11 @@ returns-clause-found c =
     let raw = c.args.raw.now in
     let count : c.in_ok-clauses.clauses.count ≡ length (symbols raw) = ap (λ (k : Clauses). k.count) c.in_ok-clauses.ensures ∙ ap length c.as_slice.ensures ∙ sym (length-map raw.symbols symbol_of) in
     let here = ap (λ (k : Clauses). k.clauses) c.in_ok-clauses.ensures ∙ c.requires.clauses in
-    found_map (IsFirstLeft (clauses raw) [] (length (symbols raw))) (IsFoundAt raw fault.Unproductive) (λ n. unproductive_found raw n c.requires.names) c.first_left.result (rw (← count, ← here) c.first_left.ensures.found)
+    found_map (IsFirstUnderivable (clauses raw) [] (length (symbols raw))) (IsFoundAt raw fault.Unproductive) (λ n. unproductive_found raw n c.requires.names) c.first_underivable.result (rw (← count, ← here) c.first_underivable.ensures.found)
 
 pub returns-clause-none : goal.returns-clause-none
 returns-clause-none c =
     let raw = c.args.raw.now in
     let count : c.in_ok-clauses.clauses.count ≡ length (symbols raw) = ap (λ (k : Clauses). k.count) c.in_ok-clauses.ensures ∙ ap length c.as_slice.ensures ∙ sym (length-map raw.symbols symbol_of) in
     let here = ap (λ (k : Clauses). k.clauses) c.in_ok-clauses.ensures ∙ c.requires.clauses in
-    none_map (all_productive raw) c.first_left.result (rw (← count, ← here) c.first_left.ensures.none)
+    none_map (all_productive raw) c.first_underivable.result (rw (← count, ← here) c.first_underivable.ensures.none)

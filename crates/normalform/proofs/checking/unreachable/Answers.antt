@@ -4,7 +4,7 @@ use Rattle.std.proofs.lemmas.List.{length-map}
 use Rattle.closure.specs.Clauses.{Clauses}
 use Rattle.closure.specs.Edges.{along}
 use Rattle.normalform.specs.faults.Found.{IsFoundAt}
-use Rattle.normalform.specs.faults.Lacking.{IsFirstLeft}
+use Rattle.normalform.specs.faults.Underivable.{IsFirstUnderivable}
 use Rattle.normalform.specs.numbers.Numbers.{symbol_of}
 use Rattle.normalform.specs.declared.fault.NormalFault.TheVariants as fault
 use Rattle.normalform.proofs.found.Founds.{edges_bounded, unreached_found, all_reached, found_map, none_map, start_bounded}
@@ -17,8 +17,8 @@ of_edges-requires c =
     let count : length c.as_slice.result.now ≡ length (symbols raw) = ap length c.as_slice.ensures ∙ sym (length-map raw.symbols symbol_of) in
     rw (count, c.requires.edges) (edges_bounded raw c.requires.names)
 
-pub first_left-requires : goal.first_left-requires
-first_left-requires c =
+pub first_underivable-requires : goal.first_underivable-requires
+first_underivable-requires c =
     let raw = c.args.raw.now in
     let count : c.in_ok-clauses.clauses.count ≡ length (symbols raw) = ap (λ (k : Clauses). k.count) c.in_ok-clauses.ensures ∙ ap length c.as_slice.ensures ∙ sym (length-map raw.symbols symbol_of) in
     subst (λ n. All (λ t. t < c.in_ok-clauses.clauses.count) (n ∷ [])) (sym c.requires.start) (rw count (start_bounded raw c.requires.names))
@@ -28,11 +28,11 @@ returns-clause-found c =
     let raw = c.args.raw.now in
     let count : c.in_ok-clauses.clauses.count ≡ length (symbols raw) = ap (λ (k : Clauses). k.count) c.in_ok-clauses.ensures ∙ ap length c.as_slice.ensures ∙ sym (length-map raw.symbols symbol_of) in
     let here : c.in_ok-clauses.clauses.clauses ≡ map along (edges raw) = ap (λ (k : Clauses). k.clauses) c.in_ok-clauses.ensures ∙ ap (map along) c.requires.edges in
-    found_map (IsFirstLeft (map along (edges raw)) (start raw ∷ []) (length (symbols raw))) (IsFoundAt raw fault.Unreachable) (λ n. unreached_found raw n c.requires.names c.requires.productive) c.first_left.result (rw (← count, ← here, ← c.requires.start) c.first_left.ensures.found)
+    found_map (IsFirstUnderivable (map along (edges raw)) (start raw ∷ []) (length (symbols raw))) (IsFoundAt raw fault.Unreachable) (λ n. unreached_found raw n c.requires.names c.requires.productive) c.first_underivable.result (rw (← count, ← here, ← c.requires.start) c.first_underivable.ensures.found)
 
 pub returns-clause-none : goal.returns-clause-none
 returns-clause-none c =
     let raw = c.args.raw.now in
     let count : c.in_ok-clauses.clauses.count ≡ length (symbols raw) = ap (λ (k : Clauses). k.count) c.in_ok-clauses.ensures ∙ ap length c.as_slice.ensures ∙ sym (length-map raw.symbols symbol_of) in
     let here : c.in_ok-clauses.clauses.clauses ≡ map along (edges raw) = ap (λ (k : Clauses). k.clauses) c.in_ok-clauses.ensures ∙ ap (map along) c.requires.edges in
-    none_map (all_reached raw) c.first_left.result (rw (← count, ← here, ← c.requires.start) c.first_left.ensures.none)
+    none_map (all_reached raw) c.first_underivable.result (rw (← count, ← here, ← c.requires.start) c.first_underivable.ensures.none)

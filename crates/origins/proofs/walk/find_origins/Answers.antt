@@ -5,7 +5,7 @@ use Rattle.ag_grammar.specs.declared.grammar.Item.TheVariants as item
 use Rattle.ag_grammar.specs.grammars.Passes.{direction_of, other}
 use Rattle.treefile.specs.devices.Device.{WhenHonest}
 use Rattle.origins.specs.Origins.{AreOrigins, AreOriginsIn}
-use Rattle.origins.specs.Walking.{ComesNext, HasComeTo, IsSoFar}
+use Rattle.origins.specs.Walking.{IsNextRecord, HasComeTo, IsSoFar}
 use Rattle.origins.specs.declared.walk.Open.{Open}
 use Rattle.origins.specs.declared.walk.Origins.{Origins}
 use Rattle.origins.proofs.Step.{begin_next, end}
@@ -15,8 +15,8 @@ pub read-requires-clause-next : goal.read-requires-clause-next
 read-requires-clause-next g c = λ honest.
     let content = g.D.Device.content c.args.device.now in
     let direction : c.turned.result ≡ other (direction_of c.in_ok-back.back.progress.pass) = c.turned.ensures ∙ ap other (c.of_pass.ensures ∙ ap direction_of c.pass.ensures) in
-    subst (λ (bytes : List ℕ). ComesNext c.args.grammar.now c.turned.result bytes c.in_ok-back.back.progress.at (item.Symbol c.start-2.result) (reverse c.new.result.items) None 0) (sym (c.in_ok-back.ensures.content honest))
-    (begin_next c.args.grammar.now c.turned.result content c.in_ok-back.back.progress.at c.in_ok-back.back.progress.pass c.start-2.result (reverse c.new.result.items) c.start-2.ensures.accepted (c.in_ok-back.ensures.started.end honest) direction (c.in_ok-back.ensures.told honest) c.start-2.ensures.value (ap reverse c.new.ensures.items))
+    subst (λ (bytes : List ℕ). IsNextRecord c.args.grammar.now c.turned.result bytes c.in_ok-back.back.progress.at (item.Symbol c.start-2.result) (reverse c.new.result.items) None 0) (sym (c.in_ok-back.ensures.content honest))
+    (begin_next c.args.grammar.now c.turned.result content c.in_ok-back.back.progress.at c.in_ok-back.back.progress.pass c.start-2.result (reverse c.new.result.items) c.start-2.ensures.accepted (c.in_ok-back.ensures.started.end honest) direction (c.in_ok-back.ensures.exact honest) c.start-2.ensures.value (ap reverse c.new.ensures.items))
 
 pub returns-in_default-clause-found : goal.returns-in_default-clause-found
 returns-in_default-clause-found g c =

@@ -1,5 +1,5 @@
 use Rattle.std.proofs.Common.{◌≡◌, ◌≤◌, ◌<◌, ap, ◌∙◌, arith}
-use Rattle.passassign.specs.Progress.{open_count}
+use Rattle.passassign.specs.PassesSoFar.{open_count}
 use Rattle.passassign.proofs.making.Refusing.{refused}
 use Rattle.passassign.proofs.making.SoFar.{last_in_use, so_far_next}
 use Rattle.passassign.proofs.assigning.advance.Goals as goal

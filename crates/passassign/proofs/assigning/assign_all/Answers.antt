@@ -1,6 +1,6 @@
 use Rattle.std.proofs.Common.{◌≡◌, ◌≤◌, length, inl, ap, ◌∙◌, sym, subst, refl, arith}
 use Rattle.std.proofs.lemmas.List.Sums.{count_by-le-length}
-use Rattle.passassign.specs.Progress.{open_count}
+use Rattle.passassign.specs.PassesSoFar.{open_count}
 use Rattle.passassign.specs.Searching.{AreReady}
 use Rattle.passassign.specs.Rows.{numbers_of, passes_of, AreFew}
 use Rattle.passassign.specs.Least.{IsLeast}

@@ -1,8 +1,8 @@
 use Rattle.std.proofs.Common.{◌≡◌, ◌+◌, ◌*◌, ◌≤◌, ◌⊎◌, length, true}
 use Rattle.ag_grammar.specs.grammars.AttributeGrammar.{Grammar}
 use Rattle.passassign.specs.PassStrikes.{AreStrikesSoFar, IsLastInUse}
-use Rattle.passassign.specs.Progress.{IsProgress, IsWith, open_count}
-use Rattle.ag_grammar.specs.grammars.Accepted.{most_passes}
+use Rattle.passassign.specs.PassesSoFar.{IsProgress, IsWith, open_count}
+use Rattle.ag_grammar.specs.grammars.Accepted.{max_passes}
 use Rattle.passassign.specs.Searching.{AreReady}
 use Rattle.passassign.specs.Tables.{table_passes}
 use Rattle.passassign.proofs.assigning.assign_all.Given as goal
@@ -12,7 +12,7 @@ invariant-loop-open_now l = record {
   ready : AreReady l.dependencies (length l.progress.states.items);
   len : length l.progress.states.items ≤ 4096;
   count : l.open_now ≡ open_count l.progress.states.items;
-  next : l.progress.next + 2 * l.open_now ≤ most_passes + 1;
+  next : l.progress.next + 2 * l.open_now ≤ max_passes + 1;
   made : (g : Grammar) → IsWith l.symbols l.productions g → IsProgress g l.dependencies.all.items l.progress;
   last : (g : Grammar) → IsWith l.symbols l.productions g → (l.progress.next ≡ 1) ⊎ IsLastInUse l.progress.next (table_passes l.progress.states.items);
   wanted : l.kept.is_wanted ≡ l.wants_strikes;

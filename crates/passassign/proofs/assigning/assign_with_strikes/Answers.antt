@@ -1,7 +1,7 @@
 use Rattle.std.proofs.Common.{ℕ, List, sym}
 use Rattle.std.proofs.lemmas.Result.{IfOk-weaker}
 use Rattle.ag_grammar.specs.grammars.AttributeGrammar.{Grammar}
-use Rattle.passassign.specs.Progress.{IsWith}
+use Rattle.passassign.specs.PassesSoFar.{IsWith}
 use Rattle.passassign.specs.Rows.{AreFew}
 use Rattle.passassign.specs.declared.stuck.Strikes.{Strikes}
 use Rattle.passassign.proofs.assigning.assign_with_strikes.Goals as goal

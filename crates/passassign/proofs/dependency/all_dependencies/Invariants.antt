@@ -1,6 +1,6 @@
 use Rattle.std.proofs.Common.{[]}
-use Rattle.passassign.specs.Dependencies.{OfFront, Adds, IsByProduction}
+use Rattle.passassign.specs.Dependencies.{OfPrefix, Adds, IsByProduction}
 use Rattle.passassign.proofs.dependency.all_dependencies.Given as goal
 
 abbrev pub invariant-loop-index : goal.invariant-loop-index
-invariant-loop-index l = Adds (OfFront (IsByProduction) l.productions l.index) [] l.found.items
+invariant-loop-index l = Adds (OfPrefix (IsByProduction) l.productions l.index) [] l.found.items

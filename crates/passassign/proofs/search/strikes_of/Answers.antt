@@ -1,7 +1,7 @@
 use Rattle.std.proofs.Common.{subst, sym, arith}
 use Rattle.std.proofs.lemmas.Option.{slice_get-get_or, slice_get_within}
 use Rattle.passassign.specs.Searching.{IsStrikeOf}
-use Rattle.passassign.proofs.strikes.Told.{strike_more}
+use Rattle.passassign.proofs.strikes.ReportedStrikes.{strike_more}
 use Rattle.passassign.proofs.search.strikes_of.Goals as goal
 
 pub by_reason-requires : goal.by_reason-requires
@@ -10,12 +10,12 @@ by_reason-requires c = c.requires c.loop-one.one-index _ (slice_get-get_or c.arg
 pub loop-one-preserved : goal.loop-one-preserved
 loop-one-preserved c = record {
   len = let l = c.loop-one.invariant.len in omega (arith, l, c.in_ok-push.ensures.len);
-  told = λ i x lt e. subst (λ xs. IsStrikeOf c.args.all.now c.args.barred.now xs i x) (sym c.in_ok-push.ensures.items)
-      (strike_more c.args.all.now c.args.barred.now c.args.added.now c.loop-one.strikes.items c.loop-one.one-index _ c.by_reason.result c.loop-one.invariant.len c.by_reason.ensures c.loop-one.invariant.told i x lt e);
+  exact = λ i x lt e. subst (λ xs. IsStrikeOf c.args.all.now c.args.barred.now xs i x) (sym c.in_ok-push.ensures.items)
+      (strike_more c.args.all.now c.args.barred.now c.args.added.now c.loop-one.strikes.items c.loop-one.one-index _ c.by_reason.result c.loop-one.invariant.len c.by_reason.ensures c.loop-one.invariant.exact i x lt e);
 }
 
 pub returns : goal.returns
 returns c = record {
   len = let l = c.loop-one.invariant.len in let e = c.loop-one.auto.one-index-end in omega (arith, l, e, c.loop-one-test.false);
-  told = λ i x e. (let w = slice_get_within c.args.added.now i x e in c.loop-one.invariant.told i x (omega (arith, w, c.loop-one-test.false)) e);
+  exact = λ i x e. (let w = slice_get_within c.args.added.now i x e in c.loop-one.invariant.exact i x (omega (arith, w, c.loop-one-test.false)) e);
 }

@@ -1,6 +1,6 @@
 use Rattle.std.proofs.Common.{◌≡◌, ◌+◌, inl, subst, sym}
 use Rattle.planchecker.specs.courses.Settings.{setting_of}
-use Rattle.treefile.specs.ways.Beginning.{LeavesBeginning}
+use Rattle.treefile.specs.framing.Beginning.{LeavesBeginning}
 use Rattle.passrun.specs.declared.last.Last.{Last}
 use Rattle.passrun.specs.Rounds.{last_content, other_content}
 use Rattle.passrun.proofs.course.Stepping.{err_more, passed_from_a, passed_from_b, refused_from_a, refused_from_b, some_left}

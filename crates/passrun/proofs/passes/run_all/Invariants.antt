@@ -1,5 +1,5 @@
 use Rattle.std.proofs.Common.{◌≡◌, ◌+◌, ◌-◌, ◌*◌, ◌≤◌}
-use Rattle.ag_grammar.specs.grammars.Tree.{most_nodes}
+use Rattle.ag_grammar.specs.grammars.Tree.{max_nodes}
 use Rattle.passassign.specs.Rows.{passes_of}
 use Rattle.treefile.specs.devices.Device.{Persists, WhenHonest}
 use Rattle.passrun.specs.Rounds.{HasRunAll, LeavesSomeFile}
@@ -13,7 +13,7 @@ invariant-loop-done g l = record {
   b_persists : Persists (g.D.Device.is_honest l.fn.b) (g.D.Device.is_honest l.b) (g.D.Device.failures l.fn.b) (g.D.Device.failures l.b) ⊥;
   meter_low : l.fn.meter ≤ l.meter;
   meter_high : l.meter ≤ l.fn.meter + l.done * 68719476736;
-  nodes : l.sum.nodes ≤ most_nodes;
+  nodes : l.sum.nodes ≤ max_nodes;
   read : l.sum.read ≤ l.done * 1048576;
   written : l.sum.written ≤ l.done * 1048576;
   a_left : WhenHonest (g.D.Device.is_honest l.a) (LeavesSomeFile (g.D.Device.content l.fn.a) (g.D.Device.content l.a));

@@ -1,6 +1,6 @@
-use Rattle.planchecker.proofs.Loops.{Front}
+use Rattle.planchecker.proofs.Loops.{Prefix}
 use Rattle.plan_reasons.specs.Hints.{IsCopiedIn}
 use Rattle.plan_reasons.proofs.uses.is_copied.Given as goal
 
 abbrev pub invariant-loop-production : goal.invariant-loop-production
-invariant-loop-production l = Front (λ i q. IsCopiedIn l.attribute.0 l.attribute.1 q) l.grammar.productions l.production-index
+invariant-loop-production l = Prefix (λ i q. IsCopiedIn l.attribute.0 l.attribute.1 q) l.grammar.productions l.production-index

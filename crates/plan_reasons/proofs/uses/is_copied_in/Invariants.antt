@@ -1,6 +1,6 @@
-use Rattle.planchecker.proofs.Loops.{Front}
+use Rattle.planchecker.proofs.Loops.{Prefix}
 use Rattle.plan_reasons.specs.Hints.{IsCopiedBy}
 use Rattle.plan_reasons.proofs.uses.is_copied_in.Given as goal
 
 abbrev pub invariant-loop-rule : goal.invariant-loop-rule
-invariant-loop-rule l = Front (λ i u. IsCopiedBy l.production l.attribute.0 l.attribute.1 u) l.production.rules l.rule-index
+invariant-loop-rule l = Prefix (λ i u. IsCopiedBy l.production l.attribute.0 l.attribute.1 u) l.production.rules l.rule-index

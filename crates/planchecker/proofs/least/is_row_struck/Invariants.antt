@@ -1,7 +1,7 @@
 use Rattle.std.proofs.Common.{◌<◌}
 use Rattle.planchecker.specs.Marking.{IsMarked}
-use Rattle.planchecker.proofs.Loops.{Front}
+use Rattle.planchecker.proofs.Loops.{Prefix}
 use Rattle.planchecker.proofs.least.is_row_struck.Given as goal
 
 abbrev pub invariant-loop-attr : goal.invariant-loop-attr
-invariant-loop-attr l = Front (λ a p. l.pass < p → IsMarked l.struck l.symbol a) l.row l.attr
+invariant-loop-attr l = Prefix (λ a p. l.pass < p → IsMarked l.struck l.symbol a) l.row l.attr

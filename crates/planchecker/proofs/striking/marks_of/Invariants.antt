@@ -1,15 +1,15 @@
 use Rattle.std.proofs.Common.{ℕ, ◌≡◌, ◌↔◌, length, take}
 use Rattle.passassign.specs.Certificate.{IsStruckBy}
-use Rattle.passassign.specs.Tables.{most_slots}
+use Rattle.passassign.specs.Tables.{max_slots}
 use Rattle.planchecker.specs.Marking.{IsMarked}
 use Rattle.planchecker.specs.Striking.{IsNext}
-use Rattle.planchecker.proofs.Loops.{Front}
+use Rattle.planchecker.proofs.Loops.{Prefix}
 use Rattle.planchecker.proofs.striking.marks_of.Given as goal
 
 abbrev pub invariant-loop-strike : goal.invariant-loop-strike
 invariant-loop-strike g l = record {
-  good : Front (λ i x. IsNext l.grammar l.direction (g.C.Candidates.candidates l.candidates) (g.C.Candidates.later l.candidates)
+  good : Prefix (λ i x. IsNext l.grammar l.direction (g.C.Candidates.candidates l.candidates) (g.C.Candidates.later l.candidates)
       (take i l.strikes) x) l.strikes l.strike-index;
-  full : length l.struck.slots ≡ most_slots;
+  full : length l.struck.slots ≡ max_slots;
   marked : (s a : ℕ) → IsMarked l.struck s a ↔ IsStruckBy (take l.strike-index l.strikes) s a;
 }

@@ -4,9 +4,9 @@ use Rattle.std.proofs.lemmas.Result.{IfOk-weaker}
 use Rattle.ag_grammar.specs.declared.grammar.Item.TheVariants as item
 use Rattle.treefile.specs.devices.Device.{WhenHonest}
 use Rattle.tree_index.specs.Nodes.{IsIndexIn}
-use Rattle.tree_index.specs.Reading.{ComesNext, HasComeTo}
+use Rattle.tree_index.specs.Reading.{IsNextRecord, HasComeTo}
 use Rattle.tree_index.specs.declared.index.TreeIndex.{TreeIndex}
-use Rattle.tree_index.specs.declared.reading.OpenNode.{OpenNode}
+use Rattle.tree_index.specs.declared.reading.OpenRecord.{OpenRecord}
 use Rattle.tree_index.proofs.Steps.{begins_reading, ends_reading}
 use Rattle.tree_index.proofs.reading.read_file.Goals as goal
 
@@ -14,11 +14,11 @@ pub read-requires-clause-next : goal.read-requires-clause-next
 read-requires-clause-next g c = λ honest.
     let content = g.D.Device.content c.args.device.now in
     let back = c.in_ok-back.back in
-    subst (λ (bytes : List ℕ). ComesNext c.args.grammar.now bytes back (item.Symbol c.start-2.result)
+    subst (λ (bytes : List ℕ). IsNextRecord c.args.grammar.now bytes back (item.Symbol c.start-2.result)
     (reverse c.new-2.result.items) c.new.result) (sym (c.in_ok-back.ensures.content honest))
     (begins_reading c.args.grammar.now content back c.start-2.result (reverse c.new-2.result.items) c.new.result
     c.start-2.ensures.accepted (c.in_ok-back.ensures.started.end honest) c.in_ok-back.ensures.started.fresh
-    (c.in_ok-back.ensures.told honest) c.start-2.ensures.value (ap reverse c.new-2.ensures.items)
+    (c.in_ok-back.ensures.exact honest) c.start-2.ensures.value (ap reverse c.new-2.ensures.items)
     (c.new.ensures.pass ∙ c.pass-pass.ensures) c.new.ensures.ends c.new.ensures.kinds c.new.ensures.sizes)
 
 pub returns-in_default-clause-indexed : goal.returns-in_default-clause-indexed
@@ -42,5 +42,5 @@ turn-requires-clause-come g c = λ honest.
     ∙ reverse-append c.pop.new.self.items (c.in-Some.node ∷ []) in
     subst (λ (bytes : List ℕ). HasComeTo c.args.grammar.now bytes reading.back (c.in-Some.node ∷ reverse c.pop.new.self.items)
     reading.index) (sym (so_far.content honest))
-    (subst (λ (os : List OpenNode). HasComeTo c.args.grammar.now (g.D.Device.content c.args.device.now) reading.back os
+    (subst (λ (os : List OpenRecord). HasComeTo c.args.grammar.now (g.D.Device.content c.args.device.now) reading.back os
     reading.index) turned (so_far.come honest))

@@ -1,6 +1,6 @@
 use Rattle.std.specs.List.{flat_map}
-use Rattle.treefile.proofs.ways.Backward.{back_is_file, pass_of_file, read_back}
-use Rattle.treefile.proofs.ways.Files.{begins}
+use Rattle.treefile.proofs.framing.Backward.{back_is_file, pass_of_file, read_back}
+use Rattle.treefile.proofs.framing.Files.{begins}
 use Rattle.treefile.specs.records.TreeFile.{frame}
 use Rattle.treefile.proofs.laws.files_are_read_back.Goals as goal
 
@@ -11,4 +11,4 @@ pub returns-clause-bodies : goal.returns-clause-bodies
 returns-clause-bodies c version pass bodies usable all = read_back version pass usable bodies all
 
 pub returns-clause-only : goal.returns-clause-only
-returns-clause-only c version content bodies usable bytes told back = back_is_file version content bytes bodies usable told back
+returns-clause-only c version content bodies usable bytes exact back = back_is_file version content bytes bodies usable exact back

@@ -1,4 +1,4 @@
-use Rattle.treefile.proofs.ways.Files.{damaged_at_end, file_grows, last_of_file, none_of_header}
+use Rattle.treefile.proofs.framing.Files.{damaged_at_end, file_grows, last_of_file, none_of_header}
 use Rattle.treefile.proofs.laws.last_is_read.Goals as goal
 
 pub returns-clause-grows : goal.returns-clause-grows

@@ -1,4 +1,4 @@
-use Rattle.treefile.proofs.ways.Root.{root_is_last, values_are_whole}
+use Rattle.treefile.proofs.framing.Root.{root_is_last, values_are_whole}
 use Rattle.treefile.proofs.tree_laws.root_is_last.Goals as goal
 
 pub returns : goal.returns

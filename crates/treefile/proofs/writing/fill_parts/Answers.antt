@@ -1,6 +1,6 @@
 use Rattle.std.proofs.Common.{subst, sym}
 use Rattle.treefile.proofs.records.Records.{is_body}
-use Rattle.treefile.specs.ways.Ending.{IsBody}
+use Rattle.treefile.specs.framing.Ending.{IsBody}
 use Rattle.treefile.specs.records.TreeFile.{version_two}
 use Rattle.treefile.proofs.writing.fill_parts.Goals as goal
 

@@ -7,8 +7,8 @@ use Rattle.ag_carried.proofs.spelled.Spelled.prefix_of.Goals as goal
 
 pub returns-then-eq-clause-only : goal.returns-then-eq-clause-only
 returns-then-eq-clause-only c value rest well e =
-    let front : take (length c.as_slice-bytes.result.now) c.args.input.now ≡ spelling_of c.args.self.now = search rules in
+    let prefix : take (length c.as_slice-bytes.result.now) c.args.input.now ≡ spelling_of c.args.self.now = search rules in
     let own : IsWell c.args.self.now = search rules in
     let len : length c.as_slice-bytes.result.now ≡ length (spelling_of c.args.self.now) = search rules in
-    let is : c.args.self.now ≡ value = prefix_determines c.args.input.now (length c.as_slice-bytes.result.now) c.args.self.now value rest own well front e in
+    let is : c.args.self.now ≡ value = prefix_determines c.args.input.now (length c.as_slice-bytes.result.now) c.args.self.now value rest own well prefix e in
     (is, len ∙ ap (λ (v : Value). length (spelling_of v)) is)

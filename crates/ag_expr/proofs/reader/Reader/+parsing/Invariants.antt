@@ -1,6 +1,6 @@
 use Rattle.std.proofs.Common.{false, [], ◌≡◌, ℕ, ◌+◌, ◌*◌, length}
 use Rattle.ag_tokens.specs.Parsing.{further_from, is_sign}
-use Rattle.ag_tokens.specs.Token.{mark}
+use Rattle.ag_tokens.specs.GrammarToken.{mark}
 use Rattle.ag_tokens.specs.declared.token.Punctuation.TheVariants as punctuation
 use Rattle.ag_expr.proofs.language.Parts.{Looping}
 use Rattle.ag_expr.specs.language.Reading.{items_from, is_operator_of, next_from, other_from, ranked_from, atom_from, expr_in}
@@ -35,11 +35,11 @@ decreases-conditional l = 40 * l.levels + 2
 abbrev pub decreases-chain : goal.decreases-chain
 decreases-chain l = 40 * l.levels + 26
 
-abbrev pub decreases-chain_behind : goal.decreases-chain_behind
-decreases-chain_behind l = 40 * l.levels + (above l.precedence + 4)
+abbrev pub decreases-chain_after : goal.decreases-chain_after
+decreases-chain_after l = 40 * l.levels + (above l.precedence + 4)
 
-abbrev pub decreases-operand_behind : goal.decreases-operand_behind
-decreases-operand_behind l = 40 * l.levels + above l.precedence
+abbrev pub decreases-operand_after : goal.decreases-operand_after
+decreases-operand_after l = 40 * l.levels + above l.precedence
 
 abbrev pub decreases-others : goal.decreases-others
 decreases-others l = 40 * l.levels + (above l.precedence + 3)

@@ -1,5 +1,5 @@
 use Rattle.std.proofs.Common.{sym, ap, ◌∙◌, Ok, Err}
-use Rattle.ag_tokens.specs.Placed.{Input}
+use Rattle.ag_tokens.specs.PlacedToken.{Input}
 use Rattle.ag_tokens.specs.Parsing.{fault_of}
 use Rattle.ag_tokens.proofs.States.{front_is}
 use Rattle.ag_tokens.proofs.cursor.Cursor.fault.Goals as goal

@@ -1,8 +1,8 @@
 use Rattle.std.proofs.Common.{Err, ap, inr, refl, sym, ◌∙◌}
 use Rattle.std.proofs.lemmas.Result.{err_from_is_err_and}
-use Rattle.treefile.proofs.ways.Beginning.{not_begun}
+use Rattle.treefile.proofs.framing.Beginning.{not_begun}
 use Rattle.aggen.specs.Sentences.{IsTreeOfSentence}
-use Rattle.aggen.proofs.Sentences.{one_of, parse_told, scan_told, with_tokens}
+use Rattle.aggen.proofs.Sentences.{one_of, parse_exact, scan_exact, with_tokens}
 use Rattle.aggen.proofs.Left.{first_begins, no_parse_of_device, no_parse_of_scan}
 use Rattle.aggen.proofs.translator.Translator.parse_tree.Goals as goal
 
@@ -43,20 +43,20 @@ returns-clause-file g c = λ t is.
 pub returns-in_err-tokens-clause-refused : goal.returns-in_err-tokens-clause-refused
 returns-in_err-tokens-clause-refused g c =
     let p = err_from_is_err_and c.from_residual.result c.from_residual.ensures.1 in
-    rw (p.1, p.2, sym c.self.view_is) (scan_told _ c.self.invariant.0 c.args.sentence.now _ c.in_err-tokens.ensures.refused)
+    rw (p.1, p.2, sym c.self.view_is) (scan_exact _ c.self.invariant.0 c.args.sentence.now _ c.in_err-tokens.ensures.refused)
 
 pub returns-in_err-count-clause-refused : goal.returns-in_err-count-clause-refused
 returns-in_err-count-clause-refused g c =
     let p = err_from_is_err_and c.from_residual-in_err-count.result c.from_residual-in_err-count.ensures.1 in
     let cut = c.in_ok-tokens.ensures.tokens in
     let e = c.in_err-count.ensures in
-    rw (p.1, p.2, sym c.self.view_is) (parse_told _ c.self.invariant.0 c.args.sentence.now _ cut (Err c.in_err-count.field-0.0) c.in_err-count.field-0.0 refl e.unexpected e.none e.deep e.large)
+    rw (p.1, p.2, sym c.self.view_is) (parse_exact _ c.self.invariant.0 c.args.sentence.now _ cut (Err c.in_err-count.field-0.0) c.in_err-count.field-0.0 refl e.unexpected e.none e.deep e.large)
 
 -- the content of the device after a fault
 pub returns-in_err-writer-clause-left : goal.returns-in_err-writer-clause-left
 returns-in_err-writer-clause-left g c =
     let p = err_from_is_err_and c.from_residual-in_err-writer.result c.from_residual-in_err-writer.ensures.1 in
-    rw p.1 (λ h. not_begun 0 (g.D.Device.content c.args.device.now) (g.D.Device.content c.begin.new.device) c.in_err-writer.field-0.0 (λ failed. c.in_err-writer.ensures.device (ap Err failed) h) (λ want. c.in_err-writer.ensures.memory (ap Err want) h))
+    rw p.1 (λ h. not_begun 0 (g.D.Device.content c.args.device.now) (g.D.Device.content c.begin.new.device) c.in_err-writer.field-0.0 (λ failed. c.in_err-writer.ensures.device (ap Err failed) h) (λ resource. c.in_err-writer.ensures.memory (ap Err resource) h))
 
 pub returns-in_err-count-clause-left : goal.returns-in_err-count-clause-left
 returns-in_err-count-clause-left g c =

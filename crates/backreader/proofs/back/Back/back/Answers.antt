@@ -2,10 +2,10 @@ use Rattle.std.proofs.Common.{rules, ◌≡◌, ◌+◌, ◌≤◌, None, Some, 
 use Rattle.std.specs.Option.{option_map}
 use Rattle.backreader.specs.BackState.{IsLarge, BackState, Progress, progress_after}
 use Rattle.backreader.specs.Windows.{taken, unread}
-use Rattle.backreader.proofs.Standing.{told_as_well}
+use Rattle.backreader.proofs.EndingAt.{exact_as_well}
 use Rattle.treefile.proofs.records.Frames.{length_part}
-use Rattle.treefile.specs.ways.Backward.{before_frame, next_before}
-use Rattle.treefile.specs.ways.Ending.{Told, greatest_body}
+use Rattle.treefile.specs.framing.Backward.{before_frame, next_before}
+use Rattle.treefile.specs.framing.Ending.{ReadsAs, greatest_body}
 use Rattle.treefile.specs.records.TreeFile.{version_of}
 use Rattle.treefile.specs.declared.reading.FrameFault.{FrameFault}
 use Rattle.treefile.specs.declared.reading.FrameFault.TheVariants.{NoMemory}
@@ -23,14 +23,14 @@ returns-in-Ok-None g c =
         refl,
         (λ _. tt),
         record {
-          over = λ h. record { window = c.in-Ok-None.ensures.stand h; header = (c.requires (c.in-Ok-None.ensures.persists.honest h)).header };
+          over = λ h. record { window = c.in-Ok-None.ensures.occur h; header = (c.requires (c.in-Ok-None.ensures.persists.honest h)).header };
           progress = ap (λ v. record (now c.next.new.self.at) { version = version_of v }) c.in-Ok-None.ensures.version ∙ ap now stays ∙ ap (λ (state : BackState). state.progress) c.self.view_is;
-          want = search rules;
+          resource = search rules;
         },
       ),
       record {
         after = tt;
-        told = λ e honest. subst (λ (state : BackState). next_before state.progress.version content state.progress.at ≡ Ok None) c.self.view_is (rw c.in-Ok-None.field-0-is at (c.in-Ok-None.ensures.told honest));
+        exact = λ e honest. subst (λ (state : BackState). next_before state.progress.version content state.progress.at ≡ Ok None) c.self.view_is (rw c.in-Ok-None.field-0-is at (c.in-Ok-None.ensures.exact honest));
         memory = search rules;
         body = search rules;
         room = search rules;
@@ -61,14 +61,14 @@ returns-in-Ok-Some g c =
         refl,
         (λ _. tt),
         record {
-          over = λ h. record { window = c.in-Ok-Some.ensures.stand h; header = (c.requires (c.in-Ok-Some.ensures.persists.honest h)).header };
+          over = λ h. record { window = c.in-Ok-Some.ensures.occur h; header = (c.requires (c.in-Ok-Some.ensures.persists.honest h)).header };
           progress = ap (λ v. record (now new.at) { version = version_of v }) c.in-Ok-Some.ensures.version ∙ ap now here ∙ ap (λ (state : BackState). progress_after state.progress (Ok (Some body))) c.self.view_is;
-          want = search rules;
+          resource = search rules;
         },
       ),
       record {
         after = tt;
-        told = λ e honest. subst (λ (state : BackState). next_before state.progress.version content state.progress.at ≡ Ok (Some body)) c.self.view_is ((rw c.in-Ok-Some.field-0-is at (c.in-Ok-Some.ensures.told honest)) ∙ ap (λ (b : List ℕ). Ok (Some b)) (sym c.taken.ensures));
+        exact = λ e honest. subst (λ (state : BackState). next_before state.progress.version content state.progress.at ≡ Ok (Some body)) c.self.view_is ((rw c.in-Ok-Some.field-0-is at (c.in-Ok-Some.ensures.exact honest)) ∙ ap (λ (b : List ℕ). Ok (Some b)) (sym c.taken.ensures));
         memory = search rules;
         body = record { least = omega (arith, least, long); greatest = subst (λ (state : BackState). length body ≤ greatest_body state.progress.version) c.self.view_is (omega (arith, greatest, long)) };
         room = omega (arith, moved, long, at_is);
@@ -94,18 +94,18 @@ returns-in-Err g c =
         refl,
         (λ _. tt),
         record {
-          over = λ h. record { window = c.in-Err.ensures.stand h; header = (c.requires (c.in-Err.ensures.persists.honest h)).header };
+          over = λ h. record { window = c.in-Err.ensures.occur h; header = (c.requires (c.in-Err.ensures.persists.honest h)).header };
           progress = version ∙ after ∙ ap (λ (state : BackState). progress_after state.progress (Err fault)) c.self.view_is;
-          want = λ is.
+          resource = λ is.
               let same : fault ≡ NoMemory = cc in
-              let window : unread c.next.new.self ≡ unread c.self.inside.window = c.in-Err.ensures.want (ap Err same) in
+              let window : unread c.next.new.self ≡ unread c.self.inside.window = c.in-Err.ensures.resource (ap Err same) in
               let progress : record (now c.next.new.self.at) { version = version_of c.next.new.self.version } ≡ then = version ∙ after ∙ ap (λ (f : FrameFault). progress_after then (Err f)) same in
               (λ t. record { window = window t; progress = progress t }) ∙ c.self.view_is;
         },
       ),
       record {
         after = tt;
-        told = λ e honest. subst (λ (state : BackState). Told (option_map (λ (body : Bor (List ℕ)). body.now)) (Err fault) (next_before state.progress.version content state.progress.at)) c.self.view_is (told_as_well (option_map (taken c.next.new.self)) (option_map (λ (body : Bor (List ℕ)). body.now)) fault (next_before (version_of c.self.inside.window.version) content c.self.inside.window.at) (c.in-Err.ensures.told honest));
+        exact = λ e honest. subst (λ (state : BackState). ReadsAs (option_map (λ (body : Bor (List ℕ)). body.now)) (Err fault) (next_before state.progress.version content state.progress.at)) c.self.view_is (exact_as_well (option_map (taken c.next.new.self)) (option_map (λ (body : Bor (List ℕ)). body.now)) fault (next_before (version_of c.self.inside.window.version) content c.self.inside.window.at) (c.in-Err.ensures.exact honest));
         memory = λ e honest is.
             let same : fault ≡ NoMemory = cc in
             subst (λ (state : BackState). IsLarge (next_before state.progress.version content state.progress.at)) c.self.view_is (c.in-Err.ensures.memory honest (ap Err same));

@@ -1,9 +1,9 @@
 use Rattle.std.proofs.Common.{rules, ◌≡◌, ◌+◌, ◌<◌, Some, Ok, length, drop, ℕ, sym, ap, subst, ◌∙◌, arith}
 use Rattle.backreader.specs.BackState.{BackState, Progress, progress_after}
 use Rattle.backreader.specs.Windows.{unread}
-use Rattle.backreader.proofs.Lent.{next_is_body, none_stand}
-use Rattle.treefile.specs.ways.Backward.{before_frame, next_before}
-use Rattle.treefile.specs.ways.Ending.{IsBytes, header_bytes}
+use Rattle.backreader.proofs.Lent.{next_is_body, none_occur}
+use Rattle.treefile.specs.framing.Backward.{before_frame, next_before}
+use Rattle.treefile.specs.framing.Ending.{IsBytes, header_bytes}
 use Rattle.treefile.specs.records.TreeFile.{version_of, version_two}
 use Rattle.backreader.proofs.back.Back.lend_back.Goals as goal
 
@@ -19,13 +19,13 @@ returns-clause-after g c =
     let here : new.at ≡ before_frame c.self.inside.window.at body = omega (arith, c.pass_over.ensures.at, long) in
     record {
       over = λ h. record {
-        window = none_stand content new.at (unread new)
+        window = none_occur content new.at (unread new)
             (let within = (c.requires h).window.within in omega (arith, within, at_is, c.pass_over.ensures.at)) c.pass_over.ensures.unread
             (subst (λ (i : ℕ). IsBytes (drop i content)) (omega (arith, here, place)) (c.in_ok-body.ensures.bytes h));
         header = (c.requires h).header;
       };
       progress = ap (λ v. record (now new.at) { version = version_of v }) c.pass_over.ensures.version ∙ ap now here ∙ ap (λ (state : BackState). progress_after state.progress (Ok (Some body))) c.self.view_is;
-      want = search rules;
+      resource = search rules;
     }
 
 pub returns-clause-exact : goal.returns-clause-exact

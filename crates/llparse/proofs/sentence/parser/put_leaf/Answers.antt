@@ -2,7 +2,7 @@ use Rattle.std.proofs.Common.{◌≡◌, Err, ap, subst, sym}
 use Rattle.std.proofs.lemmas.Result.{err_from_is_err_and}
 use Rattle.ag_grammar.specs.grammars.Tree.{IsTokenText}
 use Rattle.treefile.specs.records.Records.{token_body}
-use Rattle.treefile.proofs.ways.Beginning.{none_added, one_added, one_refused}
+use Rattle.treefile.proofs.framing.Beginning.{none_added, one_added, one_refused}
 use Rattle.llparse.specs.declared.sentence.parse_fault.ParseFault.{ParseFault}
 use Rattle.treefile.proofs.records.FirstFile.{text_well}
 use Rattle.llparse.proofs.answers.Putting.{of_leaf, stopped}
@@ -18,7 +18,7 @@ returns-in_err-put-clause-adds g c h =
     let same : x ≡ c.args.lex.now = cc c.in_ok-from_str.ensures in
     rw p.1 (one_refused ParseFault (g.D.Device.content c.args.device.now) (g.D.Device.content c.put.new.device) (token_body c.args.class x) c.in_err-put.field-0.0 p.0 (of_leaf c.args.class x (text_well x (subst IsTokenText (sym same) c.requires.text)))
     (λ failed. c.in_err-put.ensures.device (ap Err failed) h)
-    (λ want. c.in_err-put.ensures.memory (ap Err want) h))
+    (λ resource. c.in_err-put.ensures.memory (ap Err resource) h))
 
 pub returns-in_err-map_err-clause-adds : goal.returns-in_err-map_err-clause-adds
 returns-in_err-map_err-clause-adds g c h =

@@ -3,25 +3,25 @@ use Rattle.std.proofs.lemmas.Result.{err_from_is_err_and}
 use Rattle.ag_value.specs.Well.{IsWell}
 use Rattle.ag_value.specs.declared.value.Value.{Value}
 use Rattle.ag_grammar.specs.declared.grammar.Item.TheVariants as item
-use Rattle.ag_grammar.specs.grammars.Tree.{most_nodes}
-use Rattle.ag_scan.specs.Handed.{Handed, offset_at}
+use Rattle.ag_grammar.specs.grammars.Tree.{max_nodes}
+use Rattle.ag_scan.specs.Supplied.{Supplied, offset_at}
 use Rattle.ag_scan.specs.Tokens.{Token}
 use Rattle.treefile.specs.records.TreeFile.{version_two}
-use Rattle.treefile.specs.ways.Writing.{Progress}
-use Rattle.treefile.proofs.ways.Beginning.{added, none_added}
+use Rattle.treefile.specs.framing.Writing.{Progress}
+use Rattle.treefile.proofs.framing.Beginning.{added, none_added}
 use Rattle.llparse.specs.sentence.Parsing.{task_of, Between}
 use Rattle.llparse.specs.Ahead.{ahead_of}
 use Rattle.llparse.specs.sentence.Sentences.{words_of}
 use Rattle.llparse.specs.table.Tables.{choice_of}
-use Rattle.llparse.specs.sentence.Turns.{Asks, Faces, HasTables, HasTokens, IsBetween, Leads, Refuses, Writes}
+use Rattle.llparse.specs.sentence.Turns.{IsAtSymbol, Faces, HasTables, HasTokens, IsBetween, Leads, Refuses, Writes}
 use Rattle.llparse.specs.declared.sentence.parse_fault.ParseFault.{ParseFault}
 use Rattle.llparse.specs.declared.sentence.parse_fault.ParseFault.TheVariants.{Unexpected}
-use Rattle.llparse.specs.declared.sentence.parser.OpenNode.{OpenNode}
+use Rattle.llparse.specs.declared.sentence.parser.OpenProduction.{OpenProduction}
 use Rattle.llparse.proofs.steps.Fronts.{on_top}
 use Rattle.llparse.proofs.answers.Nexts.{some_left, all_taken}
 use Rattle.llparse.proofs.answers.Putting.{stopped}
 use Rattle.llparse.proofs.answers.Refused.{stuck}
-use Rattle.llparse.proofs.steps.Stacks.{asks}
+use Rattle.llparse.proofs.steps.Stacks.{at_symbol}
 use Rattle.llparse.proofs.steps.Turning as turn
 use Rattle.llparse.proofs.sentence.parsing.run.Goals as goal
 
@@ -30,8 +30,8 @@ returns-in_err-node-clause-refused g c =
     let k = task_of c.args.grammar.now c.args.sentence.now (g.D.Device.is_honest c.args.device.now) (g.D.Device.content c.args.device.now) in
     let p = err_from_is_err_and c.from_residual.result c.from_residual.ensures.1 in
     let made = c.new-parser.ensures.tokens in
-    rw (p.1, p.2) (stuck k.grammar c.args.sentence.now k.honest k.front 0 c.in_err-node.field-0.0 (subst (λ (h : Handed). c.in_err-node.field-0.0 ≡ Unexpected (offset_at h.list h.taken)) made c.in_err-node.ensures.offset)
-    (turn.not_begun k c.args.tables.now c.requires.tables c.start.result c.start.ensures.value c.start.ensures.accepted (subst (λ (h : Handed). choice_of c.args.tables.now c.start.result (ahead_of (drop h.taken (words_of h.list))) ≡ None) made c.in_err-node.ensures.none)))
+    rw (p.1, p.2) (stuck k.grammar c.args.sentence.now k.honest k.prefix 0 c.in_err-node.field-0.0 (subst (λ (h : Supplied). c.in_err-node.field-0.0 ≡ Unexpected (offset_at h.list h.taken)) made c.in_err-node.ensures.offset)
+    (turn.not_begun k c.args.tables.now c.requires.tables c.start.result c.start.ensures.value c.start.ensures.accepted (subst (λ (h : Supplied). choice_of c.args.tables.now c.start.result (ahead_of (drop h.taken (words_of h.list))) ≡ None) made c.in_err-node.ensures.none)))
 
 pub loop-terminal-init : goal.loop-terminal-init
 loop-terminal-init g c =
@@ -41,17 +41,17 @@ loop-terminal-init g c =
     let none_written = ap (λ (w : Progress). w.written) c.requires.begun in
     let counted = made.count in
     record {
-      stands = λ honest below. turn.begun (task_of c.args.grammar.now c.args.sentence.now honest (g.D.Device.content c.args.device.now)) c.args.tables.now c.requires.tables c.start.result c.start.ensures.value c.in_ok-node.node c.new-parser.result (omega arith) (omega arith) made.waiting made.texts (ap (λ (h : Handed). h.taken) made.tokens) made.count c.in_ok-node.ensures.begins c.in_ok-node.ensures.base (subst (λ (h : Handed). choice_of c.args.tables.now c.start.result (ahead_of (drop h.taken (words_of h.list))) ≡ Some c.in_ok-node.node.production) made.tokens c.in_ok-node.ensures.chosen);
+      occurs = λ honest below. turn.begun (task_of c.args.grammar.now c.args.sentence.now honest (g.D.Device.content c.args.device.now)) c.args.tables.now c.requires.tables c.start.result c.start.ensures.value c.in_ok-node.node c.new-parser.result (omega arith) (omega arith) made.waiting made.texts (ap (λ (h : Supplied). h.taken) made.tokens) made.count c.in_ok-node.ensures.begins c.in_ok-node.ensures.base (subst (λ (h : Supplied). choice_of c.args.tables.now c.start.result (ahead_of (drop h.taken (words_of h.list))) ≡ Some c.in_ok-node.node.production) made.tokens c.in_ok-node.ensures.chosen);
       written = omega arith;
-      list = ap (λ (h : Handed). h.list) made.tokens;
+      list = ap (λ (h : Supplied). h.list) made.tokens;
       fine = ap (λ (w : Progress). w.is_broken) c.requires.begun;
-      frames = λ h. none_added ParseFault k.front (Ok tt);
+      frames = λ h. none_added ParseFault k.prefix (Ok tt);
       persists = record { honest = λ h. h; kept = omega arith; bounded = λ h. h; cause = λ h. absurd h };
     }
 
 pub next_item-requires : goal.next_item-requires
 next_item-requires g c =
-    turn.within (task_of c.args.grammar.now c.args.sentence.now (g.D.Device.is_honest c.loop-terminal.device) (g.D.Device.content c.args.device.now)) c.loop-terminal.node c.loop-terminal.parser (g.D.Device.content c.loop-terminal.device) (c.loop-terminal.invariant.stands (g.D.Device.is_honest c.loop-terminal.device) (λ h. h))
+    turn.within (task_of c.args.grammar.now c.args.sentence.now (g.D.Device.is_honest c.loop-terminal.device) (g.D.Device.content c.args.device.now)) c.loop-terminal.node c.loop-terminal.parser (g.D.Device.content c.loop-terminal.device) (c.loop-terminal.invariant.occurs (g.D.Device.is_honest c.loop-terminal.device) (λ h. h))
 
 -- after a terminal
 pub loop-terminal-smaller-in-Continue-branch-2 : goal.loop-terminal-smaller-in-Continue-branch-2
@@ -63,13 +63,13 @@ loop-terminal-preserved-in-Continue-branch-2 g c =
     let k = task_of c.args.grammar.now c.args.sentence.now (g.D.Device.is_honest c.args.device.now) (g.D.Device.content c.args.device.now) in
     let inv = c.loop-terminal.invariant in
     let done = c.in_ok-take-in-Some-Terminal.ensures in
-    let takes = subst (λ ts. (node : OpenNode) (honest : Bool) → (honest ≡ true → g.D.Device.is_honest c.take.new.device ≡ true) → Writes (HasTokens ts) ts honest (g.D.Device.content c.loop-terminal.device) (g.D.Device.content c.take.new.device) (λ k. Faces k (item.Terminal c.in-Some-Terminal.terminal) node c.loop-terminal.parser) (λ k. IsBetween k node c.take.new.self)) inv.list done.takes in
+    let takes = subst (λ ts. (node : OpenProduction) (honest : Bool) → (honest ≡ true → g.D.Device.is_honest c.take.new.device ≡ true) → Writes (HasTokens ts) ts honest (g.D.Device.content c.loop-terminal.device) (g.D.Device.content c.take.new.device) (λ k. Faces k (item.Terminal c.in-Some-Terminal.terminal) node c.loop-terminal.parser) (λ k. IsBetween k node c.take.new.self)) inv.list done.takes in
     record {
-      stands = λ honest below. let k = task_of c.args.grammar.now c.args.sentence.now honest (g.D.Device.content c.args.device.now) in takes c.next_item.new.node honest below k.grammar k.front (c.start.ensures.accepted, c.requires.tokens) (turn.faced k c.loop-terminal.node c.next_item.new.node c.in-Some-Terminal.field-0 c.in-Some-Terminal.ensures (item.Terminal c.in-Some-Terminal.terminal) c.in-Some-Terminal.field-0-is c.loop-terminal.parser (g.D.Device.content c.loop-terminal.device) (inv.stands honest (λ h. done.device.persists.honest (below h))));
+      occurs = λ honest below. let k = task_of c.args.grammar.now c.args.sentence.now honest (g.D.Device.content c.args.device.now) in takes c.next_item.new.node honest below k.grammar k.prefix (c.start.ensures.accepted, c.requires.tokens) (turn.faced k c.loop-terminal.node c.next_item.new.node c.in-Some-Terminal.field-0 c.in-Some-Terminal.ensures (item.Terminal c.in-Some-Terminal.terminal) c.in-Some-Terminal.field-0-is c.loop-terminal.parser (g.D.Device.content c.loop-terminal.device) (inv.occurs honest (λ h. done.device.persists.honest (below h))));
       written = done.written;
       list = done.list ∙ inv.list;
       fine = done.fine;
-      frames = λ h. added ParseFault k.front (g.D.Device.content c.loop-terminal.device) (g.D.Device.content c.take.new.device) (Ok tt) (inv.frames (done.device.persists.honest h)) (done.adds h);
+      frames = λ h. added ParseFault k.prefix (g.D.Device.content c.loop-terminal.device) (g.D.Device.content c.take.new.device) (Ok tt) (inv.frames (done.device.persists.honest h)) (done.adds h);
       persists = turn.persists_on _ _ _ _ _ _ inv.persists done.device.persists;
     }
 
@@ -78,8 +78,8 @@ returns-in_err-take-in-Some-Terminal-clause-refused g c =
     let k = task_of c.args.grammar.now c.args.sentence.now (g.D.Device.is_honest c.take.new.device) (g.D.Device.content c.args.device.now) in
     let p = err_from_is_err_and c.from_residual-in_err-take-in-Some-Terminal.result c.from_residual-in_err-take-in-Some-Terminal.ensures.1 in
     let inv = c.loop-terminal.invariant in
-    rw (p.1, p.2) ((subst (λ ts. Refuses (HasTokens ts) ts (λ k. Faces k (item.Terminal c.in-Some-Terminal.terminal) c.next_item.new.node c.loop-terminal.parser) c.in_err-take-in-Some-Terminal.field-0.0) inv.list (c.in_err-take-in-Some-Terminal.ensures.refuses c.next_item.new.node)) k.grammar k.honest k.front (g.D.Device.content c.loop-terminal.device) (c.start.ensures.accepted, c.requires.tokens)
-    (turn.faced k c.loop-terminal.node c.next_item.new.node c.in-Some-Terminal.field-0 c.in-Some-Terminal.ensures (item.Terminal c.in-Some-Terminal.terminal) c.in-Some-Terminal.field-0-is c.loop-terminal.parser (g.D.Device.content c.loop-terminal.device) (inv.stands k.honest (λ h. c.in_err-take-in-Some-Terminal.ensures.device.persists.honest h))))
+    rw (p.1, p.2) ((subst (λ ts. Refuses (HasTokens ts) ts (λ k. Faces k (item.Terminal c.in-Some-Terminal.terminal) c.next_item.new.node c.loop-terminal.parser) c.in_err-take-in-Some-Terminal.field-0.0) inv.list (c.in_err-take-in-Some-Terminal.ensures.refuses c.next_item.new.node)) k.grammar k.honest k.prefix (g.D.Device.content c.loop-terminal.device) (c.start.ensures.accepted, c.requires.tokens)
+    (turn.faced k c.loop-terminal.node c.next_item.new.node c.in-Some-Terminal.field-0 c.in-Some-Terminal.ensures (item.Terminal c.in-Some-Terminal.terminal) c.in-Some-Terminal.field-0-is c.loop-terminal.parser (g.D.Device.content c.loop-terminal.device) (inv.occurs k.honest (λ h. c.in_err-take-in-Some-Terminal.ensures.device.persists.honest h))))
 
 -- after a symbol
 pub returns-in_err-node-in-Some-Symbol-clause-refused : goal.returns-in_err-node-in-Some-Symbol-clause-refused
@@ -87,8 +87,8 @@ returns-in_err-node-in-Some-Symbol-clause-refused g c =
     let k = task_of c.args.grammar.now c.args.sentence.now (g.D.Device.is_honest c.loop-terminal.device) (g.D.Device.content c.args.device.now) in
     let p = err_from_is_err_and c.from_residual-in_err-node-in-Some-Symbol.result c.from_residual-in_err-node-in-Some-Symbol.ensures.1 in
     let inv = c.loop-terminal.invariant in
-    rw (p.1, p.2) ((subst (λ ts. Refuses (HasTables c.args.tables.now) ts (λ k. Asks k c.in-Some-Symbol.symbol c.next_item.new.node c.loop-terminal.parser) c.in_err-node-in-Some-Symbol.field-0.0) inv.list c.in_err-node-in-Some-Symbol.ensures.refuses) k.grammar k.honest k.front (g.D.Device.content c.loop-terminal.device) (c.start.ensures.accepted, c.requires.tables) (asks k c.in-Some-Symbol.symbol _ _ _ _
-    (turn.faced k c.loop-terminal.node c.next_item.new.node c.in-Some-Symbol.field-0 c.in-Some-Symbol.ensures (item.Symbol c.in-Some-Symbol.symbol) c.in-Some-Symbol.field-0-is c.loop-terminal.parser (g.D.Device.content c.loop-terminal.device) (inv.stands k.honest (λ h. h)))))
+    rw (p.1, p.2) ((subst (λ ts. Refuses (HasTables c.args.tables.now) ts (λ k. IsAtSymbol k c.in-Some-Symbol.symbol c.next_item.new.node c.loop-terminal.parser) c.in_err-node-in-Some-Symbol.field-0.0) inv.list c.in_err-node-in-Some-Symbol.ensures.refuses) k.grammar k.honest k.prefix (g.D.Device.content c.loop-terminal.device) (c.start.ensures.accepted, c.requires.tables) (at_symbol k c.in-Some-Symbol.symbol _ _ _ _
+    (turn.faced k c.loop-terminal.node c.next_item.new.node c.in-Some-Symbol.field-0 c.in-Some-Symbol.ensures (item.Symbol c.in-Some-Symbol.symbol) c.in-Some-Symbol.field-0-is c.loop-terminal.parser (g.D.Device.content c.loop-terminal.device) (inv.occurs k.honest (λ h. h)))))
 
 pub loop-terminal-preserved-in-Some-Symbol : goal.loop-terminal-preserved-in-Some-Symbol
 loop-terminal-preserved-in-Some-Symbol g c =
@@ -97,9 +97,9 @@ loop-terminal-preserved-in-Some-Symbol g c =
     let written = inv.written in
     let counted = c.in_ok-node-in-Some-Symbol.ensures.counted in
     record {
-      stands = λ honest below. let k = task_of c.args.grammar.now c.args.sentence.now honest (g.D.Device.content c.args.device.now) in (subst (λ ts. Leads (HasTables c.args.tables.now) ts (λ k. Asks k c.in-Some-Symbol.symbol c.next_item.new.node c.loop-terminal.parser) (λ k. IsBetween k c.in_ok-node-in-Some-Symbol.node c.open.new.self)) inv.list c.in_ok-node-in-Some-Symbol.ensures.opens) k.grammar k.honest k.front (g.D.Device.content c.loop-terminal.device) (c.start.ensures.accepted, c.requires.tables) (asks k c.in-Some-Symbol.symbol _ _ _ _ (turn.faced k c.loop-terminal.node c.next_item.new.node c.in-Some-Symbol.field-0 c.in-Some-Symbol.ensures (item.Symbol c.in-Some-Symbol.symbol) c.in-Some-Symbol.field-0-is c.loop-terminal.parser (g.D.Device.content c.loop-terminal.device) (inv.stands honest below)));
+      occurs = λ honest below. let k = task_of c.args.grammar.now c.args.sentence.now honest (g.D.Device.content c.args.device.now) in (subst (λ ts. Leads (HasTables c.args.tables.now) ts (λ k. IsAtSymbol k c.in-Some-Symbol.symbol c.next_item.new.node c.loop-terminal.parser) (λ k. IsBetween k c.in_ok-node-in-Some-Symbol.node c.open.new.self)) inv.list c.in_ok-node-in-Some-Symbol.ensures.opens) k.grammar k.honest k.prefix (g.D.Device.content c.loop-terminal.device) (c.start.ensures.accepted, c.requires.tables) (at_symbol k c.in-Some-Symbol.symbol _ _ _ _ (turn.faced k c.loop-terminal.node c.next_item.new.node c.in-Some-Symbol.field-0 c.in-Some-Symbol.ensures (item.Symbol c.in-Some-Symbol.symbol) c.in-Some-Symbol.field-0-is c.loop-terminal.parser (g.D.Device.content c.loop-terminal.device) (inv.occurs honest below)));
       written = omega arith;
-      list = ap (λ (h : Handed). h.list) c.in_ok-node-in-Some-Symbol.ensures.tokens ∙ inv.list;
+      list = ap (λ (h : Supplied). h.list) c.in_ok-node-in-Some-Symbol.ensures.tokens ∙ inv.list;
       fine = inv.fine;
       frames = inv.frames;
       persists = inv.persists;
@@ -108,23 +108,23 @@ loop-terminal-preserved-in-Some-Symbol g c =
 -- at a node's end
 pub texts_from-texts-requires : goal.texts_from-texts-requires
 texts_from-texts-requires g c =
-    (turn.own_few (task_of c.args.grammar.now c.args.sentence.now (g.D.Device.is_honest c.loop-terminal.device) (g.D.Device.content c.args.device.now)) c.loop-terminal.node c.next_item.new.node c.loop-terminal.parser (g.D.Device.content c.loop-terminal.device) c.in-None.ensures (c.loop-terminal.invariant.stands (g.D.Device.is_honest c.loop-terminal.device) (λ h. h)) c.start.ensures.accepted).0
+    (turn.own_few (task_of c.args.grammar.now c.args.sentence.now (g.D.Device.is_honest c.loop-terminal.device) (g.D.Device.content c.args.device.now)) c.loop-terminal.node c.next_item.new.node c.loop-terminal.parser (g.D.Device.content c.loop-terminal.device) c.in-None.ensures (c.loop-terminal.invariant.occurs (g.D.Device.is_honest c.loop-terminal.device) (λ h. h)) c.start.ensures.accepted).0
 
 pub put_node-requires-clause-few : goal.put_node-requires-clause-few
 put_node-requires-clause-few g c =
     let k = task_of c.args.grammar.now c.args.sentence.now (g.D.Device.is_honest c.loop-terminal.device) (g.D.Device.content c.args.device.now) in
-    let few = (turn.own_few k c.loop-terminal.node c.next_item.new.node c.loop-terminal.parser (g.D.Device.content c.loop-terminal.device) c.in-None.ensures (c.loop-terminal.invariant.stands (g.D.Device.is_honest c.loop-terminal.device) (λ h. h)) c.start.ensures.accepted).1 in
-    subst (λ (texts : List Value). length texts ≤ version_two.most_values) (sym c.texts_from-texts.ensures) (omega (arith, few))
+    let few = (turn.own_few k c.loop-terminal.node c.next_item.new.node c.loop-terminal.parser (g.D.Device.content c.loop-terminal.device) c.in-None.ensures (c.loop-terminal.invariant.occurs (g.D.Device.is_honest c.loop-terminal.device) (λ h. h)) c.start.ensures.accepted).1 in
+    subst (λ (texts : List Value). length texts ≤ version_two.max_values) (sym c.texts_from-texts.ensures) (omega (arith, few))
 
 pub put_node-requires-clause-room : goal.put_node-requires-clause-room
 put_node-requires-clause-room g c =
-    let few : c.loop-terminal.parser.count ≤ most_nodes = (c.loop-terminal.invariant.stands (g.D.Device.is_honest c.loop-terminal.device) (λ h. h)).held.few in
+    let few : c.loop-terminal.parser.count ≤ max_nodes = (c.loop-terminal.invariant.occurs (g.D.Device.is_honest c.loop-terminal.device) (λ h. h)).held.few in
     let written = c.loop-terminal.invariant.written in
     omega arith
 
 pub put_node-requires-clause-well : goal.put_node-requires-clause-well
 put_node-requires-clause-well g c =
-    subst (λ (texts : List Value). All IsWell texts) (sym c.texts_from-texts.ensures) (turn.own_few (task_of c.args.grammar.now c.args.sentence.now (g.D.Device.is_honest c.loop-terminal.device) (g.D.Device.content c.args.device.now)) c.loop-terminal.node c.next_item.new.node c.loop-terminal.parser (g.D.Device.content c.loop-terminal.device) c.in-None.ensures (c.loop-terminal.invariant.stands (g.D.Device.is_honest c.loop-terminal.device) (λ h. h)) c.start.ensures.accepted).2
+    subst (λ (texts : List Value). All IsWell texts) (sym c.texts_from-texts.ensures) (turn.own_few (task_of c.args.grammar.now c.args.sentence.now (g.D.Device.is_honest c.loop-terminal.device) (g.D.Device.content c.args.device.now)) c.loop-terminal.node c.next_item.new.node c.loop-terminal.parser (g.D.Device.content c.loop-terminal.device) c.in-None.ensures (c.loop-terminal.invariant.occurs (g.D.Device.is_honest c.loop-terminal.device) (λ h. h)) c.start.ensures.accepted).2
 
 pub loop-terminal-preserved : goal.loop-terminal-preserved
 loop-terminal-preserved g c =
@@ -135,11 +135,11 @@ loop-terminal-preserved g c =
     let more = ap (λ (w : Progress). w.written) put.counted in
     let sizes = c.in-Some.ensures.len in
     record {
-      stands = λ honest below. let k = task_of c.args.grammar.now c.args.sentence.now honest (g.D.Device.content c.args.device.now) in subst (λ fs. Between k fs c.loop-terminal.parser.tokens.taken c.loop-terminal.parser.count (record { bytes = g.D.Device.content c.put_node.new.device; texts = c.truncate.new.self.items })) (on_top c.pop.new.self.items c.loop-terminal.parser.waiting.items c.in-Some.outer c.in-Some.ensures.items) (turn.ended k c.loop-terminal.node c.next_item.new.node c.loop-terminal.parser (g.D.Device.content c.loop-terminal.device) c.in-None.ensures (inv.stands honest (λ h. put.device.persists.honest (below h))) (g.D.Device.content c.put_node.new.device) c.texts_from-texts.result.now c.truncate.new.self.items c.texts_from-texts.ensures c.truncate.ensures.items (λ h. put.frame (below h)));
+      occurs = λ honest below. let k = task_of c.args.grammar.now c.args.sentence.now honest (g.D.Device.content c.args.device.now) in subst (λ fs. Between k fs c.loop-terminal.parser.tokens.taken c.loop-terminal.parser.count (record { bytes = g.D.Device.content c.put_node.new.device; texts = c.truncate.new.self.items })) (on_top c.pop.new.self.items c.loop-terminal.parser.waiting.items c.in-Some.outer c.in-Some.ensures.items) (turn.ended k c.loop-terminal.node c.next_item.new.node c.loop-terminal.parser (g.D.Device.content c.loop-terminal.device) c.in-None.ensures (inv.occurs honest (λ h. put.device.persists.honest (below h))) (g.D.Device.content c.put_node.new.device) c.texts_from-texts.result.now c.truncate.new.self.items c.texts_from-texts.ensures c.truncate.ensures.items (λ h. put.frame (below h)));
       written = omega arith;
       list = inv.list;
       fine = ap (λ (w : Progress). w.is_broken) put.counted ∙ inv.fine;
-      frames = λ h. added ParseFault k.front (g.D.Device.content c.loop-terminal.device) (g.D.Device.content c.put_node.new.device) (Ok tt) (inv.frames (put.device.persists.honest h)) (put.adds h);
+      frames = λ h. added ParseFault k.prefix (g.D.Device.content c.loop-terminal.device) (g.D.Device.content c.put_node.new.device) (Ok tt) (inv.frames (put.device.persists.honest h)) (put.adds h);
       persists = turn.persists_on _ _ _ _ _ _ inv.persists put.device.persists;
     }
 
@@ -151,9 +151,9 @@ returns-then-is_some-clause-refused g c =
     let none_waits : length c.loop-terminal.parser.waiting.items ≡ 0 = omega (arith, c.in_default.ensures.cases) in
     let tokens = c.loop-terminal.parser.tokens in
     let some : tokens.taken < length c.args.sentence.now = subst (λ (ts : List Token). tokens.taken < length ts) inv.list (some_left tokens.list tokens.taken c.ahead.result c.ahead.ensures (sym c.is_some.ensures ∙ c.if-is_some.true)) in
-    let told : c.unexpected.result ≡ Unexpected (offset_at c.args.sentence.now tokens.taken) = subst (λ ts. c.unexpected.result ≡ Unexpected (offset_at ts tokens.taken)) inv.list c.unexpected.ensures in
-    stuck k.grammar c.args.sentence.now k.honest k.front tokens.taken c.unexpected.result told
-    (turn.some_left k.grammar c.args.sentence.now k.honest k.front c.loop-terminal.parser (g.D.Device.content c.put_node.new.device) c.truncate.new.self.items none_waits (turn.ended k c.loop-terminal.node c.next_item.new.node c.loop-terminal.parser (g.D.Device.content c.loop-terminal.device) c.in-None.ensures (inv.stands k.honest (λ h. c.in_ok-put_node-in-None.ensures.device.persists.honest h)) (g.D.Device.content c.put_node.new.device) c.texts_from-texts.result.now c.truncate.new.self.items c.texts_from-texts.ensures c.truncate.ensures.items (λ h. c.in_ok-put_node-in-None.ensures.frame h)) some)
+    let exact : c.unexpected.result ≡ Unexpected (offset_at c.args.sentence.now tokens.taken) = subst (λ ts. c.unexpected.result ≡ Unexpected (offset_at ts tokens.taken)) inv.list c.unexpected.ensures in
+    stuck k.grammar c.args.sentence.now k.honest k.prefix tokens.taken c.unexpected.result exact
+    (turn.some_left k.grammar c.args.sentence.now k.honest k.prefix c.loop-terminal.parser (g.D.Device.content c.put_node.new.device) c.truncate.new.self.items none_waits (turn.ended k c.loop-terminal.node c.next_item.new.node c.loop-terminal.parser (g.D.Device.content c.loop-terminal.device) c.in-None.ensures (inv.occurs k.honest (λ h. c.in_ok-put_node-in-None.ensures.device.persists.honest h)) (g.D.Device.content c.put_node.new.device) c.texts_from-texts.result.now c.truncate.new.self.items c.texts_from-texts.ensures c.truncate.ensures.items (λ h. c.in_ok-put_node-in-None.ensures.frame h)) some)
 
 pub returns-clause-parsed : goal.returns-clause-parsed
 returns-clause-parsed g c =
@@ -162,7 +162,7 @@ returns-clause-parsed g c =
     let none_waits : length c.loop-terminal.parser.waiting.items ≡ 0 = omega (arith, c.in_default.ensures.cases) in
     let tokens = c.loop-terminal.parser.tokens in
     let all : length c.args.sentence.now ≤ tokens.taken = subst (λ (ts : List Token). length ts ≤ tokens.taken) inv.list (all_taken tokens.list tokens.taken c.ahead.result c.ahead.ensures (sym c.is_some.ensures ∙ c.if-is_some.false)) in
-    turn.all_taken k.grammar c.args.sentence.now k.honest k.front c.loop-terminal.parser (g.D.Device.content c.put_node.new.device) c.truncate.new.self.items none_waits (turn.ended k c.loop-terminal.node c.next_item.new.node c.loop-terminal.parser (g.D.Device.content c.loop-terminal.device) c.in-None.ensures (inv.stands k.honest (λ h. c.in_ok-put_node-in-None.ensures.device.persists.honest h)) (g.D.Device.content c.put_node.new.device) c.texts_from-texts.result.now c.truncate.new.self.items c.texts_from-texts.ensures c.truncate.ensures.items (λ h. c.in_ok-put_node-in-None.ensures.frame h)) all
+    turn.all_taken k.grammar c.args.sentence.now k.honest k.prefix c.loop-terminal.parser (g.D.Device.content c.put_node.new.device) c.truncate.new.self.items none_waits (turn.ended k c.loop-terminal.node c.next_item.new.node c.loop-terminal.parser (g.D.Device.content c.loop-terminal.device) c.in-None.ensures (inv.occurs k.honest (λ h. c.in_ok-put_node-in-None.ensures.device.persists.honest h)) (g.D.Device.content c.put_node.new.device) c.texts_from-texts.result.now c.truncate.new.self.items c.texts_from-texts.ensures c.truncate.ensures.items (λ h. c.in_ok-put_node-in-None.ensures.frame h)) all
 
 -- the content after a fault: the records so far, or these and a prefix of a frame
 pub returns-in_err-take-in-Some-Terminal-clause-left : goal.returns-in_err-take-in-Some-Terminal-clause-left

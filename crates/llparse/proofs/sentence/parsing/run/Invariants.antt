@@ -1,5 +1,5 @@
 use Rattle.std.proofs.Common.{◌≡◌, ◌+◌, Bool, true, false, length, Ok}
-use Rattle.treefile.specs.ways.Beginning.{AddsFrames}
+use Rattle.treefile.specs.framing.Beginning.{AddsFrames}
 use Rattle.treefile.specs.devices.Device.{Persists, WhenHonest}
 use Rattle.llparse.specs.sentence.Parsing.{task_of}
 use Rattle.llparse.specs.sentence.Turns.{left_of, IsBetween}
@@ -8,7 +8,7 @@ use Rattle.llparse.proofs.sentence.parsing.run.Given as goal
 
 abbrev pub invariant-loop-terminal : goal.invariant-loop-terminal
 invariant-loop-terminal g l = record {
-  stands : (honest : Bool) → (honest ≡ true → g.D.Device.is_honest l.device ≡ true) → IsBetween (task_of l.grammar l.fn.sentence honest (g.D.Device.content l.initial.device)) l.node l.parser (g.D.Device.content l.device);
+  occurs : (honest : Bool) → (honest ≡ true → g.D.Device.is_honest l.device ≡ true) → IsBetween (task_of l.grammar l.fn.sentence honest (g.D.Device.content l.initial.device)) l.node l.parser (g.D.Device.content l.device);
   written : l.writer.written + length l.parser.waiting.items + 1 ≡ l.parser.count;
   list : l.parser.tokens.list ≡ l.fn.sentence;
   fine : l.writer.is_broken ≡ false;

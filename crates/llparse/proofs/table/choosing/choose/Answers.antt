@@ -13,9 +13,9 @@ loop-at-preserved c =
     let old = subst (λ z. AreFirstFrom c.args.productions.now c.args.marks.now z c.loop-at.column.choices.items) step c.loop-at.invariant.first in
     let least = subst (λ z. IsLeastFrom c.args.productions.now c.args.marks.now z c.loop-at.column.conflict) step c.loop-at.invariant.least in
     record {
-      len = c.put_if.ensures.len ∙ c.loop-at.invariant.len;
-      first = c.put_if.ensures.first c.args.productions.now c.args.marks.now q is refl refl old;
-      least = c.put_if.ensures.least c.args.productions.now c.args.marks.now q is refl refl old least;
+      len = c.choose_if.ensures.len ∙ c.loop-at.invariant.len;
+      first = c.choose_if.ensures.first c.args.productions.now c.args.marks.now q is refl refl old;
+      least = c.choose_if.ensures.least c.args.productions.now c.args.marks.now q is refl refl old least;
     }
 
 pub returns-clause-first : goal.returns-clause-first

@@ -1,6 +1,6 @@
 use Rattle.std.proofs.Common.{◌≡◌, ◌<◌, ◌≤◌, length, arith, ap, ◌∙◌, get_or, List, Contains}
 use Rattle.ag_grammar.specs.declared.grammar.Production.{Production}
-use Rattle.llparse.specs.table.Comes.{IsFollowed}
+use Rattle.llparse.specs.table.CanStart.{IsFollowed}
 use Rattle.closure.specs.Following.{is_marked}
 use Rattle.llparse.proofs.look_ahead.Edges.{contains_none, noted_iff}
 use Rattle.llparse.proofs.look_ahead.Follows.{next_noted}

@@ -1,5 +1,5 @@
 use Rattle.std.proofs.Common.{take, Contains}
-use Rattle.llparse.specs.table.Comes.{IsFollowed}
+use Rattle.llparse.specs.table.CanStart.{IsFollowed}
 use Rattle.llparse.specs.table.Edges.{Adds, OfSome}
 use Rattle.closure.specs.Following.{is_marked}
 use Rattle.llparse.proofs.table.follow.followed.Given as goal

@@ -1,10 +1,10 @@
 use Rattle.std.proofs.Common.{ℕ, ◌≡◌, ◌+◌, ◌-◌, ◌<◌, arith, false, length}
 use Rattle.ag_grammar.specs.declared.grammar.Item.{Item}
-use Rattle.llparse.specs.table.Comes.{next_in}
+use Rattle.llparse.specs.table.CanStart.{next_in}
 use Rattle.llparse.specs.table.Nodes.{node_of}
 use Rattle.llparse.specs.table.Nullable.{is_empty}
 use Rattle.closure.specs.Following.{is_marked}
-use Rattle.llparse.proofs.look_ahead.Comes.{adds_rest, next_more}
+use Rattle.llparse.proofs.look_ahead.CanStart.{adds_rest, next_more}
 use Rattle.llparse.proofs.table.follow.note_next.Goals as goal
 
 pub loop-at-preserved : goal.loop-at-preserved
@@ -14,7 +14,7 @@ loop-at-preserved c =
     let inside : c.loop-at.at - 1 < length c.args.items.now = omega (arith, c.loop-at-test.true, c.loop-at.auto.at) in
     let step : c.loop-at.at ≡ (c.loop-at.at - 1) + 1 = omega (arith, c.loop-at-test.true) in
     record {
-      next = rw (c.comes-next.ensures, c.has.ensures, c.node-node.ensures, c.is_empty.ensures) (next_more b (is_empty n) false c.args.items.now (c.loop-at.at - 1) c.loop-at.at _ c.loop-at.next inside step c.loop-at.invariant.next);
+      next = rw (c.can_start-next.ensures, c.has.ensures, c.node-node.ensures, c.is_empty.ensures) (next_more b (is_empty n) false c.args.items.now (c.loop-at.at - 1) c.loop-at.at _ c.loop-at.next inside step c.loop-at.invariant.next);
       seeds = adds_rest (next_in b (is_empty n) false) (λ (x : Item) (t : ℕ). t ≡ node_of c.args.sizes.symbols c.args.sizes.literals x) c.args.items.now (c.loop-at.at - 1) c.loop-at.at _ c.loop-at.next _ _ _ inside step c.loop-at.invariant.next c.loop-at.invariant.seeds (rw c.node-node.ensures at c.in_ok-note_seed.ensures);
     }
 

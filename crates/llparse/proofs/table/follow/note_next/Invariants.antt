@@ -1,6 +1,6 @@
 use Rattle.std.proofs.Common.{ℕ, ◌≡◌, drop, false, Contains}
 use Rattle.ag_grammar.specs.declared.grammar.Item.{Item}
-use Rattle.llparse.specs.table.Comes.{next_in, OfRest}
+use Rattle.llparse.specs.table.CanStart.{next_in, OfRest}
 use Rattle.llparse.specs.table.Edges.{Adds}
 use Rattle.llparse.specs.table.Nodes.{node_of}
 use Rattle.llparse.specs.table.Nullable.{is_empty}

@@ -2,7 +2,7 @@
 use Rattle.std.proofs.Common.{◌≡◌, ◌<◌, ◌≤◌, length, arith, ap, ◌∙◌, get_or, List, Contains}
 use Rattle.ag_grammar.specs.declared.grammar.Production.{Production}
 use Rattle.closure.specs.Following.{is_marked}
-use Rattle.llparse.specs.table.Comes.{IsFollowEdge}
+use Rattle.llparse.specs.table.CanStart.{IsFollowEdge}
 use Rattle.llparse.specs.table.Edges.{IsFirstEdge}
 use Rattle.llparse.proofs.look_ahead.Edges.{contains_none, noted_iff}
 use Rattle.llparse.proofs.look_ahead.Firsts.{edges_more}
@@ -20,8 +20,8 @@ loop-at-preserved c =
     let left = ap (λ (q : Production). q.left) is in
     let items = c.as_slice-items.ensures ∙ ap (λ (q : Production). q.items) is in
     record {
-      first = edges_more g accepted n c.loop-at.at r _ _ _ c.as_slice-items.result.now c.front_len-front.result _ _ _ inside c.of-sizes.ensures.symbols c.of-sizes.ensures.literals left items c.front_len-front.ensures.front c.loop-at.invariant.first c.in_ok-note_front.ensures;
-      follow = last_more g accepted n c.loop-at.at r _ _ _ c.as_slice-items.result.now _ _ _ inside c.of-sizes.ensures.symbols c.of-sizes.ensures.literals left items c.loop-at.invariant.follow c.in_ok-note_last.ensures;
+      first = edges_more g accepted n c.loop-at.at r _ _ _ c.as_slice-items.result.now c.nullable_prefix_len-prefix.result _ _ _ inside c.of-sizes.ensures.symbols c.of-sizes.ensures.literals left items c.nullable_prefix_len-prefix.ensures.prefix c.loop-at.invariant.first c.in_ok-add_prefix_edges.ensures;
+      follow = last_more g accepted n c.loop-at.at r _ _ _ c.as_slice-items.result.now _ _ _ inside c.of-sizes.ensures.symbols c.of-sizes.ensures.literals left items c.loop-at.invariant.follow c.in_ok-add_follow_edges.ensures;
     }
 
 pub returns-clause-first : goal.returns-clause-first

@@ -1,7 +1,7 @@
 -- The invariant of the loop of `edges_of`.
 use Rattle.std.proofs.Common.{take, Contains}
 use Rattle.closure.specs.Following.{is_marked}
-use Rattle.llparse.specs.table.Comes.{IsFollowEdge}
+use Rattle.llparse.specs.table.CanStart.{IsFollowEdge}
 use Rattle.llparse.specs.table.Edges.{Adds, IsFirstEdge, OfSome}
 use Rattle.llparse.proofs.table.predict.edges_of.Given as goal
 

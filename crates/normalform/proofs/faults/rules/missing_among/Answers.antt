@@ -1,8 +1,8 @@
 -- The remaining goals of `missing_among`.
 use Rattle.std.proofs.Common.{◌+◌, refl, map}
 use Rattle.normalform.specs.faults.Faults.{missing_at, after}
-use Rattle.normalform.specs.declared.faults.placed.Placed.TheVariants as placed
-use Rattle.normalform.specs.faults.Placed.{item_placed}
+use Rattle.normalform.specs.declared.faults.placed.PlacedItem.TheVariants as placed
+use Rattle.normalform.specs.faults.PlacedItem.{item_placed}
 use Rattle.normalform.proofs.found.Wrong.{along_here, along_past, mapped, within}
 use Rattle.normalform.proofs.faults.rules.missing_among.Goals as goal
 

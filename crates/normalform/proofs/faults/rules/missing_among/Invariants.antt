@@ -1,6 +1,6 @@
 -- The invariant of the loop of `missing_among`.
 use Rattle.std.proofs.Common.{◌≡◌, drop, map}
-use Rattle.normalform.specs.faults.Placed.{item_placed}
+use Rattle.normalform.specs.faults.PlacedItem.{item_placed}
 use Rattle.normalform.specs.faults.Faults.{first_wrong, checks_along, after, missing_at}
 use Rattle.normalform.proofs.faults.rules.missing_among.Given as goal
 

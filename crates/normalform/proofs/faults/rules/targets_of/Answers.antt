@@ -2,7 +2,7 @@
 use Rattle.std.proofs.Common.{map, []}
 use Rattle.std.proofs.lemmas.List.Sums.{fold_more}
 use Rattle.normalform.specs.faults.Faults.{with_rule}
-use Rattle.normalform.specs.faults.Placed.{item_placed}
+use Rattle.normalform.specs.faults.PlacedItem.{item_placed}
 use Rattle.normalform.proofs.faults.rules.targets_of.Goals as goal
 
 pub loop-rule-preserved : goal.loop-rule-preserved

@@ -1,6 +1,6 @@
 -- The invariant of the loop of `targets_of`.
 use Rattle.std.proofs.Common.{◌≡◌, take, map, fold, []}
-use Rattle.normalform.specs.faults.Placed.{item_placed}
+use Rattle.normalform.specs.faults.PlacedItem.{item_placed}
 use Rattle.normalform.specs.faults.Faults.{with_rule}
 use Rattle.normalform.proofs.faults.rules.targets_of.Given as goal
 

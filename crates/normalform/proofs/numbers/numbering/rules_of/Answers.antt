@@ -4,7 +4,7 @@ use Rattle.std.proofs.lemmas.List.{map_push}
 use Rattle.std.proofs.lemmas.List.Elements.{All-push}
 use Rattle.normalform.specs.faults.Faults.{IsListed}
 use Rattle.normalform.specs.numbers.Numbers as spec
-use Rattle.normalform.specs.faults.Placed.{item_placed}
+use Rattle.normalform.specs.faults.PlacedItem.{item_placed}
 use Rattle.normalform.proofs.numbers.numbering.rules_of.Goals as goal
 
 pub loop-rule-preserved : goal.loop-rule-preserved

@@ -1,7 +1,7 @@
 -- The invariant of the loop of `rules_of`.
 use Rattle.std.proofs.Common.{◌≡◌, map, All}
 use Rattle.normalform.specs.numbers.Numbers.{rule_of}
-use Rattle.normalform.specs.faults.Placed.{item_placed}
+use Rattle.normalform.specs.faults.PlacedItem.{item_placed}
 use Rattle.normalform.specs.faults.Faults.{IsListed}
 use Rattle.normalform.proofs.numbers.numbering.rules_of.Given as goal
 

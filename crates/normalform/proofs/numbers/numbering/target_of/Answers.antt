@@ -1,8 +1,8 @@
 -- The remaining goals of `target_of`.
 use Rattle.std.proofs.Common.{map}
-use Rattle.normalform.specs.faults.Placed.{item_placed}
+use Rattle.normalform.specs.faults.PlacedItem.{item_placed}
 use Rattle.normalform.proofs.numbered.Small.{attribute_small}
 use Rattle.normalform.proofs.numbers.numbering.target_of.Goals as goal
 
-pub narrow-requires : goal.narrow-requires
-narrow-requires c = rw (c.attribute.ensures) (attribute_small c.args.declared.now (map item_placed c.args.items.now) c.args.occurrence.now c.requires.attributes)
+pub to_u16-requires : goal.to_u16-requires
+to_u16-requires c = rw (c.attribute.ensures) (attribute_small c.args.declared.now (map item_placed c.args.items.now) c.args.occurrence.now c.requires.attributes)

@@ -6,7 +6,7 @@ use Rattle.origins.specs.declared.walk.Open.{Open}
 use Rattle.origins.specs.declared.walk.Origins.{Origins}
 use Rattle.ag_value.specs.declared.value.Value.{Value}
 use Rattle.backreader.specs.BackState.{BackState}
-use Rattle.treefile.specs.ways.Backward.{before_frame}
+use Rattle.treefile.specs.framing.Backward.{before_frame}
 use Rattle.origins.specs.Walking.{HasComeTo, HasEntered}
 use Rattle.origins.proofs.Step.{come_same, read_node, read_token}
 use Rattle.origins.proofs.walk.Walk.read.Goals as goal

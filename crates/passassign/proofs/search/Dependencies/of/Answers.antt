@@ -1,6 +1,6 @@
 use Rattle.std.proofs.Common.{refl}
 use Rattle.passassign.proofs.slots.Linked.{all_in_table}
-use Rattle.passassign.proofs.strikes.Told.{edges_below}
+use Rattle.passassign.proofs.strikes.ReportedStrikes.{edges_below}
 use Rattle.passassign.proofs.search.Dependencies.of.Goals as goal
 
 pub of_edges-requires : goal.of_edges-requires

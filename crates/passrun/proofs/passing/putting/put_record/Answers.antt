@@ -1,7 +1,7 @@
 use Rattle.std.proofs.Common.{Err, ap}
 use Rattle.std.proofs.lemmas.Result.{err_from_is_err_and}
 use Rattle.treefile.specs.records.TreeFile.{body_of, version_two}
-use Rattle.treefile.proofs.ways.Beginning.{one_added, one_refused}
+use Rattle.treefile.proofs.framing.Beginning.{one_added, one_refused}
 use Rattle.treefile.proofs.records.Records.{is_body}
 use Rattle.passrun.specs.declared.run_fault.RunFault.{RunFault}
 use Rattle.passrun.proofs.passing.putting.put_record.Goals as goal
@@ -11,7 +11,7 @@ returns-in_err-put_carried-clause-left g c =
     let p = err_from_is_err_and c.from_residual.result c.from_residual.ensures.1 in
     let sound = is_body version_two c.args.kind c.args.number c.args.values.now c.requires.few c.requires.well in
     rw p.1 (λ h. one_refused RunFault (g.E.Device.content c.args.to.now) (g.E.Device.content c.put_carried.new.device) (body_of c.args.kind c.args.number c.args.values.now) c.in_err-put_carried.field-0.0 p.0 sound
-    (λ failed. c.in_err-put_carried.ensures.device (ap Err failed) h) (λ want. c.in_err-put_carried.ensures.memory (ap Err want) h))
+    (λ failed. c.in_err-put_carried.ensures.device (ap Err failed) h) (λ resource. c.in_err-put_carried.ensures.memory (ap Err resource) h))
 
 pub returns-clause-added : goal.returns-clause-added
 returns-clause-added g c = λ h.

@@ -1,15 +1,15 @@
 use Rattle.std.proofs.Common.{◌≡◌, ◌≤◌}
 use Rattle.treefile.specs.devices.Device.{LeavesContent, Persists}
-use Rattle.passrun.specs.laid.Jobs.{setting}
+use Rattle.passrun.specs.layouts.Contexts.{setting}
 use Rattle.passrun.specs.passing.Putting.{AddsFrames}
 use Rattle.passrun.specs.passing.Running.{Runs}
-use Rattle.passrun.specs.passing.Working.{work}
+use Rattle.passrun.specs.passing.Working.{measure}
 use Rattle.passrun.proofs.passing.run.run.Given as goal
 
 abbrev pub invariant-loop-next : goal.invariant-loop-next
 invariant-loop-next g l =
     record {
-      runs : Runs (setting l.job) (g.D.Device.is_honest l.from) (g.D.Device.content l.from) (g.E.Device.is_honest l.to) (g.E.Device.content l.to) l.meter l.machine l.next;
+      runs : Runs (setting l.context) (g.D.Device.is_honest l.from) (g.D.Device.content l.from) (g.E.Device.is_honest l.to) (g.E.Device.content l.to) l.meter l.machine l.next;
       added : AddsFrames (g.E.Device.is_honest l.to) (g.E.Device.content l.fn.to) (g.E.Device.content l.to);
       meter : l.fn.meter ≤ l.meter;
       begun : l.machine.begun ≡ l.fn.machine.begun;
@@ -19,4 +19,4 @@ invariant-loop-next g l =
     }
 
 abbrev pub decreases-loop-next : goal.decreases-loop-next
-decreases-loop-next g l = work (setting l.job) l.machine l.next
+decreases-loop-next g l = measure (setting l.context) l.machine l.next

@@ -1,5 +1,5 @@
 use Rattle.std.proofs.Common.{◌-◌, ◌∙◌, List, ℕ, [], subst}
-use Rattle.passrun.specs.laid.Jobs.{setting}
+use Rattle.passrun.specs.layouts.Contexts.{setting}
 use Rattle.passrun.specs.reading.Reading.{AreTaken}
 use Rattle.passrun.proofs.Recorded.{row_read}
 use Rattle.passrun.proofs.reading.lent.read_node.Goals as goal
@@ -8,6 +8,6 @@ pub returns-then-branch-clause-read : goal.returns-then-branch-clause-read
 returns-then-branch-clause-read c =
     let b = c.in-Some.ensures in
     let row = c.row-row.ensures b.production b.there in
-    let k = c.args.job.now.pass in
-    row_read (setting c.args.job.now) c.args.symbol c.in-Some.number b.production c.args.body c.in-Some.rest c.args.values.now.items c.take_row.new.values.items b.there b.left b.same
+    let k = c.args.context.now.pass in
+    row_read (setting c.args.context.now) c.args.symbol c.in-Some.number b.production c.args.body c.in-Some.rest c.args.values.now.items c.take_row.new.values.items b.there b.left b.same
     (subst (λ (ps : List ℕ). AreTaken (k - 1) k ps c.in-Some.rest [] c.args.values.now.items c.take_row.new.values.items) (c.as_slice.ensures ∙ row.passes) (c.in_ok-take_row.ensures.taken c.if-branch.true))

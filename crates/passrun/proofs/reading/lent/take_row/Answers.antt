@@ -1,7 +1,7 @@
 use Rattle.std.proofs.Common.{ℕ, ◌≡◌, ◌+◌, ◌-◌, ◌∷◌, ◌∙◌, List, [], arith, drop, get_or, length, refl, subst, sym}
 use Rattle.std.proofs.lemmas.Bool.{eqb-true}
 use Rattle.passrun.specs.reading.Reading.{AreTaken}
-use Rattle.passrun.proofs.Recorded.{empty_is, more_taken, none_taken, no_passes_from, passes_from, stand_on}
+use Rattle.passrun.proofs.Recorded.{empty_is, more_taken, none_taken, no_passes_from, passes_from, occur_on}
 use Rattle.passrun.proofs.reading.lent.take_row.Goals as goal
 
 pub loop-pass-preserved : goal.loop-pass-preserved
@@ -15,7 +15,7 @@ loop-pass-preserved c =
     record {
       taken = λ new more. c.loop-pass.invariant.taken new (subst (λ (qs : List ℕ). AreTaken read c.args.k qs c.loop-pass.rest [] c.loop-pass.values.items new) all
           (more_taken read c.args.k (get_or ps i 0) others c.loop-pass.rest c.in-Some.after [] c.loop-pass.values.items c.take_value.new.values.items new one more));
-      front = stand_on c.args.values.now.items c.loop-pass.values.items c.take_value.new.values.items c.loop-pass.invariant.front c.take_value.ensures.front;
+      prefix = occur_on c.args.values.now.items c.loop-pass.values.items c.take_value.new.values.items c.loop-pass.invariant.prefix c.take_value.ensures.prefix;
     }
 
 pub returns-clause-taken : goal.returns-clause-taken

@@ -1,10 +1,10 @@
 use Rattle.std.proofs.Common.{ℕ, ◌-◌, List, [], drop}
 use Rattle.ag_value.specs.declared.value.Value.{Value}
-use Rattle.passrun.specs.reading.Reading.{AreTaken, StandInFront}
+use Rattle.passrun.specs.reading.Reading.{AreTaken, PrependsTo}
 use Rattle.passrun.proofs.reading.lent.take_row.Given as goal
 
 abbrev pub invariant-loop-pass : goal.invariant-loop-pass
 invariant-loop-pass l = record {
   taken : (new : List Value) → AreTaken (l.k - 1) l.k (drop l.pass-index l.passes) l.rest [] l.values.items new → AreTaken (l.k - 1) l.k l.passes l.fn.body [] l.fn.values.items new;
-  front : StandInFront l.fn.values.items l.values.items;
+  prefix : PrependsTo l.fn.values.items l.values.items;
 }

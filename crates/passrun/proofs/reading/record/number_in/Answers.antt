@@ -12,14 +12,14 @@ use Rattle.passrun.proofs.reading.record.number_in.Goals as goal
 pub returns-clause-spelled : goal.returns-clause-spelled
 returns-clause-spelled c =
     let n = c.from_be_bytes-number.result in
-    let front = c.split_at.result.0.now in
+    let prefix = c.split_at.result.0.now in
     let rest = c.split_at.result.1.now in
-    let is : n ≡ from_be_bytes w64 front = search rules in
-    let behind = take (length c.args.bytes.now - 1) (drop 1 c.args.bytes.now) in
-    let parts : behind ≡ front ++ rest = search rules in
+    let is : n ≡ from_be_bytes w64 prefix = search rules in
+    let following = take (length c.args.bytes.now - 1) (drop 1 c.args.bytes.now) in
+    let parts : following ≡ prefix ++ rest = search rules in
     let whole = tagged c.args.bytes.now c.in-len1-up.len_at_least c.if-tag-ne0.false ∙ ap (λ xs. 0 ∷ xs) parts in
-    let small : (i : ℕ) → get_or front i 0 < 256 = search rules in
-    let spelled : to_be_bytes w64 n ≡ front = be_bytes_8 front n c.split_at.ensures.front_len small is in
+    let small : (i : ℕ) → get_or prefix i 0 < 256 = search rules in
+    let spelled : to_be_bytes w64 n ≡ prefix = be_bytes_8 prefix n c.split_at.ensures.front_len small is in
     let unsigned : cast_unsigned w64 (cast_signed w64 n) ≡ n = of_z-to_z w64 n c.from_be_bytes-number.type_inv in
     let number : cast_signed w64 (cast_unsigned w64 c.cast_signed.result) ≡ cast_signed w64 n = ap (λ z. cast_signed w64 (cast_unsigned w64 z)) c.cast_signed.ensures ∙ ap (cast_signed w64) unsigned in
     whole ∙ ap (λ xs. 0 ∷ (xs ++ rest)) (sym spelled ∙ ap (to_be_bytes w64) (sym unsigned)) ∙ ap (λ xs. xs ++ rest) (sym (spelling-Num (cast_signed w64 n))) ∙ ap (λ z. spelling_of (Num z) ++ rest) (sym number)

@@ -1,7 +1,7 @@
 use Rattle.std.proofs.Common.{ℕ, ◌≡◌, ◌+◌, ◌-◌, ◌∷◌, List, [], arith, drop, get_or, refl, subst, sym}
 use Rattle.std.proofs.lemmas.Result.{on_ok_weaker}
 use Rattle.passrun.specs.reading.Reading.{AreTaken, IsNoRow}
-use Rattle.passrun.proofs.Recorded.{more_taken, no_passes_from, no_row_left, none_taken, others_no_row, passes_from, stand_on}
+use Rattle.passrun.proofs.Recorded.{more_taken, no_passes_from, no_row_left, none_taken, others_no_row, passes_from, occur_on}
 use Rattle.passrun.proofs.reading.record.take_row.Goals as goal
 
 pub loop-index-preserved : goal.loop-index-preserved
@@ -17,7 +17,7 @@ loop-index-preserved c =
           (more_taken read c.args.k (get_or ps i 0) others c.loop-index.rest.now c.in-Some.after.now [] c.loop-index.values.items c.take_number.new.values.items new one more));
       none = λ none. c.loop-index.invariant.none (subst (λ (qs : List ℕ). IsNoRow read qs c.loop-index.rest.now) all
           (others_no_row read c.args.k (get_or ps i 0) others c.loop-index.rest.now c.in-Some.after.now c.loop-index.values.items c.take_number.new.values.items one none));
-      front = stand_on c.args.values.now.items c.loop-index.values.items c.take_number.new.values.items c.loop-index.invariant.front c.take_number.ensures.front;
+      prefix = occur_on c.args.values.now.items c.loop-index.values.items c.take_number.new.values.items c.loop-index.invariant.prefix c.take_number.ensures.prefix;
       room = let before = c.loop-index.invariant.room in let len = c.take_number.ensures.len in let same = c.take_number.ensures.capacity in omega arith;
     }
 

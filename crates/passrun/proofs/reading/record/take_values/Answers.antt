@@ -1,7 +1,7 @@
 use Rattle.std.proofs.Common.{ℕ, ◌≡◌, ◌+◌, ◌-◌, ◌∷◌, List, [], drop, get_or, refl, subst, sym}
 use Rattle.std.proofs.lemmas.Result.{on_ok_weaker}
 use Rattle.passrun.specs.reading.Reading.{AreTaken, IsNoRow}
-use Rattle.passrun.proofs.Recorded.{more_taken, no_passes_from, no_row_left, none_taken, others_no_row, passes_from, stand_on}
+use Rattle.passrun.proofs.Recorded.{more_taken, no_passes_from, no_row_left, none_taken, others_no_row, passes_from, occur_on}
 use Rattle.passrun.proofs.reading.record.take_values.Goals as goal
 
 pub loop-pass-preserved : goal.loop-pass-preserved
@@ -17,7 +17,7 @@ loop-pass-preserved c =
           (more_taken read c.args.k (get_or ps i 0) others c.loop-pass.rest.now c.in_ok-rest.rest.now [] c.loop-pass.values.items c.take_value.new.values.items new one more));
       none = λ none. c.loop-pass.invariant.none (subst (λ (qs : List ℕ). IsNoRow read qs c.loop-pass.rest.now) all
           (others_no_row read c.args.k (get_or ps i 0) others c.loop-pass.rest.now c.in_ok-rest.rest.now c.loop-pass.values.items c.take_value.new.values.items one none));
-      front = stand_on c.args.values.now.items c.loop-pass.values.items c.take_value.new.values.items c.loop-pass.invariant.front c.take_value.ensures.front;
+      prefix = occur_on c.args.values.now.items c.loop-pass.values.items c.take_value.new.values.items c.loop-pass.invariant.prefix c.take_value.ensures.prefix;
     }
 
 pub returns-clause-none : goal.returns-clause-none

@@ -10,30 +10,30 @@ use Rattle.ag_grammar.specs.declared.grammar.Item.TheVariants as item
 use Rattle.ag_grammar.specs.declared.grammar.Production.{Production}
 use Rattle.ag_grammar.specs.grammars.AttributeGrammar.{Grammar, IsProduction, stored_items}
 use Rattle.backreader.specs.BackState.{Progress}
-use Rattle.passrun.specs.Upgrading.{Brought, HasTaken, IsOf, IsUnbrought, text_list}
+use Rattle.passrun.specs.Upgrading.{Converted, HasTaken, IsOf, IsUnconverted, text_list}
 use Rattle.treefile.specs.records.TreeFile.{body_of, frame}
 use Rattle.treefile.specs.declared.body.Kind.TheVariants.{Node, Token}
-use Rattle.passrun.proofs.Brought.{brought_supposed, next_brought, next_refused, node_brought, node_of, none_brought, one_text, text_is_well, token_brought}
-use Rattle.treefile.proofs.ways.Backward.{All-reverse}
-use Rattle.treefile.proofs.ways.Beginning.{added, none_added}
+use Rattle.passrun.proofs.Converted.{converted_supposed, next_converted, next_refused, node_converted, node_of, none_converted, one_text, text_is_well, token_converted}
+use Rattle.treefile.proofs.framing.Backward.{All-reverse}
+use Rattle.treefile.proofs.framing.Beginning.{added, none_added}
 use Rattle.passrun.specs.declared.run_fault.RunFault.{RunFault}
 use Rattle.passrun.proofs.Recorded.{production_is}
 use Rattle.passrun.proofs.upgrading.Upgrading.+tree.Goals as goal
 
 -- An item that is not a child.
-pub returns-then-not-has_place-clause-brought : goal.returns-then-not-has_place-clause-brought
-returns-then-not-has_place-clause-brought g t c honest =
-    none_brought c.args.grammar.now c.requires.accepted (g.D.Device.content c.args.from.now) [] (c.args.item ∷ []) c.args.level c.args.self.now.back.progress (g.E.Device.is_honest c.args.to.now) (g.E.Device.content c.args.to.now) (c.if-not-has_place.ensures [])
+pub returns-then-not-is_stored_child-clause-converted : goal.returns-then-not-is_stored_child-clause-converted
+returns-then-not-is_stored_child-clause-converted g t c honest =
+    none_converted c.args.grammar.now c.requires.accepted (g.D.Device.content c.args.from.now) [] (c.args.item ∷ []) c.args.level c.args.self.now.back.progress (g.E.Device.is_honest c.args.to.now) (g.E.Device.content c.args.to.now) (c.if-not-is_stored_child.ensures [])
 
 pub record-requires-clause-place : goal.record-requires-clause-place
-record-requires-clause-place g t c = c.if-not-has_place.ensures []
+record-requires-clause-place g t c = c.if-not-is_stored_child.ensures []
 
 -- A token.
-pub returns-in-Token-clause-brought : goal.returns-in-Token-clause-brought
-returns-in-Token-clause-brought g t c honest =
+pub returns-in-Token-clause-converted : goal.returns-in-Token-clause-converted
+returns-in-Token-clause-converted g t c honest =
     let h = subst (HasTaken c.args.grammar.now c.args.item c.args.level (g.D.Device.is_honest c.record.new.from) (g.D.Device.content c.args.from.now) c.args.self.now.back c.record.new.self.back) c.in-Token.is c.in_ok-production.ensures.taken in
-    token_brought c.args.grammar.now c.requires.accepted (g.D.Device.content c.args.from.now) c.args.item c.args.level c.in-Token.class c.in-Token.text c.args.self.now.back.progress c.record.new.self.back.progress (g.E.Device.is_honest c.put_record.new.to) (g.E.Device.content c.args.to.now) (g.E.Device.content c.put_record.new.to)
-    (c.if-not-has_place.ensures []) h.is h.deep h.few (h.found honest) (ap (λ (p : Progress). p.at) h.progress) (ap (λ (p : Progress). p.records) h.progress) (λ h. c.in_ok-put_record-in-Token.ensures.put.there h ∙ ap (λ vs. g.E.Device.content c.args.to.now ++ frame (body_of Token c.in-Token.class vs)) c.from_ref.ensures.value)
+    token_converted c.args.grammar.now c.requires.accepted (g.D.Device.content c.args.from.now) c.args.item c.args.level c.in-Token.class c.in-Token.text c.args.self.now.back.progress c.record.new.self.back.progress (g.E.Device.is_honest c.put_record.new.to) (g.E.Device.content c.args.to.now) (g.E.Device.content c.put_record.new.to)
+    (c.if-not-is_stored_child.ensures []) h.is h.deep h.few (h.found honest) (ap (λ (p : Progress). p.at) h.progress) (ap (λ (p : Progress). p.records) h.progress) (λ h. c.in_ok-put_record-in-Token.ensures.put.there h ∙ ap (λ vs. g.E.Device.content c.args.to.now ++ frame (body_of Token c.in-Token.class vs)) c.from_ref.ensures.value)
 
 -- A node.
 pub bounds-productions-production : goal.bounds-productions-production
@@ -58,9 +58,9 @@ loop-at-init g t c =
       balanced = omega (arith, records, ap (λ w. w.written) c.in_ok-production.ensures.writer);
       well = subst (All IsWell) (sym c.new-texts.ensures.items) (All-nil IsWell);
       few = omega (arith, ap length c.new-texts.ensures.items);
-      brought = λ honest.
-          subst (λ texts. Brought c.args.grammar.now (g.D.Device.content c.args.from.now) (take (length items) items) (drop (length items) items) (suc c.args.level) c.record.new.self.back.progress c.record.new.self.back.progress (g.E.Device.is_honest c.args.to.now) (g.E.Device.content c.args.to.now) (g.E.Device.content c.args.to.now) texts) (sym c.new-texts.ensures.items)
-          (none_brought c.args.grammar.now c.requires.accepted (g.D.Device.content c.args.from.now) (take (length items) items) (drop (length items) items) (suc c.args.level) c.record.new.self.back.progress (g.E.Device.is_honest c.args.to.now) (g.E.Device.content c.args.to.now) (ap stored_items (drop_all (length items) items many)));
+      converted = λ honest.
+          subst (λ texts. Converted c.args.grammar.now (g.D.Device.content c.args.from.now) (take (length items) items) (drop (length items) items) (suc c.args.level) c.record.new.self.back.progress c.record.new.self.back.progress (g.E.Device.is_honest c.args.to.now) (g.E.Device.content c.args.to.now) (g.E.Device.content c.args.to.now) texts) (sym c.new-texts.ensures.items)
+          (none_converted c.args.grammar.now c.requires.accepted (g.D.Device.content c.args.from.now) (take (length items) items) (drop (length items) items) (suc c.args.level) c.record.new.self.back.progress (g.E.Device.is_honest c.args.to.now) (g.E.Device.content c.args.to.now) (ap stored_items (drop_all (length items) items many)));
     }
 
 -- The items of a node are those of its production.
@@ -81,11 +81,11 @@ returns-in_err-text-clause-refused g t c =
     let h = subst (HasTaken grammar c.args.item c.args.level (g.D.Device.is_honest c.record.new.from) content c.args.self.now.back c.record.new.self.back) c.in-Node.is c.in_ok-production.ensures.taken in
     rw (p.1, p.2) (λ honest.
     let is = c.in_err-text.ensures.devices.first.honest honest in
-    let refused = subst (λ (bytes : List ℕ). IsUnbrought grammar bytes (get_or items (c.loop-at.at - 1) (item.Symbol 0) ∷ []) (c.args.level + 1) now f) (so_far.content is) (c.in_err-text.ensures.refused honest) in
+    let refused = subst (λ (bytes : List ℕ). IsUnconverted grammar bytes (get_or items (c.loop-at.at - 1) (item.Symbol 0) ∷ []) (c.args.level + 1) now f) (so_far.content is) (c.in_err-text.ensures.refused honest) in
     next_refused grammar c.requires.accepted content c.args.item c.in-Node.production items c.loop-at.at c.args.level (item.Symbol 0) c.args.self.now.back.progress c.record.new.self.back.progress now h.is (g.E.Device.is_honest c.loop-at.to) (g.E.Device.content c.args.to.now) (g.E.Device.content c.loop-at.to) c.loop-at.texts.items f
-    (c.if-not-has_place.ensures []) h.deep h.few (h.found (so_far.since is)) (ap (λ (p : Progress). p.at) h.progress) (ap (λ (p : Progress). p.records) h.progress)
+    (c.if-not-is_stored_child.ensures []) h.deep h.few (h.found (so_far.since is)) (ap (λ (p : Progress). p.at) h.progress) (ap (λ (p : Progress). p.records) h.progress)
     (items_are grammar c.in-Node.production c.productions.result.now c.index-productions-production.result items c.productions.ensures.lent c.as_slice-items.ensures)
-    c.loop-at-test.true c.loop-at.auto.at (so_far.brought is) (subst (λ n. IsUnbrought grammar content (get_or items (c.loop-at.at - 1) (item.Symbol 0) ∷ []) n now f) level refused))
+    c.loop-at-test.true c.loop-at.auto.at (so_far.converted is) (subst (λ n. IsUnconverted grammar content (get_or items (c.loop-at.at - 1) (item.Symbol 0) ∷ []) n now f) level refused))
 
 pub loop-at-preserved : goal.loop-at-preserved
 loop-at-preserved g t c =
@@ -111,12 +111,12 @@ loop-at-preserved g t c =
       balanced = search rules;
       well = subst (All IsWell) (sym more) (All-append IsWell c.loop-at.texts.items (text_list text) so_far.well (text_is_well text c.in_ok-text.ensures.well));
       few = omega (arith, ap (λ vs. length vs) more, length-append c.loop-at.texts.items (text_list text), one_text text, so_far.few, c.loop-at-test.true);
-      brought = λ honest.
+      converted = λ honest.
           let is = c.in_ok-text.ensures.devices.first.honest honest in
           let to = g.E.Device.is_honest c.tree.new.to in
-          let next = subst (λ (bytes : List ℕ). Brought grammar bytes [] (child ∷ []) (c.args.level + 1) between now to out_between out_now (text_list text)) (so_far.content is) (c.in_ok-text.ensures.brought honest) in
-          next_brought grammar c.requires.accepted content items c.loop-at.at (suc c.args.level) (item.Symbol 0) c.record.new.self.back.progress between now to (g.E.Device.content c.args.to.now) out_between out_now c.loop-at.texts.items (text_list text) c.add_text.new.texts.items
-          c.loop-at-test.true c.loop-at.auto.at (brought_supposed grammar c.requires.accepted content _ _ _ _ between to (g.E.Device.is_honest c.loop-at.to) (g.E.Device.content c.args.to.now) out_between c.loop-at.texts.items c.in_ok-text.ensures.devices.second.honest (so_far.brought is)) (subst (λ n. Brought grammar content [] (child ∷ []) n between now to out_between out_now (text_list text)) level next) more;
+          let next = subst (λ (bytes : List ℕ). Converted grammar bytes [] (child ∷ []) (c.args.level + 1) between now to out_between out_now (text_list text)) (so_far.content is) (c.in_ok-text.ensures.converted honest) in
+          next_converted grammar c.requires.accepted content items c.loop-at.at (suc c.args.level) (item.Symbol 0) c.record.new.self.back.progress between now to (g.E.Device.content c.args.to.now) out_between out_now c.loop-at.texts.items (text_list text) c.add_text.new.texts.items
+          c.loop-at-test.true c.loop-at.auto.at (converted_supposed grammar c.requires.accepted content _ _ _ _ between to (g.E.Device.is_honest c.loop-at.to) (g.E.Device.content c.args.to.now) out_between c.loop-at.texts.items c.in_ok-text.ensures.devices.second.honest (so_far.converted is)) (subst (λ n. Converted grammar content [] (child ∷ []) n between now to out_between out_now (text_list text)) level next) more;
     }
 
 -- The texts, reversed.
@@ -139,8 +139,8 @@ put_record-requires-2-clause-well g t c =
     subst (All IsWell) (sym same) (All-reverse IsWell texts.items c.loop-at.invariant.well)
 
 -- The whole tree was converted.
-pub returns-clause-brought : goal.returns-clause-brought
-returns-clause-brought g t c honest =
+pub returns-clause-converted : goal.returns-clause-converted
+returns-clause-converted g t c honest =
     let so_far = c.loop-at.invariant in
     let grammar = c.args.grammar.now in
     let content = g.D.Device.content c.args.from.now in
@@ -152,17 +152,17 @@ returns-clause-brought g t c honest =
     let h = subst (HasTaken grammar c.args.item c.args.level (g.D.Device.is_honest c.record.new.from) content c.args.self.now.back c.record.new.self.back) c.in-Node.is c.in_ok-production.ensures.taken in
     let same = turned texts.items c.reverse.new.self c.as_slice.result.now texts.len (c.reverse.ensures.after ∙ ap reverse c.as_mut_slice.ensures.value) (omega (arith, texts.ok.0)) c.as_slice.ensures.value in
     let none : c.loop-at.at ≡ 0 = omega (arith, c.loop-at-test.false) in
-    let whole = subst (λ n. Brought grammar content (take n items) (drop n items) (suc c.args.level) c.record.new.self.back.progress c.loop-at.self.back.progress to (g.E.Device.content c.args.to.now) out_between texts.items) none
-    (brought_supposed grammar c.requires.accepted content _ _ _ _ c.loop-at.self.back.progress to (g.E.Device.is_honest c.loop-at.to) (g.E.Device.content c.args.to.now) out_between texts.items c.in_ok-put_record.ensures.persists.honest (so_far.brought honest)) in
-    node_brought grammar c.requires.accepted content c.args.item c.args.level c.in-Node.production c.args.self.now.back.progress c.record.new.self.back.progress c.loop-at.self.back.progress to (g.E.Device.content c.args.to.now) out_between out_now texts.items
-    (c.if-not-has_place.ensures []) h.is h.deep h.few (h.found (so_far.since honest)) (ap (λ (p : Progress). p.at) h.progress) (ap (λ (p : Progress). p.records) h.progress) items
+    let whole = subst (λ n. Converted grammar content (take n items) (drop n items) (suc c.args.level) c.record.new.self.back.progress c.loop-at.self.back.progress to (g.E.Device.content c.args.to.now) out_between texts.items) none
+    (converted_supposed grammar c.requires.accepted content _ _ _ _ c.loop-at.self.back.progress to (g.E.Device.is_honest c.loop-at.to) (g.E.Device.content c.args.to.now) out_between texts.items c.in_ok-put_record.ensures.persists.honest (so_far.converted honest)) in
+    node_converted grammar c.requires.accepted content c.args.item c.args.level c.in-Node.production c.args.self.now.back.progress c.record.new.self.back.progress c.loop-at.self.back.progress to (g.E.Device.content c.args.to.now) out_between out_now texts.items
+    (c.if-not-is_stored_child.ensures []) h.is h.deep h.few (h.found (so_far.since honest)) (ap (λ (p : Progress). p.at) h.progress) (ap (λ (p : Progress). p.records) h.progress) items
     (items_are grammar c.in-Node.production c.productions.result.now c.index-productions-production.result items c.productions.ensures.lent c.as_slice-items.ensures)
     whole (λ is. c.in_ok-put_record.ensures.put.there is ∙ ap (λ vs. out_between ++ frame (body_of Node c.in-Node.production vs)) same)
 
 -- ---- the frames written, for any first device
 
-pub returns-then-not-has_place-clause-added : goal.returns-then-not-has_place-clause-added
-returns-then-not-has_place-clause-added g t c = λ h. none_added RunFault (g.E.Device.content c.args.to.now) (Ok tt)
+pub returns-then-not-is_stored_child-clause-added : goal.returns-then-not-is_stored_child-clause-added
+returns-then-not-is_stored_child-clause-added g t c = λ h. none_added RunFault (g.E.Device.content c.args.to.now) (Ok tt)
 
 pub returns-in_err-production-clause-left : goal.returns-in_err-production-clause-left
 returns-in_err-production-clause-left g t c =

@@ -1,7 +1,7 @@
 use Rattle.std.proofs.Common.{◌≡◌, true, ◌+◌, ◌-◌, ◌≤◌, suc, All, drop, take, length}
 use Rattle.ag_value.specs.Well.{IsWell}
 use Rattle.passrun.specs.passing.Putting.{AddsFrames}
-use Rattle.passrun.specs.Upgrading.{Brought, IsReady}
+use Rattle.passrun.specs.Upgrading.{Converted, IsReady}
 use Rattle.treefile.specs.devices.Device.{LeavesContent, Persists, WhenHonest}
 use Rattle.passrun.proofs.upgrading.Upgrading.+tree.Given as goal
 
@@ -22,5 +22,5 @@ invariant-loop-at g l =
       balanced : l.self.writer.written + l.fn.self.back.progress.records + 1 ≡ l.fn.self.writer.written + l.self.back.progress.records;
       well : All IsWell l.texts.items;
       few : length l.texts.items + l.at ≤ length l.items;
-      brought : WhenHonest (g.D.Device.is_honest l.from) (Brought l.grammar (g.D.Device.content l.fn.from) (take l.at l.items) (drop l.at l.items) (suc l.level) l.initial.self.back.progress l.self.back.progress (g.E.Device.is_honest l.to) (g.E.Device.content l.fn.to) (g.E.Device.content l.to) l.texts.items);
+      converted : WhenHonest (g.D.Device.is_honest l.from) (Converted l.grammar (g.D.Device.content l.fn.from) (take l.at l.items) (drop l.at l.items) (suc l.level) l.initial.self.back.progress l.self.back.progress (g.E.Device.is_honest l.to) (g.E.Device.content l.fn.to) (g.E.Device.content l.to) l.texts.items);
     }

@@ -71,14 +71,14 @@ loop-splice-preserved c =
     (subst (λ (n : ℕ). HasRead n c.args.offset c.copy_own-done.result content c.copy_own-done.new.out) t.splice_at first) in
     let own : i.base + (g.own - i.base) ≡ g.own = omega (arith, t.from_here) in
     let at : i.at + (g.at - i.at + length g.bytes) ≡ g.at + length g.bytes = omega (arith, t.at_here) in
-    let behind : drop (g.at - i.at + length g.bytes) content ≡ spliced (i.base + (g.own - i.base)) (drop (g.own - i.base) i.own.now) rest =
-    t.behind ∙ ap (λ (n : ℕ). spliced n (drop (g.own - i.base) i.own.now) rest) (sym own) in
+    let following : drop (g.at - i.at + length g.bytes) content ≡ spliced (i.base + (g.own - i.base)) (drop (g.own - i.base) i.own.now) rest =
+    t.following ∙ ap (λ (n : ℕ). spliced n (drop (g.own - i.base) i.own.now) rest) (sym own) in
     let splices : AreSplices (i.base + (g.own - i.base)) (i.at + (g.at - i.at + length g.bytes)) (i.base + length i.own.now) total rest =
     subst (λ (n : ℕ). AreSplices n (i.at + (g.at - i.at + length g.bytes)) (i.base + length i.own.now) total rest) (sym own)
     (subst (λ (n : ℕ). AreSplices g.own n (i.base + length i.own.now) total rest) (sym at) h.3) in
     record {
       read = subst (λ (n : ℕ). HasRead (g.at - i.at + n) c.args.offset c.copy_shared-done.result content c.copy_shared-done.new.out) (sym c.len.ensures.len) second;
-      rest = ap (λ (n : ℕ). drop (g.at - i.at + n) content) c.len.ensures.len ∙ behind;
+      rest = ap (λ (n : ℕ). drop (g.at - i.at + n) content) c.len.ensures.len ∙ following;
       splices = subst (λ (n : ℕ). AreSplices (i.base + (g.own - i.base)) (i.at + (g.at - i.at + n)) (i.base + length i.own.now) total rest) (sym c.len.ensures.len) splices;
     }
 

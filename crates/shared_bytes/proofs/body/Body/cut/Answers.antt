@@ -1,19 +1,19 @@
 use Rattle.std.proofs.Common.{rules, ◌≡◌, ◌+◌, ◌-◌, ◌++◌, List, ℕ, length, take, drop, refl, sym, subst, arith}
 use Rattle.shared_bytes.specs.Spliced.{AreSplices, spliced}
 use Rattle.shared_bytes.specs.declared.splice.Splice.{Splice}
-use Rattle.shared_bytes.proofs.Splicing.{cut_behind, cut_splices, splices_before, splices_behind, spliced_length}
+use Rattle.shared_bytes.proofs.Splicing.{cut_after, cut_splices, splices_before, splices_after, spliced_length}
 use Rattle.shared_bytes.proofs.body.Body.cut.Goals as goal
 
 pub overflow_sub-middle : goal.overflow_sub-middle
 overflow_sub-middle c =
     let i = c.self.inside in
-    cut_behind i.base i.at (i.base + length i.own.now) i.end i.splices.now c.args.count c.in_ok-middle.middle c.in_ok-place.place c.self.invariant.0 c.in_ok-middle.ensures.cut
+    cut_after i.base i.at (i.base + length i.own.now) i.end i.splices.now c.args.count c.in_ok-middle.middle c.in_ok-place.place c.self.invariant.0 c.in_ok-middle.ensures.cut
 
-pub invariant_of-front : goal.invariant_of-front
-invariant_of-front c =
+pub invariant_of-prefix : goal.invariant_of-prefix
+invariant_of-prefix c =
     let i = c.self.inside in
     let o = c.in_ok-middle.middle in
-    let behind = cut_behind i.base i.at (i.base + length i.own.now) i.end i.splices.now c.args.count o c.in_ok-place.place c.self.invariant.0 c.in_ok-middle.ensures.cut in
+    let following = cut_after i.base i.at (i.base + length i.own.now) i.end i.splices.now c.args.count o c.in_ok-place.place c.self.invariant.0 c.in_ok-middle.ensures.cut in
     let n : i.base + length c.split_at.result.0.now ≡ o = omega (arith, c.split_at.ensures.front_len) in
     let g = splices_before i.base i.at (i.base + length i.own.now) i.end i.splices.now c.args.count o c.in_ok-place.place c.self.invariant.0 c.in_ok-middle.ensures.cut in (
       subst (λ (k : ℕ). AreSplices i.base i.at k c.in_ok-place.place c.split_at-2.result.0.now) (sym n)
@@ -25,9 +25,9 @@ pub invariant_of-rest : goal.invariant_of-rest
 invariant_of-rest c =
     let i = c.self.inside in
     let o = c.in_ok-middle.middle in
-    let behind = cut_behind i.base i.at (i.base + length i.own.now) i.end i.splices.now c.args.count o c.in_ok-place.place c.self.invariant.0 c.in_ok-middle.ensures.cut in
+    let following = cut_after i.base i.at (i.base + length i.own.now) i.end i.splices.now c.args.count o c.in_ok-place.place c.self.invariant.0 c.in_ok-middle.ensures.cut in
     let n : o + length c.split_at.result.1.now ≡ i.base + length i.own.now = omega (arith, c.split_at.ensures.back_len, c.in_ok-middle.ensures.within) in
-    let g = splices_behind i.base i.at (i.base + length i.own.now) i.end i.splices.now c.args.count o c.in_ok-place.place c.self.invariant.0 c.in_ok-middle.ensures.cut c.in_ok-middle.ensures.within in (
+    let g = splices_after i.base i.at (i.base + length i.own.now) i.end i.splices.now c.args.count o c.in_ok-place.place c.self.invariant.0 c.in_ok-middle.ensures.cut c.in_ok-middle.ensures.within in (
       subst (λ (k : ℕ). AreSplices o c.in_ok-place.place k i.end c.split_at-2.result.1.now) (sym n)
           (subst (λ (gs : List Splice). AreSplices o c.in_ok-place.place (i.base + length i.own.now) i.end gs) (sym c.split_at-2.ensures.back) g),
       omega (arith, c.self.invariant.1),
@@ -46,5 +46,5 @@ returns-clause-size c =
     let i = c.self.inside in
     let place : c.in_ok-place.place ≡ i.at + c.args.offset = search rules in
     let e : i.at + length (spliced i.base c.split_at.result.0.now c.split_at-2.result.0.now) ≡ c.in_ok-place.place =
-    spliced_length i.base i.at (i.base + length c.split_at.result.0.now) c.in_ok-place.place c.split_at.result.0.now c.split_at-2.result.0.now (invariant_of-front c).0 refl in
+    spliced_length i.base i.at (i.base + length c.split_at.result.0.now) c.in_ok-place.place c.split_at.result.0.now c.split_at-2.result.0.now (invariant_of-prefix c).0 refl in
     omega arith

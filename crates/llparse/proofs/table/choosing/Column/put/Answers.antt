@@ -11,4 +11,4 @@ pub returns-clause-least : goal.returns-clause-least
 returns-clause-least c = λ qs marks q is same marked old least.
     let choices = c.args.self.now.choices.items in
     let read : c.index.result.now ≡ choice_at choices q.left = c.index.ensures ∙ get_or_default choices c.args.symbol c.index.result.now None c.requires.symbol ∙ ap (choice_at choices) (sym same) in
-    clashes qs marks c.args.production q is marked choices c.index.result.now c.args.self.now.conflict c.clash-self.result read c.clash-self.ensures.some c.clash-self.ensures.none old least
+    clashes qs marks c.args.production q is marked choices c.index.result.now c.args.self.now.conflict c.conflict_with-self.result read c.conflict_with-self.ensures.some c.conflict_with-self.ensures.none old least

@@ -17,14 +17,14 @@ loop-at-preserved c =
     let r = c.index-productions-at.result in
     let is : r ≡ get_or g.productions c.loop-at.at r = c.index-productions-at.is ∙ ap (λ (qs : List Production). get_or qs c.loop-at.at r) c.productions-productions.ensures.lent in
     let this = predicts_at g c.of-sizes.ensures.accepted (is_marked c.args.self.now.nullable.items) c.requires.sets.nullable_exact c.args.ahead c.in_ok-begins.begins.items c.in_ok-follows.follows.items c.in_ok-begins.ensures c.in_ok-follows.ensures
-    c.loop-at.at r _ _ c.as_slice-items.result.now c.has-behind.result c.is_next.result is c.of-sizes.ensures.symbols c.of-sizes.ensures.literals c.as_slice-items.ensures (rw c.as_slice-follows.ensures.value at c.has-behind.ensures)
+    c.loop-at.at r _ _ c.as_slice-items.result.now c.has-following.result c.is_next.result is c.of-sizes.ensures.symbols c.of-sizes.ensures.literals c.as_slice-items.ensures (rw c.as_slice-follows.ensures.value at c.has-following.ensures)
     (rw (c.as_slice-begins.ensures.value, c.as_slice-nullable.ensures.value) at c.is_next.ensures) in
     record {
       count = omega (arith, c.in_ok-push.ensures.len, c.loop-at.invariant.count);
-      told = rw (c.in_ok-push.ensures.items, ← c.loop-at.invariant.count) (predicted_more g c.args.ahead c.loop-at.marks.items c.is_next.result (rw c.loop-at.invariant.count this) (rw c.loop-at.invariant.count c.loop-at.invariant.told));
+      exact = rw (c.in_ok-push.ensures.items, ← c.loop-at.invariant.count) (predicted_more g c.args.ahead c.loop-at.marks.items c.is_next.result (rw c.loop-at.invariant.count this) (rw c.loop-at.invariant.count c.loop-at.invariant.exact));
     }
 
 pub returns-clause-marks : goal.returns-clause-marks
 returns-clause-marks c = λ p q e.
     let inside : p < c.loop-at.at = omega (arith, slice_get_within c.args.grammar.now.productions p q e, ap length c.productions-productions.ensures.lent, c.loop-at-test.false) in
-    c.loop-at.invariant.told p q inside e
+    c.loop-at.invariant.exact p q inside e

@@ -1,5 +1,0 @@
-use Rattle.ag_grammar.proofs.values.Worked.{same_is_one}
-use Rattle.ag_grammar.proofs.value_laws.equality_tells_values_apart.Goals as goal
-
-pub returns : goal.returns
-returns c = same_is_one

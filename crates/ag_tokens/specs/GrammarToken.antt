@@ -1,0 +1,23 @@
+-- The tokens of the language, by what they denote (this project's language).
+use Rattle.std.specs.Prelude.{ℕ, ℤ, List}
+use Rattle.ag_tokens.specs.declared.token.Punctuation as punctuation
+
+pub data GrammarToken : Type 0 where
+  -- a number literal, by the number
+  Number : ℤ → GrammarToken
+  -- a text literal, by the bytes of the text that it denotes
+  Text : List ℕ → GrammarToken
+  -- a name, by its bytes
+  Name : List ℕ → GrammarToken
+  -- an occurrence of an attribute, by its place and the bytes of its name
+  Occurrence : ℕ → List ℕ → GrammarToken
+  Punctuation : punctuation.Punctuation → GrammarToken
+
+-- A token with only one spelling: punctuation, or a name of the language.
+pub data Sign : Type 0 where
+  mark : punctuation.Punctuation → Sign
+  word : List ℕ → Sign
+
+abbrev pub sign_token : Sign → GrammarToken
+sign_token (mark m) = Punctuation m
+sign_token (word name) = Name name

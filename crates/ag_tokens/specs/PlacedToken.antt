@@ -1,0 +1,18 @@
+-- The tokens of a text with their offsets, and their ending. A reader of tokens depends on the text only
+-- through these.
+use Rattle.std.specs.Prelude.{ℕ, List, map}
+use Rattle.ag_tokens.specs.Ending.{Ending}
+use Rattle.ag_tokens.specs.GrammarToken.{GrammarToken}
+
+-- a token and its offset in bytes
+pub record PlacedToken : Type 0 where
+  pub at : ℕ
+  pub token : GrammarToken
+
+pub record Input : Type 0 where
+  pub left : List PlacedToken
+  pub ending : Ending
+
+-- the tokens without their offsets
+abbrev pub tokens : List PlacedToken → List GrammarToken
+tokens = map (λ p. p.token)

@@ -1,8 +1,0 @@
--- The invariant of the loop of `known_in_front`.
-use Rattle.std.proofs.Common.{◌≡◌, true, take}
-use Rattle.closure.specs.Following.{is_marked}
-use Rattle.std.specs.List.{list_all}
-use Rattle.closure.proofs.search.known_in_front.Given as goal
-
-abbrev pub invariant-loop-at : goal.invariant-loop-at
-invariant-loop-at l = list_all (is_marked l.marks) (take l.at l.body) ≡ true

@@ -1,0 +1,6 @@
+-- The edge and the old edges are in the list.
+use Rattle.llparse.proofs.look_ahead.Edges.{adds_edge}
+use Rattle.llparse.proofs.table.first.add_edge.Goals as goal
+
+pub returns : goal.returns
+returns c = rw c.in_ok-push.ensures.items (adds_edge c.args.edges.now.items c.args.from c.args.to)

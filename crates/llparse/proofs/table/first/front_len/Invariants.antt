@@ -1,7 +1,0 @@
-use Rattle.std.proofs.Common.{◌≡◌, ◌++◌, take, drop}
-use Rattle.closure.specs.Following.{is_marked}
-use Rattle.llparse.specs.table.Edges.{front}
-use Rattle.llparse.proofs.table.first.front_len.Given as goal
-
-abbrev pub invariant-loop-at : goal.invariant-loop-at
-invariant-loop-at l = front (is_marked l.nullable) l.items ≡ take l.at l.items ++ front (is_marked l.nullable) (drop l.at l.items)

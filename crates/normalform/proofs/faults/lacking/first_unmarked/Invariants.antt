@@ -1,7 +1,0 @@
--- The invariant of the loop of `first_unmarked`.
-use Rattle.std.proofs.Common.{ℕ, ◌≡◌, ◌<◌, true}
-use Rattle.closure.specs.Following.{is_marked}
-use Rattle.normalform.proofs.faults.lacking.first_unmarked.Given as goal
-
-abbrev pub invariant-loop-number : goal.invariant-loop-number
-invariant-loop-number l = (t : ℕ) → t < l.number → is_marked l.marks t ≡ true

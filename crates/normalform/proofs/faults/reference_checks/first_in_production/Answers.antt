@@ -1,0 +1,22 @@
+-- The remaining goals of `first_in_production`.
+use Rattle.std.proofs.Common.{◌∙◌, ap, map, sym}
+use Rattle.normalform.specs.faults.ReferenceChecks.{checks_of_rule}
+use Rattle.normalform.specs.faults.Faults.{first_wrong}
+use Rattle.normalform.specs.faults.PlacedItem.{item_placed}
+use Rattle.normalform.specs.numbers.Numbers.{placed}
+use Rattle.normalform.proofs.found.Wrong.{wrong_here, wrong_past}
+use Rattle.normalform.proofs.faults.reference_checks.first_in_production.Goals as goal
+
+pub returns-in-Some : goal.returns-in-Some
+returns-in-Some c =
+    let checks_of = checks_of_rule c.args.question c.args.declared.now in
+    let items = ap (map item_placed) c.as_slice.ensures.value ∙ c.in_ok-items.ensures in
+    let here = sym c.in-Some.is ∙ c.first_in_rule.ensures ∙ ap (λ xs. first_wrong (checks_of xs c.rule-item.result)) items in
+    wrong_here (checks_of (placed c.args.declared.now c.args.production.now)) _ _ _ _ _ c.loop-rule-test.true c.rule-item.is here c.loop-rule.invariant
+
+pub loop-rule-preserved : goal.loop-rule-preserved
+loop-rule-preserved c =
+    let checks_of = checks_of_rule c.args.question c.args.declared.now in
+    let items = ap (map item_placed) c.as_slice.ensures.value ∙ c.in_ok-items.ensures in
+    let none = sym c.in_default.is ∙ c.first_in_rule.ensures ∙ ap (λ xs. first_wrong (checks_of xs c.rule-item.result)) items in
+    wrong_past (checks_of (placed c.args.declared.now c.args.production.now)) _ _ _ _ c.loop-rule-test.true c.rule-item.is none c.loop-rule.invariant

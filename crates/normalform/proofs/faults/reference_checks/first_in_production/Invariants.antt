@@ -1,0 +1,9 @@
+-- The invariant of the loop of `first_in_production`.
+use Rattle.std.proofs.Common.{◌≡◌, drop, flat_map}
+use Rattle.normalform.specs.faults.ReferenceChecks.{checks_of_rule, checks_of_production}
+use Rattle.normalform.specs.faults.Faults.{first_wrong}
+use Rattle.normalform.specs.numbers.Numbers.{placed}
+use Rattle.normalform.proofs.faults.reference_checks.first_in_production.Given as goal
+
+abbrev pub invariant-loop-rule : goal.invariant-loop-rule
+invariant-loop-rule l = first_wrong (flat_map (checks_of_rule l.question l.declared (placed l.declared l.fn.production)) (drop l.rule-index l.rule-items)) ≡ first_wrong (checks_of_production l.question l.declared l.fn.production)

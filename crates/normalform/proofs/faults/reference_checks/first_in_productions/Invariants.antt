@@ -1,0 +1,8 @@
+-- The invariant of the loop of `first_in_productions`.
+use Rattle.std.proofs.Common.{◌≡◌, drop}
+use Rattle.normalform.specs.faults.ReferenceChecks.{checks_of}
+use Rattle.normalform.specs.faults.Faults.{first_wrong}
+use Rattle.normalform.proofs.faults.reference_checks.first_in_productions.Given as goal
+
+abbrev pub invariant-loop-production : goal.invariant-loop-production
+invariant-loop-production l = first_wrong (checks_of l.question l.declared (drop l.production-index l.productions)) ≡ first_wrong (checks_of l.question l.declared l.productions)

@@ -1,0 +1,16 @@
+-- The numbers that do not follow from clauses.
+use Rattle.std.specs.Prelude.{ℕ, ◌≡◌, ◌<◌, Bool, true, false, List, length}
+use Rattle.closure.specs.Following.{Follows, is_marked}
+use Rattle.closure.specs.declared.clause.Clause.{Clause}
+
+-- the first of a list that is not marked
+pub record IsFirstUnmarked (marks : List Bool) (n : ℕ) : Type 0 where
+  pub within : n < length marks
+  pub unmarked : is_marked marks n ≡ false
+  pub before : (t : ℕ) → t < n → is_marked marks t ≡ true
+
+-- the first number below a count that does not follow
+pub record IsFirstUnderivable (clauses : List Clause) (seeds : List ℕ) (count : ℕ) (n : ℕ) : Type 0 where
+  pub within : n < count
+  pub left : Follows clauses seeds n → ⊥
+  pub before : (t : ℕ) → t < n → Follows clauses seeds t

@@ -1,0 +1,38 @@
+//! The first number that does not follow from clauses.
+ghost use Rattle.std.specs.Prelude.{◌≡◌, ◌<◌, ℕ, true, length, All, None, IfOk, IfSome};
+ghost use Rattle.closure.specs.Following.{is_marked, Follows};
+ghost use Rattle.normalform.specs.faults.Underivable.{IsFirstUnmarked, IsFirstUnderivable};
+
+use ag_value::NoMemory;
+use closure::Clauses;
+use std::alloc::Global;
+
+/// Returns the first number that is not marked.
+fn first_false(marks: &[bool]) -> Option<usize>
+    ensures found { IfSome result (λ n. IsFirstUnmarked marks.now n) }
+    ensures none { result ≡ None → (t : ℕ) → t < length marks.now
+        → is_marked marks.now t ≡ true }
+{
+    for number in 0..marks.len() {
+        if !marks[number] {
+            return Some(number);
+        }
+    }
+    None
+}
+
+/// Returns the first number that does not follow from clauses and seeds.
+pub fn first_underivable(
+    alloc: Global,
+    clauses: &Clauses,
+    seeds: &[usize],
+) -> Result<Option<usize>, NoMemory>
+    requires { All (λ t. t < clauses.now.count) seeds.now }
+    ensures found { IfOk result (λ o. IfSome o (λ n.
+        IsFirstUnderivable clauses.now.clauses seeds.now clauses.now.count n)) }
+    ensures none { IfOk result (λ o. o ≡ None → (t : ℕ) → t < clauses.now.count
+        → Follows clauses.now.clauses seeds.now t) }
+{
+    let marks = clauses.closure(alloc, seeds)?;
+    Ok(first_false(marks.as_slice()))
+}

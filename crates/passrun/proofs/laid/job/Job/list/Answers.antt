@@ -1,8 +1,0 @@
-use Rattle.std.proofs.Common.{◌∙◌}
-use Rattle.passrun.proofs.places.Entries.{some_at}
-use Rattle.passrun.proofs.laid.job.Job.list.Goals as goal
-
-pub returns : goal.returns
-returns c =
-    let q = some_at c.args.self.now.grammar.now.productions c.args.node.production c.requires.there in
-    c.as_slice.ensures ∙ (c.requires.asked q.0 q.1).list

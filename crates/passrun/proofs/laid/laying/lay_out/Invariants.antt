@@ -1,7 +1,0 @@
-use Rattle.std.proofs.Common.{◌≡◌, ◌++◌, drop}
-use Rattle.planchecker.specs.courses.Settings.{setting_of}
-use Rattle.passrun.specs.laid.Laid.{layout_of, rows_from}
-use Rattle.passrun.proofs.laid.laying.lay_out.Given as goal
-
-abbrev pub invariant-loop-number : goal.invariant-loop-number
-invariant-loop-number l = l.rows.items ++ rows_from (setting_of l.grammar l.plan l.k) l.number (drop l.number l.grammar.productions) ≡ layout_of (setting_of l.grammar l.plan l.k)

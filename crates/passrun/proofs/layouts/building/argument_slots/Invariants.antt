@@ -1,0 +1,7 @@
+use Rattle.std.proofs.Common.{◌≡◌, ◌++◌, drop, map}
+use Rattle.passassign.specs.Rows.{passes_of}
+use Rattle.passrun.specs.layouts.BuiltLayouts.{argument_slot_by}
+use Rattle.passrun.proofs.layouts.building.argument_slots.Given as goal
+
+abbrev pub invariant-loop-argument : goal.invariant-loop-argument
+invariant-loop-argument l = l.slots.items ++ map (argument_slot_by (passes_of l.plan.0) l.k l.places) (drop l.argument-index l.arguments) ≡ map (argument_slot_by (passes_of l.plan.0) l.k l.places) l.arguments

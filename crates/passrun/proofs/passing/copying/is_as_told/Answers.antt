@@ -1,7 +1,0 @@
-use Rattle.std.proofs.Common.{sym, ◌∙◌, drop}
-use Rattle.passrun.specs.laid.Jobs.{setting}
-use Rattle.passrun.proofs.steps.Turning.{nothing_told}
-use Rattle.passrun.proofs.passing.copying.is_as_told.Goals as goal
-
-pub returns-then-row-eq0 : goal.returns-then-row-eq0
-returns-then-row-eq0 c = nothing_told (setting c.args.job.now) c.args.row.item (drop c.args.copied c.args.values.now) (drop c.args.start c.args.values.now) (sym c.requires.known ∙ c.if-row-eq0.true)

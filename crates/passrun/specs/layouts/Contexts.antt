@@ -1,0 +1,14 @@
+-- The context of a pass, and when it can run. All definitions are this project's.
+use Rattle.planchecker.specs.courses.Settings.{Setting, setting_of}
+use Rattle.planchecker.specs.courses.Sound.{IsSound}
+use Rattle.passrun.specs.declared.layouts.context.PassContext.{PassContext}
+use Rattle.passrun.specs.layouts.Layouts.{IsLayout}
+
+-- The setting in which a job's pass runs.
+abbrev pub setting : PassContext → Setting
+setting context = setting_of context.grammar.now context.plan.now context.pass
+
+-- A job can run: its setting is sound, and its table has the slots of each rule.
+pub record CanRun (context : PassContext) : Type 0 where
+  pub sound : IsSound (setting context)
+  pub layout : IsLayout (setting context) context.rows.now

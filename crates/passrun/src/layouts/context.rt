@@ -1,0 +1,106 @@
+//! The context of a pass: what it needs to run, and the layout of each production.
+
+ghost use Rattle.std.specs.Prelude.{◌≡◌, ◌<◌, ◌≤◌, ◌+◌, ◌-◌, ◌^◌, Some, length, slice_get};
+ghost use Rattle.ag_grammar.specs.declared.grammar.Production.{Production};
+ghost use Rattle.ag_grammar.specs.grammars.AttributeGrammar.{IsProduction};
+ghost use Rattle.passrun.specs.layouts.Contexts.{CanRun, setting};
+ghost use Rattle.passrun.specs.layouts.Layouts.{IsRowAt};
+ghost use Rattle.passrun.specs.layouts.BuiltLayouts.{place_rows};
+ghost use Rattle.passrun.specs.passing.Places.{copied_passes};
+ghost use Rattle.passrun.specs.layouts.Slots.{stored_width};
+ghost use Rattle.planchecker.specs.courses.Settings.{list_at};
+
+use crate::layouts::building::{PlaceRow, ProductionRow};
+use crate::layouts::hints::Hints;
+use crate::layouts::rows::copied_passes;
+use crate::passing::open_node::OpenNode;
+use ag_grammar::{Grammar, Item};
+use passcode::Instr;
+use planchecker::Plan;
+
+/// The context of a pass: a grammar, a plan for it, the layout of each production by its number,
+/// hints for reading, and the number of the pass (from 1).
+#[derive(Clone, Copy)]
+pub(crate) struct PassContext<'a> {
+    pub(crate) grammar: &'a Grammar,
+    pub(crate) plan: &'a Plan,
+    pub(crate) rows: &'a [ProductionRow],
+    pub(crate) hints: &'a Hints,
+    pub(crate) pass: u16,
+}
+
+impl PassContext<'_> {
+    /// Returns the number of the previous pass, whose file is read.
+    pub(crate) fn file_pass(&self) -> u16
+        requires { 1 ≤ self.now.pass }
+        ensures { result ≡ self.now.pass - 1 }
+    {
+        self.pass - 1
+    }
+
+    /// Returns the layout of a production.
+    pub(crate) fn row(&self, production: u16) -> &ProductionRow
+        requires context { CanRun self.now }
+        requires there { production < length self.now.grammar.now.productions }
+        ensures { IsRowAt (setting self.now) production result.now }
+    {
+        &self.rows[production as usize]
+    }
+
+    /// Returns the instructions of the pass for an open node, whose production has this layout.
+    fn list<'r>(&self, layout: &'r ProductionRow, node: OpenNode) -> &'r [Instr]
+        requires layout { IsRowAt (setting self.now) node.production layout.now }
+        requires there { node.production < length self.now.grammar.now.productions }
+        ensures { result.now ≡ list_at (setting self.now) node.production }
+    {
+        layout.list.as_slice()
+    }
+
+    /// Returns the next instruction of an open node, whose production has this layout.
+    pub(crate) fn instruction(&self, layout: &ProductionRow, node: OpenNode) -> Instr
+        requires layout { IsRowAt (setting self.now) node.production layout.now }
+        requires there { node.production < length self.now.grammar.now.productions }
+        requires next { node.at < length (list_at (setting self.now) node.production) }
+        ensures there { slice_get (list_at (setting self.now) node.production) node.at
+            ≡ Some result }
+        ensures room { node.at + 1 < 2 ^ 64 }
+    {
+        let list = self.list(layout, node);
+        if node.at < list.len() {
+            return list[node.at];
+        }
+        unreachable!()
+    }
+
+    /// Returns the item at a place of an open node and the range of its copies, or `None` if the
+    /// production has fewer places. The node's production has this layout.
+    pub(crate) fn place(
+        &self,
+        layout: &ProductionRow,
+        node: OpenNode,
+        place: u16,
+    ) -> Option<PlaceRow>
+        requires layout { IsRowAt (setting self.now) node.production layout.now }
+        ensures { (q : Production) → IsProduction self.now.grammar.now node.production q →
+            result ≡ slice_get (place_rows (setting self.now) q) place }
+    {
+        layout.places.as_slice().get(place as usize).copied()
+    }
+
+    /// Returns the number of values in the row of a production's node.
+    pub(crate) fn width(&self, production: u16) -> usize
+        requires context { CanRun self.now }
+        requires there { production < length self.now.grammar.now.productions }
+        ensures { (q : Production) → IsProduction self.now.grammar.now production q →
+            result ≡ stored_width (setting self.now) q }
+    {
+        self.row(production).width as usize
+    }
+
+    /// Returns the passes of the values at an item that the parent's row has copies of.
+    pub(crate) fn copied_passes(&self, item: Item) -> &[u16]
+        ensures { result.now ≡ copied_passes (setting self.now) item }
+    {
+        copied_passes(self.grammar, self.plan, item)
+    }
+}

@@ -1,0 +1,278 @@
+//! Hints for reading: where the value that a pass reads next may be stored already.
+//!
+//! Most values that a pass reads are equal to others that it has read before. The row of a record
+//! has the values of the node's own attributes, the synthesized ones first, and after them copies
+//! of its children's synthesized attributes. While the record of the child at place j is read, the
+//! row of its parent is stored, and so are the values of its own row that come before:
+//!
+//! | Value | Candidate | Equal |
+//! |---|---|---|
+//! | own synthesized `a` | in the parent's row: the copy of `$j.a` | always, unless damaged |
+//! | own inherited `a` | in the parent's row: `$i.b`, if the rule of `$j.a` is `$i.b` | always |
+//! | other own inherited `a` | in its own row: `b`, if a rule is `$0.b = $0.a` | always |
+//! | copy of `$i.b` | in its own row: `a`, if a rule is `$0.a = $i.b` | always |
+//! | other copy of `$i.b` | in its own row: what a rule passes to `$i` | if `$i` returns it |
+//!
+//! A rule also counts as `$i.b` if its expression is a `let`, an `if` or an `orelse` that may
+//! return that occurrence. Only rules of passes before k count: their values are in the file.
+//!
+//! No contract mentions hints. `Carried::read_beside` compares the candidate with the bytes that
+//! are read: a wrong hint costs a comparison and changes nothing. A number is read without one.
+
+use crate::layouts::building::{Layout, PlaceRow, ProductionRow, RuleSlots};
+use crate::layouts::rows::{passes_at, row_length};
+use ag_carried::Carried;
+use ag_grammar::{BinaryCall, Grammar, Item, Node, Production, Rule, Target};
+use ag_value::NoMemory;
+use planchecker::Plan;
+use std::alloc::Global;
+
+/// The hints for the records of a production's nodes. Slots count from the first value of a row.
+#[derive(Debug, Drop)]
+pub(crate) struct RowHints {
+    /// For each slot of the row, another slot of the row.
+    own: Vec<Option<usize>>,
+    /// For each place, and for each slot of the row of the child there, a slot of the parent's row.
+    children: Vec<Vec<Option<usize>>>,
+}
+
+impl RowHints {
+    /// Returns the hints for a production in pass k. Fails with `NoMemory` if memory cannot be
+    /// allocated.
+    pub(crate) fn new(
+        alloc: Global,
+        plan: &Plan,
+        k: u16,
+        production: &Production,
+        row: &ProductionRow,
+    ) -> Result<RowHints, NoMemory> {
+        let mut own = Vec::new(alloc);
+        for _ in 0..row.width {
+            own.push(None)?;
+        }
+        let mut children = Vec::new(alloc);
+        for place in row.places.as_slice() {
+            children.push(hints_of_copies(alloc, plan, k, *place)?)?;
+        }
+        let mut hints = RowHints { own, children };
+        for (rule, slots) in production
+            .rules
+            .as_slice()
+            .iter()
+            .zip(row.rules.as_slice().iter())
+        {
+            if is_earlier(plan, k, row, rule.target) {
+                hints.add_rule(rule, slots, row);
+            }
+        }
+        Ok(hints)
+    }
+
+    /// Adds the hints of a rule of a pass before k, if its value may be that of an occurrence.
+    fn add_rule(&mut self, rule: &Rule, slots: &RuleSlots, row: &ProductionRow) {
+        let Some(place) = row.places.as_slice().get(rule.target.place as usize) else {
+            return;
+        };
+        let Some(occurrence) = returned_occurrence(rule.expr.tree()) else {
+            return;
+        };
+        let Some(slot) = slots.args.as_slice().get(occurrence) else {
+            return;
+        };
+        let slot = *slot as usize;
+        let target = slots.target as usize;
+        if rule.target.place == 0 {
+            set(&mut self.own, slot, target);
+            return;
+        }
+        let Some(child) = self.children.get_mut(rule.target.place as usize) else {
+            return;
+        };
+        let Some(target) = target.checked_sub(row.width as usize) else {
+            return;
+        };
+        set(child, target, slot);
+        self.add_returned(*place, slot);
+    }
+
+    /// Makes a slot of the row the hint for the copies at a place that come after it and have none.
+    fn add_returned(&mut self, place: PlaceRow, slot: usize) {
+        let start = place.start as usize;
+        for (copy, hint) in self.own.iter_mut().enumerate() {
+            if copy >= start
+                && copy - start < place.width as usize
+                && copy > slot
+                && hint.is_none()
+            {
+                *hint = Some(slot);
+            }
+        }
+    }
+}
+
+/// The hints for the records of all nodes, by the number of their production.
+#[derive(Debug, Drop)]
+pub(crate) struct Hints {
+    rows: Vec<RowHints>,
+}
+
+impl Hints {
+    /// Returns no hints.
+    pub(crate) fn none(alloc: Global) -> Hints {
+        Hints {
+            rows: Vec::new(alloc),
+        }
+    }
+
+    /// Returns the hints for each production of a grammar in pass k, by the rows of its nodes.
+    pub(crate) fn new(
+        alloc: Global,
+        grammar: &Grammar,
+        plan: &Plan,
+        k: u16,
+        rows: &[ProductionRow],
+    ) -> Result<Hints, NoMemory> {
+        let mut hints = Vec::new(alloc);
+        for (production, row) in grammar.productions().iter().zip(rows.iter()) {
+            hints.push(RowHints::new(alloc, plan, k, production, row)?)?;
+        }
+        Ok(Hints { rows: hints })
+    }
+
+    /// Returns the hints for the row of a production's nodes, by slot: slots of the same row.
+    fn own(&self, production: u16) -> &[Option<usize>] {
+        match self.rows.get(production as usize) {
+            Some(row) => row.own.as_slice(),
+            None => &[],
+        }
+    }
+
+    /// Returns the hints for the row of the child at a site, by slot: slots of the parent's row.
+    fn child(&self, location: ChildLocation) -> &[Option<usize>] {
+        let Some(row) = self.rows.get(location.production as usize) else {
+            return &[];
+        };
+        match row.children.get(location.place as usize) {
+            Some(hints) => hints.as_slice(),
+            None => &[],
+        }
+    }
+}
+
+/// Returns the hints for the slots of a child's row: the copies of its values, and none for others.
+fn hints_of_copies(
+    alloc: Global,
+    plan: &Plan,
+    k: u16,
+    place: PlaceRow,
+) -> Result<Vec<Option<usize>>, NoMemory> {
+    let mut hints = Vec::new(alloc);
+    let Item::Symbol(symbol) = place.item else {
+        return Ok(hints);
+    };
+    for slot in 0..row_length(passes_at(plan, symbol), k) {
+        if slot < place.width as usize {
+            hints.push((place.start as usize).checked_add(slot))?;
+        } else {
+            hints.push(None)?;
+        }
+    }
+    Ok(hints)
+}
+
+/// Returns whether the target of a rule is an attribute of a pass before k.
+fn is_earlier(plan: &Plan, k: u16, row: &ProductionRow, target: Target) -> bool {
+    let Some(place) = row.places.as_slice().get(target.place as usize) else {
+        return false;
+    };
+    let Item::Symbol(symbol) = place.item else {
+        return false;
+    };
+    match passes_at(plan, symbol).get(target.attr as usize) {
+        Some(pass) => *pass < k,
+        None => false,
+    }
+}
+
+/// Returns the number of an occurrence whose value an expression may return unchanged.
+fn returned_occurrence(node: &Node) -> Option<usize> {
+    match node {
+        Node::Occurrence(k) => Some(*k),
+        Node::Let(_, body) => returned_occurrence(body.get()),
+        Node::If(_, one, other) => {
+            let Some(k) = returned_occurrence(one.get()) else {
+                return returned_occurrence(other.get());
+            };
+            Some(k)
+        }
+        Node::Binary(BinaryCall::OrElse, one, other) => {
+            let Some(k) = returned_occurrence(one.get()) else {
+                return returned_occurrence(other.get());
+            };
+            Some(k)
+        }
+        _ => None,
+    }
+}
+
+/// Sets the hint for a slot, if there is such a slot.
+fn set(hints: &mut Vec<Option<usize>>, slot: usize, hint: usize) {
+    if let Some(place) = hints.get_mut(slot) {
+        *place = Some(hint);
+    }
+}
+
+/// The place at which a record is read: a place of an open node of a production. The record of the
+/// root is read at place 0 of production 0, and no row is stored before its own.
+#[derive(Clone, Copy, Debug, Default)]
+pub(crate) struct ChildLocation {
+    pub(crate) production: u16,
+    pub(crate) place: u16,
+}
+
+/// The row that a record is read into: that of a node of a production, read at a site.
+#[derive(Clone, Copy)]
+pub(crate) struct RowLocation<'a> {
+    pub(crate) hints: &'a Hints,
+    pub(crate) production: u16,
+    pub(crate) parent: ChildLocation,
+}
+
+impl<'a> RowLocation<'a> {
+    /// Returns the context of the row. `unread` has the passes of its values that are still to be
+    /// read. `stored` is the number of all stored values, including those of the row that were read.
+    pub(crate) fn row_context(self, stored: usize, unread: &[u16], k: u16) -> RowContext<'a> {
+        let own = self.hints.own(self.production);
+        let parent_width = self.hints.own(self.parent.production).len();
+        let left = unread.iter().filter(|pass| **pass <= k).count();
+        let start = stored.saturating_add(left).saturating_sub(own.len());
+        RowContext {
+            start,
+            own,
+            parent_start: start.saturating_sub(parent_width),
+            parent: self.hints.child(self.parent),
+        }
+    }
+}
+
+/// The context of a row that is being read. Starts are indices among all stored values; the row of
+/// the parent comes directly before.
+#[derive(Clone, Copy)]
+pub(crate) struct RowContext<'a> {
+    start: usize,
+    own: &'a [Option<usize>],
+    parent_start: usize,
+    parent: &'a [Option<usize>],
+}
+
+impl RowContext<'_> {
+    /// Returns the stored value that the next value of the row may be equal to, if there is a hint.
+    pub(crate) fn candidate<'v>(&self, values: &'v [Carried]) -> Option<&'v Carried> {
+        let slot = values.len().checked_sub(self.start)?;
+        if let Some(Some(hint)) = self.parent.get(slot) {
+            return values.get(self.parent_start.checked_add(*hint)?);
+        }
+        let hint = (*self.own.get(slot)?)?;
+        values.get(self.start.checked_add(hint)?)
+    }
+}

@@ -1,0 +1,144 @@
+//! The rows of values of nodes: which attributes have a value there, and at which index.
+
+ghost use Rattle.std.specs.Prelude.{◌≡◌, ◌≤◌, ℕ, IfOk, Some, length};
+ghost use Rattle.ag_grammar.specs.grammars.Accepted.{max_attributes};
+ghost use Rattle.ag_grammar.specs.grammars.Passes.{item_passes};
+ghost use Rattle.passassign.specs.Rows.{passes_of};
+ghost use Rattle.passrun.specs.passing.Places.{copied_passes, row_passes};
+ghost use Rattle.passrun.specs.layouts.Slots.{copied_width, known_width, rank};
+ghost use Rattle.passrun.specs.layouts.Starts.{AreSmall};
+ghost use Rattle.planchecker.specs.courses.Settings.{setting_of};
+ghost use Rattle.treefile.specs.records.Listed.{count_up_to};
+ghost use Rattle.treefile.specs.records.Records.{synthesized_passes};
+
+use ag_grammar::{Grammar, Item, Production, Terminal};
+use ag_value::{Items, NoMemory};
+use planchecker::Plan;
+use std::alloc::Global;
+
+/// Returns the passes of a symbol's attributes; empty if the symbol does not exist.
+pub(crate) fn passes_at(plan: &Plan, symbol: u16) -> &[u16]
+    ensures { result.now ≡ passes_of plan.now.0 symbol }
+{
+    let rows = plan.assignment().rows();
+    if (symbol as usize) < rows.len() {
+        rows[symbol as usize].as_slice()
+    } else {
+        &[]
+    }
+}
+
+/// Returns the passes of a symbol's synthesized attributes, which come before its inherited ones.
+pub(crate) fn synthesized_at<'a>(grammar: &Grammar, plan: &'a Plan, symbol: u16) -> &'a [u16]
+    ensures { result.now ≡ synthesized_passes grammar.now (passes_of plan.now.0) symbol }
+{
+    let passes = passes_at(plan, symbol);
+    let symbols = grammar.symbols();
+    if symbol as usize >= symbols.len() {
+        return &[];
+    }
+    let count = symbols[symbol as usize].syn.as_slice().len();
+    &passes[..count.min(passes.len())]
+}
+
+/// Returns the number of values in a row in pass k of attributes with these passes: the number of
+/// passes up to k.
+pub(crate) fn row_length(passes: &[u16], k: u16) -> usize
+    ensures length { result ≡ count_up_to k passes.now }
+    ensures room { result ≤ length passes.now }
+{
+    match passes {
+        [] => 0,
+        [pass, others @ ..] => {
+            let rest = row_length(others, k);
+            if *pass <= k {
+                return rest + 1;
+            }
+            rest
+        }
+    }
+}
+
+/// Returns the index of an attribute's value in such a row: the number of attributes before it that
+/// have a value there.
+#[tactic(auto, using(crate::proofs::places::Ranks::rank_counted, crate::proofs::places::Ranks::rank_passed))]
+fn rank(passes: &[u16], k: u16, attr: u16) -> u16
+    requires few { length passes.now ≤ max_attributes }
+    ensures rank { result ≡ rank k passes.now attr }
+    ensures room { result ≤ length passes.now }
+{
+    match passes {
+        [] => 0,
+        [pass, others @ ..] => {
+            if attr == 0 {
+                return 0;
+            }
+            let rest = rank(others, k, attr - 1);
+            if *pass <= k {
+                return rest + 1;
+            }
+            rest
+        }
+    }
+}
+
+/// Returns the passes of the values at an item that the parent's row has copies of: of a symbol's
+/// synthesized attributes, and of a token's text. A literal has no copies.
+pub(crate) fn copied_passes<'a>(grammar: &Grammar, plan: &'a Plan, item: Item) -> &'a [u16]
+    ensures { (k : ℕ) → result.now ≡ copied_passes (setting_of grammar.now plan.now k) item }
+{
+    match item {
+        Item::Symbol(symbol) => synthesized_at(grammar, plan, symbol),
+        Item::Terminal(Terminal::Class(_)) => &[0],
+        Item::Terminal(Terminal::Literal(_)) => &[],
+    }
+}
+
+/// Returns the passes of the values in the row of a production's node, including values of later
+/// passes: first those of its own attributes, then those of the copies at its items. Fails with
+/// `NoMemory` if memory cannot be allocated.
+pub(crate) fn row_passes(
+    alloc: Global,
+    grammar: &Grammar,
+    plan: &Plan,
+    production: &Production,
+) -> Result<Items<u16>, NoMemory>
+    ensures { IfOk result (λ passes. (k : ℕ)
+        → passes ≡ row_passes (setting_of grammar.now plan.now k) production.now) }
+{
+    let mut passes = passes_at(plan, production.left).to_vec(alloc)?;
+    for item in production.items.as_slice() {
+        passes.extend_from_slice(copied_passes(grammar, plan, *item))?;
+    }
+    Ok(Items::from_vec(passes))
+}
+
+/// Returns the number of copies that the parent's row has in pass k of the values at an item.
+pub(crate) fn copied_width(grammar: &Grammar, plan: &Plan, k: u16, item: Item) -> usize
+    ensures width { result ≡ copied_width (setting_of grammar.now plan.now k) item }
+    ensures room { AreSmall (passes_of plan.now.0) → result ≤ max_attributes }
+{
+    row_length(copied_passes(grammar, plan, item), k)
+}
+
+/// Returns the number of these copies that an earlier pass computed.
+pub(crate) fn known_width(grammar: &Grammar, plan: &Plan, k: u16, item: Item) -> usize
+    requires { 1 ≤ k }
+    ensures width { result ≡ known_width (setting_of grammar.now plan.now k) item }
+    ensures room { AreSmall (passes_of plan.now.0) → result ≤ max_attributes }
+{
+    row_length(copied_passes(grammar, plan, item), k - 1)
+}
+
+/// Returns the index of an attribute's value in the row of an item.
+pub(crate) fn rank_of(plan: &Plan, k: u16, item: Item, attr: u16) -> u16
+    requires small { AreSmall (passes_of plan.now.0) }
+    ensures rank { result ≡ rank k (item_passes (passes_of plan.now.0) (Some item)) attr }
+    ensures room { result ≤ max_attributes }
+{
+    match item {
+        Item::Symbol(symbol) => rank(passes_at(plan, symbol), k, attr),
+        Item::Terminal(Terminal::Class(_)) => if attr == 0 { 0 } else { 1 },
+        Item::Terminal(Terminal::Literal(_)) => 0,
+    }
+}

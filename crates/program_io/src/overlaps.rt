@@ -1,0 +1,178 @@
+//! Files that a command would both read and write: a misused command line.
+
+use crate::paths::{folder_of, path_in};
+use crate::same_file::FileId;
+use ag_value::NoMemory;
+use aggen::Fault;
+use command_line::{InputPath, name_of};
+use messages::FaultReport;
+use std::alloc::Global;
+use std::rt::Files;
+
+/// The names of the work files in their folder.
+pub const WORK_FILES: [&str; 2] = ["a.agt", "b.agt"];
+
+/// What is said of a tree file that is a work file.
+const TREE_IS_WRITTEN: &str =
+    "the tree file would be written by the passes, name another folder for these";
+
+/// What is said of an output that is an input.
+const OUTPUT_IS_READ: &str = "the output is one of the inputs, write it to another file";
+
+/// What is said of an output that is a work file.
+const OUTPUT_IS_TREE: &str = "the output is a tree file of `--work`, write it to another file";
+
+/// Fails if the tree file is one of the work files in `folder`, through links too, and if memory is refused.
+pub fn check_tree<R: Files>(
+    rt: &R,
+    alloc: Global,
+    tree: InputPath<'_>,
+    folder: &str,
+) -> Result<(), FaultReport> {
+    let is_overlap = is_existing_work_file(rt, alloc, tree, folder);
+    fail_if(alloc, is_overlap, TREE_IS_WRITTEN, tree.name())
+}
+
+/// Fails if the translation's file at `path` is one of the inputs, or a work file in the folder `work`, through
+/// links too, and if memory is refused.
+pub fn check_output<R: Files>(
+    rt: &R,
+    alloc: Global,
+    path: &str,
+    inputs: &[InputPath<'_>],
+    work: Option<&str>,
+) -> Result<(), FaultReport> {
+    fail_if(alloc, is_input(rt, path, inputs), OUTPUT_IS_READ, path)?;
+    match work {
+        Some(folder) => {
+            let is_overlap = is_work_file(rt, alloc, path, folder);
+            fail_if(alloc, is_overlap, OUTPUT_IS_TREE, path)
+        }
+        None => Ok(()),
+    }
+}
+
+/// Fails if one of the translations' files is one of the inputs, through links too, and if memory is refused.
+pub fn check_outputs<R: Files>(
+    rt: &R,
+    alloc: Global,
+    inputs: &[&str],
+    outputs: &[String],
+) -> Result<(), FaultReport> {
+    let Ok(ids) = ids_of(rt, alloc, inputs) else {
+        return Err(FaultReport::new(alloc, Fault::NoMemory));
+    };
+    for path in outputs {
+        let path = path.as_str();
+        fail_if(
+            alloc,
+            is_among(rt, path, ids.as_slice()),
+            OUTPUT_IS_READ,
+            path,
+        )?;
+    }
+    Ok(())
+}
+
+/// Fails with a text about the file at `path` if it is both read and written, and if memory to find that was
+/// refused.
+fn fail_if(
+    alloc: Global,
+    is_overlap: Result<bool, NoMemory>,
+    text: &str,
+    path: &str,
+) -> Result<(), FaultReport> {
+    match is_overlap {
+        Ok(false) => Ok(()),
+        Ok(true) => Err(overlap(alloc, text, path)),
+        Err(_) => Err(FaultReport::new(alloc, Fault::NoMemory)),
+    }
+}
+
+/// Returns whether an input is one of the work files in a folder.
+fn is_existing_work_file<R: Files>(
+    rt: &R,
+    alloc: Global,
+    input: InputPath<'_>,
+    folder: &str,
+) -> Result<bool, NoMemory> {
+    let Some(id) = id_of_input(rt, input)? else {
+        return Ok(false);
+    };
+    for name in WORK_FILES {
+        let path = path_in(alloc, folder, name)?;
+        if FileId::at(rt, path.as_str())? == Some(id) {
+            return Ok(true);
+        }
+    }
+    Ok(false)
+}
+
+/// Returns whether a path leads to one of the inputs.
+fn is_input<R: Files>(rt: &R, path: &str, inputs: &[InputPath<'_>]) -> Result<bool, NoMemory> {
+    let Some(id) = FileId::at(rt, path)? else {
+        return Ok(false);
+    };
+    for input in inputs {
+        if id_of_input(rt, *input)? == Some(id) {
+            return Ok(true);
+        }
+    }
+    Ok(false)
+}
+
+/// Returns whether a path leads to a work file in a folder, even if that is not there yet.
+fn is_work_file<R: Files>(
+    rt: &R,
+    alloc: Global,
+    path: &str,
+    folder: &str,
+) -> Result<bool, NoMemory> {
+    let id = FileId::at(rt, path)?;
+    let is_in_folder = FileId::of_folder(rt, folder_of(path))? == FileId::of_folder(rt, folder)?;
+    for name in WORK_FILES {
+        if is_in_folder && name_of(path) == name {
+            return Ok(true);
+        }
+        let work = path_in(alloc, folder, name)?;
+        if id.is_some() && FileId::at(rt, work.as_str())? == id {
+            return Ok(true);
+        }
+    }
+    Ok(false)
+}
+
+/// Returns whether a path leads to one of the files with these identities, which are in order.
+fn is_among<R: Files>(rt: &R, path: &str, ids: &[FileId]) -> Result<bool, NoMemory> {
+    match FileId::at(rt, path)? {
+        Some(id) => Ok(ids.binary_search(&id).is_ok()),
+        None => Ok(false),
+    }
+}
+
+/// Returns the identities of the regular files among these, in their order. Fails if memory is refused.
+fn ids_of<R: Files>(rt: &R, alloc: Global, paths: &[&str]) -> Result<Vec<FileId>, NoMemory> {
+    let mut ids = Vec::new(alloc);
+    for path in paths {
+        if let Some(id) = FileId::at(rt, path)? {
+            ids.push(id)?;
+        }
+    }
+    ids.sort_unstable();
+    Ok(ids)
+}
+
+/// Returns the identity of the regular file that an input is, if it is one.
+fn id_of_input<R: Files>(rt: &R, input: InputPath<'_>) -> Result<Option<FileId>, NoMemory> {
+    match input {
+        InputPath::Standard => FileId::of_standard_input(rt),
+        InputPath::File(path) => FileId::at(rt, path),
+    }
+}
+
+/// Returns the report of a file that a command would both read and write.
+fn overlap(alloc: Global, text: &str, path: &str) -> FaultReport {
+    let mut report = FaultReport::new(alloc, Fault::Usage).with_file(alloc, path);
+    let written = report.parts.found.push_str(text);
+    report.or_bare(written)
+}

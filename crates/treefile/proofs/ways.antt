@@ -1,7 +1,0 @@
--- Reading from the end of a file, and appending to it.
-pub mod Backward
-pub mod Beginning
-pub mod Coming
-pub mod Files
-pub mod Root
-pub mod Way

@@ -1,0 +1,44 @@
+-- Reading a content as a tree file from its end to its header: this project's layout.
+use Rattle.std.specs.Prelude.{◌≡◌, ℕ, ◌-◌, nat_eq, List, [], ◌∷◌, length, slice_range, Option, Some, None, Result, Ok, Err, if◌then◌else◌, refl}
+use Rattle.std.specs.Int.{w16, from_be_bytes}
+use Rattle.treefile.specs.declared.reading.FrameFault.{FrameFault}
+use Rattle.treefile.specs.declared.reading.FrameFault.TheVariants.{NotATreeFile}
+use Rattle.treefile.specs.framing.Ending.{body_before, fits_before, header_bytes, is_tree_file, length_bytes}
+use Rattle.treefile.specs.records.TreeFile.{Version, file_of_fourteen, version_one}
+
+-- the number of the pass in a header: the two bytes after the first four
+abbrev pub pass_of : List ℕ → ℕ
+pass_of content = from_be_bytes w16 (slice_range content 4 header_bytes)
+
+-- The pass of a tree file of a version, or B1 if the content is none.
+abbrev pub pass_in : Version → List ℕ → Result ℕ FrameFault
+pass_in version content = if is_tree_file version content then Ok (pass_of content) else Err NotATreeFile
+
+-- the offset where the previous frame ends, for the frame of a body that ends at an offset
+abbrev pub before_frame : ℕ → List ℕ → ℕ
+before_frame at body = at - length_bytes - length body
+
+-- the body as an option
+abbrev pub some_body : Result (List ℕ) FrameFault → Result (Option (List ℕ)) FrameFault
+some_body (Ok body) = Ok (Some body)
+some_body (Err fault) = Err fault
+
+-- The result of reading before an offset: nothing if the header ends there, else the body of the frame that
+-- ends there.
+unfoldable pub next_before : Version → List ℕ → ℕ → Result (Option (List ℕ)) FrameFault
+next_before version content at = if nat_eq at header_bytes then Ok None else some_body (body_before version content at)
+
+-- From an offset back to the header a content has these bodies, the one that ends at the offset first.
+abbrev pub ReadsBack : Version → List ℕ → ℕ → List (List ℕ) → Type 0
+ReadsBack version content at [] = next_before version content at ≡ Ok None
+ReadsBack version content at (body ∷ bodies) = (next_before version content at ≡ Ok (Some body)) × ReadsBack version content (before_frame at body) bodies
+
+-- From one offset back to another a content has these bodies, the one that ends at the first offset first.
+abbrev pub ReadsTo : Version → List ℕ → ℕ → List (List ℕ) → ℕ → Type 0
+ReadsTo version content at [] start = at ≡ start
+ReadsTo version content at (body ∷ bodies) start = (next_before version content at ≡ Ok (Some body)) × ReadsTo version content (before_frame at body) bodies start
+
+-- a file of 22 bytes has one body, whose frame begins after the header
+pub fourteen_is_read : ReadsTo version_one file_of_fourteen 22 ((1 ∷ 0 ∷ 0 ∷ 0 ∷ 0 ∷ 0 ∷ 0 ∷ 0 ∷ 0 ∷ 0 ∷ 0 ∷ 14 ∷ []) ∷ []) 6
+unfolding next_before body_before fits_before
+fourteen_is_read = (refl, refl)

@@ -1,7 +1,0 @@
--- The progress of reading or writing a file.
-pub mod Awaited
-pub mod Backward
-pub mod Beginning
-pub mod Ending
-pub mod Puts
-pub mod Writing
