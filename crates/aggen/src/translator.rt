@@ -131,7 +131,7 @@ impl Translator {
     /// the number of its stored nodes.
     ///
     /// Fails with S1 to S4 if the sentence has no tokens, before the device is used; with P1 if it
-    /// has tokens and no tree; with P2 or P3 if its tree is beyond the limits; and with D1 if the
+    /// has tokens and no tree; with P2 or P3 if each tree of its tokens is beyond the limits; and with D1 if the
     /// device failed. After a fault the device has its old content, or a prefix of a file.
     pub fn parse_tree<D: Device>(&self, sentence: &[u8], device: &mut D) -> Result<u32, Fault>
         // Ok: there is one tree, it is within the limits, and its file is written.
