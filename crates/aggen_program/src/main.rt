@@ -26,7 +26,7 @@ use std::io::IsTerminal;
 use std::process::ExitCode;
 use std::rt::{Clock, Env, Files};
 use translation_commands::{
-    Screen, convert_file, evaluate, parse_file, run_all, run_files, run_input,
+    Screen, convert_file, evaluate, parse_file, run_input, run_sentence, run_sentences,
 };
 use tree_commands::{explain_tree, show_tree};
 use why::explain_plan;
@@ -103,8 +103,8 @@ fn perform<R: Files + Input + Print + Eprint + Clock>(
     match request {
         Request::Nothing => Ok(()),
         Request::Job => run_input(rt, alloc, screen),
-        Request::Run(paths) => run_files(rt, alloc, &paths, screen),
-        Request::RunAll(paths) => return run_all(rt, alloc, &paths, screen),
+        Request::Run(paths) => run_sentence(rt, alloc, &paths, screen),
+        Request::RunAll(paths) => return run_sentences(rt, alloc, &paths, screen),
         Request::Eval(paths) => evaluate(rt, alloc, &paths, screen),
         Request::Value(text) => print_value(rt, alloc, text),
         Request::Check(grammar) => print_part(rt, alloc, grammar, Part::Counts),

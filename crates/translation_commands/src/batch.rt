@@ -16,7 +16,7 @@ use std::rt::{Clock, Files};
 ///
 /// Fails before a sentence is read if the grammar is refused, if the folder for the translations is missing
 /// (F1), or if a translation's file is one of the inputs.
-pub fn run_all<'a, R: Files + Input + Print + Eprint + Clock>(
+pub fn run_sentences<'a, R: Files + Input + Print + Eprint + Clock>(
     rt: &'a R,
     alloc: Global,
     paths: &'a BatchPaths<'a>,

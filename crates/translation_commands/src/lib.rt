@@ -10,8 +10,8 @@ mod screen;
 mod translations;
 mod trees;
 
-pub use batch::run_all;
+pub use batch::run_sentences;
 pub use evaluations::evaluate;
 pub use screen::Screen;
-pub use translations::{run_files, run_input};
+pub use translations::{run_input, run_sentence};
 pub use trees::{convert_file, parse_file};

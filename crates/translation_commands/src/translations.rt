@@ -1,4 +1,4 @@
-//! The commands that translate: `run`, `eval`, and the job on standard input.
+//! The commands that translate one sentence: `run`, and the job on standard input.
 
 ghost use Rattle.std.specs.Prelude.{◌≡◌, ◌≢◌, IfErr, IsErr, OnOk};
 ghost use Rattle.std.specs.Io.KnownBytes.{Appends};
@@ -24,7 +24,7 @@ use treefile::{Device, FileDevice, SharedDevice};
 
 /// Translates a sentence, and prints the translation or writes it to a file. The grammar is read first, then
 /// the sentence; only then are tree files created, and the translation's file after these.
-pub fn run_files<R: Files + Input + Print + Eprint + Clock>(
+pub fn run_sentence<R: Files + Input + Print + Eprint + Clock>(
     rt: &R,
     alloc: Global,
     paths: &RunPaths<'_>,
@@ -65,13 +65,13 @@ pub fn run_input<R: Files + Input + Print + Eprint + Clock>(
     screen: Screen,
 ) -> Result<(), FaultReport> {
     match Job::read(alloc, rt.reader()) {
-        Ok(job) => run_job(rt, alloc, &job, screen),
+        Ok(job) => translate_job(rt, alloc, &job, screen),
         Err(fault) => Err(FaultReport::new(alloc, Fault::from(fault))),
     }
 }
 
 /// Translates a job, with its trees in memory, and prints the translation.
-fn run_job<R: Files + Print + Eprint + Clock>(
+fn translate_job<R: Files + Print + Eprint + Clock>(
     rt: &R,
     alloc: Global,
     job: &Job,
@@ -276,8 +276,9 @@ pub fn finish<F: io::Read + Write + io::Seek + OpenFile + Drop>(
     Ok(())
 }
 
-/// Writes a translation that was made in memory, where a write fails only if memory is refused. Fails with
-/// O2 if a write fails or takes no byte, and else as the translation did, before anything is written.
+/// Writes the text of a translation that was made in memory. Fails with O2 if a write to `out` fails or takes
+/// no byte. If the translation failed, fails as it did, and nothing is written; but with NoMemory for O2, since
+/// a write to a buffer in memory fails only if memory is refused.
 pub fn write_translation<W: Write>(
     translated: Result<aggen::Report, Fault>,
     text: &[u8],
