@@ -1,4 +1,4 @@
--- The value that a carried one stands for, however it is stored. All of this is this project's.
+-- The value of a `Carried`, for each form of storage. All of this is this project's.
 use Rattle.ag_value.specs.declared.value.Value.{Value, Num}
 use Rattle.ag_carried.specs.declared.carried.Form.{Form}
 

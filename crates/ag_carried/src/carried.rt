@@ -14,7 +14,8 @@ use std::alloc::Global;
 use std::marker::Model;
 use std::rc::Rc;
 
-/// The greatest weight of a value that is stored inline. A shared one costs two blocks of memory.
+/// The greatest weight, in bytes, of a value that is stored inline. A shared one takes two further
+/// allocations.
 const MAX_INLINE_WEIGHT: u64 = 24;
 
 /// The greatest length in bytes of a text that is stored inline without being weighed.
@@ -52,8 +53,8 @@ impl Model for Carried {
     ghost view = { λ c. form_value c.form };
 }
 
-/// Returns whether a value is stored inline whatever it weighs: a number, an error, a short text, an
-/// empty list or table.
+/// Returns whether a value is stored inline without being weighed: a number, an error, a short text,
+/// an empty list or table.
 #[inline(always)]
 fn is_light(value: &Value) -> bool {
     match value {
@@ -87,7 +88,7 @@ fn inline_value(value: Value) -> Carried
     Carried { form }
 }
 
-/// Shares a value.
+/// Moves a value and its encoding into shared memory. Fails with NoMemory.
 fn shared_value(alloc: Global, spelled: Spelled) -> Result<Carried, NoMemory>
     ensures { IfOk result (λ c. c ≡ spelled) }
 {
@@ -97,7 +98,7 @@ fn shared_value(alloc: Global, spelled: Spelled) -> Result<Carried, NoMemory>
     })
 }
 
-/// Returns a value that is not light as a carried one.
+/// Returns a value for which `is_light` is false as a carried one. Fails with NoMemory.
 #[inline(never)]
 fn weigh_and_store(alloc: Global, value: Value) -> Result<Carried, NoMemory>
     requires { IsWell value }
@@ -107,7 +108,7 @@ fn weigh_and_store(alloc: Global, value: Value) -> Result<Carried, NoMemory>
     store_by_weight(alloc, value, weight)
 }
 
-/// Returns a value of a weight as a carried one. The weight decides alone how it is stored.
+/// Returns a value as a carried one, stored inline or shared as `weight` decides. Fails with NoMemory.
 fn store_by_weight(alloc: Global, value: Value, weight: u64) -> Result<Carried, NoMemory>
     requires { IsWell value }
     ensures { IfOk result (λ c. c ≡ value) }
@@ -137,7 +138,8 @@ impl Carried {
         inline_value(Value::Fault(code))
     }
 
-    /// Returns a well value as a carried one. Takes memory for a large one, and encodes it.
+    /// Returns a well value as a carried one. Takes memory for a large one, and encodes it. Fails with
+    /// NoMemory.
     #[inline(always)]
     pub fn new(alloc: Global, value: Value) -> Result<Carried, NoMemory>
         requires { IsWell value }
@@ -162,8 +164,8 @@ impl Carried {
         store_by_weight(alloc, value, weight)
     }
 
-    /// Lends the value, if it is stored as one: a number isn't. Whoever needs the value otherwise takes
-    /// `to_value`.
+    /// Returns the value, or `None` if it is a number, which is not stored as a `Value`; `to_value`
+    /// returns that.
     #[inline(always)]
     pub fn as_value(&self) -> Option<&Value>
         ensures { IfSome result (λ v. v.now ≡ self.now) }
@@ -208,8 +210,9 @@ impl Carried {
         };
     }
 
-    /// Returns the same value once more: a large one is shared. Takes memory for a text, a list or a
-    /// table that is stored inline, and fails with NoMemory too where a value has 2^64 - 1 owners.
+    /// Returns the same value for one more owner: a large one is shared. Takes memory for a text, a
+    /// list or a table that is stored inline. Fails with NoMemory if memory runs out or the value has
+    /// 2^64 - 1 owners.
     #[inline(always)]
     pub fn share(&self, alloc: Global) -> Result<Carried, NoMemory>
         ensures { IfOk result (λ c. c ≡ self.now) }
@@ -250,7 +253,7 @@ impl Carried {
         }
     }
 
-    /// Returns a copy of the value.
+    /// Returns a copy of the value. Fails with NoMemory.
     pub fn to_value(&self, alloc: Global) -> Result<Value, NoMemory>
         ensures { IfOk result (λ v. v ≡ self.now) }
     {
@@ -261,7 +264,8 @@ impl Carried {
         }
     }
 
-    /// Returns the value. Takes memory, for a copy, only where the value has other owners.
+    /// Returns the value. Takes memory, for a copy, only if the value has other owners. Fails with
+    /// NoMemory.
     pub fn into_value(self, alloc: Global) -> Result<Value, NoMemory>
         ensures { IfOk result (λ v. v ≡ self) }
     {
@@ -287,7 +291,7 @@ impl Carried {
         self.same_of_any_kind(other)
     }
 
-    /// Returns whether two values are equal, as `same` does.
+    /// Returns whether two values are equal, as `same` does. Not inlined.
     #[inline(never)]
     fn same_of_any_kind(&self, other: &Carried) -> bool
         ensures { IsTrue result ↔ (self.now ≡ other.now) }
@@ -312,7 +316,8 @@ impl Carried {
         }
     }
 
-    /// Appends the encoding of a well value: the bytes that a large one is stored beside.
+    /// Appends the encoding of a well value. For a large one these are the bytes stored beside it.
+    /// Fails with NoMemory; `out` is then unchanged.
     #[inline(always)]
     pub fn encode(&self, out: &mut Vec<u8>) -> Result<(), NoMemory>
         requires { IsWell self.now }
@@ -330,7 +335,7 @@ impl Carried {
     }
 
     /// Reads the value whose encoding is a prefix of the input, and returns it with the length of
-    /// that prefix in bytes, as `decode` does. A large value keeps a copy of these bytes.
+    /// that prefix in bytes. Fails as `decode` does. A large value keeps a copy of these bytes.
     #[inline(always)]
     pub fn read(alloc: Global, input: &[u8]) -> Result<(Carried, usize), ValueFault>
         ensures well { IfOk result (λ found. IsWell found.0) }
@@ -346,8 +351,8 @@ impl Carried {
         Ok((with_encoding(alloc, value, &input[..len])?, len))
     }
 
-    /// Reads a value as `read` does. Where the input begins with the encoding of `self`, the value
-    /// is `self` shared, and nothing is decoded.
+    /// Reads a value as `read` does. If `self` is shared and the input begins with its encoding,
+    /// returns `self` for one more owner, and decodes nothing.
     pub fn read_beside(&self, alloc: Global, input: &[u8]) -> Result<(Carried, usize), ValueFault>
         ensures well { IfOk result (λ found. IsWell found.0) }
         ensures within { IfOk result (λ found. found.1 ≤ length input.now) }
@@ -370,7 +375,7 @@ impl Carried {
     }
 }
 
-/// Returns a value that was decoded from these bytes as a carried one.
+/// Returns a value that was decoded from these bytes as a carried one. Fails with NoMemory.
 #[inline(always)]
 fn with_encoding(alloc: Global, value: Value, encoding: &[u8]) -> Result<Carried, NoMemory>
     requires well { IsWell value }

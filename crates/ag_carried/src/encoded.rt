@@ -12,8 +12,7 @@ use std::alloc::AllocError;
 use std::marker::Model;
 use std::rc::Rc;
 
-/// The encoding of a large value, which it shares with the value's other owners. Contracts see the
-/// bytes.
+/// The encoding of a large value, which is an owner of that value too. Contracts see the bytes.
 #[derive(Debug, Drop)]
 pub struct Encoded {
     shared: Rc<Spelled>,
@@ -49,7 +48,7 @@ impl Encoded {
         byte_count(self.shared.bytes())
     }
 
-    /// Copies the bytes from an index on into a slice, as many as it has. Takes no memory.
+    /// Fills `out` with the bytes from index `from` on. Takes no memory.
     pub fn copy_part(&self, from: usize, out: &mut [u8])
         requires { from + length out.old ≤ length self.now }
         ensures { out.new ≡ take (length out.old) (drop from self.now) }
@@ -58,7 +57,8 @@ impl Encoded {
         out.copy_from_slice(&self.shared.bytes()[from..from + count]);
     }
 
-    /// Appends a copy of the bytes to a vector. Without memory nothing changes.
+    /// Appends a copy of the bytes to a vector. Fails with AllocError if memory runs out; the vector
+    /// is then unchanged.
     pub fn append_to(&self, out: &mut Vec<u8>) -> Result<(), AllocError>
         ensures ok { OnOk result (out.new.items ≡ out.old.items ++ self.now) }
         ensures err { OnErr result (out.new.items ≡ out.old.items) }
@@ -66,8 +66,8 @@ impl Encoded {
         out.extend_from_slice(self.shared.bytes())
     }
 
-    /// Returns the encoding for one more owner. Takes no memory, and fails if the value has 2^64 - 1
-    /// owners.
+    /// Returns the encoding for one more owner. Takes no memory. Fails with AllocError if the value
+    /// has 2^64 - 1 owners.
     pub fn share(&self) -> Result<Encoded, AllocError>
         ensures { IfOk result (λ e. e ≡ self.now) }
     {

@@ -1,4 +1,4 @@
-//! A value beside its encoding.
+//! A value beside its spelling, the bytes that encode it.
 
 ghost use Rattle.std.specs.Prelude.{◌≡◌, ◌++◌, ◌↔◌, ◌≤◌, length, take, IfOk, IfSome, IsTrue, List, ℕ};
 ghost use Rattle.ag_value.specs.Spelling.{spelling_of};
@@ -32,7 +32,8 @@ impl Model for Spelled {
 }
 
 impl Spelled {
-    /// Encodes a value. `weight` is the length that is requested for the bytes.
+    /// Encodes a value. `weight` is the number of bytes that is reserved for the encoding; the result
+    /// is right for any number. Fails with NoMemory.
     pub fn new(alloc: Global, value: Value, weight: u64) -> Result<Spelled, NoMemory>
         requires { IsWell value }
         ensures { IfOk result (λ s. s ≡ value) }
@@ -42,7 +43,7 @@ impl Spelled {
         Ok(Spelled { value, bytes })
     }
 
-    /// Copies the bytes that a value was decoded from.
+    /// Stores a value beside a copy of the bytes that it was decoded from. Fails with NoMemory.
     pub fn from_encoding(alloc: Global, value: Value, encoding: &[u8]) -> Result<Spelled, NoMemory>
         requires well { IsWell value }
         requires encoding { encoding.now ≡ spelling_of value }

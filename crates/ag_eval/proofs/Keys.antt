@@ -10,7 +10,7 @@ use Rattle.std.specs.Ordering.{is_eq, is_lt, ordering_reverse}
 use Rattle.std.specs.declared.cmp.Ordering.{Ordering}
 use Rattle.std.specs.declared.cmp.Ordering.TheVariants.{Less, Equal, Greater}
 use Rattle.ag_value.specs.declared.value.Value.{Value}
-use Rattle.ag_value.specs.Well.{is_before, is_rising, key_of}
+use Rattle.ag_value.specs.Well.{is_before, is_ascending, key_of}
 use Rattle.ag_grammar.specs.values.Tables.{IsIndex, with_pair}
 
 abbrev Pair : Type 0
@@ -66,10 +66,10 @@ same_key a b n m = go (order a b) refl n
     go Greater e n = let back : is_before b a ≡ true = ap is_lt (nat_list_cmp_total.antisymm b a ∙ ap ordering_reverse e) in let bad : true ≡ false = sym back ∙ m in let worse : ⊥ = cc in absurd worse
 
 -- the first of rising keys is before the next, and these rise
-rising_parts : (a b : List ℕ) (keys : List (List ℕ)) → is_rising (a ∷ b ∷ keys) ≡ true → (is_before a b ≡ true) × (is_rising (b ∷ keys) ≡ true)
-rising_parts a b keys h = and_parts (is_before a b) (is_rising (b ∷ keys)) h
+rising_parts : (a b : List ℕ) (keys : List (List ℕ)) → is_ascending (a ∷ b ∷ keys) ≡ true → (is_before a b ≡ true) × (is_ascending (b ∷ keys) ≡ true)
+rising_parts a b keys h = and_parts (is_before a b) (is_ascending (b ∷ keys)) h
 
-rising_rest : (a : List ℕ) (keys : List (List ℕ)) → is_rising (a ∷ keys) ≡ true → is_rising keys ≡ true
+rising_rest : (a : List ℕ) (keys : List (List ℕ)) → is_ascending (a ∷ keys) ≡ true → is_ascending keys ≡ true
 rising_rest a [] h = refl
 rising_rest a (b ∷ keys) h = (rising_parts a b keys h).1
 
@@ -79,7 +79,7 @@ record AreAfter (key : List ℕ) (pairs : List Pair) : Type 0 where
   prefix : filter (λ (p : Pair). is_before p.0 key) pairs ≡ []
   absent : find (λ (p : Pair). bytes_eq p.0 key) pairs ≡ None
 
-later : (key a : List ℕ) (pairs : List Pair) → is_before a key ≡ false → is_rising (a ∷ map key_of pairs) ≡ true → AreAfter key pairs
+later : (key a : List ℕ) (pairs : List Pair) → is_before a key ≡ false → is_ascending (a ∷ map key_of pairs) ≡ true → AreAfter key pairs
 later key a [] n rising = record { back = refl; prefix = refl; absent = refl }
 later key a (x ∷ xs) n rising =
     let parts = rising_parts a x.0 (map key_of xs) rising in
@@ -97,7 +97,7 @@ Fronts key pairs i = (k : ℕ) (d : Pair) → k < i → is_before (get_or pairs 
 abbrev Backs : List ℕ → List Pair → ℕ → Type 0
 Backs key pairs i = (k : ℕ) (d : Pair) → i ≤ k → k < length pairs → is_before (get_or pairs k d).0 key ≡ false
 
-index_found : (key : List ℕ) (pairs : List Pair) (i : ℕ) → is_rising (map key_of pairs) ≡ true → i ≤ length pairs → Fronts key pairs i → Backs key pairs i → IsIndex key pairs i
+index_found : (key : List ℕ) (pairs : List Pair) (i : ℕ) → is_ascending (map key_of pairs) ≡ true → i ≤ length pairs → Fronts key pairs i → Backs key pairs i → IsIndex key pairs i
 index_found key [] zero rising le fronts backs = record { prefix = refl; occurs = λ same. let bad : ⊥ = cc in absurd bad; belongs = λ differs. (refl, refl) }
 index_found key [] (suc i) rising le fronts backs = absurd (omega arith)
 index_found key (x ∷ xs) zero rising le fronts backs =
@@ -124,14 +124,14 @@ index_found key (x ∷ xs) (suc i) rising le fronts backs =
     }
 
 -- the keys before a key come first
-first_least : (a : List ℕ) (xs : List Pair) (j : ℕ) (d : Pair) → is_rising (a ∷ map key_of xs) ≡ true → j < length xs → is_before a (get_or xs j d).0 ≡ true
+first_least : (a : List ℕ) (xs : List Pair) (j : ℕ) (d : Pair) → is_ascending (a ∷ map key_of xs) ≡ true → j < length xs → is_before a (get_or xs j d).0 ≡ true
 first_least a [] j d rising lt = absurd (omega arith)
 first_least a (x ∷ xs) zero d rising lt = (rising_parts a x.0 (map key_of xs) rising).0
 first_least a (x ∷ xs) (suc j) d rising lt =
     let parts = rising_parts a x.0 (map key_of xs) rising in
     before_trans a x.0 (get_or xs j d).0 parts.0 (first_least x.0 xs j d parts.1 (omega arith))
 
-pub partitioned : (key : List ℕ) (pairs : List Pair) → is_rising (map key_of pairs) ≡ true → IsPartitionedBy (λ (p : Pair). is_before p.0 key) pairs
+pub partitioned : (key : List ℕ) (pairs : List Pair) → is_ascending (map key_of pairs) ≡ true → IsPartitionedBy (λ (p : Pair). is_before p.0 key) pairs
 partitioned key [] rising i j d le lt h = absurd (omega arith)
 partitioned key (x ∷ xs) rising zero zero d le lt h = h
 partitioned key (x ∷ xs) rising zero (suc j) d le lt h = before_trans x.0 (get_or xs j d).0 key (first_least x.0 xs j d rising (omega arith)) h
@@ -139,21 +139,21 @@ partitioned key (x ∷ xs) rising (suc i) zero d le lt h = absurd (omega arith)
 partitioned key (x ∷ xs) rising (suc i) (suc j) d le lt h = partitioned key xs (rising_rest x.0 (map key_of xs) rising) i j d (omega arith) (omega arith) h
 
 -- the end of a binary search is the index
-pub index_is : (key : List ℕ) (pairs : List Pair) (i : ℕ) → is_rising (map key_of pairs) ≡ true → i ≤ length pairs → IsPartitionPoint (λ (p : Pair). is_before p.0 key ≡ true) (λ (p : Pair). is_before p.0 key ≡ false) pairs i → IsIndex key pairs i
+pub index_is : (key : List ℕ) (pairs : List Pair) (i : ℕ) → is_ascending (map key_of pairs) ≡ true → i ≤ length pairs → IsPartitionPoint (λ (p : Pair). is_before p.0 key ≡ true) (λ (p : Pair). is_before p.0 key ≡ false) pairs i → IsIndex key pairs i
 index_is key pairs i rising le point = index_found key pairs i rising le (λ k d lt. point.0 k d (omega arith) lt) (λ k d le lt. point.1 k d le lt)
 
 -- keys also rise with one more, or with a key replaced by itself
-rising_pair : (a b : List ℕ) (keys : List (List ℕ)) → is_before a b ≡ true → is_rising (b ∷ keys) ≡ true → is_rising (a ∷ b ∷ keys) ≡ true
+rising_pair : (a b : List ℕ) (keys : List (List ℕ)) → is_before a b ≡ true → is_ascending (b ∷ keys) ≡ true → is_ascending (a ∷ b ∷ keys) ≡ true
 rising_pair a b keys p q = rw (p, q) refl
 
 abbrev Rises : List Pair → Type 0
-Rises pairs = is_rising (map key_of pairs) ≡ true
+Rises pairs = is_ascending (map key_of pairs) ≡ true
 
 pub rising_with : (key : List ℕ) (v : Value) (pairs : List Pair) → Rises pairs → Rises (with_pair key v pairs)
 rising_with key v [] rising = refl
 rising_with key v (x ∷ xs) rising = go (is_before x.0 key) refl (rising_with key v xs (rising_rest x.0 (map key_of xs) rising))
   where
-    head : (ys : List Pair) → is_rising (x.0 ∷ map key_of ys) ≡ true → is_before x.0 key ≡ true → Rises (with_pair key v ys) → Rises (x ∷ with_pair key v ys)
+    head : (ys : List Pair) → is_ascending (x.0 ∷ map key_of ys) ≡ true → is_before x.0 key ≡ true → Rises (with_pair key v ys) → Rises (x ∷ with_pair key v ys)
     head [] rising here rest = rising_pair x.0 key [] here refl
     head (y ∷ ys) rising here rest = inner (is_before y.0 key) refl rest
       where
@@ -170,4 +170,4 @@ rising_with key v (x ∷ xs) rising = go (is_before x.0 key) refl (rising_with k
       where
         tail : (b : Bool) → is_before key x.0 ≡ b → is_before x.0 key ≡ false → Rises ((key, v) ∷ cond b (x ∷ xs) xs)
         tail true e n = rising_pair key x.0 (map key_of xs) e rising
-        tail false e n = subst (λ k. is_rising (k ∷ map key_of xs) ≡ true) (same_key x.0 key n e) rising
+        tail false e n = subst (λ k. is_ascending (k ∷ map key_of xs) ≡ true) (same_key x.0 key n e) rising

@@ -11,7 +11,7 @@ use Rattle.std.specs.Str.{is_utf8}
 use Rattle.ag_value.specs.declared.value.Value.{Value}
 use Rattle.ag_value.specs.declared.value.Value.TheVariants as v
 use Rattle.ag_value.specs.Measure.{depth_of, greatest, weight_of, weight_of_pair}
-use Rattle.ag_value.specs.Well.{IsWell, all_true, are_keys, is_before, is_item, is_item_pair, is_rising, key_of}
+use Rattle.ag_value.specs.Well.{IsWell, all_true, are_keys, is_before, is_item, is_item_pair, is_ascending, key_of}
 use Rattle.ag_value.proofs.Layers.{depth-Table, item-Table, weight-Table}
 use Rattle.ag_grammar.specs.values.Tables.{IsIndex, has_key, with_pair}
 use Rattle.ag_grammar.proofs.values.Growing.{all_true-append}
@@ -39,7 +39,7 @@ pub item_with : (key : List ℕ) (x : Value) (pairs : List Pair) → IsWell (v.T
 item_with key x pairs well utf8 item =
     let growth_result : List Pair = with_pair key x pairs in
     let parts = table_parts pairs well in
-    let rising : is_rising (map key_of growth_result) ≡ true = rising_with key x pairs parts.0 in
+    let rising : is_ascending (map key_of growth_result) ≡ true = rising_with key x pairs parts.0 in
     let texts : all_true (map is_utf8 (map key_of growth_result)) ≡ true = ap all_true (map-map is_utf8 key_of growth_result) ∙ all_with (λ p. is_utf8 p.0) key x pairs utf8 (ap all_true (sym (map-map is_utf8 key_of pairs)) ∙ parts.1) in
     let items : all_true (map is_item_pair growth_result) ≡ true = all_with is_item_pair key x pairs item parts.2 in
     let keys : are_keys (map key_of growth_result) ≡ true = rw (rising, texts) refl in

@@ -4,9 +4,9 @@ use Rattle.ag_eval.specs.declared.calls.Growth.{Growth}
 use Rattle.ag_eval.specs.declared.calls.Growth.TheVariants as growth
 use Rattle.ag_grammar.specs.declared.syntax.node.BinaryCall.TheVariants as binary
 use Rattle.ag_grammar.specs.declared.syntax.node.Operator.TheVariants as operator
-use Rattle.ag_grammar.specs.values.Calls.{called_with}
+use Rattle.ag_grammar.specs.values.Calls.{binary_call_result}
 use Rattle.ag_grammar.specs.values.Operators.{operation_result}
 
 abbrev pub growth_result : Growth → Value → Value → Value
 growth_result growth.Join a b = operation_result operator.Join a b
-growth_result growth.Append l v = called_with binary.Append l v
+growth_result growth.Append l v = binary_call_result binary.Append l v

@@ -12,7 +12,7 @@ use Rattle.ag_eval.specs.declared.scalar.Scalar.{Scalar}
 use Rattle.ag_eval.specs.declared.scalar.Scalar.TheVariants as scalar
 use Rattle.ag_grammar.specs.declared.syntax.node.Node.{Node}
 use Rattle.ag_grammar.specs.expressions.Evaluation.{bound_value}
-use Rattle.ag_grammar.specs.expressions.Trees.{each_passes, is_within}
+use Rattle.ag_grammar.specs.expressions.Trees.{each_holds, is_within}
 
 -- the scalar as a value
 abbrev pub scalar_value : Scalar → Value
@@ -51,4 +51,4 @@ IsIn bound (operand.Bound k) = k < length bound
 -- in every item of a list the number of every occurrence is below n, and that of every bound name below the
 -- number of bindings around it
 abbrev pub each_within : ℕ → ℕ → List Node → Bool
-each_within n bound items = each_passes bound (map (is_within n) items)
+each_within n bound items = each_holds bound (map (is_within n) items)

@@ -42,7 +42,7 @@ impl<'e, V: Lender> Evaluation<'e, V> {
             (value_in other.now.1 (V.lent self.now.env.now) bindings.now)) }
         ensures within { IfSome result (λ o. IsIn bindings.now o) }
     {
-        let right = self.scalar_at_hand(&other.1, bindings)?;
+        let right = self.leaf_scalar(&other.1, bindings)?;
         let left = Scalar::from_value(so_far.get(bindings))?;
         let scalar = apply_to_scalars(other.0, left, right)?;
         Some(Operand::owned(Measured::new(scalar.into_value())))
@@ -60,7 +60,7 @@ impl<'e, V: Lender> Evaluation<'e, V> {
         if let Node::Chain(_, _) = node {
             return self.scalar_of_chain(node, bindings);
         }
-        self.scalar_at_hand(node, bindings)
+        self.leaf_scalar(node, bindings)
     }
 
     /// Computes the value of a chain of scalars. Returns `None` for another node.
@@ -84,7 +84,7 @@ impl<'e, V: Lender> Evaluation<'e, V> {
 
     /// Returns the value of a literal, an occurrence or a bound name, if it is a scalar.
     #[inline(always)]
-    fn scalar_at_hand(&self, node: &Node, bindings: &Bindings<'_>) -> Option<Scalar>
+    fn leaf_scalar(&self, node: &Node, bindings: &Bindings<'_>) -> Option<Scalar>
         requires below { is_within (length self.now.expr.now.1) node.now (length bindings.now) ≡ true }
         ensures { IfSome result (λ s. scalar_value s
             ≡ value_in node.now (V.lent self.now.env.now) bindings.now) }
@@ -141,7 +141,7 @@ fn within_limits(item: &Value) -> Option<&Value>
     requires { is_item item.now ≡ true }
     ensures { IfSome result (λ v. (v.now ≡ fit item.now) × IsWell v.now) }
 {
-    match excess(item) {
+    match limit_error(item) {
         None => Some(item),
         Some(_) => None,
     }
@@ -151,15 +151,15 @@ fn within_limits(item: &Value) -> Option<&Value>
 pub fn literal_value<'e>(literal: &'e Literal) -> Held<'e>
     ensures { held_value result ≡ fit literal.now }
 {
-    match excess(literal.value()) {
-        None => Held::part(literal.value()),
+    match limit_error(literal.value()) {
+        None => Held::from_lent(literal.value()),
         Some(code) => Held::fault(code),
     }
 }
 
 /// Returns the error for a value beyond the limits, or `None` if it is within them.
 #[inline(always)]
-fn excess(item: &Value) -> Option<ErrorCode>
+fn limit_error(item: &Value) -> Option<ErrorCode>
     requires { is_item item.now ≡ true }
     ensures { MatchOption result (IsWell item.now × (fit item.now ≡ item.now))
         (λ code. fit item.now ≡ value.Fault code) }

@@ -55,7 +55,7 @@ impl<'e> Bindings<'e> {
     }
 
     /// Removes the innermost binding, and returns the operand over the remaining ones.
-    pub fn leave(&mut self, operand: Operand<'e>) -> Operand<'e>
+    pub fn unbind(&mut self, operand: Operand<'e>) -> Operand<'e>
         requires within { IsIn self.old operand }
         requires some { 0 < length self.old }
         ensures value { operand_value self.new result ≡ operand_value self.old operand.entry }

@@ -7,7 +7,7 @@ ghost use Rattle.ag_eval.specs.declared.operand.Held.{Held as HeldValue};
 ghost use Rattle.ag_eval.specs.Growing.{growth_result};
 ghost use Rattle.ag_eval.specs.Operands.{Gives, IsIn, held_value, operand_value, scalar_value};
 ghost use Rattle.ag_grammar.specs.values.Arguments.{fault_of};
-ghost use Rattle.ag_grammar.specs.values.Calls.{call_result, called_with, put};
+ghost use Rattle.ag_grammar.specs.values.Calls.{unary_call_result, binary_call_result, put};
 ghost use Rattle.ag_grammar.specs.values.Lists.{append_result, concatenation};
 ghost use Rattle.ag_grammar.specs.values.Operators.{operation_result};
 
@@ -30,7 +30,7 @@ use ag_value::{ErrorCode, NoMemory, Value};
 use std::alloc::Global;
 
 /// Makes an operand of an owned value.
-fn made<'e>(value: Value) -> Operand<'e>
+fn owned_operand<'e>(value: Value) -> Operand<'e>
     requires { IsWell value }
     ensures { result ≡ Operand.Held (HeldValue.Owned value) }
 {
@@ -61,12 +61,12 @@ pub fn apply<'e>(
     if operator == Operator::Join {
         return grow(alloc, Growth::Join, left, right, bindings);
     }
-    Ok(made(calculate(operator, left.get(&*bindings), right.get(&*bindings))))
+    Ok(owned_operand(calculate(operator, left.get(&*bindings), right.get(&*bindings))))
 }
 
 /// Computes the value of an operator other than `++` for two values.
 fn calculate(operator: Operator, left: &Value, right: &Value) -> Value
-    requires number { operator ≢ Operator.Join }
+    requires no_join { operator ≢ Operator.Join }
     requires left { IsWell left.now }
     requires right { IsWell right.now }
     ensures value { result ≡ operation_result operator left.now right.now }
@@ -192,16 +192,16 @@ pub fn call_unary<'e>(
 ) -> Result<Operand<'e>, NoMemory>
     requires { IsIn bindings.now argument }
     ensures { IfOk result (λ o. o
-        ≡ Operand.Held (HeldValue.Owned (call_result call (operand_value bindings.now argument.entry)))) }
+        ≡ Operand.Held (HeldValue.Owned (unary_call_result call (operand_value bindings.now argument.entry)))) }
 {
-    Ok(Operand::owned(made_of(alloc, call, argument.get(&*bindings))?))
+    Ok(Operand::owned(unary_value(alloc, call, argument.get(&*bindings))?))
 }
 
 /// Computes the value of a call of one argument from the argument's value.
 #[tactic(auto, unfolding(ag_grammar::specs::values::Arguments::leftmost))]
-fn made_of(alloc: Global, call: UnaryCall, argument: &Value) -> Result<Measured, NoMemory>
+fn unary_value(alloc: Global, call: UnaryCall, argument: &Value) -> Result<Measured, NoMemory>
     requires { IsWell argument.now }
-    ensures { IfOk result (λ m. m ≡ call_result call argument.now) }
+    ensures { IfOk result (λ m. m ≡ unary_call_result call argument.now) }
 {
     if call == UnaryCall::IsError {
         return Ok(Measured::new(truth(fault_of(argument).is_some())));
@@ -230,50 +230,51 @@ pub fn call_binary<'e>(
 ) -> Result<Operand<'e>, NoMemory>
     requires first { IsIn bindings.now first }
     requires second { IsIn bindings.now second }
-    ensures value { IfOk result (Gives bindings.now (called_with call) first.entry second.entry) }
+    ensures value { IfOk result (Gives bindings.now (binary_call_result call) first.entry second.entry) }
     ensures within { IfOk result (λ o. IsIn bindings.now o) }
 {
     match call {
         BinaryCall::Append => grow(alloc, Growth::Append, first, second, bindings),
         BinaryCall::OrElse => Ok(or_else(first, second, bindings)),
-        _ => found_by(alloc, call, &first, second.get(&*bindings), bindings),
+        _ => call_reading(alloc, call, &first, second.get(&*bindings), bindings),
     }
 }
 
-/// Computes the value of a call that keeps none of its operands: a part of the first one is lent if
-/// that one is lent from outside, else it is copied.
-fn found_by<'e>(
+/// Computes the value of a call that only reads its operands (`nth`, `join`, `get`, `has`). A part
+/// of the first operand is lent if the environment or the expression lends that one, else it is
+/// copied.
+fn call_reading<'e>(
     alloc: Global,
     call: BinaryCall,
     first: &Operand<'e>,
     second: &Value,
     bindings: &Bindings<'e>,
 ) -> Result<Operand<'e>, NoMemory>
-    requires grows { call ≢ BinaryCall.Append }
-    requires chooses { call ≢ BinaryCall.OrElse }
+    requires no_append { call ≢ BinaryCall.Append }
+    requires no_orelse { call ≢ BinaryCall.OrElse }
     requires within { IsIn bindings.now first.now }
     ensures value { IfOk result (λ o. operand_value bindings.now o
-        ≡ called_with call (operand_value bindings.now first.now) second.now) }
+        ≡ binary_call_result call (operand_value bindings.now first.now) second.now) }
     ensures within { IfOk result (λ o. IsIn bindings.now o) }
 {
     if let Some(outside) = first.from_outside(&*bindings) {
-        return Ok(Operand::Held(found_in(alloc, call, outside, second)?));
+        return Ok(Operand::Held(reading_result(alloc, call, outside, second)?));
     }
-    let held = found_in(alloc, call, first.get(&*bindings), second)?;
+    let held = reading_result(alloc, call, first.get(&*bindings), second)?;
     Ok(Operand::owned(held.into_owned(alloc)?))
 }
 
-/// Computes such a call from the values: a part of the first argument is lent.
-fn found_in<'a>(
+/// Computes the value of a call that only reads its arguments; a part of the first one is lent.
+fn reading_result<'a>(
     alloc: Global,
     call: BinaryCall,
     first: &'a Value,
     second: &Value,
 ) -> Result<Held<'a>, NoMemory>
-    requires grows { call ≢ BinaryCall.Append }
-    requires chooses { call ≢ BinaryCall.OrElse }
+    requires no_append { call ≢ BinaryCall.Append }
+    requires no_orelse { call ≢ BinaryCall.OrElse }
     requires first { IsWell first.now }
-    ensures { IfOk result (λ h. held_value h ≡ called_with call first.now second.now) }
+    ensures { IfOk result (λ h. held_value h ≡ binary_call_result call first.now second.now) }
 {
     if let Some(code) = fault_of_two(first, second) {
         return Ok(Held::fault(code));
@@ -292,7 +293,7 @@ fn found_in<'a>(
 fn or_else<'e>(value: Operand<'e>, other: Operand<'e>, bindings: &Bindings<'e>) -> Operand<'e>
     requires value { IsIn bindings.now value }
     requires other { IsIn bindings.now other }
-    ensures value { Gives bindings.now (called_with BinaryCall.OrElse) value.entry other.entry result }
+    ensures value { Gives bindings.now (binary_call_result BinaryCall.OrElse) value.entry other.entry result }
     ensures within { IsIn bindings.now result }
 {
     match fault_of(value.get(&*bindings)) {

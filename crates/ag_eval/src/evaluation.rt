@@ -12,7 +12,7 @@ ghost use Rattle.ag_eval.specs.Conditions.{decision};
 ghost use Rattle.ag_eval.specs.declared.operand.Held.{Held as HeldValue};
 ghost use Rattle.ag_eval.specs.Operands.{IsIn, each_within, held_value, operand_value, scalar_value};
 ghost use Rattle.ag_grammar.specs.expressions.Trees.{all_below, is_within};
-ghost use Rattle.ag_grammar.specs.values.Calls.{called_with, choice_of, put};
+ghost use Rattle.ag_grammar.specs.values.Calls.{binary_call_result, choice_of, put};
 ghost use Rattle.ag_grammar.specs.values.Lists.{listed};
 
 use crate::available::{copied, literal_value};
@@ -20,7 +20,7 @@ use crate::bindings::Bindings;
 use crate::builtins::faults::fault_of;
 use crate::calls::{apply, call_binary, call_put, call_unary, fault};
 use crate::environment::{ByValue, Environment, Lender, Loan};
-use crate::gathering::Gathering;
+use crate::list_builder::ListBuilder;
 use crate::measured::Measured;
 use crate::meter::Meter;
 use crate::operand::{Held, Operand};
@@ -99,12 +99,13 @@ impl<'e, V: Lender> Evaluation<'e, V> {
         ensures { IfOk result (λ h. held_value h ≡ V.lent self.now.env.now k) }
     {
         match self.env.loan(k) {
-            Loan::Value(value) => Ok(Held::part(value)),
+            Loan::Value(value) => Ok(Held::from_lent(value)),
             Loan::Carried(carried) => Held::from_carried(self.alloc, carried),
         }
     }
 
-    /// Evaluates a part of the expression. The bindings are unchanged afterwards.
+    /// Evaluates a part of the expression, with these bindings around it. They are unchanged after
+    /// a success. Fails with `NoMemory` if memory is refused.
     #[cycle(evaluating)]
     #[tactic(auto, using(ag_grammar::proofs::expressions::Trees::parts))]
     fn operand_of(
@@ -116,7 +117,7 @@ impl<'e, V: Lender> Evaluation<'e, V> {
         ensures value { OnOk result (IfOk result (λ o. operand_value bindings.new o
             ≡ value_in node.now (V.lent self.now.env.now) bindings.old)) }
         ensures within { IfOk result (λ o. IsIn bindings.new o) }
-        ensures stays { OnOk result (bindings.new ≡ bindings.old) }
+        ensures unchanged { OnOk result (bindings.new ≡ bindings.old) }
     {
         match node {
             Node::Literal(literal) => Ok(Operand::Held(literal_value(literal))),
@@ -144,7 +145,7 @@ impl<'e, V: Lender> Evaluation<'e, V> {
             }
             Node::Binary(call, first, second) => {
                 let first = self.operand_of(first.get(), bindings)?;
-                self.called_on(*call, first, second.get(), bindings)
+                self.binary_of(*call, first, second.get(), bindings)
             }
             Node::Put(table, key, item) => {
                 let table = self.operand_of(table.get(), bindings)?;
@@ -171,17 +172,17 @@ impl<'e, V: Lender> Evaluation<'e, V> {
             ≡ value_in body.now (V.lent self.now.env.now)
             (bindings.old ++ operand_value bindings.old definition.entry ∷ []))) }
         ensures within { IfOk result (λ o. IsIn bindings.new o) }
-        ensures stays { OnOk result (bindings.new ≡ bindings.old) }
+        ensures unchanged { OnOk result (bindings.new ≡ bindings.old) }
     {
-        let held = definition.kept(self.alloc, &*bindings)?;
+        let held = definition.into_held(self.alloc, &*bindings)?;
         bindings.bind(held)?;
         let operand = self.operand_of(body, bindings)?;
-        Ok(bindings.leave(operand))
+        Ok(bindings.unbind(operand))
     }
 
     /// Evaluates a call of two arguments, given the value of the first.
     #[cycle(evaluating)]
-    fn called_on(
+    fn binary_of(
         &self,
         call: BinaryCall,
         first: Operand<'e>,
@@ -191,12 +192,12 @@ impl<'e, V: Lender> Evaluation<'e, V> {
         requires first { IsIn bindings.old first }
         requires below { is_within (length self.now.expr.now.1) second.now (length bindings.old) ≡ true }
         ensures value { OnOk result (IfOk result (λ o. operand_value bindings.new o
-            ≡ called_with call (operand_value bindings.old first.entry)
+            ≡ binary_call_result call (operand_value bindings.old first.entry)
             (value_in second.now (V.lent self.now.env.now) bindings.old))) }
         ensures within { IfOk result (λ o. IsIn bindings.new o) }
-        ensures stays { OnOk result (bindings.new ≡ bindings.old) }
+        ensures unchanged { OnOk result (bindings.new ≡ bindings.old) }
     {
-        if settles(call, first.get(&*bindings)) {
+        if is_first_result(call, first.get(&*bindings)) {
             return Ok(first);
         }
         let second = self.operand_of(second, bindings)?;
@@ -219,7 +220,7 @@ impl<'e, V: Lender> Evaluation<'e, V> {
             ≡ put (operand_value bindings.old table.entry) (operand_value bindings.old key.entry)
             (value_in item.now (V.lent self.now.env.now) bindings.old))) }
         ensures within { IfOk result (λ o. IsIn bindings.new o) }
-        ensures stays { OnOk result (bindings.new ≡ bindings.old) }
+        ensures unchanged { OnOk result (bindings.new ≡ bindings.old) }
     {
         let item = self.operand_of(item, bindings)?;
         call_put(self.alloc, table, key.get(&*bindings), item, &*bindings)
@@ -239,7 +240,7 @@ impl<'e, V: Lender> Evaluation<'e, V> {
             ≡ chain_value (V.lent self.now.env.now) bindings.old (operand_value bindings.old so_far.entry)
             (map (λ p. (p.0, value_in p.1)) others.now))) }
         ensures within { IfOk result (λ o. IsIn bindings.new o) }
-        ensures stays { OnOk result (bindings.new ≡ bindings.old) }
+        ensures unchanged { OnOk result (bindings.new ≡ bindings.old) }
     {
         let mut value = so_far;
         for other in others {
@@ -265,9 +266,9 @@ impl<'e, V: Lender> Evaluation<'e, V> {
         ensures value { OnOk result (IfOk result (λ o. operand_value bindings.new o
             ≡ listed (item_values (V.lent self.now.env.now) bindings.old (map value_in items.now)))) }
         ensures within { IfOk result (λ o. IsIn bindings.new o) }
-        ensures stays { OnOk result (bindings.new ≡ bindings.old) }
+        ensures unchanged { OnOk result (bindings.new ≡ bindings.old) }
     {
-        let mut list = Gathering::new(self.alloc);
+        let mut list = ListBuilder::new(self.alloc);
         for item in items {
             let item = self.operand_of(item, bindings)?;
             if let Some(code) = fault_of(item.get(&*bindings)) {
@@ -313,9 +314,9 @@ impl<'e, V: Lender> Evaluation<'e, V> {
 }
 
 /// Returns whether the value of a call is that of its first argument, for any second one.
-fn settles(call: BinaryCall, first: &Value) -> bool
+fn is_first_result(call: BinaryCall, first: &Value) -> bool
     ensures { IsTrue result
-        → (second : AttributeValue) → called_with call first.now second ≡ first.now }
+        → (second : AttributeValue) → binary_call_result call first.now second ≡ first.now }
 {
     if call != BinaryCall::OrElse {
         return false;

@@ -1,5 +1,5 @@
-//! Flat expressions: literals, occurrences and chains of these. If each of them is a number or an error,
-//! the value is computed without an operand.
+//! Flat expressions: literals, occurrences and chains of these. If each of them is a number or an
+//! error, the value is computed without an operand.
 
 ghost use Rattle.std.specs.Prelude.{◌≡◌, length, map, true, [], IfSome};
 ghost use Rattle.ag_eval.specs.Operands.{scalar_value};

@@ -10,7 +10,7 @@ mod carried;
 mod environment;
 mod evaluation;
 mod flat;
-mod gathering;
+mod list_builder;
 mod measured;
 mod meter;
 mod operand;

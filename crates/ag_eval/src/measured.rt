@@ -1,14 +1,14 @@
-//! Values with their weights and depths, so that values made of them need not be weighed again.
+//! Values with their weights and depths, so that values made of them need not be measured again.
 
 ghost use Rattle.std.specs.Prelude.{◌≡◌, ◌-◌, ◌^◌, ◌≤◌, min, true};
-ghost use Rattle.ag_value.specs.Measure.{depth_of, max_depth, max_weight, weight_of};
+ghost use Rattle.ag_value.specs.Measure.{depth_of, max_value_depth, max_weight, weight_of};
 ghost use Rattle.ag_value.specs.Well.{IsWell, is_item};
 ghost use Rattle.ag_grammar.specs.values.Fitting.{fit};
 
 use ag_value::{ErrorCode, MAX_VALUE_DEPTH, MAX_WEIGHT, Value, depth, weight};
 use std::marker::Model;
 
-/// The weight of a number.
+/// The weight of a number: the length of its encoding in bytes.
 const NUMBER_WEIGHT: u64 = 9;
 
 /// A well value, with its weight and its depth.
@@ -35,7 +35,7 @@ impl Model for Measured {
 }
 
 impl Measured {
-    /// Weighs a well value.
+    /// Measures a well value.
     pub fn new(value: Value) -> Measured
         requires { IsWell value }
         ensures { result ≡ value }
@@ -56,11 +56,13 @@ impl Measured {
         }
     }
 
-    /// Makes a value with its weight and its depth, or an error if it is beyond the limits.
+    /// Makes a value with its weight and its depth, or the error `deep` or `big` if it is beyond
+    /// the limits. Both numbers are the exact ones, or the greatest of their types if those are
+    /// greater.
     pub fn fit(value: Value, weight: u64, depth: u32) -> Measured
         requires item { is_item value ≡ true }
         requires weighed { weight ≡ min (weight_of value) (2 ^ 64 - 1) }
-        requires sounded { depth ≡ min (depth_of value) (2 ^ 32 - 1) }
+        requires depth_exact { depth ≡ min (depth_of value) (2 ^ 32 - 1) }
         ensures { result ≡ fit value }
     {
         if depth > MAX_VALUE_DEPTH {
@@ -76,7 +78,7 @@ impl Measured {
         }
     }
 
-    /// Weighs a value, and returns it, or an error if it is beyond the limits.
+    /// Measures a value, and returns it, or the error `deep` or `big` if it is beyond the limits.
     pub fn weighed(value: Value) -> Measured
         requires { is_item value ≡ true }
         ensures { result ≡ fit value }
@@ -114,7 +116,7 @@ impl Measured {
     /// Returns its depth.
     pub fn depth(&self) -> u32
         ensures value { result ≡ depth_of self.now }
-        ensures shallow { result ≤ max_depth }
+        ensures shallow { result ≤ max_value_depth }
     {
         self.depth
     }

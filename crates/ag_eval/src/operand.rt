@@ -1,4 +1,5 @@
-//! The value of a part of an expression, lent if possible.
+//! The value of a part of an expression, lent if possible. A value is well if it is within the
+//! limits of weight and depth and consistent, as `ag_value` defines it.
 
 ghost use Rattle.std.specs.Prelude.{◌≡◌, IfOk, IfSome, is_some};
 ghost use Rattle.ag_value.specs.Well.{IsWell};
@@ -49,7 +50,7 @@ impl<'e> Lent<'e> {
         }
     }
 
-    /// Lends the same value once more.
+    /// Makes a second loan of the same value.
     pub fn again(&self) -> Lent<'e>
         ensures { result ≡ self.now }
     {
@@ -79,7 +80,7 @@ impl<'e> Lent<'e> {
     }
 }
 
-/// A value that is lent by the environment or the expression, or that is owned.
+/// A well value that is lent by the environment or the expression, or that is owned.
 #[derive(Debug, Drop)]
 pub enum Held<'e> {
     Lent(Lent<'e>),
@@ -94,8 +95,8 @@ impl<'e> Held<'e> {
         Held::Owned(Measured::new(Value::Fault(code)))
     }
 
-    /// Makes a held value of a well one that is lent.
-    pub fn part(value: &'e Value) -> Held<'e>
+    /// Makes a held value of a lent one.
+    pub fn from_lent(value: &'e Value) -> Held<'e>
         requires { IsWell value.now }
         ensures { result ≡ Held.Lent value.entry.now }
     {
@@ -224,8 +225,8 @@ impl<'e> Operand<'e> {
         }
     }
 
-    /// Returns the value that a binding keeps: a copy if another binding owns it.
-    pub fn kept(self, alloc: Global, bindings: &Bindings<'e>) -> Result<Held<'e>, NoMemory>
+    /// Returns the value for a new binding or as a result: a copy if an existing binding owns it.
+    pub fn into_held(self, alloc: Global, bindings: &Bindings<'e>) -> Result<Held<'e>, NoMemory>
         requires { IsIn bindings.now self }
         ensures { IfOk result (λ h. held_value h ≡ operand_value bindings.now self.entry) }
     {
@@ -240,7 +241,7 @@ impl<'e> Operand<'e> {
         requires { IsIn bindings.now self }
         ensures { IfOk result (λ m. m ≡ operand_value bindings.now self.entry) }
     {
-        self.kept(alloc, bindings)?.into_owned(alloc)
+        self.into_held(alloc, bindings)?.into_owned(alloc)
     }
 
     /// Returns the value as a carried one, which is shared if a carried one lends it.
@@ -249,6 +250,6 @@ impl<'e> Operand<'e> {
         ensures value { IfOk result (λ c. c ≡ operand_value bindings.now self.entry) }
         ensures well { IfOk result (λ c. IsWell c) }
     {
-        self.kept(alloc, bindings)?.into_carried(alloc)
+        self.into_held(alloc, bindings)?.into_carried(alloc)
     }
 }

@@ -1,9 +1,9 @@
 -- The expression language: its syntax, and its parser as plain functions.
 pub mod Chains
 pub mod Expression
+pub mod Indexes
 pub mod Laws
 pub mod Names
-pub mod Numbers
 pub mod Occurrences
 pub mod Offsets
 pub mod Reading

@@ -29,7 +29,7 @@ pub enum ExpectedPart {
     End,
 }
 
-/// The signs that can be neither before an operand nor between two operands.
+/// The signs, other than operators, that `gather_signs` tries.
 const SIGNS: [&str; 9] = ["=", "(", ")", "]", "}", ",", "in", "then", "else"];
 
 /// Returns what could be at the byte offset `at` instead of the token there, if the text is
@@ -83,7 +83,7 @@ fn gather_signs(
     Ok(())
 }
 
-/// Adds `expected` to `found` if `token` could follow `before`; returns whether it could.
+/// Appends `expected` to `found` if `token` could follow `before`; returns whether it could.
 fn note(
     alloc: Global,
     before: &str,

@@ -2,7 +2,7 @@
 
 ghost use Rattle.std.specs.Prelude.{◌≡◌, [], chars, drop, length, true, Ok, Err, IfOk, IfErr};
 ghost use Rattle.ag_grammar.specs.expressions.Trees.{is_below};
-ghost use Rattle.ag_expr.specs.language.Expression.{ReadsAsExpr, IsRefused, IsAt, Says};
+ghost use Rattle.ag_expr.specs.language.Expression.{ReadsAsExpr, IsRefused, IsFaultOf, IsFaultFrom};
 ghost use Rattle.std.specs.Str.{IsCharBoundary};
 ghost use Rattle.ag_tokens.specs.Parsing.{next, offset};
 ghost use Rattle.ag_expr.specs.language.State.{IsReadEnded, IsReadToEnd, start};
@@ -29,7 +29,7 @@ pub fn read_expr(alloc: Global, text: &str) -> Result<Expr, ExprFault>
     ensures first { IfErr result (λ e. IsFirstOf text.now e) }
     ensures reads { IfOk result (λ e. ReadsAsExpr text.now e) }
     ensures refuses { IfErr result (λ e. IsRefused text.now e) }
-    ensures offsets { IfErr result (λ e. IsAt text.now e) }
+    ensures offsets { IfErr result (λ e. IsFaultOf text.now e) }
 {
     whole(Reader::new(alloc, Cursor::new(text), false))
 }
@@ -46,7 +46,7 @@ pub fn read_until(alloc: Global, text: &str, from: usize) -> Result<(Expr, usize
     ensures first { IfErr result (λ e. IsFirstUntil text.now from e) }
     ensures reads { IfOk result (λ x. ReadsUntil text.now from x) }
     ensures refuses { IfErr result (λ e. IsRefusedUntil text.now from e) }
-    ensures offsets { IfErr result (λ e. Says from (chars (drop from text.now)) e) }
+    ensures offsets { IfErr result (λ e. IsFaultFrom from (chars (drop from text.now)) e) }
 {
     let mut cursor = Cursor::at(text, from);
     read_ended(alloc, &mut cursor)

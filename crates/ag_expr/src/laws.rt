@@ -7,7 +7,7 @@ ghost use Rattle.ag_expr.specs.language.Laws.{ReadingAgrees};
 ghost use Rattle.ag_expr.specs.language.Laws.{OneExpression};
 ghost use Rattle.ag_expr.specs.language.Laws.{RefusesAtTheFirst};
 ghost use Rattle.ag_tokens.specs.Tokens.{AreTokens};
-ghost use Rattle.ag_expr.specs.language.Names.{is_reserved, number_in};
+ghost use Rattle.ag_expr.specs.language.Names.{is_reserved, binding_in};
 ghost use Rattle.ag_tokens.specs.PlacedToken.{tokens};
 ghost use Rattle.ag_expr.specs.language.Syntax.{IsExpr};
 ghost use Rattle.ag_expr.specs.language.Until.{first_semicolon, semicolon};
@@ -53,8 +53,8 @@ pub fn worked_scope()
 /// States that a name refers to its innermost binding, and that the names of calls are reserved,
 /// but longer names are not.
 pub fn worked_names()
-    ensures hidden { number_in (codes "x" ∷ codes "y" ∷ codes "x" ∷ []) (codes "x") ≡ Some 2 }
-    ensures unbound { number_in (codes "x" ∷ []) (codes "y") ≡ None }
+    ensures hidden { binding_in (codes "x" ∷ codes "y" ∷ codes "x" ∷ []) (codes "x") ≡ Some 2 }
+    ensures unbound { binding_in (codes "x" ∷ []) (codes "y") ≡ None }
     ensures reserved { is_reserved (codes "len") ≡ true }
     ensures free { is_reserved (codes "lens") ≡ false }
 {}

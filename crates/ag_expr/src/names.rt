@@ -8,14 +8,14 @@ use ag_value::NoMemory;
 use std::alloc::Global;
 use std::marker::Model;
 
-/// A call, by the number of its arguments.
+/// A built-in operation that is written as a call, grouped by the number of its arguments.
 #[derive(Clone, Copy, Debug, PartialEq, Eq)]
 pub enum Call {
     /// With one argument.
     Unary(UnaryCall),
     /// With two arguments.
     Binary(BinaryCall),
-    /// With three arguments: `put`.
+    /// `put`, with three arguments.
     Put,
 }
 
@@ -60,8 +60,8 @@ pub fn is_reserved(name: &str) -> bool
     is_keyword(name) || call_of(name).is_some()
 }
 
-/// Returns the index from 0 of the last occurrence of a name in a list, or `None`.
-fn last_number(names: &[&str], name: &str) -> Option<usize>
+/// Returns the index, from 0, of the last entry of a list that is this name, or `None`.
+fn last_position(names: &[&str], name: &str) -> Option<usize>
     ensures { result ≡ names_spec.last_from (λ y. bytes_eq y.now name.now) 0 None names.now }
 {
     let mut found = None;
@@ -108,7 +108,7 @@ impl<'t> Scope<'t> {
     /// Removes the innermost name, if there is one.
     #[tactic(auto, using(crate::proofs::Scopes::unbound))]
     pub fn unbind(&mut self)
-        ensures { self.new ≡ names_spec.outer self.old }
+        ensures { self.new ≡ names_spec.without_innermost self.old }
     {
         let _ = self.names.pop();
     }
@@ -116,9 +116,9 @@ impl<'t> Scope<'t> {
     /// Returns the index of the innermost binding of a name, or `None` if it is not bound. The
     /// outermost binding has index 0.
     #[tactic(auto, using(crate::proofs::Scopes::last_lent))]
-    pub fn number_of(&self, name: &str) -> Option<usize>
-        ensures { result ≡ names_spec.number_in self.now name.now }
+    pub fn binding_of(&self, name: &str) -> Option<usize>
+        ensures { result ≡ names_spec.binding_in self.now name.now }
     {
-        last_number(self.names.as_slice(), name)
+        last_position(self.names.as_slice(), name)
     }
 }

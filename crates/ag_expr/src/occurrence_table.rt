@@ -14,8 +14,10 @@ use std::marker::Model;
 /// The distinct occurrences so far, and the index of each by its place and name.
 #[derive(Drop)]
 pub struct OccurrenceTable<'t> {
+    /// The occurrences, in order of their first appearance.
     listed: SmallVec<Occ, 4>,
-    numbers: HashMap<(u16, &'t str), usize>,
+    /// The index in `listed` of each place and name.
+    indexes: HashMap<(u16, &'t str), usize>,
 }
 
 impl<'t> Model for OccurrenceTable<'t> {
@@ -24,12 +26,12 @@ impl<'t> Model for OccurrenceTable<'t> {
 
     ghost Value = { List Occ };
 
-    ghost use Rattle.ag_expr.specs.language.Numbers.{Follows};
+    ghost use Rattle.ag_expr.specs.language.Indexes.{AreIndexesOf};
     ghost use Rattle.ag_grammar.specs.expressions.Occurrences.{AreDifferent};
 
     ghost view = { λ table. table.listed.items };
 
-    ghost invariant = { λ table. Follows table.numbers table.listed.items
+    ghost invariant = { λ table. AreIndexesOf table.indexes table.listed.items
         × AreDifferent table.listed.items };
 }
 
@@ -40,7 +42,7 @@ impl<'t> OccurrenceTable<'t> {
     {
         OccurrenceTable {
             listed: SmallVec::new(alloc),
-            numbers: HashMap::new(alloc),
+            indexes: HashMap::new(alloc),
         }
     }
 
@@ -49,12 +51,12 @@ impl<'t> OccurrenceTable<'t> {
     fn position(&self, place: u16, attr: &'t str) -> Option<usize>
         ensures { result ≡ spec.position_of self.now place attr.now }
     {
-        self.numbers.get(&(place, attr)).copied()
+        self.indexes.get(&(place, attr)).copied()
     }
 
-    /// Appends an occurrence, unless one with the same place and name is listed already; returns
-    /// the index of the listed one. Fails with `NoMemory` if the table cannot grow; the list is
-    /// then unchanged.
+    /// Appends an occurrence whose `$` is at the byte offset `at`, unless one with the same place and
+    /// name is listed already. Returns the index of the listed one. Fails with `NoMemory` if the table
+    /// cannot grow; the list is then unchanged.
     pub fn intern(
         &mut self,
         alloc: Global,
@@ -73,7 +75,7 @@ impl<'t> OccurrenceTable<'t> {
         let copied = Text::from_string(String::from_str(alloc, attr)?);
         self.listed.reserve(1)?;
         let number = self.listed.len();
-        self.numbers.insert((place, attr), number)?;
+        self.indexes.insert((place, attr), number)?;
         self.listed.push_reserved(Occ {
             place,
             attr: copied,

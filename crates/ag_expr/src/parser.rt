@@ -5,7 +5,7 @@ ghost use Rattle.ag_expr.specs.language.Syntax as syntax;
 ghost use Rattle.ag_expr.specs.language.Syntax.{closer};
 ghost use Rattle.ag_expr.specs.language.State.{Reads, ReadsAs, input};
 ghost use Rattle.ag_tokens.specs.Lexing.{token_of};
-ghost use Rattle.ag_tokens.specs.Parsing.{prefix, further_from, sees, sign_of, offset};
+ghost use Rattle.ag_tokens.specs.Parsing.{next_token, further_from, sees, sign_of, offset};
 ghost use Rattle.ag_expr.specs.language.Chains as chains;
 ghost use Rattle.ag_expr.specs.language.Reading as reading;
 ghost use Rattle.ag_expr.specs.language.Reading.{atom_from, expr_in, other_from, ranked_from};
@@ -19,8 +19,9 @@ use ag_tokens::{GrammarToken, Punctuation, unescaped};
 use ag_value::{Boxed, Items, NoMemory};
 use std::alloc::Global;
 
-/// A precedence of operators. The operands of a chain are chains of the next precedence, which
-/// binds more strongly.
+/// A precedence of operators, from the weakest to the strongest. A chain is a list of operands with
+/// operators of one precedence between them. Its operands are chains of the next stronger precedence,
+/// and those of the strongest are atoms.
 #[derive(Clone, Copy, Debug, PartialEq, Eq)]
 enum Precedence {
     /// `==` and `<`; a chain has at most one of these.
@@ -126,7 +127,7 @@ fn is_operator(token: GrammarToken<'_>) -> bool
     binary_operator(token).is_some()
 }
 
-/// The forms of an atom: an operand that contains no operator outside of brackets.
+/// The form of an atom, which is an operand that contains no operator outside of brackets.
 #[derive(Clone, Copy, Debug, PartialEq, Eq)]
 enum Atom {
     /// An expression in parentheses.
@@ -137,7 +138,7 @@ enum Atom {
     Table,
     /// A call.
     Call,
-    /// An operand of one token, or a token that begins no operand.
+    /// A number, a text, a bound name or an occurrence; also any token that begins no atom.
     Operand,
 }
 
@@ -164,7 +165,7 @@ fn atom_of(token: GrammarToken<'_>) -> Atom
     }
 }
 
-/// Makes the tree of a chain: the first operand itself if it is the only one. Fails with `NoMemory`
+/// Returns the tree of a chain: the first operand itself if it is the only one. Fails with `NoMemory`
 /// if memory runs out.
 fn chain_of(alloc: Global, first: Node, others: Vec<(Operator, Node)>) -> Result<Node, NoMemory>
     ensures { IfOk result (λ e. e ≡ syntax.chain_of first others.items) }
@@ -175,9 +176,9 @@ fn chain_of(alloc: Global, first: Node, others: Vec<(Operator, Node)>) -> Result
     Ok(Node::Chain(Boxed::new(alloc, first)?, Items::from_vec(others)))
 }
 
-/// Returns the operand of a bound name, given the index of its binding, or `None` if the name is
-/// reserved or not bound.
-fn bound(name: &str, number: Option<usize>) -> Option<Node>
+/// Returns the node of a bound name, given the index of its binding (`None` if it is not bound).
+/// Returns `None` if the name is reserved or not bound.
+fn bound_node(name: &str, number: Option<usize>) -> Option<Node>
     ensures { result ≡ syntax.bound_operand name.now number }
 {
     if is_reserved(name) {
@@ -190,7 +191,7 @@ impl<'t> Reader<'t> {
     /// Returns the next token as an operator of this precedence, or `None` if it is not one.
     fn next_operator(&self, precedence: Precedence) -> Option<Operator>
         ensures { result ≡ sign_of (λ _. syntax.operator_of precedence)
-            (offset (input self.now)) (prefix (input self.now)) }
+            (offset (input self.now)) (next_token (input self.now)) }
     {
         match self.peek() {
             Some(token) => operator_of(precedence, token),
@@ -199,14 +200,14 @@ impl<'t> Reader<'t> {
     }
 
     /// Returns whether the next token is an operator of this precedence.
-    fn goes_on(&self, precedence: Precedence) -> bool
+    fn sees_operator_of(&self, precedence: Precedence) -> bool
         ensures { result ≡ sees (reading.is_operator_of precedence) (input self.now) }
     {
         self.next_operator(precedence).is_some()
     }
 
     /// Returns whether the next token is an operator that binds more strongly than `precedence`.
-    fn goes_on_closer(&self, precedence: Precedence) -> bool
+    fn sees_closer_operator(&self, precedence: Precedence) -> bool
         ensures { result ≡ sees (chains.is_operator_among (closer precedence)) (input self.now) }
     {
         match self.peek() {
@@ -240,7 +241,7 @@ impl<'t> Reader<'t> {
     }
 
     /// Returns the form of the atom that begins with the next token.
-    fn prefix_atom(&self) -> Atom
+    fn next_atom(&self) -> Atom
         ensures { reading.BeginsAtom result (input self.now) }
     {
         match self.peek() {
@@ -252,7 +253,7 @@ impl<'t> Reader<'t> {
     /// Returns the call that the next token names, or `None`.
     fn next_call(&self) -> Option<Call>
         ensures { result ≡ sign_of (λ _. syntax.call_in)
-            (offset (input self.now)) (prefix (input self.now)) }
+            (offset (input self.now)) (next_token (input self.now)) }
     {
         match self.peek() {
             Some(GrammarToken::Name(name)) => call_of(name),
@@ -261,7 +262,7 @@ impl<'t> Reader<'t> {
     }
 
     /// Reads the name of a call. Fails with `refusal` if the next token is not one.
-    fn called(&mut self) -> Result<Call, ExprFault>
+    fn call_name(&mut self) -> Result<Call, ExprFault>
         ensures { Reads (λ _ _. reading.token_as syntax.call_in) self.old result self.new }
     {
         match self.next_call() {
@@ -273,15 +274,18 @@ impl<'t> Reader<'t> {
         }
     }
 
-    /// Parses an expression of at most `levels` levels. Fails with `no_level` if `levels` is 0, and
-    /// with `refusal` at the first token that cannot be accepted.
+    /// Parses an expression of at most `levels` levels. An expression has one level more than the
+    /// deepest one inside it, in brackets, a call, a `let` or an `if`; without these it has one.
+    ///
+    /// Fails with `level_fault` if `levels` is 0, with `refusal` at the first token that cannot be
+    /// accepted, and with `NoMemory`; so do the other parsing functions of this file.
     #[cycle(parsing)]
     #[tactic(auto, using(crate::proofs::language::Parts::one_level), unfolding(crate::specs::language::Reading::expr_in, crate::specs::language::Reading::whole_from))]
     pub fn expression(&mut self, levels: usize) -> Result<Node, ExprFault>
         ensures { Reads (λ all. expr_in all levels) self.old result self.new }
     {
         if levels == 0 {
-            return Err(self.no_level());
+            return Err(self.level_fault());
         }
         if self.sees_word("let") {
             return self.binding(levels - 1);
@@ -365,7 +369,7 @@ impl<'t> Reader<'t> {
             (precedence ∷ closer precedence) atom) self.old result self.new }
     {
         let first = self.operand_after(levels, precedence, atom)?;
-        if !self.goes_on(precedence) {
+        if !self.sees_operator_of(precedence) {
             return Ok(first);
         }
         let others = self.others(levels, precedence)?;
@@ -405,13 +409,13 @@ impl<'t> Reader<'t> {
             self.old result self.new }
     {
         let first = self.atom(levels)?;
-        if !self.goes_on_closer(precedence) {
+        if !self.sees_closer_operator(precedence) {
             return Ok(first);
         }
         self.operand_after(levels, precedence, first)
     }
 
-    /// Parses the further operands of a chain, each after its operator.
+    /// Parses the operators of a chain after its first operand, each with the operand after it.
     #[cycle(parsing)]
     #[inline(never)]
     #[tactic(auto, using(crate::proofs::language::Parts::shorter, crate::proofs::language::Agree::other_shortens))]
@@ -427,7 +431,7 @@ impl<'t> Reader<'t> {
             self.old result self.new }
     {
         let mut others = Vec::new(self.alloc());
-        while self.goes_on(precedence) {
+        while self.sees_operator_of(precedence) {
             let other = self.other(levels, precedence)?;
             others.push(other)?;
             if takes_one(precedence) {
@@ -466,17 +470,17 @@ impl<'t> Reader<'t> {
             self.bump();
             return Ok(Node::Literal(Literal::number(number)));
         }
-        match self.prefix_atom() {
+        match self.next_atom() {
             Atom::Parenthesized => self.parenthesized(levels),
             Atom::List => self.list(levels),
             Atom::Table => self.table(),
             Atom::Call => self.call(levels),
-            Atom::Operand => self.operand_alone(),
+            Atom::Operand => self.single_operand(),
         }
     }
 
     /// Parses an operand of one token: a number, a text, a bound name or an occurrence.
-    fn operand_alone(&mut self) -> Result<Node, ExprFault>
+    fn single_operand(&mut self) -> Result<Node, ExprFault>
         ensures { Reads (λ all names. reading.token_as (syntax.operand_of all names))
             self.old result self.new }
     {
@@ -501,11 +505,11 @@ impl<'t> Reader<'t> {
     /// Reads the next token, which is this name, as a bound name. Fails with `refusal` if the name
     /// is reserved or not bound.
     fn bound_operand(&mut self, name: &'t str) -> Result<Node, ExprFault>
-        requires { prefix (input self.old) ≡ Some (token.Name name.now) }
+        requires { next_token (input self.old) ≡ Some (token.Name name.now) }
         ensures { Reads (λ all names. reading.token_as (syntax.operand_of all names))
             self.old result self.new }
     {
-        match bound(name, self.number_of(name)) {
+        match bound_node(name, self.binding_of(name)) {
             Some(node) => {
                 self.bump();
                 Ok(node)
@@ -597,7 +601,7 @@ impl<'t> Reader<'t> {
     fn call(&mut self, levels: usize) -> Result<Node, ExprFault>
         ensures { Reads (λ all. reading.call_from (expr_in all levels)) self.old result self.new }
     {
-        let call = self.called()?;
+        let call = self.call_name()?;
         self.expect(Punctuation::Open)?;
         let first = self.boxed(levels)?;
         match call {

@@ -3,14 +3,14 @@
 
 ghost use Rattle.std.specs.Prelude.{◌≡◌, ◌++◌, ◌∷◌, [], Some, true, IfOk, OnOk, is_some, option_map};
 ghost use Rattle.ag_tokens.specs.Lexing.{token_of};
-ghost use Rattle.ag_tokens.specs.Parsing.{prefix, is_end, is_sign, next, sees};
+ghost use Rattle.ag_tokens.specs.Parsing.{next_token, is_end, is_sign, next, sees};
 ghost use Rattle.ag_tokens.specs.GrammarToken as tokens;
 ghost use Rattle.ag_tokens.specs.declared.token.Punctuation.TheVariants as punctuation;
 ghost use Rattle.ag_expr.specs.language.Names as names_spec;
 ghost use Rattle.ag_expr.specs.language.Reading as reading;
 ghost use Rattle.ag_expr.specs.language.State as state;
-ghost use Rattle.ag_expr.specs.language.State.{HasNumber, Keeps, PassesOther, Reads, ReadsAs};
-ghost use Rattle.ag_expr.specs.language.State.{Stays, input};
+ghost use Rattle.ag_expr.specs.language.State.{HasIndex, KeepsContext, NextIsOther, Reads, ReadsAs};
+ghost use Rattle.ag_expr.specs.language.State.{ChangesOnlyScope, input};
 ghost use Rattle.ag_expr.specs.language.Syntax as syntax;
 ghost use Rattle.ag_grammar.specs.expressions.Occurrences.{AreDifferent};
 
@@ -50,9 +50,9 @@ impl<'t> Model for Reader<'t> {
     } };
 }
 
-/// Returns the fault for the token at a cursor that no expression can continue with: X2 at its
-/// offset. Without a token: X1 if none begins there, X3 if its number is too large, X2 at the end
-/// of the text.
+/// Returns the fault for a cursor whose next token cannot be accepted: X2 at the token's offset. If the
+/// cursor has no next token: X1 if none begins there, X3 if its number is too large, X2 at the end of
+/// the text.
 #[tactic(auto, using(crate::proofs::language::States::reported_is))]
 pub fn refusal(cursor: &Cursor<'_>) -> ExprFault
     ensures { result ≡ reading.refusal cursor.now }
@@ -65,13 +65,13 @@ pub fn refusal(cursor: &Cursor<'_>) -> ExprFault
     }
 }
 
-/// Returns the token, unless it is a `;`, which ends the tokens of a statement.
-fn before_semicolon(prefix: Option<GrammarToken<'_>>) -> Option<GrammarToken<'_>>
-    ensures { option_map token_of result ≡ state.kept true (option_map token_of prefix.entry) }
+/// Returns the token, or `None` if it is a `;`, which ends the tokens of a statement.
+fn before_semicolon(next_token: Option<GrammarToken<'_>>) -> Option<GrammarToken<'_>>
+    ensures { option_map token_of result ≡ state.before_end true (option_map token_of next_token.entry) }
 {
-    match prefix {
+    match next_token {
         Some(token) if is_mark(Punctuation::Semicolon, token) => None,
-        _ => prefix,
+        _ => next_token,
     }
 }
 
@@ -82,7 +82,7 @@ fn begins_with(scope: &Scope<'_>, name: &str) -> bool
     name == "let"
         || name == "if"
         || call_of(name).is_some()
-        || !is_reserved(name) && scope.number_of(name).is_some()
+        || !is_reserved(name) && scope.binding_of(name).is_some()
 }
 
 /// Returns whether an expression can begin with the token, with these names in scope.
@@ -123,13 +123,13 @@ impl<'t> Reader<'t> {
     /// Does not allocate.
     #[tactic(auto, using(crate::proofs::language::States::front_is))]
     pub fn peek(&self) -> Option<GrammarToken<'t>>
-        ensures { option_map token_of result ≡ prefix (input self.now) }
+        ensures { option_map token_of result ≡ next_token (input self.now) }
     {
-        let prefix = self.cursor.peek();
+        let next_token = self.cursor.peek();
         if self.is_statement {
-            return before_semicolon(prefix);
+            return before_semicolon(next_token);
         }
-        prefix
+        next_token
     }
 
     /// Returns the fault for the next token, if that cannot be accepted.
@@ -143,8 +143,8 @@ impl<'t> Reader<'t> {
     /// Returns the fault for an expression that would begin here with no level left: X4 if the next
     /// token can begin one, else `refusal`.
     #[tactic(auto, using(crate::proofs::language::States::too_deep, crate::proofs::language::States::not_begun, crate::proofs::language::States::none_begun))]
-    pub fn no_level(&self) -> ExprFault
-        ensures { result ≡ state.no_level self.now }
+    pub fn level_fault(&self) -> ExprFault
+        ensures { result ≡ state.level_fault self.now }
     {
         match self.peek() {
             Some(token) if begins_expression(&self.scope, token) => ExprFault::TooDeep(
@@ -156,10 +156,10 @@ impl<'t> Reader<'t> {
 
     /// Advances past the next token. Does not list an occurrence.
     pub fn bump(&mut self)
-        requires { is_some (prefix (input self.old)) ≡ true }
-        ensures exact { self.new ≡ state.passed self.old }
+        requires { is_some (next_token (input self.old)) ≡ true }
+        ensures exact { self.new ≡ state.after_token self.old }
         ensures tokens { input self.new ≡ next (input self.old) }
-        ensures keeps { PassesOther self.old → Keeps self.old self.new }
+        ensures keeps { NextIsOther self.old → KeepsContext self.old self.new }
     {
         self.cursor.bump();
     }
@@ -169,10 +169,10 @@ impl<'t> Reader<'t> {
     /// impossible.
     #[tactic(auto, using(crate::proofs::language::States::taken_number))]
     pub fn take_occurrence(&mut self, place: u16, attr: &'t str) -> Result<usize, NoMemory>
-        requires { prefix (input self.old) ≡ Some (tokens.Occurrence place attr.now) }
-        ensures number { IfOk result (λ k. HasNumber self.old place attr.now k) }
+        requires { next_token (input self.old) ≡ Some (tokens.Occurrence place attr.now) }
+        ensures number { IfOk result (λ k. HasIndex self.old place attr.now k) }
         ensures tokens { OnOk result (input self.new ≡ next (input self.old)) }
-        ensures keeps { OnOk result (Keeps self.old self.new) }
+        ensures keeps { OnOk result (KeepsContext self.old self.new) }
     {
         let at = self.cursor.offset();
         let number = self.occurrences.intern(self.alloc, place, attr, at)?;
@@ -181,28 +181,28 @@ impl<'t> Reader<'t> {
     }
 
     /// Binds a name as the innermost one. Fails with `NoMemory` if the scope cannot grow.
-    #[tactic(auto, unfolding(crate::specs::language::State::everything, crate::specs::language::State::input,))]
+    #[tactic(auto, unfolding(crate::specs::language::State::complete_list, crate::specs::language::State::input,))]
     pub fn bind(&mut self, name: &'t str) -> Result<(), NoMemory>
         ensures names { OnOk result (self.new.scope ≡ self.old.scope ++ name.now ∷ []) }
-        ensures others { OnOk result (Stays self.old self.new) }
+        ensures others { OnOk result (ChangesOnlyScope self.old self.new) }
     {
         self.scope.bind(name)
     }
 
     /// Removes the innermost name.
-    #[tactic(auto, unfolding(crate::specs::language::State::everything, crate::specs::language::State::input,))]
+    #[tactic(auto, unfolding(crate::specs::language::State::complete_list, crate::specs::language::State::input,))]
     pub fn unbind(&mut self)
-        ensures names { self.new.scope ≡ names_spec.outer self.old.scope }
-        ensures others { Stays self.old self.new }
+        ensures names { self.new.scope ≡ names_spec.without_innermost self.old.scope }
+        ensures others { ChangesOnlyScope self.old self.new }
     {
         self.scope.unbind();
     }
 
     /// Returns the index of the innermost binding of a name, or `None` if it is not bound.
-    pub fn number_of(&self, name: &str) -> Option<usize>
-        ensures { result ≡ names_spec.number_in self.now.scope name.now }
+    pub fn binding_of(&self, name: &str) -> Option<usize>
+        ensures { result ≡ names_spec.binding_in self.now.scope name.now }
     {
-        self.scope.number_of(name)
+        self.scope.binding_of(name)
     }
 
     /// Returns whether the tokens end here: at the end of the text, or, in a statement, at a `;`.

@@ -1,4 +1,4 @@
--- Which faults those of the crates below become. This project's.
+-- The program's fault for each fault of another crate. This project's.
 use Rattle.ag_expr.specs.declared.fault.ExprFault.{ExprFault}
 use Rattle.ag_expr.specs.declared.fault.ExprFault.TheVariants as expr
 use Rattle.ag_job.specs.declared.fault.JobFault.{JobFault}
@@ -41,19 +41,19 @@ abbrev pub job_fault_of : JobFault → Fault
 job_fault_of job.NoMemory = fault.NoMemory
 job_fault_of e = fault.Job e
 
--- so is a failed device
+-- and a failed device is always `Device`, never inside another fault
 abbrev pub parse_fault_of : ParseFault → Fault
 parse_fault_of parse.Device = fault.Device
 parse_fault_of parse.NoMemory = fault.NoMemory
 parse_fault_of e = fault.Parse e
 
--- those of passes, in which a failed device and refused memory are separate faults too
+-- the faults of running passes; the same holds for a failed device and refused memory
 abbrev pub run_fault_of : RunFault → Fault
 run_fault_of run.Device = fault.Device
 run_fault_of run.NoMemory = fault.NoMemory
 run_fault_of e = fault.Run e
 
--- and of the text of the root
+-- the faults of reading the root's text
 abbrev pub out_fault_of : OutFault → Fault
 out_fault_of (out.NoText x) = fault.NoText x
 out_fault_of out.NotATreeFile = fault.NotATreeFile
@@ -74,7 +74,7 @@ abbrev pub build_fault_of_table : TableFault → BuildFault
 build_fault_of_table table.NoMemory = build.NoMemory
 build_fault_of_table e = build.Table e
 
--- the faults of making a translator
+-- the faults of building a translator
 abbrev pub build_fault_of : BuildFault → Fault
 build_fault_of (build.Text e) = fault.Text e
 build_fault_of (build.Normal e) = fault.Normal e

@@ -1,4 +1,4 @@
--- How the program's faults are printed: each line begins with the fault's number. This project's.
+-- How the program's faults are printed: each line begins with the fault's number, or with `usage` or `NoMemory`. This project's.
 use Rattle.std.specs.Prelude.{ℕ, List, [], ◌++◌, Option, Some, None, codes, decimal, flat_map, slice_get}
 use Rattle.ag_expr.specs.Printed.{printed as printed_expr}
 use Rattle.ag_grammar.specs.declared.grammar.Symbol.{Symbol}
@@ -13,7 +13,7 @@ use Rattle.ag_fault.specs.declared.fault.Fault.{Fault}
 use Rattle.ag_fault.specs.declared.fault.Fault.TheVariants as fault
 use Rattle.ag_fault.specs.declared.stuck_grammar.StuckGrammar.{StuckGrammar}
 
--- the name of a symbol, a point and the name of its attribute, as in `L.p`; nothing if it does not exist
+-- the name of a symbol, a point and the name of its attribute, as in `L.p`; empty if the symbol or the attribute does not exist
 abbrev pub name_of_attribute : Symbol → Option (List ℕ) → List ℕ
 name_of_attribute symbol None = []
 name_of_attribute symbol (Some name) = symbol.name ++ codes "." ++ name
@@ -29,11 +29,11 @@ qualified_name g symbol attribute = name_at (slice_get g.symbols symbol) attribu
 abbrev pub attribute_text : Grammar → ℕ × ℕ → List ℕ
 attribute_text g x = codes " " ++ qualified_name g x.0 x.1
 
--- A1, and then each attribute that no pass can have, as in `A1 R.out A.s A.i`
+-- A1, and then each attribute to which no pass can be assigned, as in `A1 R.out A.s A.i`
 abbrev pub printed_stuck : StuckGrammar → List ℕ
 printed_stuck s = codes "A1" ++ flat_map (attribute_text s.grammar) s.stuck.set
 
--- the number first; a fault that contains one of another crate is printed as that one
+-- the line of a fault; a fault that contains one of another crate is printed as that one
 abbrev pub printed : Fault → List ℕ
 printed fault.Usage = codes "usage: the arguments of the command line can't be read"
 printed fault.File = codes "F1 the file can't be opened, read or created"

@@ -1,4 +1,4 @@
--- The status that the program ends with after each fault. This project's.
+-- The exit status of the program for each fault. This project's.
 use Rattle.std.specs.Prelude.{ℕ}
 use Rattle.ag_expr.specs.declared.fault.ExprFault.TheVariants as expr
 use Rattle.ag_job.specs.declared.fault.JobFault.TheVariants as job
@@ -11,8 +11,8 @@ use Rattle.passrun.specs.declared.run_fault.RunFault.TheVariants as run
 use Rattle.ag_fault.specs.declared.fault.Fault.{Fault}
 use Rattle.ag_fault.specs.declared.fault.Fault.TheVariants as fault
 
--- 2 for the command line, J1 and J3, 3 for X, G, N, L and A, 4 for S and P of a sentence, 5 for B1, B2, R1 and P2 and P3 of a tree
--- file, 6 for O1, 7 for NoMemory, 8 for F1, J2, D1 and O2; NoMemory and D1 also inside another fault
+-- 2 for the command line, J1 and J3; 3 for X, G, N, L and A; 4 for S and P of a sentence; 5 for B1, B2, R1, and P2 and P3 of a
+-- tree file; 6 for O1; 7 for NoMemory; 8 for F1, J2, D1 and O2. NoMemory and D1 inside another fault have their own status too.
 abbrev pub status_of : Fault → ℕ
 status_of fault.Usage = 2
 status_of fault.File = 8

@@ -1,4 +1,4 @@
-//! Why a text makes no translator.
+//! Why a translator can't be built from a text.
 
 ghost use Rattle.std.specs.Prelude.{◌≡◌};
 ghost use Rattle.ag_fault.specs.Faults.{build_fault_of_normal, build_fault_of_table};
@@ -15,7 +15,7 @@ use normalform::NormalFault;
 /// variant.
 #[derive(Debug, Drop)]
 pub enum BuildFault {
-    /// G1 to G4: the text doesn't read as a grammar.
+    /// G1 to G4: the text can't be read as a grammar.
     Text(TextFault),
     /// N1 to N10: the grammar is not accepted.
     Normal(NormalFault),

@@ -10,8 +10,8 @@ use ag_grammar::Grammar;
 use std::error::Error;
 use std::fmt;
 
-/// Prints the number of the fault first: `D1 reading or writing failed`. A fault that contains the fault of
-/// another crate is printed as that one.
+/// Prints the number of the fault first, as in `D1 reading or writing failed`; `usage` or `NoMemory` is printed
+/// in its place if it has none. A fault that contains the fault of another crate is printed as that one.
 impl fmt::Display for Fault {
     ghost use Rattle.std.specs.Prelude.{Some};
     ghost use Rattle.ag_fault.specs.Printed.{printed};
@@ -43,7 +43,7 @@ impl fmt::Display for Fault {
 
 impl Error for Fault {}
 
-/// Prints A1 and the attributes that no pass can have: `A1 R.out A.s A.i`.
+/// Prints A1 and the attributes to which no pass can be assigned: `A1 R.out A.s A.i`.
 impl fmt::Display for StuckGrammar {
     ghost use Rattle.std.specs.Prelude.{Some};
     ghost use Rattle.ag_fault.specs.Printed.{printed_stuck};

@@ -1,4 +1,4 @@
-//! The program's faults, their statuses, and which of them the faults of the crates below become.
+//! The program's faults, their exit statuses, and the conversions from the faults of other crates.
 
 ghost use Rattle.std.specs.Prelude.{◌≡◌};
 ghost use Rattle.ag_fault.specs.Faults.{build_fault_of, device_fault_of, expr_fault_of};
@@ -22,8 +22,8 @@ use roottext::OutFault;
 use std::alloc::AllocError;
 use treefile::{DeviceFault, FileFault, FrameFault};
 
-/// Why the program, or a call of its library, failed. Each fault has a number, which is printed
-/// first.
+/// Why the program, or a call of its library, failed. Each fault except `Usage` and `NoMemory` has a
+/// number such as D1, which is printed first.
 #[derive(Debug, Drop)]
 pub enum Fault {
     /// The command line is wrong.
@@ -32,22 +32,24 @@ pub enum Fault {
     File,
     /// X1 to X4: the text is not an expression. It never contains NoMemory.
     Expr(ExprFault),
-    /// G1 to G4: the text reads as no grammar. It never contains NoMemory.
+    /// G1 to G4: the text can't be read as a grammar. It never contains NoMemory.
     Text(TextFault),
     /// N1 to N10: the grammar is not accepted. It never contains NoMemory.
     Normal(NormalFault),
-    /// L1: one token of look-ahead doesn't decide which production comes next. It never
-    /// contains NoMemory.
+    /// L1: one token of look-ahead doesn't determine the next production. It never contains
+    /// NoMemory.
     Table(TableFault),
     /// A1: no assignment of passes to the grammar's attributes is legal.
     Assign(StuckGrammar),
-    /// S1 to S4: the sentence has no tokens. It never contains NoMemory.
+    /// S1 to S4: the sentence can't be split into tokens. It never contains NoMemory.
     Scan(ScanFault),
     /// P1 to P3: the sentence has no tree within the limits. It never contains D1 or NoMemory.
     Parse(ParseFault),
-    /// R1, P2 and P3 of a tree file that a pass read. It never contains D1 or NoMemory.
+    /// R1, P2 or P3: a tree file that a pass read encodes no tree of the grammar, or none within the
+    /// limits. It never contains D1 or NoMemory.
     Run(RunFault),
-    /// J1 to J3: what a reader returns is not a job. It never contains NoMemory.
+    /// J1 to J3: the bytes of a reader are not a job, or the reader failed. It never contains
+    /// NoMemory.
     Job(JobFault),
     /// O1: the translation is this value, which is not a text.
     NoText(Value),
@@ -63,7 +65,7 @@ pub enum Fault {
     NoMemory,
 }
 
-/// Returns the status that the program ends with after a fault: 2 for usage, J1 and J3; 3 for X, G,
+/// Returns the exit status of the program for a fault: 2 for usage, J1 and J3; 3 for X, G,
 /// N, L and A; 4 for S and P of a sentence; 5 for B1, B2, R1, and P2 and P3 of a tree file; 6 for
 /// O1; 7 for NoMemory; 8 for F1, J2, D1 and O2. NoMemory and D1 inside another fault have their own
 /// status too.

@@ -1,14 +1,14 @@
-//! A grammar that no assignment of passes serves, and what shows that.
+//! A grammar for which no assignment of passes is legal, with the certificate of that.
 
 use ag_grammar::Grammar;
 use passassign::Stuck;
 use std::fmt;
 
-/// A grammar that no assignment of passes to its attributes serves, with the certificate that shows
-/// it. It prints as A1 and the attributes that no pass can have: `A1 R.out A.s A.i`.
+/// A grammar for which no assignment of passes to its attributes is legal, with the certificate that
+/// shows it. It prints as A1 and the attributes to which no pass can be assigned: `A1 R.out A.s A.i`.
 #[derive(Drop)]
 pub struct StuckGrammar {
-    /// The attributes that no pass can have, and why none can.
+    /// The certificate: the attributes to which no pass can be assigned, and why.
     pub stuck: Stuck,
     /// The grammar, for the names.
     pub grammar: Grammar,

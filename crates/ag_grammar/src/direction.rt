@@ -48,8 +48,8 @@ impl Direction {
         }
     }
 
-    /// Returns the index, from 0, of the child that is visited after `turn` others, of `count`
-    /// children.
+    /// Returns the index, from 0 at the left, of the child that is visited after `turn` others, of
+    /// `count` children.
     pub fn nth(self, count: usize, turn: usize) -> usize
         requires { turn < count }
         ensures nth { result ≡ nth self count turn }

@@ -36,7 +36,7 @@ pub fn passes_solve()
     ensures { PassesSolve }
 {}
 
-/// States what consecutive passes leave. Before the first of them the values are unchanged. One
+/// States which values consecutive passes leave. Before the first of them the values are unchanged. One
 /// more pass has run if it keeps the values of the passes before it and satisfies its own
 /// equations. After the last pass every equation from the first pass on is satisfied, and if the
 /// first was pass 1, the values are the solution.

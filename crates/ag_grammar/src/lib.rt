@@ -3,6 +3,9 @@
 //! specs define their meaning over these types: the value of an expression, the trees of a grammar,
 //! their solutions, the legal assignments of passes, the values after a pass, and the number of
 //! rules of a tree.
+//!
+//! Notes such as (Knuth 1968), (the textbook) and (this project's) name the source of a definition;
+//! `docs/DEFINITIONS.md` lists the sources.
 #![tactic(auto)]
 
 mod accepted;

@@ -1,4 +1,4 @@
-//! The limits of grammars, trees and plans (this project's). Contracts, code and messages use these
+//! The limits of grammars, trees and pass assignments (this project's). Contracts, code and messages use these
 //! constants.
 
 /// The maximum number of symbols of a grammar.
@@ -14,7 +14,7 @@ pub const MAX_PRODUCTIONS: usize = 512;
 pub const MAX_ITEMS: usize = 64;
 
 /// The maximum number of children of a production: items of its right side other than literals.
-pub const MAX_STORED: usize = 16;
+pub const MAX_CHILDREN: usize = 16;
 
 /// The number of rules of a production, or of arguments of a rule, that 16 bits can index. An
 /// accepted grammar never has more, since each of them is for another attribute at one of at most
@@ -45,7 +45,8 @@ pub const CLASS_COUNT: u16 = 3;
 /// The maximum length of the text of a token, in bytes.
 pub const MAX_TOKEN_BYTES: usize = 65_535;
 
-/// The maximum nesting depth of an expression.
+/// The maximum number of levels of an expression. It has one level more than the deepest expression
+/// inside it, in brackets, a call, a `let` or an `if`; without these it has one.
 pub const MAX_EXPR_LEVELS: usize = 64;
 
 /// The greatest place that an occurrence in a text may name.
@@ -57,12 +58,12 @@ pub const MAX_PASSES: u16 = 8_192;
 /// The maximum depth of a tree; the depth of a leaf is 1.
 pub const MAX_DEPTH: usize = 65_536;
 
-/// The maximum number of stored nodes of a tree.
+/// The maximum number of stored nodes of a tree: all but the literals of the sentence.
 pub const MAX_NODES: u32 = 1_048_576;
 
 /// The maximum depth of a tree whose file is reversed, or converted from version 1. Both recurse
 /// over the depth, and no file of version 1 has a deeper tree.
-pub const MAX_TURNED_DEPTH: usize = 256;
+pub const MAX_REVERSED_DEPTH: usize = 256;
 
 /// The maximum number of stored nodes of such a tree.
-pub const MAX_TURNED_NODES: u32 = 65_536;
+pub const MAX_REVERSED_NODES: u32 = 65_536;

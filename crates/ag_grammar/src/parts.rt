@@ -12,8 +12,8 @@ use ag_value::NoMemory;
 use std::alloc::Global;
 
 impl Item {
-    /// Returns whether the item is a child: declared symbols and token classes are, literals are
-    /// not (this project's).
+    /// Returns whether the item is a child, which has a place and is stored in a tree: declared symbols
+    /// and token classes are, literals are not (this project's).
     pub fn is_stored_child(self) -> bool
         ensures { (xs : List TheItem) → stored_items (self ∷ xs)
             ≡ cond result (self ∷ stored_items xs) (stored_items xs) }
@@ -27,16 +27,16 @@ impl Item {
 }
 
 /// Returns the child with this index, from 0, among the items, or `None` if there is none.
-fn stored_at(items: &[Item], index: usize) -> Option<Item>
+fn child_at(items: &[Item], index: usize) -> Option<Item>
     ensures { result ≡ slice_get (stored_items items.now) index }
 {
-    let mut left = index;
+    let mut to_skip = index;
     for item in items {
         if item.is_stored_child() {
-            if left == 0 {
+            if to_skip == 0 {
                 return Some(*item);
             }
-            left -= 1;
+            to_skip -= 1;
         }
     }
     None
@@ -52,7 +52,7 @@ impl Production {
         if place == 0 {
             return Some(Item::Symbol(self.left));
         }
-        stored_at(self.items.as_slice(), place as usize - 1)
+        child_at(self.items.as_slice(), place as usize - 1)
     }
 
     /// Returns the item at each place, from place 0 on. Fails with `NoMemory` if the list cannot be

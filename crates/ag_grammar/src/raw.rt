@@ -63,8 +63,8 @@ pub enum RawItem {
 }
 
 impl RawItem {
-    /// Returns whether the item is a child: names of symbols and token classes are, literals are
-    /// not (this project's).
+    /// Returns whether the item is a child, which has a place and is stored in a tree: names of symbols
+    /// and token classes are, literals are not (this project's).
     pub fn is_stored_child(&self) -> bool
         ensures { (xs : List TheRawItem) → raw_stored (self.now ∷ xs)
             ≡ cond result (self.now ∷ raw_stored xs) (raw_stored xs) }
@@ -108,13 +108,13 @@ impl RawProduction {
         if place == 0 {
             return None;
         }
-        let mut left = place - 1;
+        let mut to_skip = place - 1;
         for item in self.items.as_slice() {
             if item.is_stored_child() {
-                if left == 0 {
+                if to_skip == 0 {
                     return Some(item);
                 }
-                left -= 1;
+                to_skip -= 1;
             }
         }
         None

@@ -11,12 +11,12 @@ ghost use Rattle.ag_grammar.specs.declared.syntax.node.UnaryCall.TheVariants as 
 ghost use Rattle.ag_grammar.specs.expressions.Evaluation.{value_of};
 ghost use Rattle.ag_grammar.specs.expressions.Laws.{OccurrencesAreListed, RuleHasOneValue};
 ghost use Rattle.ag_grammar.specs.expressions.Laws.{RuleHoldsByOne, ValueOfOccurrences};
-ghost use Rattle.ag_grammar.specs.values.Calls.{call_result, called_with, choice_of};
+ghost use Rattle.ag_grammar.specs.values.Calls.{unary_call_result, binary_call_result, choice_of};
 ghost use Rattle.ag_grammar.specs.values.Laws.{BigComesNext, DeepComesFirst, WhatFitsStays};
-ghost use Rattle.ag_grammar.specs.values.Laws.{GotIsWell, KeysAreWell, SameIsOne};
+ghost use Rattle.ag_grammar.specs.values.Laws.{GetIsWell, KeysAreWell, SameIsOne};
 ghost use Rattle.ag_grammar.specs.values.Lists.{listed};
 ghost use Rattle.ag_grammar.specs.values.Operators.{operation_result};
-ghost use Rattle.ag_grammar.specs.values.Tables.{put_in, with_pair};
+ghost use Rattle.ag_grammar.specs.values.Tables.{put_result, with_pair};
 ghost use Rattle.ag_grammar.specs.values.Worked.{bound_error, least, number, other_branch, two_keys};
 
 /// States that `fit` turns a value that is too deep into the error `deep`, another that is too
@@ -35,7 +35,7 @@ pub fn equality_distinguishes_values()
 /// States that the results of `keys` and `get` on a well table are well.
 pub fn parts_of_a_table_are_well()
     ensures keys { KeysAreWell }
-    ensures got { GotIsWell }
+    ensures got { GetIsWell }
 {}
 
 /// States that the value of a tree depends only on the values of the occurrences that it contains,
@@ -61,12 +61,12 @@ pub fn worked_errors()
         ≡ value.Fault code.Divide }
     ensures kind_by_zero { operation_result operator.Divide (value.Text (codes "a")) (number 0)
         ≡ value.Fault code.Kind }
-    ensures kind_at_place { called_with binary.Nth (value.Text (codes "a")) (number 9)
+    ensures kind_at_place { binary_call_result binary.Nth (value.Text (codes "a")) (number 9)
         ≡ value.Fault code.Kind }
     ensures item { listed (number 1 ∷ value.Fault code.Divide ∷ value.Fault code.Index ∷ [])
         ≡ value.Fault code.Divide }
-    ensures either { called_with binary.OrElse (number 7) (value.Fault code.Key) ≡ number 7 }
-    ensures other { called_with binary.OrElse (value.Fault code.Key) (number 7) ≡ number 7 }
+    ensures either { binary_call_result binary.OrElse (number 7) (value.Fault code.Key) ≡ number 7 }
+    ensures other { binary_call_result binary.OrElse (value.Fault code.Key) (number 7) ≡ number 7 }
     ensures condition { (e f : AttributeValue)
         → choice_of (value.Text (codes "a")) e f ≡ value.Fault code.Kind }
     ensures bound { (env : ℕ → AttributeValue) → value_of bound_error env ≡ number 1 }
@@ -83,35 +83,35 @@ pub fn worked_numbers()
         ≡ value.Fault code.Overflow }
     ensures least_remainder { operation_result operator.Remainder (value.Num least) (value.Num (negsuc 0))
         ≡ number 0 }
-    ensures zeros { call_result unary.Number (value.Text (codes "-007")) ≡ value.Num (negsuc 6) }
-    ensures zero { call_result unary.Number (value.Text (codes "-0")) ≡ number 0 }
-    ensures least_spelled { call_result unary.Number (value.Text (codes "-9223372036854775808"))
+    ensures zeros { unary_call_result unary.Number (value.Text (codes "-007")) ≡ value.Num (negsuc 6) }
+    ensures zero { unary_call_result unary.Number (value.Text (codes "-0")) ≡ number 0 }
+    ensures least_spelled { unary_call_result unary.Number (value.Text (codes "-9223372036854775808"))
         ≡ value.Num least }
-    ensures too_large { call_result unary.Number (value.Text (codes "9223372036854775808"))
+    ensures too_large { unary_call_result unary.Number (value.Text (codes "9223372036854775808"))
         ≡ value.Fault code.Number }
-    ensures sign_alone { call_result unary.Number (value.Text (codes "-")) ≡ value.Fault code.Number }
-    ensures plus { call_result unary.Number (value.Text (codes "+5")) ≡ value.Fault code.Number }
-    ensures empty { call_result unary.Number (value.Text []) ≡ value.Fault code.Number }
+    ensures sign_alone { unary_call_result unary.Number (value.Text (codes "-")) ≡ value.Fault code.Number }
+    ensures plus { unary_call_result unary.Number (value.Text (codes "+5")) ≡ value.Fault code.Number }
+    ensures empty { unary_call_result unary.Number (value.Text []) ≡ value.Fault code.Number }
     // an Arabic digit one, in UTF-8
-    ensures other_digits { call_result unary.Number (value.Text (217 ∷ 161 ∷ []))
+    ensures other_digits { unary_call_result unary.Number (value.Text (217 ∷ 161 ∷ []))
         ≡ value.Fault code.Number }
 {}
 
 /// States that texts are measured in bytes, lists are indexed from 0, and tables are sorted by key.
 pub fn worked_parts()
     // an `ä` in UTF-8
-    ensures bytes { call_result unary.Len (value.Text (195 ∷ 164 ∷ [])) ≡ number 2 }
+    ensures bytes { unary_call_result unary.Len (value.Text (195 ∷ 164 ∷ [])) ≡ number 2 }
     ensures order { operation_result operator.Less (value.Text (codes "z")) (value.Text (195 ∷ 164 ∷ []))
         ≡ number 1 }
     ensures kinds { operation_result operator.Equal (number 1) (value.Text (codes "1")) ≡ number 0 }
-    ensures below { called_with binary.Nth (value.List (number 5 ∷ [])) (value.Num (negsuc 0))
+    ensures below { binary_call_result binary.Nth (value.List (number 5 ∷ [])) (value.Num (negsuc 0))
         ≡ value.Fault code.Index }
-    ensures following { called_with binary.Nth (value.List (number 5 ∷ [])) (number 1)
+    ensures following { binary_call_result binary.Nth (value.List (number 5 ∷ [])) (number 1)
         ≡ value.Fault code.Index }
-    ensures first { called_with binary.Nth (value.List (number 5 ∷ [])) (number 0) ≡ number 5 }
-    ensures absent { called_with binary.Get (value.Table two_keys) (value.Text (codes "c"))
+    ensures first { binary_call_result binary.Nth (value.List (number 5 ∷ [])) (number 0) ≡ number 5 }
+    ensures absent { binary_call_result binary.Get (value.Table two_keys) (value.Text (codes "c"))
         ≡ value.Fault code.Key }
-    ensures found { called_with binary.Get (value.Table two_keys) (value.Text (codes "b"))
+    ensures found { binary_call_result binary.Get (value.Table two_keys) (value.Text (codes "b"))
         ≡ number 2 }
     ensures sorted { with_pair (codes "a") (number 1) ((codes "b", number 2) ∷ []) ≡ two_keys }
     ensures again { with_pair (codes "b") (number 3) two_keys

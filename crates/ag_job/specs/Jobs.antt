@@ -1,4 +1,4 @@
--- The definition of a job: a grammar, the first line that is exactly `%%`, and a sentence. All definitions here are this project's.
+-- The definition of a job: a grammar, the first line that is exactly `%%`, and a sentence. All of this is this project's.
 use Rattle.std.specs.Prelude.{ℕ, ◌≡◌, ◌≤◌, ◌<◌, ◌⊎◌, List, [], ◌++◌, length, codes, Option}
 use Rattle.std.specs.Option.{IfSome}
 use Rattle.ag_job.specs.declared.fault.JobFault.{JobFault}
@@ -15,7 +15,7 @@ max_job_bytes = MAX_JOB_BYTES
 abbrev pub AreWholeLines : List ℕ → Type 0
 AreWholeLines text = (text ≡ []) ⊎ ((prefix : List ℕ) × (text ≡ prefix ++ codes "\n"))
 
--- The line `%%` with its end. A CR directly before its LF is ignored. If it is the last line it may end without LF, and then also without CR.
+-- The line `%%` with its end. A CR directly before its LF is ignored. If it is the last line, it may have neither LF nor CR.
 abbrev pub IsSeparator : (separator rest : List ℕ) → Type 0
 IsSeparator separator rest = (separator ≡ codes "%%\n") ⊎ ((separator ≡ codes "%%\r\n") ⊎ ((separator ≡ codes "%%") × (rest ≡ [])))
 
@@ -40,7 +40,7 @@ pub record IsJob (bytes text sentence : List ℕ) : Type 0 where
 abbrev pub HasNoSeparator : List ℕ → Type 0
 HasNoSeparator bytes = (text sentence : List ℕ) → IsCut bytes text sentence → ⊥
 
--- If the bytes of the reader are known, J1 and J3 hold for them. Read and NoMemory claim nothing about the bytes.
+-- If the bytes of the reader are known, J1 and J3 are true of them. J2 and NoMemory claim nothing about the bytes.
 abbrev pub IsJobFault : Option (List ℕ) → JobFault → Type 0
 IsJobFault known fault.NoSeparator = IfSome known (λ bytes. (length bytes ≤ max_job_bytes) × HasNoSeparator bytes)
 IsJobFault known fault.Read = Unit {0}

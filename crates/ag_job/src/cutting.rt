@@ -1,4 +1,4 @@
-//! Finding the first line that is exactly `%%`.
+//! Finds the first line that is exactly `%%`.
 
 ghost use Rattle.std.specs.Prelude.{ℕ, List, ◌≡◌, ◌≤◌, ◌<◌, ◌↔◌, ◌++◌, IfNone, IfSome, IsTrue};
 ghost use Rattle.std.specs.Prelude.{length, take, drop};
@@ -7,7 +7,7 @@ ghost use Rattle.ag_job.specs.Jobs.{AreParts, AreWholeLines, HasNoSeparator, IsC
 /// Offsets in bytes at which a job is split.
 #[derive(Clone, Copy, Debug, Drop)]
 pub(crate) struct Cut {
-    /// The end of the grammar's text, which is where the line `%%` begins.
+    /// The end of the grammar's text, which begins at offset 0. The line `%%` begins here.
     pub text: usize,
     /// The beginning of the sentence, after the line `%%`.
     pub sentence: usize,
@@ -49,7 +49,7 @@ fn cut_at(bytes: &[u8], at: usize) -> Option<Cut>
     })
 }
 
-/// Returns whether a line begins at an offset.
+/// Returns whether a line begins at offset `at`: whether it is 0, or follows an LF.
 fn begins_a_line(bytes: &[u8], at: usize) -> bool
     requires { at ≤ length bytes.now }
     ensures { IsTrue result ↔ AreWholeLines (take at bytes.now) }

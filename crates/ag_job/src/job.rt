@@ -1,11 +1,11 @@
-//! Reading a job from a reader.
+//! Reads a job from a reader.
 
 ghost use Rattle.std.specs.Prelude.{◌≡◌, IfErr, IfOk, IfSome};
 ghost use Rattle.ag_job.specs.Jobs.{IsJob, IsJobFault};
 
 use crate::cutting::{Cut, cut_of};
 use crate::fault::JobFault;
-use crate::reading::read_front;
+use crate::reading::read_prefix;
 use ag_grammar::limits::MAX_TEXT_BYTES;
 use std::alloc::Global;
 use std::io::Read;
@@ -44,7 +44,7 @@ impl Job {
             (λ bytes. IsJob bytes job.0 job.1)) }
         ensures refused { IfErr result (λ e. IsJobFault (R.remaining reader) e) }
     {
-        let bytes = read_front(alloc, reader, MAX_JOB_BYTES as u64 + 1)?;
+        let bytes = read_prefix(alloc, reader, MAX_JOB_BYTES as u64 + 1)?;
         if MAX_JOB_BYTES < bytes.len() {
             return Err(JobFault::TooLong);
         }

@@ -11,4 +11,4 @@ mod reading;
 
 pub use fault::JobFault;
 pub use job::{Job, MAX_JOB_BYTES};
-pub use reading::{ReadFault, read_front};
+pub use reading::{ReadFault, read_prefix};

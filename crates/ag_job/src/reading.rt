@@ -1,4 +1,4 @@
-//! Reading a limited number of bytes from a reader.
+//! Reads a limited number of bytes from a reader.
 
 ghost use Rattle.std.specs.Prelude.{IfOk, IfSome, ◌≡◌, take};
 
@@ -14,21 +14,25 @@ pub enum ReadFault {
     NoMemory,
 }
 
-/// Reads to the reader's end, at most `most` bytes. Fails with `Read` if the reader fails, and with
-/// `NoMemory` if a request for memory is refused.
-pub fn read_front<R: Read + Drop>(alloc: Global, reader: R, most: u64) -> Result<Vec<u8>, ReadFault>
+/// Returns the first bytes of a reader: all up to its end, but at most `most` bytes. Fails with `Read` if
+/// the reader fails, and with `NoMemory` if a request for memory is refused.
+pub fn read_prefix<R: Read + Drop>(
+    alloc: Global,
+    reader: R,
+    most: u64,
+) -> Result<Vec<u8>, ReadFault>
     ensures { IfOk result (λ bytes. IfSome (R.remaining reader)
         (λ left. bytes.items ≡ take most left)) }
 {
     let mut bytes = Vec::new(alloc);
     match reader.take(most).read_to_end(&mut bytes) {
         Ok(_) => Ok(bytes),
-        Err(error) => Err(refusal(&error)),
+        Err(error) => Err(read_fault_of(&error)),
     }
 }
 
 /// Returns `NoMemory` if the error is a refused request for memory, otherwise `Read`.
-fn refusal(error: &Error) -> ReadFault {
+fn read_fault_of(error: &Error) -> ReadFault {
     if error.kind() == ErrorKind::OutOfMemory {
         ReadFault::NoMemory
     } else {

@@ -10,10 +10,10 @@ use Rattle.ag_grammar.specs.grammars.Accepted.{IsAccepted}
 use Rattle.ag_grammar.specs.grammars.AttributeGrammar.{Grammar}
 use Rattle.ag_grammar.specs.grammars.Tree.{max_token_bytes}
 use Rattle.ag_grammar.proofs.grammars.Members.{each_none, each_more}
-use Rattle.ag_tokens.specs.Left.{StartsPlain, without_spaces}
+use Rattle.ag_tokens.specs.Remaining.{BeginsNoSeparator, after_separators}
 use Rattle.ag_tokens.specs.Tokens.{is_separator, width}
 use Rattle.ag_tokens.proofs.Lexed.{width-append, width-chars, plain_after}
-use Rattle.ag_scan.specs.Cutting.{word_from, LeadingWord, CutsToken}
+use Rattle.ag_scan.specs.Cutting.{word_from, LeadingWord, IsLeadingToken}
 use Rattle.ag_scan.specs.Laws.{IsAnswer, AnAnswer}
 use Rattle.ag_scan.specs.Tokens.{Token, max_sentence_bytes, AreTokens, ended, separator, word, AreShort, Reaches, IsReadable}
 use Rattle.ag_scan.specs.Words.{Vocabulary, vocabulary_of, IsClean}
@@ -49,11 +49,11 @@ taken_at more v at cs = elim (short_of (word_from v cs)) [
 -- the first n tokens from an offset on, or fewer if no more can be read
 abbrev taken_from : Vocabulary → ℕ → ℕ → List ℕ → Taken
 taken_from v zero at cs = record { tokens = []; end = at; rest = cs }
-taken_from v (suc n) at cs = taken_at (taken_from v n) v (at + prefix_len is_separator cs) (without_spaces cs)
+taken_from v (suc n) at cs = taken_at (taken_from v n) v (at + prefix_len is_separator cs) (after_separators cs)
 
 -- No more tokens can be read at the beginning of these characters, which is not a separator.
 record IsEnd (v : Vocabulary) (cs : List ℕ) : Type 0 where
-  pub plain : StartsPlain cs
+  pub plain : BeginsNoSeparator cs
   pub none : short_of (word_from v cs) ≡ None
 
 -- The tokens read from an offset on are tokens of the text, none of them too long, and no more can be read
@@ -68,23 +68,23 @@ short_exact o f e = (grind (arith, nat_tests), grind (arith, nat_tests))
 
 are_taken : (v : Vocabulary) → IsClean v → (n at : ℕ) (cs : List ℕ) → length cs < n → AreTaken v at cs (taken_from v n at cs)
 are_taken v clean zero at cs less = absurd (omega arith)
-are_taken v clean (suc n) at cs less = go (short_of (word_from v (without_spaces cs))) refl (are_taken v clean n)
+are_taken v clean (suc n) at cs less = go (short_of (word_from v (after_separators cs))) refl (are_taken v clean n)
   where
-    go : (o : Option LeadingWord) → short_of (word_from v (without_spaces cs)) ≡ o → ((at : ℕ) (cs : List ℕ) → length cs < n → AreTaken v at cs (taken_from v n at cs)) → AreTaken v at cs (taken_from v (suc n) at cs)
+    go : (o : Option LeadingWord) → short_of (word_from v (after_separators cs)) ≡ o → ((at : ℕ) (cs : List ℕ) → length cs < n → AreTaken v at cs (taken_from v n at cs)) → AreTaken v at cs (taken_from v (suc n) at cs)
     go None e more = rw (taken_at, e) (record { are = spaced v at cs _ _ _ (ended _ _); short = each_none _; ends = record { plain = plain_after cs; none = e } })
     go (Some f) e more =
-        let (first, short) = short_exact (word_from v (without_spaces cs)) f e in
-        let cut : CutsToken v (without_spaces cs) f = subst (IsWordIn v (without_spaces cs)) first (word_is v (without_spaces cs)) in
+        let (first, short) = short_exact (word_from v (after_separators cs)) f e in
+        let cut : IsLeadingToken v (after_separators cs) f = subst (IsWordIn v (after_separators cs)) first (word_is v (after_separators cs)) in
         let some = word_some v f.kind cut.word f.lex clean.some cut.token.is in
         let here = at + prefix_len is_separator cs in
-        let next = more (here + (width (without_spaces cs) - width f.rest)) f.rest (omega (arith, ap length cut.split, length-append cut.word f.rest, length-drop (prefix_len is_separator cs) cs)) in
-        rw (taken_at, e) (record { are = spaced v at cs _ _ _ (one_more v here (without_spaces cs) f _ _ _ first next.are); short = each_more _ _ _ short next.short; ends = next.ends })
+        let next = more (here + (width (after_separators cs) - width f.rest)) f.rest (omega (arith, ap length cut.split, length-append cut.word f.rest, length-drop (prefix_len is_separator cs) cs)) in
+        rw (taken_at, e) (record { are = spaced v at cs _ _ _ (one_more v here (after_separators cs) f _ _ _ first next.are); short = each_more _ _ _ short next.short; ends = next.ends })
 
 cut_is : (v : Vocabulary) → IsClean v → (cs : List ℕ) (o : Option LeadingWord) → IsWordIn v cs o → word_from v cs ≡ o
 cut_is v clean cs o is = one_word v clean cs (word_from v cs) o (word_is v cs) is
 
 -- characters that do not begin with a separator begin with the next token
-at_once : (v : Vocabulary) (n at : ℕ) (cs : List ℕ) → StartsPlain cs → taken_from v (suc n) at cs ≡ taken_at (taken_from v n) v at cs
+at_once : (v : Vocabulary) (n at : ℕ) (cs : List ℕ) → BeginsNoSeparator cs → taken_from v (suc n) at cs ≡ taken_at (taken_from v n) v at cs
 at_once v n at cs plain =
     let none = no_spaces cs plain in
     let there : at + prefix_len is_separator cs ≡ at = omega (arith, none) in
@@ -167,7 +167,7 @@ module _ (v : Vocabulary) (clean : IsClean v) (s : List ℕ) where
   no_word_left : word_from v [] ≡ None
   no_word_left = cut_is v clean [] None (λ w more split is. (let some = word_some v is.0 w is.1 clean.some is.2 in omega (arith, ap length split, length-append w more)))
 
-  long_left : (cs : List ℕ) (f : LeadingWord) (ts : List Token) (at : ℕ) → CutsToken v cs f → ended_by cs (Some f) ts at ≡ Err (fault.LongToken at)
+  long_left : (cs : List ℕ) (f : LeadingWord) (ts : List Token) (at : ℕ) → IsLeadingToken v cs f → ended_by cs (Some f) ts at ≡ Err (fault.LongToken at)
   long_left [] f ts at cut = let some = word_some v f.kind cut.word f.lex clean.some cut.token.is in absurd (omega (arith, ap length cut.split, length-append cut.word f.rest))
   long_left (c ∷ cs) f ts at cut = refl
 
@@ -185,7 +185,7 @@ module _ (v : Vocabulary) (clean : IsClean v) (s : List ℕ) where
       reached readable none.reaches (record { plain = none.no_separator; none = rw no_word refl }) ∙ rw no_word refl
   is_answer (Err (fault.LongToken at)) (readable, long) =
       let f : LeadingWord = record { kind = long.kind; lex = long.lex; rest = long.rest } in
-      let cut : CutsToken v (long.word ++ long.rest) f = record { word = long.word; split = refl; token = long.token } in
+      let cut : IsLeadingToken v (long.word ++ long.rest) f = record { word = long.word; split = refl; token = long.token } in
       let first = cut_is v clean (long.word ++ long.rest) (Some f) cut in
       let far = long.long in
       let is_long : nat_lt max_token_bytes (length long.lex) ≡ true = grind (arith, nat_tests) in

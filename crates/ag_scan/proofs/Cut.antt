@@ -8,11 +8,11 @@ use Rattle.std.specs.Cmp.Lexicographic.{pointwise, told_text}
 use Rattle.std.specs.List.{prefix_len}
 use Rattle.ag_grammar.specs.Lists.{Has}
 use Rattle.ag_grammar.specs.declared.grammar.Terminal.TheVariants.{Literal}
-use Rattle.ag_tokens.specs.Left.{without_spaces}
+use Rattle.ag_tokens.specs.Remaining.{after_separators}
 use Rattle.ag_tokens.specs.Tokens.{is_separator, width}
 use Rattle.ag_tokens.proofs.Lexed.{width-append, width-chars, separator_width}
-use Rattle.ag_scan.specs.Cutting.{LeadingWord, CutsLiteral, CutsToken, number_from, literal_or, literal_within, word_from, tokens_from, tokens_in}
-use Rattle.ag_scan.specs.Supplied.{HasTokens}
+use Rattle.ag_scan.specs.Cutting.{LeadingWord, IsLeadingLiteral, IsLeadingToken, number_from, literal_or, literal_within, word_from, tokens_from, tokens_in}
+use Rattle.ag_scan.specs.TokenReader.{IsScannable}
 use Rattle.ag_scan.specs.Tokens.{max_sentence_bytes, Token, AreTokens, ended, separator, word, AreTokensOf, FitAll}
 use Rattle.ag_scan.specs.Words.{Vocabulary, HasNoEmpty, IsClean, IsLiteral, IsLongest}
 use Rattle.ag_scan.proofs.words.Choosing.{IsLiteralIn, chosen}
@@ -45,7 +45,7 @@ prefix_of_length : (cs w more : List ℕ) → cs ≡ w ++ more → take (length 
 prefix_of_length cs w more split = ap (take (length w)) split ∙ take-append_seam w more
 
 module _ (literals : List (List ℕ)) (cs : List ℕ) where
-  found : (n l : ℕ) → n ≤ length cs → NoneFrom literals cs (n + 1) → slice_get literals l ≡ Some (encode_utf8_all (take n cs)) → CutsLiteral literals cs (record { kind = Literal l; lex = encode_utf8_all (take n cs); rest = drop n cs })
+  found : (n l : ℕ) → n ≤ length cs → NoneFrom literals cs (n + 1) → slice_get literals l ≡ Some (encode_utf8_all (take n cs)) → IsLeadingLiteral literals cs (record { kind = Literal l; lex = encode_utf8_all (take n cs); rest = drop n cs })
   found n l within none there = record { number = l; word = take n cs; kind = refl; split = sym (take-append-drop n cs); there = there; text = refl; longest = longest }
     where
       longest : IsLongest (IsLiteral literals) (take n cs) (drop n cs)
@@ -81,7 +81,7 @@ word_is v cs = chosen v cs _ _ (literal_is v.literals cs (length cs) (omega arit
 pub one_more : (v : Vocabulary) (at : ℕ) (cs : List ℕ) (f : LeadingWord) (ts : List Token) (end : ℕ) (rest : List ℕ) → word_from v cs ≡ Some f → AreTokens v (at + (width cs - width f.rest)) f.rest ts end rest
     → AreTokens v at cs (record { kind = f.kind; lex = f.lex; at = at } ∷ ts) end rest
 one_more v at cs f ts end rest e are =
-    let cut : CutsToken v cs f = subst (IsWordIn v cs) e (word_is v cs) in
+    let cut : IsLeadingToken v cs f = subst (IsWordIn v cs) e (word_is v cs) in
     let there : at + (width cs - width f.rest) ≡ at + width cut.word = omega (arith, ap width cut.split, width-append cut.word f.rest) in
     word at cs cut.word f.rest f.lex f.kind ts end rest cut.split cut.token (rw there at are)
 
@@ -107,15 +107,15 @@ module _ (v : Vocabulary) (clean : IsClean v) where
   separators : (c : ℕ) (cs : List ℕ) → is_separator c ≡ true → prefix_len is_separator (c ∷ cs) ≡ suc (prefix_len is_separator cs)
   separators c cs h = rw h (omega arith)
 
-  pub begin_with : {at : ℕ} {cs : List ℕ} {ts : List Token} {end : ℕ} {rest : List ℕ} → AreTokens v at cs ts end rest → rest ≡ [] → (o : Option LeadingWord) → IsWordIn v (without_spaces cs) o → BeginWith v at cs ts end o
+  pub begin_with : {at : ℕ} {cs : List ℕ} {ts : List Token} {end : ℕ} {rest : List ℕ} → AreTokens v at cs ts end rest → rest ≡ [] → (o : Option LeadingWord) → IsWordIn v (after_separators cs) o → BeginWith v at cs ts end o
   begin_with (ended at cs) e None is = refl
   begin_with (ended at cs) e (Some f) is =
       let some = word_some v f.kind is.word f.lex clean.some is.token.is in
-      let none : without_spaces cs ≡ [] = ap without_spaces e in
+      let none : after_separators cs ≡ [] = ap after_separators e in
       absurd (omega (arith, ap length (sym none ∙ is.split), length-append is.word f.rest))
   begin_with (separator at c cs ts end rest h are) e o is = go o (begin_with are e o (subst (λ xs. IsWordIn v xs o) same is))
     where
-      same : without_spaces (c ∷ cs) ≡ without_spaces cs
+      same : after_separators (c ∷ cs) ≡ after_separators cs
       same = ap (λ n. drop n (c ∷ cs)) (separators c cs h)
 
       go : (o : Option LeadingWord) → BeginWith v (at + 1) cs ts end o → BeginWith v at (c ∷ cs) ts end o
@@ -135,7 +135,7 @@ module _ (v : Vocabulary) (clean : IsClean v) where
   agrees : (n at : ℕ) (cs : List ℕ) (ts : List Token) (end : ℕ) → AreTokens v at cs ts end [] → length ts ≤ n → tokens_from v n at cs ≡ ts
   agrees zero at cs [] end are few = refl
   agrees zero at cs (t ∷ ts) end are few = absurd (omega arith)
-  agrees (suc n) at cs ts end are few = go (word_from v (without_spaces cs)) (begin_with are refl (word_from v (without_spaces cs)) (word_is v (without_spaces cs))) (agrees n)
+  agrees (suc n) at cs ts end are few = go (word_from v (after_separators cs)) (begin_with are refl (word_from v (after_separators cs)) (word_is v (after_separators cs))) (agrees n)
     where
       go : (o : Option LeadingWord) → BeginWith v at cs ts end o → ((at : ℕ) (cs : List ℕ) (ts : List Token) (end : ℕ) → AreTokens v at cs ts end [] → length ts ≤ n → tokens_from v n at cs ≡ ts)
           → elim o [ Some f ↦ record { kind = f.kind; lex = f.lex; at = at + prefix_len is_separator cs } ∷ tokens_from v n (at + (width cs - width f.rest)) f.rest | None ↦ [] ] ≡ ts
@@ -159,5 +159,5 @@ all_cut v clean text rest utf8 short scanned test =
     let same = are_cut v clean text ts are in
     (subst (AreTokensOf v text) (sym same) are, subst (FitAll v) (sym same) fit)
 
-pub few_tokens : (v : Vocabulary) (text : List ℕ) → HasTokens v text → length (tokens_in v text) ≤ length text
+pub few_tokens : (v : Vocabulary) (text : List ℕ) → IsScannable v text → length (tokens_in v text) ≤ length text
 few_tokens v text has = few v has.clean text (tokens_in v text) has.tokens

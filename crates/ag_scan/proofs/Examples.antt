@@ -8,14 +8,14 @@ use Rattle.ag_grammar.specs.grammars.Tree.{max_token_bytes}
 use Rattle.ag_grammar.proofs.grammars.Members.{both, only}
 use Rattle.ag_scan.specs.Cutting.{word_from, class_from}
 use Rattle.ag_scan.specs.Tokens.{Token, AreTokens, ended, separator}
-use Rattle.ag_scan.specs.Words.{Vocabulary, over}
+use Rattle.ag_scan.specs.Words.{Vocabulary, vocabulary}
 use Rattle.ag_scan.specs.Worked.{LongestWins, UnusedIsNone}
 use Rattle.ag_scan.proofs.Cut.{word_is, one_more}
 
 -- ---- the longest word wins
 
 abbrev iffy : Vocabulary
-iffy = over (codes "if" ∷ []) (0 ∷ [])
+iffy = vocabulary (codes "if" ∷ []) (0 ∷ [])
 
 abbrev name : Token
 name = record { kind = Class 0; lex = codes "iffy"; at = 0 }
@@ -53,7 +53,7 @@ longest_wins = record {
 -- ---- a class that is not in use
 
 abbrev ones : Vocabulary
-ones = over (codes "1" ∷ []) []
+ones = vocabulary (codes "1" ∷ []) []
 
 one : word_from ones (codes "12") ≡ Some (record { kind = Literal 0; lex = codes "1"; rest = codes "2" })
 unfolding class_from lib.Utf8.encode

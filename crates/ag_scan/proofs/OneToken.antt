@@ -7,10 +7,10 @@ use Rattle.ag_grammar.specs.declared.grammar.Terminal.{Terminal}
 use Rattle.ag_grammar.specs.declared.grammar.Terminal.TheVariants.{Literal, Class}
 use Rattle.ag_grammar.specs.grammars.Accepted.{IsSeparator}
 use Rattle.std.specs.List.{prefix_len}
-use Rattle.ag_tokens.specs.Left.{StartsPlain}
+use Rattle.ag_tokens.specs.Remaining.{BeginsNoSeparator}
 use Rattle.ag_tokens.specs.Tokens.{is_separator}
 use Rattle.ag_tokens.proofs.TokenLaws.{no_start}
-use Rattle.ag_scan.specs.Cutting.{LeadingWord, CutsToken}
+use Rattle.ag_scan.specs.Cutting.{LeadingWord, IsLeadingToken}
 use Rattle.ag_scan.specs.Words.{Vocabulary, IsClean, IsWordOfClass, IsWord, IsAnyWord, BeginsNone, LiteralWins, IsToken}
 use Rattle.ag_scan.proofs.words.ClassWords.{one_class}
 use Rattle.ag_scan.proofs.Listing.{word_some}
@@ -39,11 +39,11 @@ no_word_there v clean c cs h t lex [] rest split is = let some = word_some v t [
 no_word_there v clean c cs h t lex (d ∷ w) rest split is = let same : d ≡ c = cc in plain_prefix v clean t d w lex is.is (rw same h)
 
 -- characters that begin with a token do not begin with a separator
-pub token_plain : (v : Vocabulary) → IsClean v → (cs : List ℕ) (t : Terminal) (lex w rest : List ℕ) → cs ≡ w ++ rest → IsToken v t lex w rest → StartsPlain cs
+pub token_plain : (v : Vocabulary) → IsClean v → (cs : List ℕ) (t : Terminal) (lex w rest : List ℕ) → cs ≡ w ++ rest → IsToken v t lex w rest → BeginsNoSeparator cs
 token_plain v clean [] t lex w rest split is = tt
 token_plain v clean (c ∷ cs) t lex w rest split is = let not : is_separator c ≡ true → ⊥ = λ h. no_word_there v clean c cs h t lex w rest split is in grind (arith, not)
 
-pub no_spaces : (cs : List ℕ) → StartsPlain cs → prefix_len is_separator cs ≡ 0
+pub no_spaces : (cs : List ℕ) → BeginsNoSeparator cs → prefix_len is_separator cs ≡ 0
 no_spaces cs plain = grind arith
 
 -- ---- a word has one kind and one text
@@ -62,7 +62,7 @@ one_kind v clean (Class c) (Class d) cs lex lex' a wins b wins' = one_class v.cl
 
 -- the word that was read is the token at the beginning; if it is `None`, no word begins there
 abbrev pub IsWordIn : Vocabulary → List ℕ → Option LeadingWord → Type 0
-IsWordIn v cs o = MatchOption o (BeginsNone (IsAnyWord v) cs) (λ f. CutsToken v cs f)
+IsWordIn v cs o = MatchOption o (BeginsNone (IsAnyWord v) cs) (λ f. IsLeadingToken v cs f)
 
 pub one_word : (v : Vocabulary) → IsClean v → (cs : List ℕ) (o p : Option LeadingWord) → IsWordIn v cs o → IsWordIn v cs p → o ≡ p
 one_word v clean cs None None none none' = refl

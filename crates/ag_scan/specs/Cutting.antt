@@ -7,9 +7,9 @@ use Rattle.std.specs.List.{prefix_len, list_any}
 use Rattle.unicode_ident.specs.Ident.{is_xid_continue}
 use Rattle.ag_grammar.specs.declared.grammar.Terminal.{Terminal}
 use Rattle.ag_grammar.specs.declared.grammar.Terminal.TheVariants.{Literal, Class}
-use Rattle.ag_tokens.specs.Left.{without_spaces}
+use Rattle.ag_tokens.specs.Remaining.{after_separators}
 use Rattle.ag_tokens.specs.Tokens.{is_quotable, is_separator, starts_name, width}
-use Rattle.ag_scan.specs.declared.prefix.LeadingWord as lent
+use Rattle.ag_scan.specs.declared.prefix.LeadingWord as code
 use Rattle.ag_scan.specs.Tokens.{Token}
 use Rattle.ag_scan.specs.Words.{Vocabulary, IsLiteral, IsLongest, IsToken}
 
@@ -23,12 +23,12 @@ pub record LeadingWord : Type 0 where
 abbrev pub prefix_in : (ℕ → Bool) → List ℕ → List ℕ
 prefix_in p cs = take (prefix_len p cs) cs
 
-abbrev pub back_of : (ℕ → Bool) → List ℕ → List ℕ
-back_of p cs = drop (prefix_len p cs) cs
+abbrev pub rest_after : (ℕ → Bool) → List ℕ → List ℕ
+rest_after p cs = drop (prefix_len p cs) cs
 
 -- the word of a class that is the longest prefix of characters that pass the test
 abbrev pub span_from : (ℕ → Bool) → ℕ → List ℕ → LeadingWord
-span_from p class cs = record { kind = Class class; lex = encode_utf8_all (prefix_in p cs); rest = back_of p cs }
+span_from p class cs = record { kind = Class class; lex = encode_utf8_all (prefix_in p cs); rest = rest_after p cs }
 
 -- the TEXT with the text `body`, if a quote follows it
 abbrev pub close_quote : List ℕ → List ℕ → Option LeadingWord
@@ -37,7 +37,7 @@ close_quote body (c ∷ cs) = cond (c == 34) (Some (record { kind = Class 2; lex
 
 -- the TEXT whose opening quote has been read
 abbrev pub text_from : List ℕ → Option LeadingWord
-text_from cs = close_quote (encode_utf8_all (prefix_in is_quotable cs)) (back_of is_quotable cs)
+text_from cs = close_quote (encode_utf8_all (prefix_in is_quotable cs)) (rest_after is_quotable cs)
 
 -- whether a class is one of those in use
 abbrev pub uses : List ℕ → ℕ → Bool
@@ -51,11 +51,11 @@ class_from classes (c ∷ cs) =
     (cond (is_ascii_digit c) (cond (uses classes 1) (Some (span_from is_ascii_digit 1 (c ∷ cs))) None) (cond (c == 34) (cond (uses classes 2) (text_from cs) None) None))
 
 -- the specification word of a word of the code
-abbrev pub front_of : lent.LeadingWord → LeadingWord
-front_of f = record { kind = f.kind; lex = f.lex.now; rest = chars f.rest.now }
+abbrev pub leading_word_of : code.LeadingWord → LeadingWord
+leading_word_of f = record { kind = f.kind; lex = f.lex.now; rest = chars f.rest.now }
 
 -- The word is the longest literal at the beginning of the characters.
-pub record CutsLiteral (literals : List (List ℕ)) (cs : List ℕ) (f : LeadingWord) : Type 0 where
+pub record IsLeadingLiteral (literals : List (List ℕ)) (cs : List ℕ) (f : LeadingWord) : Type 0 where
   pub number : ℕ
   pub word : List ℕ
   pub kind : f.kind ≡ Literal number
@@ -65,7 +65,7 @@ pub record CutsLiteral (literals : List (List ℕ)) (cs : List ℕ) (f : Leading
   pub longest : IsLongest (IsLiteral literals) word f.rest
 
 -- The word is the token at the beginning of the characters.
-pub record CutsToken (v : Vocabulary) (cs : List ℕ) (f : LeadingWord) : Type 0 where
+pub record IsLeadingToken (v : Vocabulary) (cs : List ℕ) (f : LeadingWord) : Type 0 where
   pub word : List ℕ
   pub split : cs ≡ word ++ f.rest
   pub token : IsToken v f.kind f.lex word f.rest
@@ -99,7 +99,7 @@ word_from v cs = longer_of (literal_within v.literals cs (length cs)) (class_fro
 abbrev pub tokens_from : Vocabulary → ℕ → ℕ → List ℕ → List Token
 tokens_from v zero at cs = []
 tokens_from v (suc n) at cs =
-    elim (word_from v (without_spaces cs)) [ Some f ↦ record { kind = f.kind; lex = f.lex; at = at + prefix_len is_separator cs } ∷ tokens_from v n (at + (width cs - width f.rest)) f.rest | None ↦ [] ]
+    elim (word_from v (after_separators cs)) [ Some f ↦ record { kind = f.kind; lex = f.lex; at = at + prefix_len is_separator cs } ∷ tokens_from v n (at + (width cs - width f.rest)) f.rest | None ↦ [] ]
 
 -- the tokens of a text
 abbrev pub tokens_in : Vocabulary → List ℕ → List Token

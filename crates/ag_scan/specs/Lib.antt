@@ -1,8 +1,8 @@
 pub mod Cutting
-pub mod Supplied
 pub mod Laws
 pub mod Printed
 pub mod Table
+pub mod TokenReader
 pub mod Tokens
 pub mod Words
 pub mod Worked

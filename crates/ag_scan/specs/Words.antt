@@ -1,5 +1,6 @@
--- The words of a sentence: those of literals and those of classes. All definitions are this project's. In
--- this file a text is the list of its characters.
+-- The words of a sentence: those of literals and those of classes. A word is a part of a sentence; its lex is
+-- the text that a token keeps of it. All definitions are this project's. In this file a word is the list of its
+-- characters, and the text of a literal and a lex are lists of bytes.
 use Rattle.std.specs.Prelude.{◌≡◌, ℕ, zero, suc, ◌≤◌, true, List, [], ◌∷◌, ◌++◌, length, Some, slice_get, encode_utf8_all}
 use Rattle.std.specs.List.{list_all}
 use Rattle.ag_grammar.specs.Lists.{Differ, Each, Has}
@@ -14,12 +15,13 @@ pub record Vocabulary : Type 0 where
   pub literals : List (List ℕ)
   pub classes : List ℕ
 
-abbrev pub over : List (List ℕ) → List ℕ → Vocabulary
-over literals classes = record { literals = literals; classes = classes }
+-- the vocabulary of these literals and classes
+abbrev pub vocabulary : List (List ℕ) → List ℕ → Vocabulary
+vocabulary literals classes = record { literals = literals; classes = classes }
 
 -- the vocabulary of a grammar: its literals and its classes
 abbrev pub vocabulary_of : Grammar → Vocabulary
-vocabulary_of g = over g.literals g.classes
+vocabulary_of g = vocabulary g.literals g.classes
 
 -- The characters are a word of the class (0 is NAME, 1 is NUMBER, 2 is TEXT), and `lex` is its text: for a
 -- TEXT what is between its quotes, else the word itself.
@@ -34,19 +36,19 @@ abbrev pub IsWord : Vocabulary → Terminal → List ℕ → List ℕ → Type 0
 IsWord v (Literal l) word lex = (slice_get v.literals l ≡ Some (encode_utf8_all word)) × (lex ≡ encode_utf8_all word)
 IsWord v (Class c) word lex = Has v.classes c × IsWordOfClass c word lex
 
--- no literal is empty
+-- no literal is the empty text
 abbrev pub HasNoEmpty : List (List ℕ) → Type 0
 HasNoEmpty literals = Each (λ x. 1 ≤ length x) literals
 
--- the characters are a literal,
+-- the characters are the text of a literal
 abbrev pub IsLiteral : List (List ℕ) → List ℕ → Type 0
 IsLiteral literals word = Has literals (encode_utf8_all word)
 
--- or a word of one of the classes,
-abbrev pub IsClassed : List ℕ → List ℕ → Type 0
-IsClassed classes word = (c : ℕ) × (lex : List ℕ) × Has classes c × IsWordOfClass c word lex
+-- the characters are a word of one of the classes
+abbrev pub IsClassWord : List ℕ → List ℕ → Type 0
+IsClassWord classes word = (c : ℕ) × (lex : List ℕ) × Has classes c × IsWordOfClass c word lex
 
--- or of any terminal
+-- the characters are a word of any terminal of the vocabulary
 abbrev pub IsAnyWord : Vocabulary → List ℕ → Type 0
 IsAnyWord v word = (t : Terminal) × (lex : List ℕ) × IsWord v t word lex
 

@@ -3,10 +3,10 @@
 ghost use Rattle.std.specs.Prelude.{◌≡◌, ◌++◌, nat_lt, chars, encode_utf8_all};
 ghost use Rattle.std.specs.Prelude.{option_map, IfOk, IfErr, MatchOption};
 ghost use Rattle.ag_tokens.specs.Tokens.{width};
-ghost use Rattle.ag_scan.specs.Cutting.{front_of, longer_of, CutsLiteral, CutsToken};
+ghost use Rattle.ag_scan.specs.Cutting.{leading_word_of, longer_of, IsLeadingLiteral, IsLeadingToken};
 ghost use Rattle.ag_scan.specs.Table.{IsPrefix};
 ghost use Rattle.ag_scan.specs.Tokens.{IsStopped, TakesToken, Token};
-ghost use Rattle.ag_scan.specs.Words.{BeginsNone, IsAnyWord, IsLiteral, over};
+ghost use Rattle.ag_scan.specs.Words.{BeginsNone, IsAnyWord, IsLiteral, vocabulary};
 
 use crate::fault::ScanFault;
 use crate::literals::Literals;
@@ -29,9 +29,9 @@ fn split_word<'t>(text: &'t str, word: &str) -> (&'t str, &'t str)
 /// Returns the longest literal at the beginning of a text, or `None`.
 #[inline(always)]
 fn leading_literal<'t>(literals: &Literals<'_>, text: &'t str) -> Option<LeadingWord<'t>>
-    ensures { MatchOption (option_map (λ f. front_of f) result)
+    ensures { MatchOption (option_map (λ f. leading_word_of f) result)
         (BeginsNone (IsLiteral literals.now) (chars text.now))
-        (λ f. CutsLiteral literals.now (chars text.now) f) }
+        (λ f. IsLeadingLiteral literals.now (chars text.now) f) }
 {
     let Some(word) = literals.longest(text) else {
         return None;
@@ -59,8 +59,8 @@ fn longer_of<'t>(
     literal: Option<LeadingWord<'t>>,
     class: Option<LeadingWord<'t>>,
 ) -> Option<LeadingWord<'t>>
-    ensures { option_map (λ f. front_of f) result ≡ longer_of
-        (option_map (λ f. front_of f) literal.entry) (option_map (λ f. front_of f) class.entry) }
+    ensures { option_map (λ f. leading_word_of f) result ≡ longer_of
+        (option_map (λ f. leading_word_of f) literal.entry) (option_map (λ f. leading_word_of f) class.entry) }
 {
     let Some(literal) = literal else {
         return class;
@@ -80,8 +80,8 @@ pub fn leading_word<'t>(
     text: &'t str,
 ) -> Option<LeadingWord<'t>>
     ensures { MatchOption result
-        (BeginsNone (IsAnyWord (over literals.now classes.now)) (chars text.now))
-        (λ f. CutsToken (over literals.now classes.now) (chars text.now) (front_of f)) }
+        (BeginsNone (IsAnyWord (vocabulary literals.now classes.now)) (chars text.now))
+        (λ f. IsLeadingToken (vocabulary literals.now classes.now) (chars text.now) (leading_word_of f)) }
 {
     let literal = leading_literal(literals, text);
     longer_of(literal, leading_class(classes, text))
@@ -97,15 +97,15 @@ pub fn after_token<'t>(
     text: &'t str,
     at: usize,
 ) -> Result<&'t str, ScanFault>
-    ensures took { IfOk result (λ rest. (t : Token) × TakesToken (over literals.now classes.now)
+    ensures took { IfOk result (λ rest. (t : Token) × TakesToken (vocabulary literals.now classes.now)
         (chars text.now) at t (chars rest.now)) }
     ensures stopped { IfErr result (λ e.
-        IsStopped (over literals.now classes.now) (chars text.now) at e) }
+        IsStopped (vocabulary literals.now classes.now) (chars text.now) at e) }
 {
-    let Some(prefix) = leading_word(literals, classes, text) else {
+    let Some(word) = leading_word(literals, classes, text) else {
         return Err(ScanFault::NoToken(at));
     };
-    let LeadingWord { lex, rest, .. } = prefix;
+    let LeadingWord { lex, rest, .. } = word;
     if lex.len() > MAX_TOKEN_BYTES {
         return Err(ScanFault::LongToken(at));
     }

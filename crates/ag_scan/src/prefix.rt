@@ -1,4 +1,4 @@
-//! The words of token classes at the beginning of a text.
+//! The word of a token class at the beginning of a text.
 
 ghost use Rattle.std.specs.Prelude.{◌≡◌, ◌∷◌, chars, option_map};
 ghost use Rattle.ag_tokens.specs.Lexing as lexing;
@@ -11,7 +11,7 @@ use ag_tokens::{Class, first, split_after, starts_name};
 /// A word at the beginning of a text.
 #[derive(Clone, Copy, Debug)]
 pub struct LeadingWord<'t> {
-    /// The terminal to which the word belongs.
+    /// The literal or class to which the word belongs.
     pub kind: Terminal,
     /// The text of the word: for a TEXT what is between its quotes, else the word itself.
     pub lex: &'t str,
@@ -22,7 +22,7 @@ pub struct LeadingWord<'t> {
 /// Returns the word of a class that is the longest prefix of the text whose characters belong to
 /// `span`.
 fn leading_span(span: Class, class: u16, text: &str) -> LeadingWord<'_>
-    ensures { cutting.front_of result
+    ensures { cutting.leading_word_of result
         ≡ cutting.span_from (lexing.is_in span) class (chars text.now) }
 {
     let (lex, rest) = split_after(span, text);
@@ -36,7 +36,7 @@ fn leading_span(span: Class, class: u16, text: &str) -> LeadingWord<'_>
 /// Returns the TEXT whose opening quote has been read, or `None` if its closing quote is missing on
 /// this line.
 fn leading_text(text: &str) -> Option<LeadingWord<'_>>
-    ensures { option_map (λ f. cutting.front_of f) result ≡ cutting.text_from (chars text.now) }
+    ensures { option_map (λ f. cutting.leading_word_of f) result ≡ cutting.text_from (chars text.now) }
 {
     let (lex, following) = split_after(Class::Quotable, text);
     match first(following) {
@@ -60,7 +60,7 @@ fn class_begun<'t>(
     text: &'t str,
 ) -> Option<LeadingWord<'t>>
     requires { chars text.now ≡ c ∷ chars following.now }
-    ensures { option_map (λ f. cutting.front_of f) result
+    ensures { option_map (λ f. cutting.leading_word_of f) result
         ≡ cutting.class_from classes.now (chars text.now) }
 {
     if starts_name(c) {
@@ -87,7 +87,7 @@ fn class_begun<'t>(
 #[inline(always)]
 #[tactic(auto, unfolding(crate::specs::Cutting::class_from))]
 fn class_among<'t>(classes: &[u16], text: &'t str) -> Option<LeadingWord<'t>>
-    ensures { option_map (λ f. cutting.front_of f) result
+    ensures { option_map (λ f. cutting.leading_word_of f) result
         ≡ cutting.class_from classes.now (chars text.now) }
 {
     let (c, following) = first(text)?;
@@ -98,7 +98,7 @@ fn class_among<'t>(classes: &[u16], text: &'t str) -> Option<LeadingWord<'t>>
 #[inline(always)]
 #[tactic(auto, unfolding(crate::specs::Cutting::class_from))]
 pub fn leading_class<'t>(classes: &[u16], text: &'t str) -> Option<LeadingWord<'t>>
-    ensures { option_map (λ f. cutting.front_of f) result
+    ensures { option_map (λ f. cutting.leading_word_of f) result
         ≡ cutting.class_from classes.now (chars text.now) }
 {
     if classes.is_empty() {

@@ -3,9 +3,9 @@
 ghost use Rattle.std.specs.Prelude.{◌≡◌, ◌≤◌, length, IfErr, IfOk, OnOk};
 ghost use Rattle.ag_grammar.specs.grammars.Accepted.{max_literals};
 ghost use Rattle.ag_scan.specs.Cutting.{tokens_in};
-ghost use Rattle.ag_scan.specs.Supplied.{supplied};
+ghost use Rattle.ag_scan.specs.TokenReader.{reader_at};
 ghost use Rattle.ag_scan.specs.Tokens.{AreTokensOf, FitAll, IsRefused, max_sentence_bytes};
-ghost use Rattle.ag_scan.specs.Words.{IsClean, over, vocabulary_of};
+ghost use Rattle.ag_scan.specs.Words.{IsClean, vocabulary, vocabulary_of};
 
 use crate::cutting::after_token;
 use crate::fault::ScanFault;
@@ -30,29 +30,29 @@ pub struct Sentence<'s> {
 
 impl<'s> Model for Sentence<'s> {
     ghost use Rattle.std.specs.Prelude.{List};
-    ghost use Rattle.ag_scan.specs.Supplied.{HasTokens};
+    ghost use Rattle.ag_scan.specs.TokenReader.{IsScannable};
     ghost use Rattle.ag_scan.specs.Cutting.{tokens_in};
     ghost use Rattle.ag_scan.specs.Tokens.{Token};
-    ghost use Rattle.ag_scan.specs.Words.{over};
+    ghost use Rattle.ag_scan.specs.Words.{vocabulary};
 
     ghost Value = { List Token };
 
-    ghost view = { λ s. tokens_in (over s.literals s.classes.now) s.text.now };
+    ghost view = { λ s. tokens_in (vocabulary s.literals s.classes.now) s.text.now };
 
-    ghost invariant = { λ s. HasTokens (over s.literals s.classes.now) s.text.now };
+    ghost invariant = { λ s. IsScannable (vocabulary s.literals s.classes.now) s.text.now };
 }
 
 /// Checks that a text of at most 1,048,576 bytes consists of tokens. Fails with S2 or S3 at the
 /// first offset where it does not.
 #[inline(never)]
-fn cut(literals: &Literals<'_>, classes: &[u16], text: &str) -> Result<(), ScanFault>
+fn check_tokens(literals: &Literals<'_>, classes: &[u16], text: &str) -> Result<(), ScanFault>
     requires short { length text.now ≤ max_sentence_bytes }
-    requires clean { IsClean (over literals.now classes.now) }
-    ensures tokens { OnOk result (AreTokensOf (over literals.now classes.now) text.now
-        (tokens_in (over literals.now classes.now) text.now)) }
-    ensures fit { OnOk result (FitAll (over literals.now classes.now)
-        (tokens_in (over literals.now classes.now) text.now)) }
-    ensures refused { IfErr result (λ e. IsRefused (over literals.now classes.now) text.now e) }
+    requires clean { IsClean (vocabulary literals.now classes.now) }
+    ensures tokens { OnOk result (AreTokensOf (vocabulary literals.now classes.now) text.now
+        (tokens_in (vocabulary literals.now classes.now) text.now)) }
+    ensures fit { OnOk result (FitAll (vocabulary literals.now classes.now)
+        (tokens_in (vocabulary literals.now classes.now) text.now)) }
+    ensures refused { IfErr result (λ e. IsRefused (vocabulary literals.now classes.now) text.now e) }
 {
     let mut rest = skip_separators(text);
     while !rest.is_empty() {
@@ -74,12 +74,12 @@ fn scan_over<'s>(
     sentence: &'s [u8],
 ) -> Result<Sentence<'s>, ScanFault>
     requires many { length literals.now ≤ max_literals }
-    requires clean { IsClean (over literals.now classes.now) }
+    requires clean { IsClean (vocabulary literals.now classes.now) }
     ensures tokens { IfOk result (λ ts.
-        AreTokensOf (over literals.now classes.now) sentence.now ts) }
-    ensures fit { IfOk result (λ ts. FitAll (over literals.now classes.now) ts) }
+        AreTokensOf (vocabulary literals.now classes.now) sentence.now ts) }
+    ensures fit { IfOk result (λ ts. FitAll (vocabulary literals.now classes.now) ts) }
     ensures refused { IfErr result (λ e.
-        IsRefused (over literals.now classes.now) sentence.now e) }
+        IsRefused (vocabulary literals.now classes.now) sentence.now e) }
 {
     if sentence.len() > MAX_TEXT_BYTES {
         return Err(ScanFault::TooLong);
@@ -89,7 +89,7 @@ fn scan_over<'s>(
         Err(error) => return Err(ScanFault::BadUtf8(error.valid_up_to())),
     };
     let literals = Literals::new(alloc, literals)?;
-    cut(&literals, classes, text)?;
+    check_tokens(&literals, classes, text)?;
     Ok(Sentence::new(literals, classes, text))
 }
 
@@ -115,10 +115,10 @@ pub fn scan<'s>(
 impl<'s> Sentence<'s> {
     /// Makes the sentence of a text that has tokens.
     fn new(literals: Literals<'s>, classes: &'s [u16], text: &'s str) -> Sentence<'s>
-        requires clean { IsClean (over literals classes.now) }
-        requires tokens { AreTokensOf (over literals classes.now) text.now
-            (tokens_in (over literals classes.now) text.now) }
-        ensures { result ≡ tokens_in (over literals.entry classes.now) text.now }
+        requires clean { IsClean (vocabulary literals classes.now) }
+        requires tokens { AreTokensOf (vocabulary literals classes.now) text.now
+            (tokens_in (vocabulary literals classes.now) text.now) }
+        ensures { result ≡ tokens_in (vocabulary literals.entry classes.now) text.now }
     {
         Sentence {
             literals,
@@ -129,7 +129,7 @@ impl<'s> Sentence<'s> {
 
     /// Returns a reader of the tokens, positioned at the first one. Does not allocate.
     pub fn tokens(&self) -> Tokens<'_>
-        ensures { result ≡ supplied self.now 0 }
+        ensures { result ≡ reader_at self.now 0 }
     {
         Tokens::new(&self.literals, self.classes, self.text)
     }

@@ -5,28 +5,28 @@ ghost use Rattle.ag_grammar.specs.Lists.{Each};
 ghost use Rattle.ag_grammar.specs.grammars.Accepted.{max_literals};
 ghost use Rattle.ag_scan.specs.Table.{AreCovered, with_one};
 
-use crate::literals::Word;
+use crate::literals::LiteralEntry;
 use ag_value::NoMemory;
 use std::alloc::Global;
 
-/// The words that begin with a byte.
+/// The entries of the table of literals whose texts begin with a byte.
 #[derive(Clone, Copy, Debug, PartialEq, Eq)]
-pub enum StartingWords {
-    /// None.
+pub enum StartingLiterals {
+    /// No entry.
     Nothing,
-    /// Only the one with this index.
+    /// Only the entry with this index.
     Sole(u16),
-    /// Several.
+    /// Several entries.
     Several,
 }
 
-/// Returns the entry of a byte after one more word, with this index, that begins with it.
-fn with_one(start: StartingWords, index: u16) -> StartingWords
+/// Adds an entry, with this index, to those that begin with a byte.
+fn with_one(start: StartingLiterals, index: u16) -> StartingLiterals
     ensures { result ≡ with_one start index }
 {
     match start {
-        StartingWords::Nothing => StartingWords::Sole(index),
-        _ => StartingWords::Several,
+        StartingLiterals::Nothing => StartingLiterals::Sole(index),
+        _ => StartingLiterals::Several,
     }
 }
 
@@ -39,16 +39,19 @@ pub fn first_byte(text: &str) -> u8
     text.as_bytes()[0]
 }
 
-/// Returns a table of the words that begin with each byte. Fails with `NoMemory` if its 256 entries
-/// cannot be allocated.
-pub fn starts_of(alloc: Global, words: &[Word<'_>]) -> Result<Vec<StartingWords>, NoMemory>
-    requires many { length words.now ≤ max_literals }
-    requires texts { Each (λ w. 1 ≤ length w.text.now) words.now }
-    ensures { IfOk result (λ s. AreCovered words.now s.items (length words.now)) }
+/// Returns for each of the 256 bytes the entries that begin with it. Fails with `NoMemory` if the
+/// list cannot be allocated.
+pub fn starts_of(
+    alloc: Global,
+    entries: &[LiteralEntry<'_>],
+) -> Result<Vec<StartingLiterals>, NoMemory>
+    requires many { length entries.now ≤ max_literals }
+    requires texts { Each (λ w. 1 ≤ length w.text.now) entries.now }
+    ensures { IfOk result (λ s. AreCovered entries.now s.items (length entries.now)) }
 {
-    let mut starts = vec![in alloc; StartingWords::Nothing; 256]?;
-    for index in 0..words.len() {
-        let first = first_byte(words[index].text) as usize;
+    let mut starts = vec![in alloc; StartingLiterals::Nothing; 256]?;
+    for index in 0..entries.len() {
+        let first = first_byte(entries[index].text) as usize;
         let start = starts[first];
         starts[first] = with_one(start, index as u16);
     }

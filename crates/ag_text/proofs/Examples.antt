@@ -10,7 +10,7 @@ use Rattle.ag_tokens.specs.PlacedToken.{PlacedToken, Input}
 use Rattle.ag_expr.specs.language.Reading.{expr_of, expr_in, whole_from, ranked_from, chain_from, atom_from}
 use Rattle.ag_tokens.specs.Parsing.{many_from}
 use Rattle.ag_tokens.specs.Tokens.{Lexes}
-use Rattle.ag_tokens.specs.Left.{cut}
+use Rattle.ag_tokens.specs.Remaining.{cut}
 use Rattle.ag_tokens.proofs.Lexes.{cut_at, lexed, one_input}
 use Rattle.ag_text.specs.Grammar.{ReadsAsGrammar, ReadsAsNone}
 use Rattle.ag_text.specs.Reading.{next_name_from, names_from, section_from, attributes_from, symbol_from, ended_expr_from, rule_from, production_from, grammar_from, grammar_of}

@@ -23,9 +23,9 @@ use Rattle.ag_expr.specs.language.Until.{Ended, semicolon, after_semicolon, firs
 use Rattle.ag_text.specs.Reading.{ended, ended_expr_from}
 use Rattle.ag_text.specs.declared.stop.Stop.{Stop}
 use Rattle.ag_text.specs.declared.stop.Stop.TheVariants.{NoMemory}
-use Rattle.ag_text.specs.Passing.{stop_of}
+use Rattle.ag_text.specs.ParserContract.{stop_of}
 use Rattle.ag_text.specs.Syntax.{IsOwnExpr, IsEndedExpr}
-use Rattle.ag_text.specs.Words.{is_mark}
+use Rattle.ag_text.specs.Meanings.{is_mark}
 use Rattle.ag_expr.proofs.reading.Exact.{before}
 use Rattle.ag_text.proofs.Manner.{Exact, Steady, itself, manner}
 

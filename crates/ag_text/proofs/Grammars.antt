@@ -15,10 +15,10 @@ use Rattle.ag_grammar.specs.declared.raw.RawItem.{RawItem}
 use Rattle.ag_grammar.specs.declared.raw.RawItem.TheVariants as item
 use Rattle.ag_grammar.specs.declared.raw.RawSymbol.{RawSymbol}
 use Rattle.ag_text.specs.Reading.{many, expect, expect_word, one_from, is_other_than, is_any, next_name_from, names_from, section_from, attributes_from, symbol_from, rule_from, production_from, grammar_from}
-use Rattle.ag_tokens.specs.Words as spelling
-use Rattle.ag_tokens.specs.Words.{gives, Many, further}
+use Rattle.ag_tokens.specs.Languages as spelling
+use Rattle.ag_tokens.specs.Languages.{gives, Many, further}
 use Rattle.ag_text.specs.Syntax.{one, mark, word, IsFurther, IsNames, IsSection, IsAttributes, IsSymbol, IsRule, IsProduction, IsGrammar}
-use Rattle.ag_text.specs.Words.{some_where, is_mark, is_word, is_reserved, mark_in, word_in, name_in, item_in, target_in}
+use Rattle.ag_text.specs.Meanings.{some_if, is_mark, is_word, is_reserved, mark_in, word_in, name_in, item_in, target_in}
 use Rattle.ag_expr.proofs.reading.Exact.{Apart, Before, ends_exact, first_is, further_exact, many_exact, many_leads, maybe_exact, maybe_starts, nowhere, any_then, start_then, then_exact, then_starts, shortens}
 use Rattle.ag_expr.proofs.reading.Steady.{Shortens, ends_steady, further_steady, many_steady, or_steady, pure_steady, then_steady}
 use Rattle.ag_text.proofs.Expressions.{ended_exact, ended_steady}
@@ -26,7 +26,7 @@ use Rattle.ag_text.proofs.Manner.{Exact, Starts, Steady, manner, token_exact, to
 
 -- ---- the meaning of one token
 
-held : {A : Type 0} (b : Bool) (x a : A) → some_where b x ≡ Some a → b ≡ true
+held : {A : Type 0} (b : Bool) (x a : A) → some_if b x ≡ Some a → b ≡ true
 held b x a h = grind arith
 
 abbrev is_comma : GrammarToken → Bool

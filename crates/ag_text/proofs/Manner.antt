@@ -6,7 +6,7 @@ use Rattle.ag_expr.proofs.reading.Exact as theory
 use Rattle.ag_expr.proofs.reading.Exact.{Manner, one_exact, one_starts}
 use Rattle.ag_expr.proofs.reading.Steady as steady
 use Rattle.ag_expr.proofs.reading.Steady.{one_steady}
-use Rattle.ag_text.specs.Reading.{Parser, one_from, wrong}
+use Rattle.ag_text.specs.Reading.{Parser, one_from, refusal}
 use Rattle.ag_text.specs.Syntax.{one}
 use Rattle.ag_text.specs.declared.stop.Stop.{Stop}
 use Rattle.ag_text.specs.declared.stop.Stop.TheVariants.{WrongAt}
@@ -17,7 +17,7 @@ is_reported (WrongAt at) = true
 is_reported _ = false
 
 abbrev pub manner : Manner PlacedToken Stop
-manner = record { item = λ p. p; wrong = wrong; is_reported = is_reported; is_deep = λ f p. false }
+manner = record { item = λ p. p; wrong = refusal; is_reported = is_reported; is_deep = λ f p. false }
 
 pub itself : (ps : List PlacedToken) → map (λ p. p) ps ≡ ps
 itself [] = refl

@@ -29,11 +29,13 @@ abbrev pub expr_fault : ExprFault → TextFault
 expr_fault expr.NoMemory = fault.NoMemory
 expr_fault f = fault.Expr f
 
+-- the fault of a text for a fault of the parser
 abbrev pub fault_of : List ℕ → Stop → TextFault
 fault_of text (stop.WrongAt at) = fault.Unexpected (line_of text at) at
 fault_of text (stop.InExpr f) = expr_fault f
 fault_of text stop.NoMemory = fault.NoMemory
 
+-- the answer for a text: the value of the parser's result, or the fault of the text
 abbrev pub answer_of : List ℕ → Outcome RawGrammar → Result RawGrammar TextFault
 answer_of text (Ok p) = Ok p.0
 answer_of text (Err s) = Err (fault_of text s)

@@ -1,10 +1,10 @@
 pub mod Answers
 pub mod Grammar
 pub mod Laws
-pub mod Passing
+pub mod Meanings
 pub mod Offsets
+pub mod ParserContract
 pub mod Printed
 pub mod Reading
 pub mod Syntax
-pub mod Words
 pub mod Worked

@@ -4,7 +4,7 @@ use Rattle.ag_tokens.specs.Ending.{Ending}
 use Rattle.ag_tokens.specs.Ending as ending
 use Rattle.ag_tokens.specs.PlacedToken.{PlacedToken, Input}
 use Rattle.ag_grammar.specs.declared.raw.RawGrammar.{RawGrammar}
-use Rattle.ag_tokens.specs.Parsing.{front_offset}
+use Rattle.ag_tokens.specs.Parsing.{first_offset}
 use Rattle.ag_text.specs.Syntax.{IsGrammar}
 
 -- the tokens are a prefix of the text of a grammar
@@ -23,5 +23,5 @@ pub record IsFirstWrong (i : Input) (at : ℕ) : Type 0 where
   pub rest : List PlacedToken
   pub cut : i.left ≡ before ++ rest
   pub start : Begins before
-  pub says : at ≡ front_offset i.ending rest
+  pub says : at ≡ first_offset i.ending rest
   pub none : NoneGoesOn before i.ending rest

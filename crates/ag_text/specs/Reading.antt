@@ -19,7 +19,7 @@ use Rattle.ag_grammar.specs.declared.raw.RawRule.{RawRule}
 use Rattle.ag_grammar.specs.declared.raw.RawSymbol.{RawSymbol}
 use Rattle.ag_text.specs.declared.stop.Stop.{Stop}
 use Rattle.ag_text.specs.declared.stop.Stop.TheVariants.{WrongAt, InExpr}
-use Rattle.ag_text.specs.Words.{is_mark, is_word, mark_in, word_in, name_in, item_in, target_in}
+use Rattle.ag_text.specs.Meanings.{is_mark, is_word, mark_in, word_in, name_in, item_in, target_in}
 
 -- ---- parsers
 
@@ -30,11 +30,12 @@ abbrev pub Parser : Type 0 → Type 0
 Parser = parsing.Parser Stop
 
 -- the fault for a token that cannot be accepted: its offset
-abbrev pub wrong : Input → Stop
-wrong i = WrongAt (offset i)
+abbrev pub refusal : Input → Stop
+refusal i = WrongAt (offset i)
 
+-- reads one token, and returns its meaning at its offset
 abbrev pub one_from : {A : Type 0} → (ℕ → GrammarToken → Option A) → Parser A
-one_from = parsing.one_from wrong
+one_from = parsing.one_from refusal
 
 -- as many parts as there are
 abbrev pub many : {A : Type 0} → (GrammarToken → Bool) → Parser A → List A → Parser (List A)
@@ -58,6 +59,7 @@ expect m = one_from (mark_in m)
 abbrev pub expect_word : List ℕ → Parser (Unit {0})
 expect_word w = one_from (word_in w)
 
+-- a comma and a name
 unfoldable pub next_name_from : Parser Named
 next_name_from = do
   expect punctuation.Comma
@@ -68,11 +70,13 @@ names_from = do
   first ← one_from name_in
   many (is_mark punctuation.Comma) next_name_from (first ∷ [])
 
+-- the word `w` (`syn` or `inh`) and the names after it
 unfoldable pub section_from : List ℕ → Parser (List Named)
 section_from w = do
   expect_word w
   names_from
 
+-- the same, or no names if the next token is another one
 unfoldable pub attributes_from : List ℕ → Parser (List Named)
 attributes_from w = choose (is_word w) (section_from w) (pure [])
 
@@ -132,8 +136,9 @@ grammar_from = do
 -- ---- a whole text
 
 abbrev pub at_end : Parser (Unit {0})
-at_end = end_from wrong
+at_end = end_from refusal
 
+-- a grammar, and then the end of the text
 unfoldable pub grammar_of : Parser RawGrammar
 grammar_of = do
   g ← grammar_from

@@ -15,13 +15,13 @@ use Rattle.ag_grammar.specs.declared.raw.RawProduction.{RawProduction}
 use Rattle.ag_grammar.specs.declared.raw.RawRule.{RawRule}
 use Rattle.ag_grammar.specs.declared.raw.RawSymbol.{RawSymbol}
 use Rattle.ag_tokens.specs.GrammarToken.{GrammarToken}
-use Rattle.ag_tokens.specs.Words as words
-use Rattle.ag_tokens.specs.Words.{◌>>=◌, ◌>>◌, gives, ◌or◌, Many, further}
-use Rattle.ag_text.specs.Words.{mark_in, word_in, name_in, item_in, target_in}
+use Rattle.ag_tokens.specs.Languages as languages
+use Rattle.ag_tokens.specs.Languages.{◌>>=◌, ◌>>◌, gives, ◌or◌, Many, further}
+use Rattle.ag_text.specs.Meanings.{mark_in, word_in, name_in, item_in, target_in}
 
 -- one token with its meaning at its offset
 abbrev pub one : {A : Type 0} → (ℕ → GrammarToken → Option A) → List PlacedToken → A → Type 0
-one sign = words.one (λ p. sign p.at p.token)
+one sign = languages.one (λ p. sign p.at p.token)
 
 abbrev pub mark : Punctuation → List PlacedToken → Unit {0} → Type 0
 mark m = one (mark_in m)

@@ -11,6 +11,7 @@ use Rattle.ag_grammar.specs.declared.raw.RawGrammar.{RawGrammar}
 use Rattle.ag_grammar.specs.declared.raw.RawItem.TheVariants as item
 use Rattle.ag_grammar.specs.declared.raw.RawRule.{RawRule}
 
+-- a name and punctuation at an offset, as tokens
 abbrev pub name_at : ℕ → List ℕ → PlacedToken
 name_at at name = record { at = at; token = token.Name name }
 

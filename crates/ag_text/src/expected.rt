@@ -73,7 +73,7 @@ fn gather_outside(alloc: Global, before: &str, found: &mut Vec<Expected>) -> Res
 /// Returns what could be at a byte offset inside an expression.
 fn expected_inside(alloc: Global, text: &str, at: usize) -> Result<Vec<Expected>, NoMemory> {
     let mut found = Vec::new(alloc);
-    let from = expression_prefix(text, at);
+    let from = expression_start(text, at);
     let Some(expression) = text.get(from..) else {
         return Ok(found);
     };
@@ -89,9 +89,9 @@ fn expected_inside(alloc: Global, text: &str, at: usize) -> Result<Vec<Expected>
 
 /// Returns the byte offset at which the expression around the offset `at` begins: after the last
 /// `=` before `at` that follows an occurrence. Inside an expression no `=` follows an occurrence.
-fn expression_prefix(text: &str, at: usize) -> usize {
+fn expression_start(text: &str, at: usize) -> usize {
     let mut cursor = Cursor::new(text);
-    let mut prefix = 0usize;
+    let mut start = 0usize;
     let mut after_occurrence = false;
     for _ in 0..text.len() {
         if cursor.offset() >= at {
@@ -102,11 +102,11 @@ fn expression_prefix(text: &str, at: usize) -> usize {
         };
         cursor.bump();
         if after_occurrence && token == GrammarToken::Punctuation(Punctuation::Equal) {
-            prefix = cursor.offset();
+            start = cursor.offset();
         }
         after_occurrence = matches!(token, GrammarToken::Occurrence(..));
     }
-    prefix
+    start
 }
 
 /// Returns whether `token` could follow `before`: whether the parser does not reject the token

@@ -16,7 +16,7 @@ use ag_grammar::limits::MAX_TEXT_BYTES;
 use ag_tokens::Cursor;
 use std::alloc::Global;
 
-/// Returns the number of line feeds.
+/// Returns the number of line feeds among the bytes.
 fn line_feeds(bytes: &[u8]) -> usize
     ensures { result ≡ answers.line_feeds bytes.now }
 {
@@ -29,7 +29,7 @@ fn line_feeds(bytes: &[u8]) -> usize
     count
 }
 
-/// Returns the number of the line, from 1, at a byte offset.
+/// Returns the number, from 1, of the line that contains a byte offset.
 fn line_of(text: &str, at: usize) -> usize
     ensures { result ≡ answers.line_of text.now at }
 {

@@ -1,17 +1,18 @@
-//! The parser of grammars: one function for each rule of the syntax.
+//! The parser of grammars: one function for each rule of the syntax. All fail with `Stop::WrongAt` at the
+//! first token that cannot be accepted, with `Stop::InExpr` in an expression, and with `NoMemory`.
 
 ghost use Rattle.std.specs.Prelude.{◌≡◌, [], Bool, codes};
 ghost use Rattle.ag_tokens.specs.Parsing.{sees};
 ghost use Rattle.ag_tokens.specs.declared.token.Punctuation.TheVariants as punctuation;
 ghost use Rattle.ag_expr.proofs.reading.Steady.{Shortens};
-ghost use Rattle.ag_text.specs.Passing.{Reads};
+ghost use Rattle.ag_text.specs.ParserContract.{Reads};
 ghost use Rattle.ag_text.specs.Reading as reading;
-ghost use Rattle.ag_text.specs.Words as words;
+ghost use Rattle.ag_text.specs.Meanings as meanings;
 
 use crate::reader::ended_expr;
 use crate::stop::Stop;
 use crate::tokens::{
-    end, expect, expect_word, item, name, sees_any, sees_mark, sees_other, sees_word, target,
+    expect, expect_end, expect_word, item, name, sees_any, sees_mark, sees_other, sees_word, target,
 };
 use ag_grammar::{Named, RawGrammar, RawItem, RawProduction, RawRule, RawSymbol};
 use ag_tokens::{Cursor, Punctuation};
@@ -20,7 +21,7 @@ use std::alloc::Global;
 
 /// Parses a comma and a name.
 #[tactic(auto, unfolding(crate::specs::Reading::next_name_from))]
-fn further(alloc: Global, cursor: &mut Cursor<'_>) -> Result<Named, Stop>
+fn next_name(alloc: Global, cursor: &mut Cursor<'_>) -> Result<Named, Stop>
     ensures { Reads reading.next_name_from cursor.old result cursor.new }
 {
     expect(cursor, Punctuation::Comma)?;
@@ -36,7 +37,7 @@ fn names(alloc: Global, cursor: &mut Cursor<'_>) -> Result<Items<Named>, Stop>
     let first = name(alloc, cursor)?;
     names.push(first)?;
     while sees_mark(cursor, Punctuation::Comma) {
-        let further = further(alloc, cursor)?;
+        let further = next_name(alloc, cursor)?;
         names.push(further)?;
     }
     Ok(Items::from_vec(names))
@@ -63,7 +64,7 @@ trait Repeated: Sized {
     /// The tokens that begin another part.
     ghost begins: { GrammarToken → Bool };
 
-    /// The plain parser of one part.
+    /// The specification's parser of one part.
     ghost part: { Parser Self };
 
     /// Returns whether the next token begins another part.
@@ -71,20 +72,20 @@ trait Repeated: Sized {
         ensures { result ≡ sees begins cursor.now };
 
     /// Parses one part.
-    fn pass(alloc: Global, cursor: &mut Cursor<'_>) -> Result<Self, Stop>
+    fn parse(alloc: Global, cursor: &mut Cursor<'_>) -> Result<Self, Stop>
         ensures { Reads part cursor.old result cursor.new };
 }
 
 /// Parses parts as long as the next token begins another one.
 #[tactic(auto, using(crate::proofs::Turns::looped))]
 fn parts<P: Repeated + Drop>(alloc: Global, cursor: &mut Cursor<'_>) -> Result<Items<P>, Stop>
-    // each part takes at least one token
+    // each part has at least one token
     requires { Shortens P.part }
     ensures { Reads (reading.many P.begins P.part []) cursor.old result cursor.new }
 {
     let mut parts = Vec::new(alloc);
     while P::occurs(cursor) {
-        let part = P::pass(alloc, cursor)?;
+        let part = P::parse(alloc, cursor)?;
         parts.push(part)?;
     }
     Ok(Items::from_vec(parts))
@@ -92,7 +93,7 @@ fn parts<P: Repeated + Drop>(alloc: Global, cursor: &mut Cursor<'_>) -> Result<I
 
 /// The declaration of a symbol.
 impl Repeated for RawSymbol {
-    ghost begins = { words.is_word (codes "symbol") };
+    ghost begins = { meanings.is_word (codes "symbol") };
 
     ghost part = { reading.symbol_from };
 
@@ -101,7 +102,7 @@ impl Repeated for RawSymbol {
     }
 
     #[tactic(auto, unfolding(crate::specs::Reading::symbol_from))]
-    fn pass(alloc: Global, cursor: &mut Cursor<'_>) -> Result<RawSymbol, Stop> {
+    fn parse(alloc: Global, cursor: &mut Cursor<'_>) -> Result<RawSymbol, Stop> {
         expect_word(cursor, "symbol")?;
         let name = name(alloc, cursor)?;
         let syn = attributes(alloc, cursor, "syn")?;
@@ -115,13 +116,13 @@ impl Repeated for RawSymbol {
 impl Repeated for RawItem {
     ghost begins = { reading.is_other_than punctuation.OpenTable };
 
-    ghost part = { reading.one_from words.item_in };
+    ghost part = { reading.one_from meanings.item_in };
 
     fn occurs(cursor: &Cursor<'_>) -> bool {
         sees_other(cursor, Punctuation::OpenTable)
     }
 
-    fn pass(alloc: Global, cursor: &mut Cursor<'_>) -> Result<RawItem, Stop> {
+    fn parse(alloc: Global, cursor: &mut Cursor<'_>) -> Result<RawItem, Stop> {
         item(alloc, cursor)
     }
 }
@@ -137,7 +138,7 @@ impl Repeated for RawRule {
     }
 
     #[tactic(auto, unfolding(crate::specs::Reading::rule_from))]
-    fn pass(alloc: Global, cursor: &mut Cursor<'_>) -> Result<RawRule, Stop> {
+    fn parse(alloc: Global, cursor: &mut Cursor<'_>) -> Result<RawRule, Stop> {
         let target = target(alloc, cursor)?;
         expect(cursor, Punctuation::Equal)?;
         let expr = ended_expr(alloc, cursor)?;
@@ -156,7 +157,7 @@ impl Repeated for RawProduction {
     }
 
     #[tactic(auto, using(crate::proofs::Grammars::item_shortens, crate::proofs::Grammars::rule_shortens), unfolding(crate::specs::Reading::production_from))]
-    fn pass(alloc: Global, cursor: &mut Cursor<'_>) -> Result<RawProduction, Stop> {
+    fn parse(alloc: Global, cursor: &mut Cursor<'_>) -> Result<RawProduction, Stop> {
         let left = name(alloc, cursor)?;
         expect(cursor, Punctuation::Equal)?;
         let items = parts(alloc, cursor)?;
@@ -190,6 +191,6 @@ pub fn whole_grammar(alloc: Global, cursor: &mut Cursor<'_>) -> Result<RawGramma
     ensures { Reads reading.grammar_of cursor.old result cursor.new }
 {
     let grammar = grammar(alloc, cursor)?;
-    end(cursor)?;
+    expect_end(cursor)?;
     Ok(grammar)
 }

@@ -1,7 +1,7 @@
 //! The faults of the parser of grammars.
 
 ghost use Rattle.std.specs.Prelude.{◌≡◌};
-ghost use Rattle.ag_text.specs.Passing.{stop_of};
+ghost use Rattle.ag_text.specs.ParserContract.{stop_of};
 ghost use Rattle.ag_text.specs.declared.stop.Stop.TheVariants as stop;
 
 use ag_expr::ExprFault;

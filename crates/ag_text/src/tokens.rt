@@ -6,9 +6,9 @@ ghost use Rattle.ag_tokens.specs.Lexing.{token_of, unescaped as unescaped_bytes}
 ghost use Rattle.ag_tokens.specs.Parsing.{offset, sees};
 ghost use Rattle.ag_tokens.specs.GrammarToken as token;
 ghost use Rattle.ag_tokens.specs.Tokens.{is_separator};
-ghost use Rattle.ag_text.specs.Passing.{Reads};
+ghost use Rattle.ag_text.specs.ParserContract.{Reads};
 ghost use Rattle.ag_text.specs.Reading as reading;
-ghost use Rattle.ag_text.specs.Words as words;
+ghost use Rattle.ag_text.specs.Meanings as meanings;
 ghost use Rattle.ag_text.specs.declared.stop.Stop.TheVariants as stop;
 
 use crate::stop::Stop;
@@ -20,7 +20,7 @@ use std::alloc::Global;
 
 /// Returns whether a name is reserved in a grammar's text.
 fn is_reserved(name: &str) -> bool
-    ensures { result ≡ words.is_reserved name.now }
+    ensures { result ≡ meanings.is_reserved name.now }
 {
     name == "start"
         || name == "symbol"
@@ -32,7 +32,7 @@ fn is_reserved(name: &str) -> bool
 }
 
 /// Returns the fault for the next token, or for the place where the tokens end.
-pub fn wrong(cursor: &Cursor<'_>) -> Stop
+pub fn refusal(cursor: &Cursor<'_>) -> Stop
     ensures { result ≡ stop.WrongAt (offset cursor.now) }
 {
     Stop::WrongAt(cursor.offset())
@@ -40,7 +40,7 @@ pub fn wrong(cursor: &Cursor<'_>) -> Stop
 
 /// Returns whether the next token is this punctuation.
 pub fn sees_mark(cursor: &Cursor<'_>, mark: Punctuation) -> bool
-    ensures { result ≡ sees (words.is_mark mark) cursor.now }
+    ensures { result ≡ sees (meanings.is_mark mark) cursor.now }
 {
     match cursor.peek() {
         Some(token) => is_mark(mark, token),
@@ -50,7 +50,7 @@ pub fn sees_mark(cursor: &Cursor<'_>, mark: Punctuation) -> bool
 
 /// Returns whether the next token is this reserved name.
 pub fn sees_word(cursor: &Cursor<'_>, word: &str) -> bool
-    ensures { result ≡ sees (words.is_word word.now) cursor.now }
+    ensures { result ≡ sees (meanings.is_word word.now) cursor.now }
 {
     match cursor.peek() {
         Some(token) => is_word(word, token),
@@ -75,7 +75,7 @@ pub fn sees_any(cursor: &Cursor<'_>) -> bool
     cursor.peek().is_some()
 }
 
-/// Reads this punctuation. Fails with `wrong` if the next token is another one.
+/// Reads this punctuation. Fails with `refusal` if the next token is another one.
 pub fn expect(cursor: &mut Cursor<'_>, mark: Punctuation) -> Result<(), Stop>
     ensures { Reads (reading.expect mark) cursor.old result cursor.new }
 {
@@ -84,11 +84,11 @@ pub fn expect(cursor: &mut Cursor<'_>, mark: Punctuation) -> Result<(), Stop>
             cursor.bump();
             Ok(())
         }
-        _ => Err(wrong(cursor)),
+        _ => Err(refusal(cursor)),
     }
 }
 
-/// Reads this reserved name. Fails with `wrong` if the next token is another one.
+/// Reads this reserved name. Fails with `refusal` if the next token is another one.
 pub fn expect_word(cursor: &mut Cursor<'_>, word: &str) -> Result<(), Stop>
     ensures { Reads (reading.expect_word word.now) cursor.old result cursor.new }
 {
@@ -97,35 +97,36 @@ pub fn expect_word(cursor: &mut Cursor<'_>, word: &str) -> Result<(), Stop>
             cursor.bump();
             Ok(())
         }
-        _ => Err(wrong(cursor)),
+        _ => Err(refusal(cursor)),
     }
 }
 
-/// Returns a copy of a text. Fails with `NoMemory` if the copy cannot be allocated.
-fn copied(alloc: Global, text: &str) -> Result<Text, NoMemory>
+/// Returns a copy of a text. Fails with `NoMemory`.
+fn copy_of(alloc: Global, text: &str) -> Result<Text, NoMemory>
     ensures { IfOk result (λ copy. copy ≡ text.now) }
 {
     Ok(Text::from_string(String::from_str(alloc, text)?))
 }
 
-/// Reads a name that is not reserved. Fails with `wrong` if the next token is another one.
+/// Reads a name that is not reserved, and returns it with its offset. Fails with `refusal` if the next
+/// token is another one.
 pub fn name(alloc: Global, cursor: &mut Cursor<'_>) -> Result<Named, Stop>
-    ensures { Reads (reading.one_from words.name_in) cursor.old result cursor.new }
+    ensures { Reads (reading.one_from meanings.name_in) cursor.old result cursor.new }
 {
     match cursor.peek() {
         Some(GrammarToken::Name(name)) if !is_reserved(name) => {
             let at = cursor.offset();
-            let name = copied(alloc, name)?;
+            let name = copy_of(alloc, name)?;
             cursor.bump();
             Ok(Named { name, at })
         }
-        _ => Err(wrong(cursor)),
+        _ => Err(refusal(cursor)),
     }
 }
 
 /// Returns the token class with this reserved name, or `None`.
 fn class(name: &str) -> Option<u16>
-    ensures { result ≡ words.class_of name.now }
+    ensures { result ≡ meanings.class_of name.now }
 {
     if name == "NAME" {
         Some(NAME)
@@ -153,15 +154,16 @@ fn has_separator(bytes: &[u8]) -> bool
 
 /// Returns whether a text can be a literal: it is not empty and contains no separator.
 fn is_literal(text: &str) -> bool
-    ensures { result ≡ words.is_literal text.now }
+    ensures { result ≡ meanings.is_literal text.now }
 {
     !text.is_empty() && !has_separator(text.as_bytes())
 }
 
-/// Returns the literal for the body of a text literal, or `None` if its text cannot be a literal.
+/// Returns the item for the body of a text literal in a right side, or `None` if its text is empty or
+/// contains a separator.
 fn literal(alloc: Global, body: &str) -> Result<Option<RawItem>, NoMemory>
     ensures { IfOk result (λ found. found
-        ≡ words.literal_of (unescaped_bytes (chars body.now))) }
+        ≡ meanings.literal_of (unescaped_bytes (chars body.now))) }
 {
     let text = unescaped(alloc, body)?;
     if is_literal(text.as_str()) {
@@ -172,7 +174,7 @@ fn literal(alloc: Global, body: &str) -> Result<Option<RawItem>, NoMemory>
 
 /// Returns the item for a name: a class or a symbol's name; `None` for another reserved name.
 fn named_item(alloc: Global, name: &str, at: usize) -> Result<Option<RawItem>, NoMemory>
-    ensures { IfOk result (λ found. found ≡ words.item_in at (token.Name name.now)) }
+    ensures { IfOk result (λ found. found ≡ meanings.item_in at (token.Name name.now)) }
 {
     if let Some(class) = class(name) {
         return Ok(Some(RawItem::Class(class)));
@@ -180,13 +182,13 @@ fn named_item(alloc: Global, name: &str, at: usize) -> Result<Option<RawItem>, N
     if is_reserved(name) {
         return Ok(None);
     }
-    let name = copied(alloc, name)?;
+    let name = copy_of(alloc, name)?;
     Ok(Some(RawItem::Name(Named { name, at })))
 }
 
 /// Returns the item of a right side for a token, or `None` if the token cannot be one.
 fn item_of(alloc: Global, token: GrammarToken<'_>, at: usize) -> Result<Option<RawItem>, NoMemory>
-    ensures { IfOk result (λ found. found ≡ words.item_in at (token_of token.entry)) }
+    ensures { IfOk result (λ found. found ≡ meanings.item_in at (token_of token.entry)) }
 {
     match token {
         GrammarToken::Name(name) => named_item(alloc, name, at),
@@ -195,10 +197,10 @@ fn item_of(alloc: Global, token: GrammarToken<'_>, at: usize) -> Result<Option<R
     }
 }
 
-/// Reads an item of a right side: a class, a name or a literal. Fails with `wrong` if the next
+/// Reads an item of a right side: a class, a name or a literal. Fails with `refusal` if the next
 /// token is not one.
 pub fn item(alloc: Global, cursor: &mut Cursor<'_>) -> Result<RawItem, Stop>
-    ensures { Reads (reading.one_from words.item_in) cursor.old result cursor.new }
+    ensures { Reads (reading.one_from meanings.item_in) cursor.old result cursor.new }
 {
     let at = cursor.offset();
     if let Some(token) = cursor.peek() {
@@ -207,30 +209,30 @@ pub fn item(alloc: Global, cursor: &mut Cursor<'_>) -> Result<RawItem, Stop>
             return Ok(item);
         }
     }
-    Err(wrong(cursor))
+    Err(refusal(cursor))
 }
 
-/// Reads an occurrence. Fails with `wrong` if the next token is not one.
+/// Reads the target of a rule, which is an occurrence. Fails with `refusal` if the next token is not one.
 pub fn target(alloc: Global, cursor: &mut Cursor<'_>) -> Result<Occ, Stop>
-    ensures { Reads (reading.one_from words.target_in) cursor.old result cursor.new }
+    ensures { Reads (reading.one_from meanings.target_in) cursor.old result cursor.new }
 {
     match cursor.peek() {
         Some(GrammarToken::Occurrence(place, attr)) => {
             let at = cursor.offset();
-            let attr = copied(alloc, attr)?;
+            let attr = copy_of(alloc, attr)?;
             cursor.bump();
             Ok(Occ { place, attr, at })
         }
-        _ => Err(wrong(cursor)),
+        _ => Err(refusal(cursor)),
     }
 }
 
-/// Checks that the text ends here. Fails with `wrong` if it does not.
-pub fn end(cursor: &mut Cursor<'_>) -> Result<(), Stop>
+/// Checks that the text ends here. Fails with `refusal` if it does not.
+pub fn expect_end(cursor: &mut Cursor<'_>) -> Result<(), Stop>
     ensures { Reads reading.at_end cursor.old result cursor.new }
 {
     if !cursor.is_at_end() {
-        return Err(wrong(cursor));
+        return Err(refusal(cursor));
     }
     Ok(())
 }

@@ -8,7 +8,7 @@ use Rattle.std.proofs.lemmas.Str.{length-encode, encodes-chars}
 use Rattle.ag_tokens.specs.PlacedToken.{PlacedToken}
 use Rattle.ag_tokens.specs.GrammarToken.{GrammarToken}
 use Rattle.ag_tokens.specs.Tokens.{is_separator, width, AreTokens, separator, word}
-use Rattle.ag_tokens.specs.Left.{StartsPlain}
+use Rattle.ag_tokens.specs.Remaining.{BeginsNoSeparator}
 use Rattle.ag_tokens.specs.Lexing.{token_from}
 use Rattle.ag_tokens.proofs.Fronts.{drop_more}
 use Rattle.ag_tokens.proofs.TokenLaws.{token_sound, cut_longest, word_some}
@@ -44,7 +44,7 @@ spaced at (c ∷ cs) ps end rest are = go (is_separator c) refl (spaced (at + 1)
     go false h more = let k : at + 0 ≡ at = omega arith in rw (h, k) at are
     go true h more = let k : at + (1 + prefix_len is_separator cs) ≡ (at + 1) + prefix_len is_separator cs = omega arith in separator at c cs ps end rest h (more (rw (h, k, drop_more) at are))
 
-pub plain_after : (cs : List ℕ) → StartsPlain (drop (prefix_len is_separator cs) cs)
+pub plain_after : (cs : List ℕ) → BeginsNoSeparator (drop (prefix_len is_separator cs) cs)
 plain_after [] = tt
 plain_after (c ∷ cs) = let more = plain_after cs in grind (arith, drop_more)
 

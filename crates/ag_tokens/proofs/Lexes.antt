@@ -6,7 +6,7 @@ use Rattle.std.specs.List.{prefix_len}
 use Rattle.ag_tokens.specs.Ending.{Ending, offset_of}
 use Rattle.ag_tokens.specs.Ending as ending
 use Rattle.ag_tokens.specs.Laws.{OneInput}
-use Rattle.ag_tokens.specs.Left.{StartsPlain, without_spaces, none_left, one_before, ending_at, left_by, cut}
+use Rattle.ag_tokens.specs.Remaining.{BeginsNoSeparator, after_separators, without_tokens, with_token, ending_at, input_by, cut}
 use Rattle.ag_tokens.specs.Lexing.{token_from}
 use Rattle.ag_tokens.specs.PlacedToken.{PlacedToken, Input}
 use Rattle.ag_tokens.specs.GrammarToken.{GrammarToken}
@@ -18,7 +18,7 @@ pub nothing_cut : token_from [] ≡ None
 unfolding token_from
 nothing_cut = refl
 
-pub shorter : (cs : List ℕ) (t : GrammarToken) (rest : List ℕ) → token_from cs ≡ Some (t, rest) → length (without_spaces rest) < length cs
+pub shorter : (cs : List ℕ) (t : GrammarToken) (rest : List ℕ) → token_from cs ≡ Some (t, rest) → length (after_separators rest) < length cs
 shorter cs t rest e = let less = (is_behind cs t rest e).shorter in omega (arith, length-drop (prefix_len is_separator rest) rest)
 
 -- any two numbers of steps that suffice give the same input
@@ -28,15 +28,15 @@ same_cut zero m len cs h k = let bad : ⊥ = omega arith in absurd bad
 same_cut (suc n) zero len cs h k = let bad : ⊥ = omega arith in absurd bad
 same_cut (suc n) (suc m) len cs h k = go (token_from cs) refl (same_cut n m len)
   where
-    go : (o : Option (GrammarToken × List ℕ)) → token_from cs ≡ o → ((ds : List ℕ) → length ds < n → length ds < m → cut n len ds ≡ cut m len ds) → left_by (cut n len) (len - width cs) cs o ≡ left_by (cut m len) (len - width cs) cs o
+    go : (o : Option (GrammarToken × List ℕ)) → token_from cs ≡ o → ((ds : List ℕ) → length ds < n → length ds < m → cut n len ds ≡ cut m len ds) → input_by (cut n len) (len - width cs) cs o ≡ input_by (cut m len) (len - width cs) cs o
     go None e more = refl
-    go (Some p) e more = let less = shorter cs p.0 p.1 e in rw (more (without_spaces p.1) (omega arith) (omega arith)) refl
+    go (Some p) e more = let less = shorter cs p.0 p.1 e in rw (more (after_separators p.1) (omega arith) (omega arith)) refl
 
-none_cut : (at : ℕ) (cs : List ℕ) → StartsPlain cs → token_from cs ≡ None → Lexes at cs (none_left (ending_at at cs))
+none_cut : (at : ℕ) (cs : List ℕ) → BeginsNoSeparator cs → token_from cs ≡ None → Lexes at cs (without_tokens (ending_at at cs))
 none_cut at [] plain e = record { rest = []; before = ended at []; within = refl; stops = refl }
 none_cut at (c ∷ cs) plain e = record { rest = c ∷ cs; before = ended at (c ∷ cs); within = refl; stops = (plain, cut_none (c ∷ cs) e) }
 
-too_large_cut : (at : ℕ) (cs : List ℕ) (t : GrammarToken) (following : List ℕ) → token_from cs ≡ Some (t, following) → is_within t ≡ false → Lexes at cs (none_left (ending.TooLargeAt at))
+too_large_cut : (at : ℕ) (cs : List ℕ) (t : GrammarToken) (following : List ℕ) → token_from cs ≡ Some (t, following) → is_within t ≡ false → Lexes at cs (without_tokens (ending.TooLargeAt at))
 too_large_cut at cs t following e large =
     let one = token_sound cs t following e in
     record {
@@ -47,7 +47,8 @@ too_large_cut at cs t following e large =
     }
 
 -- the tokens that the lexer reads are those of the text
-cut_lexes : (n len : ℕ) (cs : List ℕ) → length cs < n → width cs ≤ len → StartsPlain cs → Lexes (len - width cs) cs (cut n len cs)
+cut_lexes : (n len : ℕ) (cs : List ℕ) → length cs < n → width cs ≤ len
+    → BeginsNoSeparator cs → Lexes (len - width cs) cs (cut n len cs)
 unfolding cut
 cut_lexes zero len cs h wide plain = let bad : ⊥ = omega arith in absurd bad
 cut_lexes (suc n) len cs h wide plain = go (token_from cs) refl (cut_lexes n len)
@@ -55,27 +56,27 @@ cut_lexes (suc n) len cs h wide plain = go (token_from cs) refl (cut_lexes n len
     at : ℕ
     at = len - width cs
 
-    go : (o : Option (GrammarToken × List ℕ)) → token_from cs ≡ o → ((ds : List ℕ) → length ds < n → width ds ≤ len → StartsPlain ds → Lexes (len - width ds) ds (cut n len ds)) → Lexes at cs (left_by (cut n len) at cs o)
+    go : (o : Option (GrammarToken × List ℕ)) → token_from cs ≡ o → ((ds : List ℕ) → length ds < n → width ds ≤ len → BeginsNoSeparator ds → Lexes (len - width ds) ds (cut n len ds)) → Lexes at cs (input_by (cut n len) at cs o)
     go None e more = none_cut at cs plain e
     go (Some p) e more = by (is_within p.0) refl
       where
-        by : (b : Bool) → is_within p.0 ≡ b → Lexes at cs (cond b (one_before at p.0 (cut n len (without_spaces p.1))) (none_left (ending.TooLargeAt at)))
+        by : (b : Bool) → is_within p.0 ≡ b → Lexes at cs (cond b (with_token at p.0 (cut n len (after_separators p.1))) (without_tokens (ending.TooLargeAt at)))
         by false large = too_large_cut at cs p.0 p.1 e large
         by true within =
             let less = shorter cs p.0 p.1 e in
             let narrow = (is_behind cs p.0 p.1 e).narrower in
             let space = spaces p.1 in
-            let next = more (without_spaces p.1) (omega arith) (omega arith) (plain_after p.1) in
-            let place : len - width (without_spaces p.1) ≡ (at + (width cs - width p.1)) + prefix_len is_separator p.1 = omega arith in
-            let left = cut n len (without_spaces p.1) in
+            let next = more (after_separators p.1) (omega arith) (omega arith) (plain_after p.1) in
+            let place : len - width (after_separators p.1) ≡ (at + (width cs - width p.1)) + prefix_len is_separator p.1 = omega arith in
+            let left = cut n len (after_separators p.1) in
             let end = offset_of left.ending in
-            let are = spaced (at + (width cs - width p.1)) p.1 left.left end next.rest (subst (λ m. AreTokens m (without_spaces p.1) left.left end next.rest) place next.before) in
+            let are = spaced (at + (width cs - width p.1)) p.1 left.left end next.rest (subst (λ m. AreTokens m (after_separators p.1) left.left end next.rest) place next.before) in
             record { rest = next.rest; before = one_more at cs p.0 p.1 left.left end next.rest e are; within = rw within next.within; stops = next.stops }
 
 -- ---- a text has no other tokens
 
 -- a word of a token does not begin with a separator
-plain_word : (cs w rest : List ℕ) (t : GrammarToken) → cs ≡ w ++ rest → IsToken w t → (without_spaces cs ≡ cs) × (0 < length w)
+plain_word : (cs w rest : List ℕ) (t : GrammarToken) → cs ≡ w ++ rest → IsToken w t → (after_separators cs ≡ cs) × (0 < length w)
 plain_word cs w rest t split is = let plain = begins_plain w t is in (grind arith, word_some w t is)
 
 -- two prefixes of the same length are the same
@@ -105,7 +106,7 @@ none_there c cs h = go (token_from (c ∷ cs)) refl
     go None e = refl
     go (Some p) e = let one = token_sound (c ∷ cs) p.0 p.1 e in absurd (h.1 one.word p.1 p.0 one.split one.token)
 
-cut_end : (e : Ending) (rest : List ℕ) → Stops e rest → (n len : ℕ) → offset_of e + width rest ≡ len → cut (suc n) len (without_spaces rest) ≡ none_left e
+cut_end : (e : Ending) (rest : List ℕ) → Stops e rest → (n len : ℕ) → offset_of e + width rest ≡ len → cut (suc n) len (after_separators rest) ≡ without_tokens e
 unfolding cut
 cut_end (ending.EndsAt at) rest h n len place = let there : len - 0 ≡ at = omega (arith, ap width h) in rw (h, nothing_cut, there) refl
 cut_end (ending.NoTokenAt at) [] h n len place = absurd h
@@ -117,12 +118,12 @@ cut_end (ending.TooLargeAt at) rest h n len place =
     let there : len - width rest ≡ at = omega arith in
     rw (plain, cut_there rest h.word h.following h.token h.split h.is h.longest, h.large, there) refl
 
-separated : (c : ℕ) (cs : List ℕ) → is_separator c ≡ true → without_spaces (c ∷ cs) ≡ without_spaces cs
+separated : (c : ℕ) (cs : List ℕ) → is_separator c ≡ true → after_separators (c ∷ cs) ≡ after_separators cs
 separated c cs h = grind arith
 
 -- the tokens of the text are those that the lexer reads
 cut_is : {at : ℕ} {cs : List ℕ} {ps : List PlacedToken} {end : ℕ} {rest : List ℕ} → AreTokens at cs ps end rest → (e : Ending) → end ≡ offset_of e → Stops e rest → all_within ps ≡ true
-    → (n len : ℕ) → at + width cs ≡ len → length (without_spaces cs) < n → cut n len (without_spaces cs) ≡ record { left = ps; ending = e }
+    → (n len : ℕ) → at + width cs ≡ len → length (after_separators cs) < n → cut n len (after_separators cs) ≡ record { left = ps; ending = e }
 unfolding cut
 cut_is (ended at cs) e ends stops within zero len place h = let bad : ⊥ = omega arith in absurd bad
 cut_is (ended at cs) e ends stops within (suc n) len place h = cut_end e cs stops n len (ap (λ m. m + width cs) (sym ends) ∙ place)
@@ -135,28 +136,28 @@ cut_is (word at all w cs t ps end rest split is longest are) e ends stops within
     let plain = plain_word all w cs t split is in
     let some = plain.1 in
     let both = and_parts (is_within t) (all_within ps) within in
-    let fewer : length (without_spaces cs) < n = omega (arith, h, ap length plain.0, ap length split, length-append w cs, length-drop (prefix_len is_separator cs) cs) in
+    let fewer : length (after_separators cs) < n = omega (arith, h, ap length plain.0, ap length split, length-append w cs, length-drop (prefix_len is_separator cs) cs) in
     let there : len - width all ≡ at = omega arith in
     let more = cut_is are e ends stops both.1 n len (omega (arith, ap width split, width-append w cs)) fewer in
     rw (plain.0, cut_there all w cs t split is longest, both.0, there, more) refl
 
 -- the one list of tokens and the ending of characters that end at the offset `len`
 unfoldable pub cut_at : ℕ → List ℕ → Input
-cut_at len cs = cut (suc (length (without_spaces cs))) len (without_spaces cs)
+cut_at len cs = cut (suc (length (after_separators cs))) len (after_separators cs)
 
 pub cut_first : (from len : ℕ) (cs : List ℕ) → from + width cs ≡ len → Lexes from cs (cut_at len cs)
 unfolding cut_at
 cut_first from len cs fits =
     let space = spaces cs in
-    let is = cut_lexes (suc (length (without_spaces cs))) len (without_spaces cs) (omega arith) (omega arith) (plain_after cs) in
-    let place : len - width (without_spaces cs) ≡ from + prefix_len is_separator cs = omega arith in
+    let is = cut_lexes (suc (length (after_separators cs))) len (after_separators cs) (omega arith) (omega arith) (plain_after cs) in
+    let place : len - width (after_separators cs) ≡ from + prefix_len is_separator cs = omega arith in
     let left = cut_at len cs in
     let end = offset_of left.ending in
-    record { rest = is.rest; before = spaced from cs left.left end is.rest (subst (λ m. AreTokens m (without_spaces cs) left.left end is.rest) place is.before); within = is.within; stops = is.stops }
+    record { rest = is.rest; before = spaced from cs left.left end is.rest (subst (λ m. AreTokens m (after_separators cs) left.left end is.rest) place is.before); within = is.within; stops = is.stops }
 
 pub cut_only : (from len : ℕ) (cs : List ℕ) → from + width cs ≡ len → (i : Input) → Lexes from cs i → i ≡ cut_at len cs
 unfolding cut_at
-cut_only from len cs fits i is = sym (cut_is is.before i.ending refl is.stops is.within (suc (length (without_spaces cs))) len fits (omega arith))
+cut_only from len cs fits i is = sym (cut_is is.before i.ending refl is.stops is.within (suc (length (after_separators cs))) len fits (omega arith))
 
 pub one_input : OneInput
 one_input cs = (cut_at (width cs) cs, cut_first 0 (width cs) cs (omega arith), cut_only 0 (width cs) cs (omega arith))

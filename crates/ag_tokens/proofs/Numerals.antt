@@ -11,7 +11,7 @@ use mir.Syntax.{w64}
 use Rattle.ag_tokens.specs.GrammarToken as token
 use Rattle.ag_tokens.specs.Tokens.{IsDigits}
 use Rattle.ag_tokens.specs.declared.lexer.Class.TheVariants as class
-use Rattle.ag_tokens.specs.Lexing.{prefix_in, back_of, digits_from, number_from, occurrence_from, plain_from, text_from, token_from, where_some}
+use Rattle.ag_tokens.specs.Lexing.{prefix_in, rest_in, digits_from, number_from, occurrence_from, plain_from, text_from, token_from, match_option}
 use Rattle.ag_tokens.proofs.Fronts.{prefix_passes, take_more, drop_more}
 
 own : IsNumeralModel (λ ds. list_all is_ascii_digit ds ≡ true) (digits_value 10)
@@ -41,7 +41,7 @@ module _ (cs word : List ℕ) (is : word ≡ encode_utf8_all (prefix_in class.Di
   pub no_digits_cut : (length word == 0) ≡ true → digits_from cs ≡ None
   no_digits_cut empty = let same = word_is in let none = front_empty is_ascii_digit cs in grind (arith, nat_tests)
 
-  pub digits_cut : (length word == 0) ≡ false → (back : List ℕ) → back ≡ back_of class.Digit cs → digits_from cs ≡ Some (word, back)
+  pub digits_cut : (length word == 0) ≡ false → (back : List ℕ) → back ≡ rest_in class.Digit cs → digits_from cs ≡ Some (word, back)
   digits_cut some back same = let is = word_is in grind (arith, nat_tests)
 
   pub digits_are : (length word == 0) ≡ false → IsDigits word
@@ -55,7 +55,7 @@ digit_is c is = grind (arith, nat_tests)
 front_more : (c : ℕ) (cs : List ℕ) → is_ascii_digit c ≡ true → prefix_in class.Digit (c ∷ cs) ≡ c ∷ prefix_in class.Digit cs
 front_more c cs is = grind (arith, take_more)
 
-back_more : (c : ℕ) (cs : List ℕ) → is_ascii_digit c ≡ true → back_of class.Digit (c ∷ cs) ≡ back_of class.Digit cs
+back_more : (c : ℕ) (cs : List ℕ) → is_ascii_digit c ≡ true → rest_in class.Digit (c ∷ cs) ≡ rest_in class.Digit cs
 back_more c cs is = grind (arith, drop_more)
 
 value_more : (n c : ℕ) (ds : List ℕ) → is_ascii_digit c ≡ true → digits_value_after 10 n (c ∷ ds) ≡ digits_value_after 10 (n * 10 + (c - 48)) ds
@@ -65,7 +65,7 @@ value_more n c ds is = ap (λ d. digits_value_after 10 (n * 10 + d) ds) (digit_i
 pub record WorkedOut (cs : List ℕ) (number : ℕ) (rest : List ℕ) : Type 0 where
   pub small : number < 1000000000000000000
   pub value : digits_value_after 10 number (prefix_in class.Digit (chars rest)) ≡ digits_value 10 (prefix_in class.Digit cs)
-  pub back : back_of class.Digit (chars rest) ≡ back_of class.Digit cs
+  pub back : rest_in class.Digit (chars rest) ≡ rest_in class.Digit cs
 
 pub begins : (c : ℕ) (text : List ℕ) → is_ascii_digit c ≡ true → WorkedOut (c ∷ chars text) (c - 48) text
 begins c text is = record {
@@ -78,7 +78,7 @@ begins c text is = record {
 pub goes_on : (cs : List ℕ) (number : ℕ) (rest : List ℕ) (c : ℕ) (following : List ℕ) → is_ascii_digit c ≡ true → chars rest ≡ c ∷ chars following → number ≤ 99999999999999999 → WorkedOut cs number rest → WorkedOut cs (number * 10 + (c - 48)) following
 goes_on cs number rest c following is split small so_far =
     let prefix : prefix_in class.Digit (chars rest) ≡ c ∷ prefix_in class.Digit (chars following) = rw split (front_more c (chars following) is) in
-    let back : back_of class.Digit (chars rest) ≡ back_of class.Digit (chars following) = rw split (back_more c (chars following) is) in
+    let back : rest_in class.Digit (chars rest) ≡ rest_in class.Digit (chars following) = rw split (back_more c (chars following) is) in
     record {
       small = grind (arith, nat_tests);
       value = sym (ap (digits_value_after 10 number) prefix ∙ value_more number c (prefix_in class.Digit (chars following)) is) ∙ so_far.value;
@@ -88,26 +88,26 @@ goes_on cs number rest c following is split small so_far =
 pub value_of : (cs : List ℕ) (number : ℕ) (rest : List ℕ) → prefix_len is_ascii_digit (chars rest) ≡ 0 → WorkedOut cs number rest → number ≡ digits_value 10 (prefix_in class.Digit cs)
 value_of cs number rest none so_far = sym (rw none refl) ∙ so_far.value
 
-pub rest_of : (cs : List ℕ) (number : ℕ) (rest : List ℕ) → prefix_len is_ascii_digit (chars rest) ≡ 0 → WorkedOut cs number rest → chars rest ≡ back_of class.Digit cs
+pub rest_of : (cs : List ℕ) (number : ℕ) (rest : List ℕ) → prefix_len is_ascii_digit (chars rest) ≡ 0 → WorkedOut cs number rest → chars rest ≡ rest_in class.Digit cs
 rest_of cs number rest none so_far = sym (rw none refl) ∙ so_far.back
 
 -- ---- by the first character
 
-pub number_is : (c : ℕ) (cs : List ℕ) → is_ascii_digit c ≡ true → number_from (c ∷ cs) ≡ Some (token.Number (pos (digits_value 10 (prefix_in class.Digit (c ∷ cs)))), back_of class.Digit (c ∷ cs))
+pub number_is : (c : ℕ) (cs : List ℕ) → is_ascii_digit c ≡ true → number_from (c ∷ cs) ≡ Some (token.Number (pos (digits_value 10 (prefix_in class.Digit (c ∷ cs)))), rest_in class.Digit (c ∷ cs))
 number_is c cs is = grind arith
 
 pub no_digit : (c : ℕ) (cs : List ℕ) → is_ascii_digit c ≡ false → digits_from (c ∷ cs) ≡ None
 no_digit c cs is = grind arith
 
-chosen : {A B : Type 0} (o : Option A) (b : B) (f : A → B) (x : A) → o ≡ Some x → where_some o b f ≡ f x
+chosen : {A B : Type 0} (o : Option A) (b : B) (f : A → B) (x : A) → o ≡ Some x → match_option o b f ≡ f x
 chosen o b f x is = rw is refl
 
 pub some_digit : (c : ℕ) (cs : List ℕ) → is_ascii_digit c ≡ true → plain_from (c ∷ cs) ≡ number_from (c ∷ cs)
 some_digit c cs is =
-    let some : digits_from (c ∷ cs) ≡ Some (prefix_in class.Digit (c ∷ cs), back_of class.Digit (c ∷ cs)) = grind arith in
+    let some : digits_from (c ∷ cs) ≡ Some (prefix_in class.Digit (c ∷ cs), rest_in class.Digit (c ∷ cs)) = grind arith in
     chosen (digits_from (c ∷ cs)) _ _ _ some ∙ sym (number_is c cs is)
 
-pub numbered_token : (c : ℕ) (cs : List ℕ) → is_ascii_digit c ≡ true → token_from (c ∷ cs) ≡ Some (token.Number (pos (digits_value 10 (prefix_in class.Digit (c ∷ cs)))), back_of class.Digit (c ∷ cs))
+pub numbered_token : (c : ℕ) (cs : List ℕ) → is_ascii_digit c ≡ true → token_from (c ∷ cs) ≡ Some (token.Number (pos (digits_value 10 (prefix_in class.Digit (c ∷ cs)))), rest_in class.Digit (c ∷ cs))
 unfolding token_from
 numbered_token c cs is =
     let plain : cond (c == 34) (text_from (length cs) [] cs) (cond (c == 36) (occurrence_from cs) (plain_from (c ∷ cs))) ≡ plain_from (c ∷ cs) = grind (arith, nat_tests) in

@@ -8,8 +8,8 @@ use Rattle.std.proofs.lemmas.List.Folds.{list_all-append}
 use Rattle.std.proofs.lemmas.Str.{encodes-append, length-encode, len_utf8_bounds, chars-nil, IsCharBoundary-at_seam}
 use Rattle.ag_tokens.specs.declared.lexer.Class.{Class}
 use Rattle.ag_tokens.specs.declared.lexer.Class.TheVariants as class
-use Rattle.ag_tokens.specs.Lexing.{is_in, prefix_in, back_of, PassesOne}
-use Rattle.ag_tokens.specs.Left.{without_spaces}
+use Rattle.ag_tokens.specs.Lexing.{is_in, prefix_in, rest_in, IsAfterOne}
+use Rattle.ag_tokens.specs.Remaining.{after_separators}
 use Rattle.ag_tokens.specs.Tokens.{width}
 use Rattle.ag_tokens.proofs.Lexed.{spaces, width-chars}
 
@@ -20,7 +20,7 @@ pub record Passed (p : ℕ → Bool) (text rest : List ℕ) : Type 0 where
   pub split : text ≡ encode_utf8_all prefix ++ rest
   pub characters : chars text ≡ prefix ++ chars rest
 
-pub goes_on : (class : Class) (text rest : List ℕ) (after : Bor (List ℕ)) → PassesOne class rest (Some after) → Passed (is_in class) text rest → Passed (is_in class) text after.now
+pub goes_on : (class : Class) (text rest : List ℕ) (after : Bor (List ℕ)) → IsAfterOne class rest (Some after) → Passed (is_in class) text rest → Passed (is_in class) text after.now
 goes_on class text rest after (c, passes, characters, split) so_far = record {
   prefix = so_far.prefix ++ c ∷ [];
   all = list_all-append (is_in class) so_far.prefix (c ∷ []) ∙ rw (so_far.all, passes) refl;
@@ -29,7 +29,7 @@ goes_on class text rest after (c, passes, characters, split) so_far = record {
   characters = so_far.characters ∙ ap (λ x. so_far.prefix ++ x) characters ∙ sym (append_assoc so_far.prefix (c ∷ []) (chars after.now));
 }
 
-pub nearer : (class : Class) (rest : List ℕ) (after : Bor (List ℕ)) → PassesOne class rest (Some after) → length after.now < length rest
+pub nearer : (class : Class) (rest : List ℕ) (after : Bor (List ℕ)) → IsAfterOne class rest (Some after) → length after.now < length rest
 nearer class rest after (c, passes, characters, split) = let some = (len_utf8_bounds c).0 in omega (arith, ap length split, length-append (encode_utf8 c) after.now, length-encode c)
 
 -- a text is split after the characters of `prefix`
@@ -57,7 +57,7 @@ module _ (class : Class) (text rest : List ℕ) (so_far : Passed (is_in class) t
     pub front_cut : take (length text - length rest) text ≡ encode_utf8_all (prefix_in class (chars text))
     front_cut = front_bytes text rest so_far.prefix so_far.split ∙ ap encode_utf8_all (sym (rw length_is (ap (take (length so_far.prefix)) so_far.characters ∙ take-append_seam so_far.prefix (chars rest))))
 
-    pub back_cut : chars (drop (length text - length rest) text) ≡ back_of class (chars text)
+    pub back_cut : chars (drop (length text - length rest) text) ≡ rest_in class (chars text)
     back_cut = ap chars (back_bytes text rest so_far.prefix so_far.split) ∙ sym (rw length_is (ap (drop (length so_far.prefix)) so_far.characters ∙ drop-append_seam so_far.prefix (chars rest)))
 
 pub empty_text : (text : List ℕ) → length text ≡ 0 → chars text ≡ []
@@ -65,14 +65,14 @@ empty_text [] e = chars-nil
 empty_text (b ∷ text) e = let bad : ⊥ = omega arith in absurd bad
 
 -- the text after separators has as many bytes as its characters take, and at most as many as the whole text
-pub left_within : (text rest : List ℕ) → IsUtf8 text → IsUtf8 rest → chars rest ≡ without_spaces (chars text) → length rest ≤ length text
+pub left_within : (text rest : List ℕ) → IsUtf8 text → IsUtf8 rest → chars rest ≡ after_separators (chars text) → length rest ≤ length text
 left_within text rest utf8 utf8' is =
     let space = spaces (chars text) in
     omega (arith, width-chars text utf8, width-chars rest utf8', ap width is)
 
 -- separators that are skipped one at a time
-pub skipped : (rest : List ℕ) (after : Bor (List ℕ)) → PassesOne class.Separator rest (Some after) → without_spaces (chars after.now) ≡ without_spaces (chars rest)
+pub skipped : (rest : List ℕ) (after : Bor (List ℕ)) → IsAfterOne class.Separator rest (Some after) → after_separators (chars after.now) ≡ after_separators (chars rest)
 skipped rest after (c, passes, characters, split) = rw characters (grind (arith, drop_more))
 
-pub unskipped : (rest : List ℕ) → prefix_len (is_in class.Separator) (chars rest) ≡ 0 → chars rest ≡ without_spaces (chars rest)
+pub unskipped : (rest : List ℕ) → prefix_len (is_in class.Separator) (chars rest) ≡ 0 → chars rest ≡ after_separators (chars rest)
 unskipped rest none = rw none refl

@@ -9,7 +9,7 @@ use Rattle.ag_tokens.proofs.Spans.{seam, front_bytes}
 use Rattle.ag_tokens.specs.GrammarToken.{GrammarToken}
 use Rattle.ag_tokens.specs.GrammarToken as token
 use Rattle.ag_tokens.specs.Tokens.{IsBody, empty, plain, escape, escaped}
-use Rattle.ag_tokens.specs.Lexing.{piece_from, character_from, escape_from, text_from, without_quotes, unescaped, IsPast, PassesEscape}
+use Rattle.ag_tokens.specs.Lexing.{piece_from, character_from, escape_from, text_from, after_quote, unescaped, IsPast, IsAfterEscape}
 
 -- The characters in `taken` have been read and denote the bytes in `prefix`; `rest` is left, and reading it to
 -- its end gives `total`.
@@ -61,15 +61,15 @@ goes_on text rest after total past so_far = go so_far.turns so_far.enough so_far
           same = sym (rw past.cut refl) ∙ same;
         }
 
-none_unquoted : (cs : List ℕ) → length cs ≤ 0 → without_quotes cs ≡ None
+none_unquoted : (cs : List ℕ) → length cs ≤ 0 → after_quote cs ≡ None
 none_unquoted cs h = grind arith
 
 pub stopped : (text rest : List ℕ) (total : Option (GrammarToken × List ℕ)) → character_from (chars rest) ≡ None → (so_far : Within text rest total)
-    → total ≡ option_and_then (λ following. Some (token.Text so_far.prefix, following)) (without_quotes (chars rest))
+    → total ≡ option_and_then (λ following. Some (token.Text so_far.prefix, following)) (after_quote (chars rest))
 unfolding text_from
 stopped text rest total is so_far = go so_far.turns so_far.enough so_far.same
   where
-    go : (n : ℕ) → length (chars rest) ≤ n → text_from n so_far.prefix (chars rest) ≡ total → total ≡ option_and_then (λ following. Some (token.Text so_far.prefix, following)) (without_quotes (chars rest))
+    go : (n : ℕ) → length (chars rest) ≤ n → text_from n so_far.prefix (chars rest) ≡ total → total ≡ option_and_then (λ following. Some (token.Text so_far.prefix, following)) (after_quote (chars rest))
     go zero enough same = rw (none_unquoted (chars rest) enough) (sym same)
     go (suc n) enough same = sym same ∙ rw is refl
 
@@ -96,7 +96,7 @@ encoded_escape : (c : ℕ) (rest : List ℕ) → 92 ∷ (encode_utf8 c ++ rest) 
 encoded_escape c rest = rw (encode_ascii 92 (lit< tt), append-nil (encode_utf8 c)) refl
 
 -- an escape
-pub past_escape : (text following : List ℕ) (passed : Option (Bor (List ℕ))) → chars text ≡ 92 ∷ chars following → text ≡ encode_utf8 92 ++ following → PassesEscape following passed
+pub past_escape : (text following : List ℕ) (passed : Option (Bor (List ℕ))) → chars text ≡ 92 ∷ chars following → text ≡ encode_utf8 92 ++ following → IsAfterEscape following passed
     → MatchOption passed (character_from (chars text) ≡ None) (λ rest. IsPast text rest.now)
 past_escape text following None characters split is = rw (characters, is) refl
 past_escape text following (Some rest) characters split (c, h, more, after) =

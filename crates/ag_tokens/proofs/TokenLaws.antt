@@ -19,9 +19,9 @@ use Rattle.ag_tokens.specs.declared.token.Punctuation.TheVariants as punctuation
 use Rattle.ag_tokens.specs.GrammarToken.{GrammarToken}
 use Rattle.ag_tokens.specs.GrammarToken as token
 use Rattle.ag_tokens.specs.Laws.{LongestIsCut, NothingIsCut}
-use Rattle.ag_tokens.specs.Lexing.{where_some}
+use Rattle.ag_tokens.specs.Lexing.{match_option}
 use Rattle.ag_tokens.specs.Tokens.{starts_name, is_separator, escaped, IsDigits, IsName, IsBody, empty, plain, escape, punctuation_text, IsToken, IsLongest, BeginsNoToken}
-use Rattle.ag_tokens.specs.Lexing.{digits_from, name_from, single_punctuation, double_mark, punctuation_from, escape_from, character_from, without_quotes, without_dots, text_from, occurrence_from, plain_from, token_from}
+use Rattle.ag_tokens.specs.Lexing.{digits_from, name_from, single_punctuation, double_mark, punctuation_from, escape_from, character_from, after_quote, after_dot, text_from, occurrence_from, plain_from, token_from}
 use Rattle.ag_tokens.proofs.Fronts.{prefix_passes, prefix_reaches, front_ends}
 
 same_number : (a b : ℕ) → (a == b) ≡ true → a ≡ b
@@ -61,7 +61,7 @@ name_sound (c ∷ cs) n rest e =
 abbrev IsTextOf : List ℕ → List ℕ → GrammarToken → List ℕ → Type 0
 IsTextOf prefix cs t rest = (body : List ℕ) × (bytes : List ℕ) × (cs ≡ body ++ 34 ∷ rest) × IsBody body bytes × (t ≡ token.Text (prefix ++ bytes))
 
-text_ends : (prefix cs : List ℕ) (t : GrammarToken) (rest : List ℕ) → option_and_then {U = GrammarToken × List ℕ} (λ us. Some (token.Text prefix, us)) (without_quotes cs) ≡ Some (t, rest) → IsTextOf prefix cs t rest
+text_ends : (prefix cs : List ℕ) (t : GrammarToken) (rest : List ℕ) → option_and_then {U = GrammarToken × List ℕ} (λ us. Some (token.Text prefix, us)) (after_quote cs) ≡ Some (t, rest) → IsTextOf prefix cs t rest
 text_ends prefix [] t rest e = absurd (none-some _ e)
 text_ends prefix (c ∷ cs) t rest e = let same : (c ≡ 34) × (cs ≡ rest) × (t ≡ token.Text prefix) = grind (arith, nat_tests) in rw same.0 ([], [], ap (λ x. 34 ∷ x) same.1, empty, same.2 ∙ ap token.Text (sym (append-nil prefix)))
 
@@ -87,7 +87,7 @@ text_sound zero prefix cs t rest e = absurd (none-some _ e)
 text_sound (suc n) prefix cs t rest e = go (character_from cs) refl (text_sound n) e
   where
     go : (o : Option (ℕ × List ℕ)) → character_from cs ≡ o → ((prefix cs : List ℕ) (t : GrammarToken) (rest : List ℕ) → text_from n prefix cs ≡ Some (t, rest) → IsTextOf prefix cs t rest)
-        → where_some o (option_and_then (λ us. Some (token.Text prefix, us)) (without_quotes cs)) (λ p. text_from n (prefix ++ encode_utf8 p.0) p.1) ≡ Some (t, rest) → IsTextOf prefix cs t rest
+        → match_option o (option_and_then (λ us. Some (token.Text prefix, us)) (after_quote cs)) (λ p. text_from n (prefix ++ encode_utf8 p.0) p.1) ≡ Some (t, rest) → IsTextOf prefix cs t rest
     go None p more h = text_ends prefix cs t rest h
     go (Some x) p more h = text_step prefix cs x.0 x.1 t rest p (more (prefix ++ encode_utf8 x.0) x.1 t rest h)
 
@@ -108,13 +108,13 @@ pub record IsCut (cs : List ℕ) (t : GrammarToken) (rest : List ℕ) : Type 0 w
   pub split : cs ≡ word ++ rest
   pub token : IsToken word t
 
-undotted_sound : (cs rest : List ℕ) → without_dots cs ≡ Some rest → cs ≡ 46 ∷ rest
+undotted_sound : (cs rest : List ℕ) → after_dot cs ≡ Some rest → cs ≡ 46 ∷ rest
 undotted_sound cs rest e = grind (arith, nat_tests)
 
 occurrence_sound : (cs : List ℕ) (t : GrammarToken) (rest : List ℕ) → occurrence_from cs ≡ Some (t, rest) → IsCut (36 ∷ cs) t rest
 occurrence_sound cs t rest e =
     let one = opened (digits_from cs) _ (t, rest) e in
-    let two = opened (without_dots one.0.1) _ (t, rest) one.2 in
+    let two = opened (after_dot one.0.1) _ (t, rest) one.2 in
     let three = opened (name_from two.0) _ (t, rest) two.2 in
     let digits = digits_sound cs one.0.0 one.0.1 one.1 in
     let dot = undotted_sound one.0.1 two.0 two.1 in

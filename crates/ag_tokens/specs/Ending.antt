@@ -8,6 +8,7 @@ pub data Ending : Type 0 where
   NoTokenAt : ℕ → Ending
   TooLargeAt : ℕ → Ending
 
+-- the offset where the tokens end
 abbrev pub offset_of : Ending → ℕ
 offset_of (EndsAt at) = at
 offset_of (NoTokenAt at) = at

@@ -13,11 +13,12 @@ pub data GrammarToken : Type 0 where
   Occurrence : ℕ → List ℕ → GrammarToken
   Punctuation : punctuation.Punctuation → GrammarToken
 
--- A token with only one spelling: punctuation, or a name of the language.
+-- A token with a fixed text: punctuation, or a reserved name.
 pub data Sign : Type 0 where
   mark : punctuation.Punctuation → Sign
   word : List ℕ → Sign
 
+-- the token of a sign
 abbrev pub sign_token : Sign → GrammarToken
 sign_token (mark m) = Punctuation m
 sign_token (word name) = Name name

@@ -19,9 +19,9 @@ use Rattle.ag_tokens.specs.declared.token.GrammarToken.TheVariants as lent_token
 use Rattle.ag_tokens.specs.Tokens.{escaped, is_quotable, starts_name, is_separator, is_within, IsBody}
 
 -- b for `None`, and f x for `Some x`
-abbrev pub where_some : {A B : Type 0} → Option A → B → (A → B) → B
-where_some None b f = b
-where_some (Some x) b f = f x
+abbrev pub match_option : {A B : Type 0} → Option A → B → (A → B) → B
+match_option None b f = b
+match_option (Some x) b f = f x
 
 -- the characters of a class
 abbrev pub is_in : Class → ℕ → Bool
@@ -34,8 +34,8 @@ is_in class.Quotable = is_quotable
 abbrev pub prefix_in : Class → List ℕ → List ℕ
 prefix_in c cs = take (prefix_len (is_in c) cs) cs
 
-abbrev pub back_of : Class → List ℕ → List ℕ
-back_of c cs = drop (prefix_len (is_in c) cs) cs
+abbrev pub rest_in : Class → List ℕ → List ℕ
+rest_in c cs = drop (prefix_len (is_in c) cs) cs
 
 -- the character that a backslash followed by the first character denotes, and the characters after it
 abbrev pub escape_from : List ℕ → Option (ℕ × List ℕ)
@@ -56,7 +56,7 @@ abbrev mutual
 
   pub after_backslash : List ℕ → List ℕ
   after_backslash [] = []
-  after_backslash (c ∷ cs) = where_some (escaped c) [] (λ d. encode_utf8 d ++ unescaped cs)
+  after_backslash (c ∷ cs) = match_option (escaped c) [] (λ d. encode_utf8 d ++ unescaped cs)
 
 -- the specification token of a token of the code
 abbrev pub token_of : lent.GrammarToken → GrammarToken
@@ -87,6 +87,7 @@ abbrev pub double_mark : ℕ → Punctuation → Punctuation → List ℕ → Pu
 double_mark twice two one [] = (one, [])
 double_mark twice two one (c ∷ cs) = cond (c == twice) (two, cs) (one, c ∷ cs)
 
+-- the punctuation at the beginning, and the characters after it
 abbrev pub punctuation_from : List ℕ → Option (Punctuation × List ℕ)
 punctuation_from [] = None
 punctuation_from (c ∷ cs) =
@@ -98,35 +99,35 @@ character_from [] = None
 character_from (c ∷ cs) = cond (c == 34) None (cond (c == 92) (escape_from cs) (Some (c, cs)))
 
 -- the characters after a closing quote
-abbrev pub without_quotes : List ℕ → Option (List ℕ)
-without_quotes [] = None
-without_quotes (c ∷ cs) = cond (c == 34) (Some cs) None
+abbrev pub after_quote : List ℕ → Option (List ℕ)
+after_quote [] = None
+after_quote (c ∷ cs) = cond (c == 34) (Some cs) None
 
--- the text literal whose bytes so far are `prefix`, with at most `turns` steps for the rest of it
+-- the text literal whose bytes so far are `prefix`, with at most `turns` further characters
 unfoldable pub text_from : ℕ → List ℕ → List ℕ → Option (GrammarToken × List ℕ)
 text_from zero prefix cs = None
 text_from (suc turns) prefix cs =
-    where_some (character_from cs) (option_and_then (λ rest. Some (token.Text prefix, rest)) (without_quotes cs)) (λ p. text_from turns (prefix ++ encode_utf8 p.0) p.1)
+    match_option (character_from cs) (option_and_then (λ rest. Some (token.Text prefix, rest)) (after_quote cs)) (λ p. text_from turns (prefix ++ encode_utf8 p.0) p.1)
 
 -- the characters after a dot
-abbrev pub without_dots : List ℕ → Option (List ℕ)
-without_dots [] = None
-without_dots (c ∷ cs) = cond (c == 46) (Some cs) None
+abbrev pub after_dot : List ℕ → Option (List ℕ)
+after_dot [] = None
+after_dot (c ∷ cs) = cond (c == 46) (Some cs) None
 
 -- the occurrence whose `$` has been read
 abbrev pub occurrence_from : List ℕ → Option (GrammarToken × List ℕ)
 occurrence_from cs =
-    option_and_then (λ d. option_and_then (λ rest. option_and_then (λ n. Some (token.Occurrence (digits_value 10 d.0) (encode_utf8_all n.0), n.1)) (name_from rest)) (without_dots d.1)) (digits_from cs)
+    option_and_then (λ d. option_and_then (λ rest. option_and_then (λ n. Some (token.Occurrence (digits_value 10 d.0) (encode_utf8_all n.0), n.1)) (name_from rest)) (after_dot d.1)) (digits_from cs)
 
 -- a number literal of any size
 abbrev pub number_from : List ℕ → Option (GrammarToken × List ℕ)
 number_from cs = option_and_then (λ d. Some (token.Number (pos (digits_value 10 d.0)), d.1)) (digits_from cs)
 
--- a number, a name or punctuation
+-- a token other than a text literal and an occurrence: a number, a name or punctuation
 abbrev pub plain_from : List ℕ → Option (GrammarToken × List ℕ)
 plain_from cs =
-    where_some (digits_from cs)
-    (where_some (name_from cs) (option_and_then (λ s. Some (token.Punctuation s.0, s.1)) (punctuation_from cs)) (λ n. Some (token.Name (encode_utf8_all n.0), n.1)))
+    match_option (digits_from cs)
+    (match_option (name_from cs) (option_and_then (λ s. Some (token.Punctuation s.0, s.1)) (punctuation_from cs)) (λ n. Some (token.Name (encode_utf8_all n.0), n.1)))
     (λ d. Some (token.Number (pos (digits_value 10 d.0)), d.1))
 
 -- the first token, and the characters after it
@@ -141,44 +142,44 @@ IsTooLarge (Some x) = is_within x.0 ≡ false
 
 -- A token of the code, with the text after it, is the token that the specification reads, with the characters
 -- after it, and its number is within the limit.
-abbrev pub IsCutSo : lent.GrammarToken × Bor (List ℕ) → Option (GrammarToken × List ℕ) → Type 0
-IsCutSo x read = (read ≡ Some (token_of x.0, chars x.1.now)) × (is_within (token_of x.0) ≡ true)
+abbrev pub IsSameToken : lent.GrammarToken × Bor (List ℕ) → Option (GrammarToken × List ℕ) → Type 0
+IsSameToken x read = (read ≡ Some (token_of x.0, chars x.1.now)) × (is_within (token_of x.0) ≡ true)
 
 -- The same for a result: `Nothing` means that no token is read, `TooLarge` that its number is above its
 -- limit.
-abbrev pub GivesToken : Result (lent.GrammarToken × Bor (List ℕ)) TokenFault → Option (GrammarToken × List ℕ) → Type 0
-GivesToken (Ok x) read = IsCutSo x read
-GivesToken (Err fault.Nothing) read = read ≡ None
-GivesToken (Err fault.TooLarge) read = IsTooLarge read
+abbrev pub AgreesOnToken : Result (lent.GrammarToken × Bor (List ℕ)) TokenFault → Option (GrammarToken × List ℕ) → Type 0
+AgreesOnToken (Ok x) read = IsSameToken x read
+AgreesOnToken (Err fault.Nothing) read = read ≡ None
+AgreesOnToken (Err fault.TooLarge) read = IsTooLarge read
 
 -- the text is the character c, followed by rest
 abbrev pub IsSplit : List ℕ → ℕ → List ℕ → Type 0
 IsSplit text c rest = (chars text ≡ c ∷ chars rest) × (text ≡ encode_utf8 c ++ rest)
 
 -- the digits and the text after them are those of the specification
-abbrev pub GivesDigits : Option (Bor (List ℕ) × Bor (List ℕ)) → Option (List ℕ × List ℕ) → Type 0
-GivesDigits result read = option_map {U = List ℕ × List ℕ} (λ x. (x.0.now, chars x.1.now)) result ≡ read
+abbrev pub AgreesOnDigits : Option (Bor (List ℕ) × Bor (List ℕ)) → Option (List ℕ × List ℕ) → Type 0
+AgreesOnDigits result read = option_map {U = List ℕ × List ℕ} (λ x. (x.0.now, chars x.1.now)) result ≡ read
 
 -- the name and the text after it are those of the specification
-abbrev pub GivesName : Option (Bor (List ℕ) × Bor (List ℕ)) → Option (List ℕ × List ℕ) → Type 0
-GivesName result read = option_map {U = List ℕ × List ℕ} (λ x. (x.0.now, chars x.1.now)) result ≡ option_map {U = List ℕ × List ℕ} (λ n. (encode_utf8_all n.0, n.1)) read
+abbrev pub AgreesOnName : Option (Bor (List ℕ) × Bor (List ℕ)) → Option (List ℕ × List ℕ) → Type 0
+AgreesOnName result read = option_map {U = List ℕ × List ℕ} (λ x. (x.0.now, chars x.1.now)) result ≡ option_map {U = List ℕ × List ℕ} (λ n. (encode_utf8_all n.0, n.1)) read
 
 -- the result is the text after a first character of the class; if it is `None`, the text does not begin with
 -- such a character
-abbrev pub PassesOne : Class → List ℕ → Option (Bor (List ℕ)) → Type 0
-PassesOne class text None = prefix_len (is_in class) (chars text) ≡ 0
-PassesOne class text (Some rest) = (c : ℕ) × (is_in class c ≡ true) × (chars text ≡ c ∷ chars rest.now) × (text ≡ encode_utf8 c ++ rest.now)
+abbrev pub IsAfterOne : Class → List ℕ → Option (Bor (List ℕ)) → Type 0
+IsAfterOne class text None = prefix_len (is_in class) (chars text) ≡ 0
+IsAfterOne class text (Some rest) = (c : ℕ) × (is_in class c ≡ true) × (chars text ≡ c ∷ chars rest.now) × (text ≡ encode_utf8 c ++ rest.now)
 
 -- the result is a first digit and the text after it; if it is `None`, the text does not begin with a digit
-abbrev pub PassesDigit : List ℕ → Option (ℕ × Bor (List ℕ)) → Type 0
-PassesDigit text None = prefix_len is_ascii_digit (chars text) ≡ 0
-PassesDigit text (Some x) = (is_ascii_digit x.0 ≡ true) × IsSplit text x.0 x.1.now
+abbrev pub IsAfterDigit : List ℕ → Option (ℕ × Bor (List ℕ)) → Type 0
+IsAfterDigit text None = prefix_len is_ascii_digit (chars text) ≡ 0
+IsAfterDigit text (Some x) = (is_ascii_digit x.0 ≡ true) × IsSplit text x.0 x.1.now
 
 -- the result is the text after the escape whose backslash has been read; if it is `None`, this is not an
 -- escape
-abbrev pub PassesEscape : List ℕ → Option (Bor (List ℕ)) → Type 0
-PassesEscape text None = escape_from (chars text) ≡ None
-PassesEscape text (Some rest) = (c : ℕ) × (is_some (escaped c) ≡ true) × (chars text ≡ c ∷ chars rest.now) × (text ≡ encode_utf8 c ++ rest.now)
+abbrev pub IsAfterEscape : List ℕ → Option (Bor (List ℕ)) → Type 0
+IsAfterEscape text None = escape_from (chars text) ≡ None
+IsAfterEscape text (Some rest) = (c : ℕ) × (is_some (escaped c) ≡ true) × (chars text ≡ c ∷ chars rest.now) × (text ≡ encode_utf8 c ++ rest.now)
 
 -- The text begins with one character of a body, written as `piece`, and `rest` is the text after it.
 pub record IsPast (text rest : List ℕ) : Type 0 where

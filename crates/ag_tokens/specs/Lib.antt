@@ -1,9 +1,9 @@
 pub mod Ending
+pub mod GrammarToken
+pub mod Languages
 pub mod Laws
-pub mod Left
 pub mod Lexing
 pub mod Parsing
 pub mod PlacedToken
-pub mod GrammarToken
+pub mod Remaining
 pub mod Tokens
-pub mod Words

@@ -9,6 +9,7 @@ pub record PlacedToken : Type 0 where
   pub at : ℕ
   pub token : GrammarToken
 
+-- the tokens of a text that are not yet read (`left`), and the ending after them
 pub record Input : Type 0 where
   pub left : List PlacedToken
   pub ending : Ending

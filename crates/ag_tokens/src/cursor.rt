@@ -4,8 +4,8 @@ ghost use Rattle.std.specs.Prelude.{◌≡◌, ℕ, chars, drop, option_map};
 ghost use Rattle.std.specs.Str.{IsCharBoundary};
 ghost use Rattle.ag_tokens.specs.Lexing.{token_of};
 ghost use Rattle.ag_tokens.specs.Parsing as parsing;
-ghost use Rattle.ag_tokens.specs.Left.{ending_by};
-ghost use Rattle.ag_tokens.specs.Parsing.{ending_fault, fault_of, prefix, is_end, next, offset};
+ghost use Rattle.ag_tokens.specs.Remaining.{ending_by};
+ghost use Rattle.ag_tokens.specs.Parsing.{ending_fault, fault_of, next_token, is_end, next, offset};
 ghost use Rattle.ag_tokens.specs.Tokens.{Lexes};
 
 use crate::fault::TokenFault;
@@ -22,19 +22,19 @@ pub struct Cursor<'t> {
     /// The rest of the text, from the next token on.
     rest: &'t str,
     /// The next token and the text after it, or the reason why there is none.
-    prefix: Result<(GrammarToken<'t>, &'t str), TokenFault>,
+    leading: Result<(GrammarToken<'t>, &'t str), TokenFault>,
 }
 
 impl<'t> Model for Cursor<'t> {
     ghost use Rattle.std.specs.Prelude.{length, chars};
-    ghost use Rattle.ag_tokens.specs.Left.{IsReady, input};
+    ghost use Rattle.ag_tokens.specs.Remaining.{IsReady, input};
     ghost use Rattle.ag_tokens.specs.PlacedToken.{Input};
 
     ghost Value = { Input };
 
     ghost view = { λ c. input (length c.text.now) (chars c.rest.now) };
 
-    ghost invariant = { λ c. IsReady c.text.now c.rest.now c.prefix };
+    ghost invariant = { λ c. IsReady c.text.now c.rest.now c.leading };
 }
 
 /// Returns why no token can be read at the beginning of `rest`, or `None` if `rest` is empty.
@@ -59,7 +59,7 @@ impl<'t> Cursor<'t> {
         Cursor {
             text,
             rest,
-            prefix: leading_token(rest),
+            leading: leading_token(rest),
         }
     }
 
@@ -75,22 +75,22 @@ impl<'t> Cursor<'t> {
         Cursor {
             text,
             rest,
-            prefix: leading_token(rest),
+            leading: leading_token(rest),
         }
     }
 
     /// Returns the next token, or `None` if the text ends here, or if no token begins here, or if
     /// its number is above its limit. Does not allocate.
     pub fn peek(&self) -> Option<GrammarToken<'t>>
-        ensures { option_map token_of result ≡ prefix self.now }
+        ensures { option_map token_of result ≡ next_token self.now }
     {
-        match self.prefix {
+        match self.leading {
             Ok((token, _)) => Some(token),
             Err(_) => None,
         }
     }
 
-    /// Returns the offset of the next token, or the offset where the tokens end. Does not allocate.
+    /// Returns the byte offset of the next token, or the one where the tokens end. Does not allocate.
     #[tactic(auto, using(crate::proofs::States::offset_is))]
     pub fn offset(&self) -> usize
         ensures { result ≡ offset self.now }
@@ -111,7 +111,7 @@ impl<'t> Cursor<'t> {
     pub fn fault(&self) -> Option<TokenFault>
         ensures { result ≡ fault_of self.now.ending self.now.left }
     {
-        match self.prefix {
+        match self.leading {
             Ok(_) => None,
             Err(fault) => fault_before(fault, self.rest),
         }
@@ -121,11 +121,11 @@ impl<'t> Cursor<'t> {
     pub fn bump(&mut self)
         ensures { self.new ≡ next self.old }
     {
-        if let Ok((_, following)) = self.prefix {
+        if let Ok((_, following)) = self.leading {
             self.rest = skip_separators(following);
             match quick_token(self.rest) {
-                Some(cut) => self.prefix = Ok(cut),
-                None => self.prefix = leading_token(self.rest),
+                Some(cut) => self.leading = Ok(cut),
+                None => self.leading = leading_token(self.rest),
             }
         }
     }

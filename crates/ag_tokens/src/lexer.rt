@@ -5,9 +5,9 @@ ghost use Rattle.std.specs.Prelude.{option_map};
 ghost use Rattle.std.specs.Prelude.{IfOk, IfSome, MatchOption, encode_utf8, encode_utf8_all};
 ghost use Rattle.std.specs.Char.{is_ascii_digit};
 ghost use Rattle.std.specs.Str.Parse.{digits_value};
-ghost use Rattle.ag_tokens.specs.Left.{without_spaces};
+ghost use Rattle.ag_tokens.specs.Remaining.{after_separators};
 ghost use Rattle.ag_tokens.specs.Lexing as lexing;
-ghost use Rattle.ag_tokens.specs.Lexing.{GivesToken, IsPast, back_of, prefix_in};
+ghost use Rattle.ag_tokens.specs.Lexing.{AgreesOnToken, IsPast, rest_in, prefix_in};
 ghost use Rattle.ag_tokens.specs.declared.lexer.Class.TheVariants as class;
 ghost use Rattle.ag_tokens.specs.GrammarToken as token;
 ghost use Rattle.ag_tokens.specs.Tokens as tokens_spec;
@@ -65,7 +65,7 @@ pub fn first(text: &str) -> Option<(char, &str)>
 
 /// Returns the text after the first character if that belongs to the class, else `None`.
 fn after_one(class: Class, text: &str) -> Option<&str>
-    ensures { lexing.PassesOne class text.now result }
+    ensures { lexing.IsAfterOne class text.now result }
 {
     match first(text) {
         Some((c, rest)) if is_in(class, c) => Some(rest),
@@ -77,7 +77,7 @@ fn after_one(class: Class, text: &str) -> Option<&str>
 /// rest. Does not allocate.
 pub fn split_after(class: Class, text: &str) -> (&str, &str)
     ensures prefix { result.0.now ≡ encode_utf8_all (prefix_in class (chars text.now)) }
-    ensures back { chars result.1.now ≡ back_of class (chars text.now) }
+    ensures rest { chars result.1.now ≡ rest_in class (chars text.now) }
 {
     let mut rest = text;
     while let Some(after) = after_one(class, rest) {
@@ -88,7 +88,7 @@ pub fn split_after(class: Class, text: &str) -> (&str, &str)
 
 /// Returns the text after its leading separators. Does not allocate.
 pub fn skip_separators(text: &str) -> &str
-    ensures { chars result.now ≡ without_spaces (chars text.now) }
+    ensures { chars result.now ≡ after_separators (chars text.now) }
 {
     let mut rest = text;
     while let Some(following) = after_one(Class::Separator, rest) {
@@ -101,7 +101,7 @@ pub fn skip_separators(text: &str) -> &str
 /// digit.
 #[tactic(auto, using(crate::proofs::Numerals::no_digits_cut, crate::proofs::Numerals::digits_cut, crate::proofs::Numerals::digits_are))]
 fn leading_digits(text: &str) -> Option<(&str, &str)>
-    ensures value { lexing.GivesDigits result (lexing.digits_from (chars text.now)) }
+    ensures value { lexing.AgreesOnDigits result (lexing.digits_from (chars text.now)) }
     ensures digits { IfSome result (λ x. IsDigits x.0.now) }
 {
     let (digits, rest) = split_after(Class::Digit, text);
@@ -115,7 +115,7 @@ fn leading_digits(text: &str) -> Option<(&str, &str)>
 /// there.
 #[inline(never)]
 fn leading_name(text: &str) -> Option<(&str, &str)>
-    ensures { lexing.GivesName result (lexing.name_from (chars text.now)) }
+    ensures { lexing.AgreesOnName result (lexing.name_from (chars text.now)) }
 {
     match first(text) {
         Some((c, _)) if starts_name(c) => Some(split_after(Class::NamePart, text)),
@@ -200,7 +200,7 @@ fn is_escape(c: char) -> bool
 /// Returns the text after the escape whose backslash has been read, or `None` if this is not an
 /// escape.
 fn past_escape(text: &str) -> Option<&str>
-    ensures { lexing.PassesEscape text.now result }
+    ensures { lexing.IsAfterEscape text.now result }
 {
     match first(text) {
         Some((c, rest)) if is_escape(c) => Some(rest),
@@ -208,8 +208,8 @@ fn past_escape(text: &str) -> Option<&str>
     }
 }
 
-/// Returns the text after the first character of the body of a text literal. Returns `None` at a
-/// quote, at a backslash that does not begin an escape, and at the end of the text.
+/// Returns the text after the first character, or escape, of the body of a text literal. Returns `None`
+/// at a quote, at a backslash that does not begin an escape, and at the end of the text.
 #[tactic(auto, using(crate::proofs::TextTurns::past))]
 fn past_character(text: &str) -> Option<&str>
     ensures { MatchOption result (lexing.character_from (chars text.now) ≡ None)
@@ -223,8 +223,8 @@ fn past_character(text: &str) -> Option<&str>
 }
 
 /// Returns the text after a closing quote, or `None` if the text does not begin with one.
-fn without_quotes(text: &str) -> Option<&str>
-    ensures { option_map (λ x. chars x.now) result ≡ lexing.without_quotes (chars text.now) }
+fn after_quote(text: &str) -> Option<&str>
+    ensures { option_map (λ x. chars x.now) result ≡ lexing.after_quote (chars text.now) }
 {
     match first(text) {
         Some(('"', rest)) => Some(rest),
@@ -233,8 +233,8 @@ fn without_quotes(text: &str) -> Option<&str>
 }
 
 /// Returns the text after a dot, or `None` if the text does not begin with one.
-fn without_dots(text: &str) -> Option<&str>
-    ensures { option_map (λ x. chars x.now) result ≡ lexing.without_dots (chars text.now) }
+fn after_dot(text: &str) -> Option<&str>
+    ensures { option_map (λ x. chars x.now) result ≡ lexing.after_dot (chars text.now) }
 {
     match first(text) {
         Some(('.', rest)) => Some(rest),
@@ -284,7 +284,7 @@ fn leading_quoted(text: &str) -> Option<(&str, &str)>
     while let Some(after) = past_character(rest) {
         rest = after;
     }
-    match without_quotes(rest) {
+    match after_quote(rest) {
         Some(following) => {
             let (body, _) = text.split_at(text.len() - rest.len());
             Some((body, following))
@@ -297,7 +297,7 @@ fn leading_quoted(text: &str) -> Option<(&str, &str)>
 /// wrong escape or no closing quote.
 #[inline(always)]
 fn text_literal(text: &str) -> Result<(GrammarToken<'_>, &str), TokenFault>
-    ensures { GivesToken result (lexing.text_from (length (chars text.now)) [] (chars text.now)) }
+    ensures { AgreesOnToken result (lexing.text_from (length (chars text.now)) [] (chars text.now)) }
 {
     match leading_quoted(text) {
         Some((body, rest)) => Ok((GrammarToken::Text(body), rest)),
@@ -313,7 +313,7 @@ fn number_literal<'t>(
     rest: &'t str,
 ) -> Result<(GrammarToken<'t>, &'t str), TokenFault>
     requires { IsDigits digits.now }
-    ensures { GivesToken result
+    ensures { AgreesOnToken result
         (Some (token.Number (pos (digits_value 10 digits.now)), chars rest.now)) }
 {
     match digits.parse::<i64>() {
@@ -327,7 +327,7 @@ fn number_literal<'t>(
 /// with a digit.
 #[inline(always)]
 fn long_number(text: &str) -> Result<(GrammarToken<'_>, &str), TokenFault>
-    ensures { GivesToken result (lexing.number_from (chars text.now)) }
+    ensures { AgreesOnToken result (lexing.number_from (chars text.now)) }
 {
     match leading_digits(text) {
         Some((digits, rest)) => number_literal(digits, rest),
@@ -337,7 +337,7 @@ fn long_number(text: &str) -> Result<(GrammarToken<'_>, &str), TokenFault>
 
 /// Returns the digit at the beginning of the text and the text after it, or `None`.
 fn leading_digit(text: &str) -> Option<(char, &str)>
-    ensures { lexing.PassesDigit text.now result }
+    ensures { lexing.IsAfterDigit text.now result }
 {
     match first(text) {
         Some((c, rest)) if c.is_ascii_digit() => Some((c, rest)),
@@ -345,14 +345,14 @@ fn leading_digit(text: &str) -> Option<(char, &str)>
     }
 }
 
-/// Returns the number of a first digit and of the digits at the beginning of `text`, and the text
-/// after them, or `None` if the number is 10^18 or more.
+/// Returns the number with the first digit `digit` and, after it, the digits at the beginning of
+/// `text`, and the text after these; or `None` if the number is 10^18 or more.
 fn short_number(digit: char, text: &str) -> Option<(i64, &str)>
     requires { is_ascii_digit digit ≡ true }
     ensures value { IfSome result (λ x. x.0
         ≡ pos (digits_value 10 (prefix_in class.Digit (digit ∷ chars text.now)))) }
-    ensures back { IfSome result (λ x. chars x.1.now
-        ≡ back_of class.Digit (digit ∷ chars text.now)) }
+    ensures rest { IfSome result (λ x. chars x.1.now
+        ≡ rest_in class.Digit (digit ∷ chars text.now)) }
 {
     let mut number = digit as u64 - 48;
     let mut rest = text;
@@ -376,7 +376,7 @@ fn number<'t>(
 ) -> Result<(GrammarToken<'t>, &'t str), TokenFault>
     requires digit { is_ascii_digit digit ≡ true }
     requires split { lexing.IsSplit text.now digit rest.now }
-    ensures { GivesToken result (lexing.number_from (chars text.now)) }
+    ensures { AgreesOnToken result (lexing.number_from (chars text.now)) }
 {
     match short_number(digit, rest) {
         Some((number, following)) => Ok((GrammarToken::Number(number), following)),
@@ -393,7 +393,7 @@ fn leading_occurrence(text: &str) -> Option<(&str, &str, &str)>
     ensures digits { IfSome result (λ x. IsDigits x.0.now) }
 {
     let (digits, rest) = leading_digits(text)?;
-    let (attr, rest) = leading_name(without_dots(rest)?)?;
+    let (attr, rest) = leading_name(after_dot(rest)?)?;
     Some((digits, attr, rest))
 }
 
@@ -406,7 +406,7 @@ fn occurrence_of<'t>(
     rest: &'t str,
 ) -> Result<(GrammarToken<'t>, &'t str), TokenFault>
     requires { IsDigits digits.now }
-    ensures { GivesToken result
+    ensures { AgreesOnToken result
         (Some (token.Occurrence (digits_value 10 digits.now) attr.now, chars rest.now)) }
 {
     match digits.parse::<u16>() {
@@ -419,7 +419,7 @@ fn occurrence_of<'t>(
 /// and with `TooLarge` if its place is above 65,535.
 #[inline(always)]
 fn occurrence(text: &str) -> Result<(GrammarToken<'_>, &str), TokenFault>
-    ensures { GivesToken result (lexing.occurrence_from (chars text.now)) }
+    ensures { AgreesOnToken result (lexing.occurrence_from (chars text.now)) }
 {
     match leading_occurrence(text) {
         Some((digits, attr, rest)) => occurrence_of(digits, attr, rest),
@@ -438,7 +438,7 @@ fn plain_token<'t>(
 ) -> Result<(GrammarToken<'t>, &'t str), TokenFault>
     requires digit { is_ascii_digit c ≡ false }
     requires split { lexing.IsSplit text.now c rest.now }
-    ensures { GivesToken result (lexing.plain_from (chars text.now)) }
+    ensures { AgreesOnToken result (lexing.plain_from (chars text.now)) }
 {
     if let Some((mark, following)) = punctuation_of(c, rest) {
         return Ok((GrammarToken::Punctuation(mark), following));
@@ -458,7 +458,7 @@ fn plain_token<'t>(
 #[inline(never)]
 #[tactic(auto, using(crate::proofs::Numerals::some_digit), unfolding(crate::specs::Lexing::token_from))]
 pub fn leading_token(text: &str) -> Result<(GrammarToken<'_>, &str), TokenFault>
-    ensures { GivesToken result (lexing.token_from (chars text.now)) }
+    ensures { AgreesOnToken result (lexing.token_from (chars text.now)) }
 {
     match first(text) {
         Some(('"', rest)) => text_literal(rest),
@@ -474,7 +474,7 @@ pub fn leading_token(text: &str) -> Result<(GrammarToken<'_>, &str), TokenFault>
 #[inline(always)]
 #[tactic(auto, using(crate::proofs::TokenLaws::marked_token, crate::proofs::Numerals::numbered_token))]
 pub fn quick_token(text: &str) -> Option<(GrammarToken<'_>, &str)>
-    ensures { IfSome result (λ x. lexing.IsCutSo x (lexing.token_from (chars text.now))) }
+    ensures { IfSome result (λ x. lexing.IsSameToken x (lexing.token_from (chars text.now))) }
 {
     match first(text)? {
         (c, rest) if c.is_ascii_digit() => {

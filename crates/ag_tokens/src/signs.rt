@@ -1,4 +1,4 @@
-//! Tests for tokens that have only one spelling.
+//! Tests for tokens with a fixed text: punctuation, and reserved names.
 
 ghost use Rattle.std.specs.Prelude.{◌≡◌};
 ghost use Rattle.ag_tokens.specs.Lexing.{token_of};

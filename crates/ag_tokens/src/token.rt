@@ -44,7 +44,7 @@ pub enum GrammarToken<'t> {
     Text(&'t str),
     /// A name, reserved or not.
     Name(&'t str),
-    /// An occurrence of an attribute: `$`, a place, `.`, a name.
+    /// An occurrence of an attribute, as `$1.value`: `$`, its place, `.`, and its name.
     Occurrence(u16, &'t str),
     /// Punctuation.
     Punctuation(Punctuation),

@@ -19,7 +19,7 @@ use Rattle.ag_value.proofs.Lengths.{length-spelling}
 use Rattle.ag_value.proofs.Weights.{few_items, few_pairs}
 use Rattle.ag_value.specs.declared.fault.ValueFault.{ValueFault}
 use Rattle.ag_value.specs.declared.fault.ValueFault.TheVariants.{Malformed, NoMemory}
-use Rattle.ag_value.specs.Well.{IsWell, all_true, are_keys, is_fault, is_i64, is_item, is_item_pair, is_rising, key_of}
+use Rattle.ag_value.specs.Well.{IsWell, all_true, are_keys, is_fault, is_i64, is_item, is_item_pair, is_ascending, key_of}
 use Rattle.std.specs.Str.{is_utf8}
 use Rattle.std.specs.Prelude.{FitsSigned, pos, negsuc}
 use Rattle.std.proofs.Math.Facts.{Fits-of_z, sfits_to_z}
@@ -288,7 +288,7 @@ layer_again (suc levels) (Value-F.List vs) = subst (λ (w : Value). IsLegible (s
 layer_again zero (Value-F.Table ps) = subst (λ (w : Value). IsLegible zero w → Again spelling_of (item_at zero) w) (sym (rolls-Table ps)) (λ legible rest. let l = legible.shallow in let deep = depth-Table ps in absurd (omega arith))
 layer_again (suc levels) (Value-F.Table ps) = subst (λ (w : Value). IsLegible (suc levels) w → Again spelling_of (item_at (suc levels)) w) (sym (rolls-Table ps)) (λ legible rest.
     let formed = and_parts (are_keys (map key_of ps)) (all_true (map is_item_pair ps)) (sym (item-Table ps) ∙ legible.formed) in
-    let keys = and_parts (is_rising (map key_of ps)) (all_true (map is_utf8 (map key_of ps))) formed.0 in
+    let keys = and_parts (is_ascending (map key_of ps)) (all_true (map is_utf8 (map key_of ps))) formed.0 in
     let light : sum (map weight_of_pair ps) < 2 ^ 32 = let l = legible.light in omega (arith, weight-Table ps) in
     let shallow : greatest (map (λ p. depth_of p.1) ps) ≤ levels = let l = legible.shallow in let deep = depth-Table ps in omega arith in
     let few : length ps < 2 ^ 32 = omega (arith, few_pairs ps) in

@@ -45,5 +45,5 @@ abbrev pub max_weight : ℕ
 max_weight = MAX_WEIGHT
 
 -- the greatest depth of a well value
-abbrev pub max_depth : ℕ
-max_depth = MAX_VALUE_DEPTH
+abbrev pub max_value_depth : ℕ
+max_value_depth = MAX_VALUE_DEPTH

@@ -27,11 +27,11 @@ Fails fault.Malformed read = read ≡ None
 Fails fault.NoMemory read = Unit {0}
 
 -- the result of a function, seen through view, is the result of reading, unless memory ran out
-abbrev pub Gives : {X Y : Type 0} → (X → Y) → Result X ValueFault → Option Y → Type 0
-Gives view (Ok x) read = read ≡ Some (view x)
-Gives view (Err e) read = Fails e read
+abbrev pub Agrees : {X Y : Type 0} → (X → Y) → Result X ValueFault → Option Y → Type 0
+Agrees view (Ok x) read = read ≡ Some (view x)
+Agrees view (Err e) read = Fails e read
 
--- a number of a given width
+-- an unsigned big-endian number of a given width
 abbrev pub number_at : Width → List ℕ → Read ℕ
 number_at w bytes = if nat_lt (length bytes) (byte_len w) then None else Some (from_be_bytes w (take (byte_len w) bytes), drop (byte_len w) bytes)
 
@@ -53,11 +53,12 @@ code_at (suc (suc (suc (suc (suc (suc (suc zero))))))) = Some code.Big
 code_at (suc (suc (suc (suc (suc (suc (suc (suc zero)))))))) = Some code.Deep
 code_at (suc (suc (suc (suc (suc (suc (suc (suc (suc b))))))))) = None
 
+-- an error, by the byte of its number
 unfoldable pub fault_at : List ℕ → Read Value
 fault_at [] = None
 fault_at (b ∷ rest) = code_at b >>= λ c. Some (v.Fault c, rest)
 
--- n values read by `item`, after those before them
+-- the values in `prefix`, followed by n values read by `item`
 unfoldable pub all_at : {A : Type 0} → (List ℕ → Read A) → ℕ → List A → List ℕ → Read (List A)
 all_at item zero prefix bytes = Some (prefix, bytes)
 all_at item (suc n) prefix bytes = item bytes >>= λ first. all_at item n (prefix ++ first.0 ∷ []) first.1
@@ -66,7 +67,7 @@ all_at item (suc n) prefix bytes = item bytes >>= λ first. all_at item n (prefi
 unfoldable pub pair_at : (List ℕ → Read Value) → List ℕ → Read (List ℕ × Value)
 pair_at item bytes = text_at bytes >>= λ key. item key.1 >>= λ value. Some ((key.0, value.0), value.1)
 
--- A value that a list or table may contain, of at most `levels` levels. The keys of a table rise.
+-- A value that a list or table may contain, of a depth of at most `levels`. The keys of a table rise.
 unfoldable pub item_at : ℕ → List ℕ → Read Value
 item_at levels [] = None
 item_at levels (zero ∷ rest) = number_at w64 rest >>= λ n. Some (v.Num (cast_signed w64 n.0), n.1)
@@ -78,7 +79,7 @@ item_at (suc levels) (suc (suc (suc zero)) ∷ rest) =
     number_at w32 rest >>= λ n. all_at (pair_at (item_at levels)) n.0 [] n.1 >>= λ pairs. if are_keys (map key_of pairs.0) then Some (v.Table pairs.0, pairs.1) else None
 item_at levels (suc (suc (suc (suc b))) ∷ rest) = None
 
--- an error, or a value that a list or table may contain, of at most `levels` levels
+-- an error, or a value that a list or table may contain, of a depth of at most `levels`
 unfoldable pub value_at : ℕ → List ℕ → Read Value
 value_at levels [] = None
 value_at levels (zero ∷ rest) = item_at levels (zero ∷ rest)

@@ -1,4 +1,4 @@
--- The one spelling of each value, in bytes. All numbers are big-endian. This project's.
+-- The spelling of a value: the bytes that encode it. All numbers are big-endian. This project's.
 use Rattle.std.specs.Prelude.{◌≡◌, ℕ, List, [], ◌∷◌, ◌++◌, length, map}
 use Rattle.std.specs.Int.{w32, w64, to_be_bytes, cast_unsigned}
 use Rattle.ag_value.specs.declared.value.Value.{Value, fold-Value}
@@ -21,7 +21,7 @@ number_of code.Deep = 8
 abbrev pub counted : List ℕ → List ℕ
 counted bytes = to_be_bytes w32 (length bytes) ++ bytes
 
--- texts, one after the other
+-- lists of bytes, one after the other
 abbrev pub joined : List (List ℕ) → List ℕ
 joined [] = []
 joined (text ∷ texts) = text ++ joined texts

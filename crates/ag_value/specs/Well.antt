@@ -1,11 +1,11 @@
--- Well values: those that the product makes, stores and takes. All of this is this project's.
+-- Well values: those that the program makes, stores and accepts. All of this is this project's.
 use Rattle.std.specs.Prelude.{◌≡◌, ℕ, ◌^◌, ◌≤◌, ℤ, pos, negsuc, Bool, true, false, ◌&&◌, ◌||◌, nat_lt, List, [], ◌∷◌, map}
 use Rattle.std.specs.Cmp.Lexicographic.{slice_cmp}
 use Rattle.std.specs.Ordering.{nat_cmp, is_lt}
 use Rattle.std.specs.Str.{is_utf8}
 use Rattle.ag_value.specs.declared.value.Value.{Value, fold-Value}
 use Rattle.ag_value.specs.declared.value.Value.TheOpen.{Value-F}
-use Rattle.ag_value.specs.Measure.{weight_of, depth_of, max_weight, max_depth}
+use Rattle.ag_value.specs.Measure.{weight_of, depth_of, max_weight, max_value_depth}
 
 -- a number from -2^63 to 2^63 - 1
 abbrev pub is_i64 : ℤ → Bool
@@ -18,10 +18,10 @@ abbrev pub is_before : List ℕ → List ℕ → Bool
 is_before a b = is_lt (slice_cmp nat_cmp a b)
 
 -- each key comes before the next
-abbrev pub is_rising : List (List ℕ) → Bool
-is_rising [] = true
-is_rising (a ∷ []) = true
-is_rising (a ∷ b ∷ keys) = is_before a b && is_rising (b ∷ keys)
+abbrev pub is_ascending : List (List ℕ) → Bool
+is_ascending [] = true
+is_ascending (a ∷ []) = true
+is_ascending (a ∷ b ∷ keys) = is_before a b && is_ascending (b ∷ keys)
 
 -- all of them are true
 abbrev pub all_true : List Bool → Bool
@@ -30,7 +30,7 @@ all_true (b ∷ bs) = b && all_true bs
 
 -- the keys of a table: UTF-8, and each before the next
 abbrev pub are_keys : List (List ℕ) → Bool
-are_keys keys = is_rising keys && all_true (map is_utf8 keys)
+are_keys keys = is_ascending keys && all_true (map is_utf8 keys)
 
 -- whether a list or table may contain a value, from whether it may contain the values in it
 abbrev pub item_step : Value-F Bool → Bool
@@ -41,7 +41,7 @@ item_step (Value-F.Table pairs) = are_keys (map (λ p. p.0) pairs) && all_true (
 item_step (Value-F.Fault code) = false
 
 -- A list or table may contain a value: at every level of it numbers are of i64, texts and keys are UTF-8,
--- keys rise strictly by their bytes, and there is no error.
+-- keys rise strictly by their bytes, and no value is an error.
 abbrev pub is_item : Value → Bool
 is_item = fold-Value Bool item_step
 
@@ -52,6 +52,7 @@ key_of p = p.0
 abbrev pub is_item_pair : List ℕ × Value → Bool
 is_item_pair p = is_item p.1
 
+-- whether a value is an error, by its form
 abbrev pub fault_step : Value-F Bool → Bool
 fault_step (Value-F.Num n) = false
 fault_step (Value-F.Text text) = false
@@ -67,5 +68,5 @@ is_fault = fold-Value Bool fault_step
 -- too heavy.
 pub record IsWell (value : Value) : Type 0 where
   pub formed : (is_fault value || is_item value) ≡ true
-  pub shallow : depth_of value ≤ max_depth
+  pub shallow : depth_of value ≤ max_value_depth
   pub light : weight_of value ≤ max_weight

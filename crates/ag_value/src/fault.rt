@@ -6,15 +6,15 @@ ghost use Rattle.ag_value.specs.declared.fault.ValueFault.TheVariants as value_f
 
 use std::alloc::{AllocError, AllocFailed};
 
-/// The fault of a call that can only run out of memory. It is returned only if the allocator
-/// refused memory.
+/// The fault of a call that can only run out of memory: the allocator refused memory, or a counter
+/// of 64 bits, of bytes or of the owners of a shared value, is at its end.
 #[derive(Clone, Copy, Debug, PartialEq, Eq)]
 pub enum NoMemory {
     NoMemory,
 }
 
-/// A fault that only says that memory was refused. Each crate converts them to its own fault by one
-/// `From`.
+/// The faults that only say that memory was refused. A crate converts all of them to its own fault
+/// by one `impl From`.
 pub trait OutOfMemory: Drop {}
 
 impl OutOfMemory for AllocError {}
@@ -42,7 +42,7 @@ impl<T: Drop> From<AllocFailed<T>> for NoMemory {
 /// The reasons why bytes can't be decoded.
 #[derive(Clone, Copy, Debug, PartialEq, Eq)]
 pub enum ValueFault {
-    /// No prefix of the bytes is the spelling of a well value.
+    /// V1: no prefix of the bytes is the spelling of a well value.
     Malformed,
     /// The allocator refused memory.
     NoMemory,

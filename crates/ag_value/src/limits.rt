@@ -1,7 +1,7 @@
-//! The limits of values, by name (this project's): contracts and code take them from here.
+//! The limits of values (this project's). Contracts and code use these constants.
 
-/// The greatest depth of a well value.
+/// The greatest depth of a well value. The depth of a number is 0, that of an empty list is 1.
 pub const MAX_VALUE_DEPTH: u32 = 64;
 
-/// The greatest weight of a well value: the greatest length of a spelling, in bytes.
+/// The greatest weight of a well value, which is the length of its spelling in bytes.
 pub const MAX_WEIGHT: u64 = 1_048_576;

@@ -1,4 +1,4 @@
-//! Values in bytes and as text.
+//! The two ways to write a value: its spelling, in bytes, and its text for a reader.
 
 pub mod decoding;
 pub mod encoding;

@@ -6,27 +6,27 @@ use arrayvec::ArrayString;
 use std::alloc::Global;
 use std::marker::Model;
 
-/// The storage of a text: up to 16 bytes in the value itself, any number in a string.
+/// The storage of a text: up to 16 bytes in the value itself, or any number in a string.
 #[derive(Debug, Drop)]
-enum Held {
+enum Storage {
     Short(ArrayString<16>),
     Long(String),
 }
 
-/// A string; contracts see the list of its bytes. A text that is made of up to 16 bytes takes no
-/// memory for them.
+/// A string; contracts see the list of its bytes. A text that `from_str` makes of up to 16 bytes
+/// takes no memory.
 #[derive(Debug, Drop)]
 pub struct Text {
-    held: Held,
+    held: Storage,
 }
 
 impl Model for Text {
     ghost use Rattle.std.specs.Prelude.{List, ℕ};
-    ghost use Rattle.ag_value.specs.Held.{held_bytes};
+    ghost use Rattle.ag_value.specs.Storage.{storage_bytes};
 
     ghost Value = { List ℕ };
 
-    ghost view = { λ t. held_bytes t.held };
+    ghost view = { λ t. storage_bytes t.held };
 }
 
 impl Text {
@@ -35,22 +35,22 @@ impl Text {
         ensures { result ≡ string_bytes string }
     {
         Text {
-            held: Held::Long(string),
+            held: Storage::Long(string),
         }
     }
 
-    /// Copies a text. Takes memory for more than 16 bytes.
+    /// Copies a text. Takes memory for more than 16 bytes. Fails with NoMemory.
     pub fn from_str(alloc: Global, text: &str) -> Result<Text, NoMemory>
         ensures { IfOk result (λ copied. copied ≡ text.now) }
     {
         if let Ok(short) = ArrayString::from(text) {
             return Ok(Text {
-                held: Held::Short(short),
+                held: Storage::Short(short),
             });
         }
         let string = String::from_str(alloc, text)?;
         Ok(Text {
-            held: Held::Long(string),
+            held: Storage::Long(string),
         })
     }
 
@@ -59,19 +59,20 @@ impl Text {
         ensures { result.now ≡ self.now }
     {
         match &self.held {
-            Held::Short(short) => short.as_str(),
-            Held::Long(string) => string.as_str(),
+            Storage::Short(short) => short.as_str(),
+            Storage::Long(string) => string.as_str(),
         }
     }
 
-    /// Returns the text as a string. Takes memory if the text is stored in the value itself.
+    /// Returns the text as a string. Takes memory if the text is stored in the value itself. Fails
+    /// with NoMemory.
     pub fn into_string(self, alloc: Global) -> Result<String, NoMemory>
         ensures { IfOk result (λ string. string_bytes string ≡ self) }
     {
         let Text { held } = self;
         match held {
-            Held::Short(short) => Ok(String::from_str(alloc, short.as_str())?),
-            Held::Long(string) => Ok(string),
+            Storage::Short(short) => Ok(String::from_str(alloc, short.as_str())?),
+            Storage::Long(string) => Ok(string),
         }
     }
 }

@@ -18,6 +18,6 @@ pub some : (old new : Option (List ℕ)) (text lent : List ℕ) → IsWellText t
 some old new text lent well same beginning = record { text = text; well = well; beginning = subst (AppendsBeginning old new) same beginning }
 
 pub whole : (old new : Option (List ℕ)) (text lent : List ℕ) → IsWellText text → lent ≡ text → Appends old new lent → WritesText old new
-whole old new text lent well same written = record { text = text; well = well; written = subst (Appends old new) same written }
+whole old new text lent well same written = record { text = text; well = well; output = subst (Appends old new) same written }
 
 pub ruleset begun = (none, some, whole)

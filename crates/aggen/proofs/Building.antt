@@ -10,12 +10,12 @@ use Rattle.llparse.specs.declared.table.fault.TableFault.{TableFault}
 use Rattle.llparse.specs.declared.table.fault.TableFault.TheVariants as table
 use Rattle.passassign.specs.Least.{IsLeast}
 use Rattle.passassign.specs.Rows.{passes_of}
-use Rattle.passcode.specs.Listing.{AreLists}
+use Rattle.passcode.specs.Listing.{AreGeneratedLists}
 use Rattle.passcode.specs.Rows.{Lists}
 use Rattle.planchecker.specs.Plans.{IsPlan}
 use Rattle.aggen.specs.Building.{IsBuildFault, IsLeastPlan}
 use Rattle.aggen.specs.Checking.{IsGrammarOf}
-use Rattle.aggen.specs.Listing.{OfPlan}
+use Rattle.aggen.specs.Listing.{HoldsOfPlan}
 use Rattle.ag_fault.specs.Faults.{build_fault_of_table, listing_fault_of}
 use Rattle.ag_fault.specs.declared.fault.Fault.{Fault}
 use Rattle.ag_fault.specs.declared.fault.Fault.TheVariants as fault
@@ -27,10 +27,10 @@ pub conflict_exact : (t : List ℕ) (g : Grammar) → IsGrammarOf t g → (f : T
 conflict_exact t g is (table.Conflict symbol first second ahead) least = (g, is, least symbol first second ahead refl)
 conflict_exact t g is table.NoMemory least = tt
 
-pub least_plan : (g : Grammar) (rows : List (List ℕ)) (code : Lists) (p : List (List ℕ) × Lists) → p ≡ (rows, code) → IsPlan g rows code → IsLeast g (passes_of rows) → AreLists g (passes_of rows) code → IsLeastPlan g p.0 p.1
+pub least_plan : (g : Grammar) (rows : List (List ℕ)) (code : Lists) (p : List (List ℕ) × Lists) → p ≡ (rows, code) → IsPlan g rows code → IsLeast g (passes_of rows) → AreGeneratedLists g (passes_of rows) code → IsLeastPlan g p.0 p.1
 least_plan g rows code p is plan least lists = subst (λ (x : List (List ℕ) × Lists). IsLeastPlan g x.0 x.1) (sym is) (record { plan = plan; least = least; lists = lists })
 
-pub of_plan : (P : Grammar → List (List ℕ) → Lists → Type 0) (text : List ℕ) (g : Grammar) (rows : List (List ℕ)) (code : Lists) → IsGrammarOf text g → IsLeastPlan g rows code → P g rows code → OfPlan text P
+pub of_plan : (P : Grammar → List (List ℕ) → Lists → Type 0) (text : List ℕ) (g : Grammar) (rows : List (List ℕ)) (code : Lists) → IsGrammarOf text g → IsLeastPlan g rows code → P g rows code → HoldsOfPlan text P
 of_plan P text g rows code is plan holds = record { grammar = g; rows = rows; code = code; is = is; plan = plan; holds = holds }
 
 -- O2 of the program is that of a listing

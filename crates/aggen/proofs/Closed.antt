@@ -4,16 +4,16 @@ use Rattle.ag_expr.specs.declared.fault.ExprFault.{ExprFault}
 use Rattle.ag_expr.specs.declared.fault.ExprFault.TheVariants.{NoToken, Unexpected, NumberTooLarge, TooDeep, NoMemory}
 use Rattle.ag_grammar.specs.declared.syntax.node.Node.{Node}
 use Rattle.ag_grammar.specs.declared.syntax.occurrence.Occ.{Occ}
-use Rattle.ag_expr.specs.language.Expression.{IsAt, IsRefused, ReadsAsExpr, ReadsAsNone}
+use Rattle.ag_expr.specs.language.Expression.{IsFaultOf, IsRefused, ReadsAsExpr, ReadsAsNone}
 use Rattle.ag_expr.proofs.language.Texts.{one_expression}
 use Rattle.ag_value.specs.declared.value.Value.{Value}
-use Rattle.aggen.specs.Showing.{HasNone, HasValue, IsExplained, IsExprFault, IsUnexpectedAt, OccursAt, first_offset}
+use Rattle.aggen.specs.Showing.{HasNoValue, HasValue, IsExplained, IsExprFault, IsUnexpectedAt, OccursAt, first_offset}
 use Rattle.ag_fault.specs.Faults.{expr_fault_of}
 
-none_closed : (text : List ℕ) → ReadsAsNone text → HasNone text
+none_closed : (text : List ℕ) → ReadsAsNone text → HasNoValue text
 none_closed text none is has = none (has.tree, []) has.reads
 
-pub refused_none : (text : List ℕ) (e : ExprFault) → IsRefused text e → IsExprFault (expr_fault_of e) → HasNone text
+pub refused_none : (text : List ℕ) (e : ExprFault) → IsRefused text e → IsExprFault (expr_fault_of e) → HasNoValue text
 refused_none text (NoToken at) none is = none_closed text none
 refused_none text (Unexpected at) none is = none_closed text none
 refused_none text (NumberTooLarge at) none is = none_closed text none
@@ -21,7 +21,7 @@ refused_none text (TooDeep at) none is = none_closed text none
 refused_none text NoMemory none is = absurd is
 
 -- a fault of `read_expr` is one of X
-pub explained : (text : List ℕ) (e : ExprFault) → IsRefused text e → IsAt text e → IsExplained text (expr_fault_of e)
+pub explained : (text : List ℕ) (e : ExprFault) → IsRefused text e → IsFaultOf text e → IsExplained text (expr_fault_of e)
 explained text (NoToken at) none is = (none, is)
 explained text (Unexpected at) none is = inl (none, is)
 explained text (NumberTooLarge at) none is = (none, is)

@@ -33,7 +33,7 @@ use Rattle.passrun.specs.Rounds.{HasCounted, HasRunAll}
 use Rattle.ag_grammar.specs.grammars.Running.{IsLastPass}
 use Rattle.passrun.specs.passing.Ahead.{IsRunFault}
 use Rattle.planchecker.specs.courses.Settings.{setting_of}
-use Rattle.aggen.specs.Translating.{AreLeft, IsFilesFault, IsTranslationFault, LeavesFiles, TranslatesSentence}
+use Rattle.aggen.specs.Translating.{AreLeft, IsFaultBeforeText, IsTranslationFault, LeavesFiles, TranslatesSentence}
 use Rattle.ag_grammar.proofs.grammars.Counting.{passes_have_all_rules}
 use Rattle.ag_grammar.proofs.grammars.Running.{run_is_the_solution}
 use Rattle.passrun.proofs.Totals.{greatest_is_last}
@@ -83,7 +83,7 @@ module _ (g : Grammar) (sentence : List ℕ) (rows : List (List ℕ)) (code : Li
       }
 
   -- no pass refuses a file of the tree of a sentence
-  pub never_refused : (t : Tree) (start : List ℕ) (f : RunFault) (ha hb : Bool) → IsTreeOf g t → IsWithinLimits max_depth max_nodes t → WhenHonest ha (IsFirstFile version_two g t start) → WhenHonest ha (WhenHonest hb (IsRunFault (setting_of g (rows, code) 1) start f)) → IsFilesFault g sentence ha hb (run_fault_of f)
+  pub never_refused : (t : Tree) (start : List ℕ) (f : RunFault) (ha hb : Bool) → IsTreeOf g t → IsWithinLimits max_depth max_nodes t → WhenHonest ha (IsFirstFile version_two g t start) → WhenHonest ha (WhenHonest hb (IsRunFault (setting_of g (rows, code) 1) start f)) → IsFaultBeforeText g sentence ha hb (run_fault_of f)
   never_refused t start (run.Damaged at) ha hb tree within file exact = λ a b. let texts = texts_are_given g t in (exact a b).none t texts.0 tree (file a (passes_of rows) texts.0 plan.legal.positive texts.1)
   never_refused t start run.TooDeep ha hb tree within file exact = λ a b. let texts = texts_are_given g t in (exact a b).none max_nodes t texts.0 tree within (file a (passes_of rows) texts.0 plan.legal.positive texts.1)
   never_refused t start run.TooManyNodes ha hb tree within file exact = λ a b. let texts = texts_are_given g t in (exact a b).none max_depth t texts.0 tree within (file a (passes_of rows) texts.0 plan.legal.positive texts.1)
@@ -117,7 +117,7 @@ module _ (g : Grammar) (sentence : List ℕ) (rows : List (List ℕ)) (code : Li
       leaves = left.leaves;
       text = text;
       root = root_of (Ok text) exact x y;
-      written = put;
+      output = put;
       report_is = left.report_is;
     });
   }
@@ -132,7 +132,7 @@ module _ (g : Grammar) (sentence : List ℕ) (rows : List (List ℕ)) (code : Li
     prefix = prefix.prefix;
     rest = prefix.rest;
     root = subst (λ (bytes : List ℕ). IsTranslation g left.values (Text bytes)) prefix.cut (root_of (Ok text) exact x y);
-    written = prefix.put;
+    output = prefix.put;
   }
 
   -- the meaning of a fault of the text

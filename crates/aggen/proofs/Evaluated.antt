@@ -40,7 +40,7 @@ use Rattle.roottext.specs.Roots.{IsRootText, MatchesRoot}
 use Rattle.roottext.specs.declared.fault.OutFault.{OutFault}
 use Rattle.roottext.specs.declared.fault.OutFault.TheVariants as out
 use Rattle.aggen.specs.Building.{IsLeastPlan}
-use Rattle.aggen.specs.Evaluating.{AreLeftOfTree, EvaluatesTree, IsEvaluationFault, IsPassesFault, LeavesFilesOfTree}
+use Rattle.aggen.specs.Evaluating.{AreLeftOfTree, EvaluatesTree, IsEvaluationFault, IsTreeFaultBeforeText, LeavesFilesOfTree}
 use Rattle.ag_fault.specs.Faults.{out_fault_of, run_fault_of}
 use Rattle.aggen.specs.Translation.{BeginsTranslation, IsTreeInFile, before_last}
 use Rattle.aggen.specs.declared.translations.report.Report.{Report}
@@ -62,7 +62,7 @@ module _ (g : Grammar) (rows : List (List ℕ)) (code : Lists) (accepted : IsAcc
   file_in content t is = let texts = texts_are_given g t in is.file (passes_of rows) texts.0 plan.legal.positive texts.1
 
   -- the meaning of a fault of pass 1 for the content
-  pub first_refused : (content : List ℕ) (f : RunFault) (ht ha hb : Bool) → WhenHonest ht (IsRunFault (setting_of g (rows, code) 1) content f) → IsPassesFault g ht ha hb content (run_fault_of f)
+  pub first_refused : (content : List ℕ) (f : RunFault) (ht ha hb : Bool) → WhenHonest ht (IsRunFault (setting_of g (rows, code) 1) content f) → IsTreeFaultBeforeText g ht ha hb content (run_fault_of f)
   first_refused content (run.Damaged at) ht ha hb exact = λ x y z. ((λ t is. (exact x).none t (texts_are_given g t).0 is.tree (file_in content t is)), ((rows, code), plan.legal.positive, (exact x).shown))
   first_refused content run.TooDeep ht ha hb exact = λ x y z. ((λ t is deep. (exact x).none (node_count t) t (texts_are_given g t).0 is.tree (record { deep = deep; large = omega arith }) (file_in content t is)), ((rows, code), plan.legal.positive, (exact x).shown))
   first_refused content run.TooManyNodes ht ha hb exact = λ x y z. ((λ t is large. (exact x).none (depth_of t) t (texts_are_given g t).0 is.tree (record { deep = omega arith; large = large }) (file_in content t is)), ((rows, code), plan.legal.positive, (exact x).shown))
@@ -70,7 +70,7 @@ module _ (g : Grammar) (rows : List (List ℕ)) (code : Lists) (accepted : IsAcc
   first_refused content run.NoMemory ht ha hb exact = tt
 
   -- honest devices return a file that no later pass rejects
-  pub never_later : (content first : List ℕ) (count evals : ℕ) (f : RunFault) (ht ha hb : Bool) → WhenHonest ht (WhenHonest hb (IsPassed (setting_of g (rows, code) 1) content first count evals)) → WhenHonest hb (WhenHonest ha (IsRunFault (setting_of g (rows, code) 2) first f)) → IsPassesFault g ht ha hb content (run_fault_of f)
+  pub never_later : (content first : List ℕ) (count evals : ℕ) (f : RunFault) (ht ha hb : Bool) → WhenHonest ht (WhenHonest hb (IsPassed (setting_of g (rows, code) 1) content first count evals)) → WhenHonest hb (WhenHonest ha (IsRunFault (setting_of g (rows, code) 2) first f)) → IsTreeFaultBeforeText g ht ha hb content (run_fault_of f)
   never_later content first count evals (run.Damaged at) ht ha hb passed exact = λ x y z. let is = passed x z in absurd ((exact z y).none is.tree is.values is.fits is.written)
   never_later content first count evals run.TooDeep ht ha hb passed exact = λ x y z. let is = passed x z in absurd ((exact z y).none max_nodes is.tree is.values is.fits is.limits is.written)
   never_later content first count evals run.TooManyNodes ht ha hb passed exact = λ x y z. let is = passed x z in absurd ((exact z y).none max_depth is.tree is.values is.fits is.limits is.written)
@@ -134,7 +134,7 @@ module _ (g : Grammar) (rows : List (List ℕ)) (code : Lists) (least : IsLeastP
         leaves = left.leaves;
         text = text;
         root = root_of (Ok text) exact h x y;
-        written = put;
+        output = put;
         report_is = left.report_is;
       };
     });
@@ -150,7 +150,7 @@ module _ (g : Grammar) (rows : List (List ℕ)) (code : Lists) (least : IsLeastP
     prefix = prefix.prefix;
     rest = prefix.rest;
     root = subst (λ (bytes : List ℕ). IsTranslation g left.values (Text bytes)) prefix.cut (root_of (Ok text) exact h x y);
-    written = prefix.put;
+    output = prefix.put;
   }
 
   -- the meaning of a fault of the text

@@ -13,9 +13,9 @@ use Rattle.ag_grammar.specs.declared.raw.RawGrammar.{RawGrammar}
 use Rattle.ag_grammar.specs.declared.raw.RawItem.{RawItem}
 use Rattle.ag_grammar.specs.declared.raw.RawItem.TheVariants as raw_item
 use Rattle.ag_grammar.specs.declared.raw.RawProduction.{RawProduction}
-use Rattle.ag_tokens.specs.Words.{Many, none, more}
+use Rattle.ag_tokens.specs.Languages.{Many, none, more}
 use Rattle.ag_text.specs.Syntax.{IsProduction, IsGrammar, one}
-use Rattle.ag_text.specs.Words.{class_of, class_or_name, is_literal, item_in, named, some_where}
+use Rattle.ag_text.specs.Meanings.{class_of, class_or_name, is_literal, item_in, named, some_if}
 use Rattle.normalform.specs.faults.Faults.{IsReadable, IsReadableItem}
 use Rattle.aggen.specs.Checking.{TextsAreReadable}
 use Rattle.normalform.proofs.found.Tested.{separator_is}
@@ -39,7 +39,7 @@ not_empty : (bytes : List ℕ) → not (length bytes == 0) ≡ true → 1 ≤ le
 not_empty [] h = absurd (cc)
 not_empty (b ∷ bytes) h = omega arith
 
-of_literal : (bytes : List ℕ) (is : Bool) (x : RawItem) → is_literal bytes ≡ is → some_where is (raw_item.Literal bytes) ≡ Some x → IsReadableItem x
+of_literal : (bytes : List ℕ) (is : Bool) (x : RawItem) → is_literal bytes ≡ is → some_if is (raw_item.Literal bytes) ≡ Some x → IsReadableItem x
 of_literal bytes false x is e = absurd (cc)
 of_literal bytes true x is e =
     let same : raw_item.Literal bytes ≡ x = cc in

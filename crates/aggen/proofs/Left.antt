@@ -27,11 +27,11 @@ use Rattle.treefile.proofs.records.Records.{file_fits}
 use Rattle.treefile.proofs.records.Texts.{texts_are_given}
 use Rattle.passrun.proofs.Upgraded.{room}
 use Rattle.aggen.specs.Checking.{IsGrammarOf}
-use Rattle.aggen.specs.Evaluating.{IsPassesFault, LeavesFilesOfTree}
+use Rattle.aggen.specs.Evaluating.{IsTreeFaultBeforeText, LeavesFilesOfTree}
 use Rattle.aggen.specs.Jobs.{HasJob, LeavesLastFilesOfJob}
 use Rattle.aggen.specs.Sentences.{IsParseFault}
 use Rattle.ag_fault.specs.Faults.{build_fault_of, device_fault_of, job_fault_of, out_fault_of, run_fault_of, scan_fault_of}
-use Rattle.aggen.specs.Translating.{IsAfterPasses, IsFilesFault, LeavesFiles, LeavesLastFiles}
+use Rattle.aggen.specs.Translating.{IsAfterPasses, IsFaultBeforeText, LeavesFiles, LeavesLastFiles}
 use Rattle.ag_fault.specs.declared.build_fault.BuildFault.{BuildFault}
 use Rattle.ag_fault.specs.declared.build_fault.BuildFault.TheVariants as build
 use Rattle.ag_fault.specs.declared.fault.Fault.{Fault}
@@ -83,12 +83,12 @@ no_parse_of_build (build.Assign e) is = is
 no_parse_of_build build.NoMemory is = is
 
 -- faults before all passes ran
-pub none_after_files : (g : Grammar) (sentence : List ℕ) (ha hb : Bool) (f : Fault) → IsFilesFault g sentence ha hb f → IsAfterPasses f → ⊥
+pub none_after_files : (g : Grammar) (sentence : List ℕ) (ha hb : Bool) (f : Fault) → IsFaultBeforeText g sentence ha hb f → IsAfterPasses f → ⊥
 none_after_files g sentence ha hb (fault.NoText x) exact is = exact
 none_after_files g sentence ha hb fault.Write exact is = exact
 none_after_files g sentence ha hb f exact is = is
 
-pub none_after_passes : (g : Grammar) (ht ha hb : Bool) (content : List ℕ) (f : Fault) → IsPassesFault g ht ha hb content f → IsAfterPasses f → ⊥
+pub none_after_passes : (g : Grammar) (ht ha hb : Bool) (content : List ℕ) (f : Fault) → IsTreeFaultBeforeText g ht ha hb content f → IsAfterPasses f → ⊥
 none_after_passes g ht ha hb content (fault.NoText x) exact is = exact
 none_after_passes g ht ha hb content fault.Write exact is = exact
 none_after_passes g ht ha hb content f exact is = is

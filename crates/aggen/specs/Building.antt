@@ -13,7 +13,7 @@ use Rattle.normalform.specs.declared.fault.NormalFault.TheVariants as normal
 use Rattle.passassign.specs.Answer.{IsRefused}
 use Rattle.passassign.specs.Least.{IsLeast}
 use Rattle.passassign.specs.Rows.{passes_of}
-use Rattle.passcode.specs.Listing.{AreLists}
+use Rattle.passcode.specs.Listing.{AreGeneratedLists}
 use Rattle.passcode.specs.Rows.{Lists}
 use Rattle.planchecker.specs.Plans.{IsPlan}
 use Rattle.aggen.specs.Checking.{IsGrammarOf, IsNormalFaultOf, IsTextFaultOf}
@@ -38,7 +38,7 @@ pub record IsStuckOf (t : List ℕ) (s : StuckGrammar) : Type 0 where
 pub record IsLeastPlan (g : Grammar) (rows : List (List ℕ)) (code : Lists) : Type 0 where
   pub plan : IsPlan g rows code
   pub least : IsLeast g (passes_of rows)
-  pub lists : AreLists g (passes_of rows) code
+  pub lists : AreGeneratedLists g (passes_of rows) code
 
 -- G and N: the meaning of rejecting a text as an accepted grammar; NoMemory has none
 abbrev pub IsGrammarFault : List ℕ → BuildFault → Type 0

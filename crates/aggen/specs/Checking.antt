@@ -22,14 +22,15 @@ use Rattle.ag_fault.specs.declared.fault.Fault.TheVariants as fault
 abbrev pub TextsAreReadable : Type 0
 TextsAreReadable = (text : List ℕ) (raw : RawGrammar) → ReadsAsGrammar text raw → IsReadable raw
 
--- the text reads as a raw grammar, whose numbered grammar is this one, and it is accepted
+-- the text reads as a raw grammar (with names), whose grammar with numbers is this one, and it is accepted
 pub record IsGrammarOf (text : List ℕ) (grammar : Grammar) : Type 0 where
   pub raw : RawGrammar
   pub reads : ReadsAsGrammar text raw
   pub named : grammar ≡ numbered raw
   pub accepted : IsAccepted grammar
 
--- G1 to G4 are the result of reading the text: it does not read as a grammar. NoMemory is not one of them.
+-- G1 to G4: the fault is the result of reading the text, which does not read as a grammar. NoMemory is not one of
+-- them.
 pub record IsTextFaultOf (text : List ℕ) (f : TextFault) : Type 0 where
   pub read : IsRead text (Err f)
   pub first : IsFirstOf text f
@@ -45,20 +46,20 @@ pub record IsNormalFaultOf (text : List ℕ) (f : NormalFault) : Type 0 where
   pub first : IsFirstFault raw f
   pub refused : IsAccepted (numbered raw) → ⊥
 
--- the meaning of a fault for the text; NoMemory has none, and no other fault is possible
+-- the meaning of a fault of checking for the text: G and N; NoMemory has none, and no other fault is possible
 abbrev pub IsCheckFault : List ℕ → Fault → Type 0
 IsCheckFault text (fault.Text f) = IsTextFaultOf text f
 IsCheckFault text (fault.Normal f) = IsNormalFaultOf text f
 IsCheckFault text fault.NoMemory = Unit {0}
 IsCheckFault text _ = ⊥
 
--- the line of the text's grammar was written
+-- the line of the numbers of the text's grammar was written
 pub record PrintsCounts (text : List ℕ) (old new : Option (List ℕ)) : Type 0 where
   pub grammar : Grammar
   pub is : IsGrammarOf text grammar
   pub line : Appends old new (counts_line grammar)
 
--- a prefix of the line of the text's grammar was written
+-- a prefix of the line of the numbers of the text's grammar was written
 pub record BeginsCounts (text : List ℕ) (old new : Option (List ℕ)) : Type 0 where
   pub grammar : Grammar
   pub is : IsGrammarOf text grammar

@@ -25,7 +25,8 @@ use Rattle.aggen.specs.declared.translations.report.Report.{Report}
 abbrev pub EvaluatesTree : Grammar → (honest_tree honest_a honest_b : Bool) → (content a b : List ℕ) → (old new : Option (List ℕ)) → Report → Type 0
 EvaluatesTree g = Evaluates (ArePassesOf g) g
 
--- All passes ran over the one tree that a content is the file of: its solution is left, and the report is true.
+-- All passes ran over the one tree that a content is the file of: the last two tree files have its solution, and
+-- the report is true.
 pub record AreLeftOfTree (g : Grammar) (m : Passes) (content a b : List ℕ) (report : Report) : Type 0 where
   pub tree : Tree
   pub one : IsOneTree (IsTreeInFile g content) tree
@@ -57,27 +58,27 @@ ShowsInFile g content f = (plan : List (List ℕ) × Lists) × AreFromOne (passe
 -- R1: the content is the file of no tree of the grammar, and this shows at the offset. P2: it is the file of
 -- none within the limit of levels, which is exceeded before a fault is found. P3: the same with the limit of
 -- stored nodes. The other faults have no meaning for it.
-abbrev pub IsFileFault : Grammar → List ℕ → RunFault → Type 0
-IsFileFault g content (run.Damaged at) = ((t : Tree) → IsTreeInFile g content t → ⊥) × ShowsInFile g content (run.Damaged at)
-IsFileFault g content run.TooDeep = ((t : Tree) → IsTreeInFile g content t → depth_of t ≤ max_depth → ⊥) × ShowsInFile g content run.TooDeep
-IsFileFault g content run.TooManyNodes = ((t : Tree) → IsTreeInFile g content t → node_count t ≤ max_nodes → ⊥) × ShowsInFile g content run.TooManyNodes
-IsFileFault g content run.Device = Unit {0}
-IsFileFault g content run.NoMemory = Unit {0}
+abbrev pub IsTreeFileFault : Grammar → List ℕ → RunFault → Type 0
+IsTreeFileFault g content (run.Damaged at) = ((t : Tree) → IsTreeInFile g content t → ⊥) × ShowsInFile g content (run.Damaged at)
+IsTreeFileFault g content run.TooDeep = ((t : Tree) → IsTreeInFile g content t → depth_of t ≤ max_depth → ⊥) × ShowsInFile g content run.TooDeep
+IsTreeFileFault g content run.TooManyNodes = ((t : Tree) → IsTreeInFile g content t → node_count t ≤ max_nodes → ⊥) × ShowsInFile g content run.TooManyNodes
+IsTreeFileFault g content run.Device = Unit {0}
+IsTreeFileFault g content run.NoMemory = Unit {0}
 
--- The meaning of a fault before the text is read: R1, P2 and P3 are true of the content. A device failure and
--- NoMemory have no meaning, and no other fault is possible.
-abbrev pub IsPassesFault : Grammar → (honest_tree honest_a honest_b : Bool) → List ℕ → Fault → Type 0
-IsPassesFault g ht ha hb content (fault.Run f) = WhenHonest ht (WhenHonest ha (WhenHonest hb (IsFileFault g content f)))
-IsPassesFault g ht ha hb content fault.Device = Unit {0}
-IsPassesFault g ht ha hb content fault.NoMemory = Unit {0}
-IsPassesFault g ht ha hb content _ = ⊥
+-- The meaning of a fault of `run_tree`, before the text of the root is read: R1, P2 and P3 are true of the content.
+-- A device failure and NoMemory have no meaning, and no other fault is possible.
+abbrev pub IsTreeFaultBeforeText : Grammar → (honest_tree honest_a honest_b : Bool) → List ℕ → Fault → Type 0
+IsTreeFaultBeforeText g ht ha hb content (fault.Run f) = WhenHonest ht (WhenHonest ha (WhenHonest hb (IsTreeFileFault g content f)))
+IsTreeFaultBeforeText g ht ha hb content fault.Device = Unit {0}
+IsTreeFaultBeforeText g ht ha hb content fault.NoMemory = Unit {0}
+IsTreeFaultBeforeText g ht ha hb content _ = ⊥
 
 -- The meaning of a fault of the evaluation of a tree: R1, with its offset, P2 and P3 are true of the content
 -- of the tree's file, and O1 of its one tree; B1 and B2 are impossible on honest devices; after O2 a prefix
 -- of the translation was written. A device failure and NoMemory have no meaning, and no other fault is
 -- possible.
 abbrev pub IsEvaluationFault : Grammar → (honest_tree honest_a honest_b : Bool) → List ℕ → (old new : Option (List ℕ)) → Fault → Type 0
-IsEvaluationFault g ht ha hb content old new (fault.Run f) = WhenHonest ht (WhenHonest ha (WhenHonest hb (IsFileFault g content f)))
+IsEvaluationFault g ht ha hb content old new (fault.Run f) = WhenHonest ht (WhenHonest ha (WhenHonest hb (IsTreeFileFault g content f)))
 IsEvaluationFault g ht ha hb content old new (fault.NoText x) = WhenHonest ht (WhenHonest ha (WhenHonest hb (HasNoText (IsTreeInFile g content) g x)))
 IsEvaluationFault g ht ha hb content old new fault.NotATreeFile = WhenHonest ht (WhenHonest ha (WhenHonest hb ⊥))
 IsEvaluationFault g ht ha hb content old new (fault.Damaged at) = WhenHonest ht (WhenHonest ha (WhenHonest hb ⊥))

@@ -27,7 +27,7 @@ pub record TranslatesJob (known : Option (List ℕ)) (honest_a honest_b : Bool) 
   pub is : IsGrammarOf text grammar
   pub translates : TranslatesSentence grammar sentence honest_a honest_b a b old new report
 
--- J1 to J3: the meaning for a reader's bytes that are not a job
+-- J1 to J3: the bytes of a reader are not a job, or could not be read, for this reason
 pub record IsNoJob (known : Option (List ℕ)) (e : Fault) : Type 0 where
   pub reason : JobFault
   pub named : e ≡ job_fault_of reason
@@ -39,7 +39,7 @@ pub record IsNoTranslator (text : List ℕ) (e : Fault) : Type 0 where
   pub named : e ≡ build_fault_of reason
   pub exact : IsBuildFault text reason
 
--- A job is rejected: its grammar makes no translator, or the translation of its sentence by that grammar
+-- A job fails: its grammar makes no translator, or the translation of its sentence by that grammar
 -- fails.
 pub record IsRefusedJob (known : Option (List ℕ)) (honest_a honest_b : Bool) (old new : Option (List ℕ)) (e : Fault) : Type 0 where
   pub text : List ℕ
@@ -47,7 +47,8 @@ pub record IsRefusedJob (known : Option (List ℕ)) (honest_a honest_b : Bool) (
   pub job : HasJob known text sentence
   pub exact : IsNoTranslator text e ⊎ ((grammar : Grammar) × IsGrammarOf text grammar × IsTranslationFault grammar sentence honest_a honest_b old new e)
 
--- All passes of a least plan ran over the one tree of a job's sentence by its grammar, and honest devices have its last two files.
+-- All passes of a least plan ran over the one tree of a job's sentence by its grammar, and if the devices are honest
+-- they have its last two files.
 pub record LeavesLastFilesOfJob (known : Option (List ℕ)) (honest_a honest_b : Bool) (a b : List ℕ) : Type 0 where
   pub text : List ℕ
   pub sentence : List ℕ

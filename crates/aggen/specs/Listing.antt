@@ -10,8 +10,8 @@ use Rattle.aggen.specs.Checking.{IsGrammarOf, IsNormalFaultOf, IsTextFaultOf}
 use Rattle.ag_fault.specs.declared.fault.Fault.{Fault}
 use Rattle.ag_fault.specs.declared.fault.Fault.TheVariants as fault
 
--- a property holds of the grammar of a text, and of its least plan
-pub record OfPlan (text : List ℕ) (P : Grammar → List (List ℕ) → Lists → Type 0) : Type 0 where
+-- a property P holds of the grammar of a text and its least plan: the rows of the assignment, and the code
+pub record HoldsOfPlan (text : List ℕ) (P : Grammar → List (List ℕ) → Lists → Type 0) : Type 0 where
   pub grammar : Grammar
   pub rows : List (List ℕ)
   pub code : Lists
@@ -21,17 +21,17 @@ pub record OfPlan (text : List ℕ) (P : Grammar → List (List ℕ) → Lists �
 
 -- the lines of its passes were written, or a prefix of them
 abbrev pub PrintsPlan : List ℕ → Option (List ℕ) → Option (List ℕ) → Type 0
-PrintsPlan text old new = OfPlan text (λ g rows code. AppendsPlan g rows old new)
+PrintsPlan text old new = HoldsOfPlan text (λ g rows code. AppendsPlan g rows old new)
 
 abbrev pub BeginsPlan : List ℕ → Option (List ℕ) → Option (List ℕ) → Type 0
-BeginsPlan text old new = OfPlan text (λ g rows code. AppendsPlanBeginning g rows old new)
+BeginsPlan text old new = HoldsOfPlan text (λ g rows code. AppendsPlanBeginning g rows old new)
 
 -- the lines of its code were written, or a prefix of them
 abbrev pub PrintsCode : List ℕ → Option (List ℕ) → Option (List ℕ) → Type 0
-PrintsCode text old new = OfPlan text (λ g rows code. Appends old new (code_text g code))
+PrintsCode text old new = HoldsOfPlan text (λ g rows code. Appends old new (code_text g code))
 
 abbrev pub BeginsCode : List ℕ → Option (List ℕ) → Option (List ℕ) → Type 0
-BeginsCode text old new = OfPlan text (λ g rows code. AppendsBeginning old new (code_text g code))
+BeginsCode text old new = HoldsOfPlan text (λ g rows code. AppendsBeginning old new (code_text g code))
 
 -- G, N, L and A: the meaning of a fault of the program for the text; NoMemory has none, and no other fault is
 -- possible

@@ -42,7 +42,7 @@ pub record LeavesOnlyTrees (g : Grammar) (sentence : List ℕ) (Leaves : List Le
   pub cut : AreTokensOf (vocabulary_of g) sentence tokens
   pub beyond : Leaves (words_of tokens)
 
--- P1 to P3: no tree, or each beyond a limit; a device failure and NoMemory are not P
+-- the meaning of P1 to P3: no tree, or each beyond a limit; a device failure and NoMemory are not P
 abbrev pub IsParseFaultOf : Grammar → List ℕ → ParseFault → Type 0
 IsParseFaultOf g sentence (parse.Unexpected at) = HasNoTreeFrom g sentence at
 IsParseFaultOf g sentence parse.TooDeep = LeavesOnlyTrees g sentence (LeavesOnlyDeeper max_depth g)

@@ -3,7 +3,7 @@
 use Rattle.std.specs.Prelude.{◌≡◌, ◌⊎◌, ℕ, pos, List, [], ◌∷◌, Option, None, Some}
 use Rattle.std.specs.Io.KnownBytes.{Appends}
 use Rattle.ag_grammar.specs.expressions.Evaluation.{value_of}
-use Rattle.ag_expr.specs.language.Expression.{IsAt, ReadsAsExpr, ReadsAsNone}
+use Rattle.ag_expr.specs.language.Expression.{IsFaultOf, ReadsAsExpr, ReadsAsNone}
 use Rattle.ag_expr.specs.declared.fault.ExprFault.{ExprFault}
 use Rattle.ag_expr.specs.declared.fault.ExprFault.TheVariants as expr
 use Rattle.ag_grammar.specs.declared.syntax.node.Node.{Node}
@@ -29,8 +29,8 @@ pub record HasValue (text : List ℕ) (is : Value) : Type 0 where
   pub value : is ≡ value_of tree no_values
 
 -- the text does not read as an expression without occurrences
-abbrev pub HasNone : List ℕ → Type 0
-HasNone text = (is : Value) → HasValue text is → ⊥
+abbrev pub HasNoValue : List ℕ → Type 0
+HasNoValue text = (is : Value) → HasValue text is → ⊥
 
 -- the offset of the first of some occurrences, if there is one
 abbrev pub first_offset : List Occ → Option ℕ
@@ -43,12 +43,13 @@ pub record OccursAt (text : List ℕ) (at : ℕ) : Type 0 where
   pub reads : ReadsAsExpr text expr
   pub offset : first_offset expr.1 ≡ Some at
 
--- The meaning of X1 to X4: the text does not read as an expression, and the fault is true at its offset. For
--- X2 it may instead read as an expression with occurrences, the first at the offset. NoMemory is not X.
+-- The meaning of X1 to X4: the text does not read as an expression, and the fault is true at its offset. X2 (the
+-- variant Unexpected) may also mean that it reads as an expression with occurrences, the first at the offset.
+-- NoMemory is not X.
 abbrev pub IsReason : List ℕ → ExprFault → Type 0
-IsReason text (expr.Unexpected at) = (ReadsAsNone text × IsAt text (expr.Unexpected at)) ⊎ OccursAt text at
+IsReason text (expr.Unexpected at) = (ReadsAsNone text × IsFaultOf text (expr.Unexpected at)) ⊎ OccursAt text at
 IsReason text expr.NoMemory = ⊥
-IsReason text e = ReadsAsNone text × IsAt text e
+IsReason text e = ReadsAsNone text × IsFaultOf text e
 
 -- the tree file of version 2 and pass 0 whose one record is a token with number 0 and this value
 abbrev pub file_of : Value → List ℕ
@@ -61,7 +62,7 @@ pub record Shows (text : List ℕ) (old new : Option (List ℕ)) (content : List
   pub file : content ≡ file_of shown
   pub line : Appends old new (value_line shown)
 
--- a prefix of the line was written
+-- a prefix of the line of the text's value was written
 pub record ShowsBeginning (text : List ℕ) (old new : Option (List ℕ)) : Type 0 where
   pub shown : Value
   pub has : HasValue text shown
@@ -90,7 +91,7 @@ IsUnexpectedAt at (fault.Expr e) = e ≡ expr.Unexpected at
 IsUnexpectedAt at fault.NoMemory = Unit {0}
 IsUnexpectedAt at _ = ⊥
 
--- X1 to X4: the text is not an expression
+-- X1 to X4: the text is not an expression without occurrences
 abbrev pub IsExprFault : Fault → Type 0
 IsExprFault (fault.Expr e) = Unit {0}
 IsExprFault _ = ⊥

@@ -1,4 +1,4 @@
--- The possible faults of a call. This project's.
+-- The possible faults of reading a file and of a command line. This project's.
 use Rattle.ag_fault.specs.declared.fault.Fault.{Fault}
 use Rattle.ag_fault.specs.declared.fault.Fault.TheVariants as fault
 

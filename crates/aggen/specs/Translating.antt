@@ -28,7 +28,7 @@ pub record ArePassesOf (g : Grammar) (m : Passes) (passes : ℕ) : Type 0 where
 abbrev pub TranslatesSentence : Grammar → (sentence : List ℕ) → (honest_a honest_b : Bool) → (a b : List ℕ) → (old new : Option (List ℕ)) → Report → Type 0
 TranslatesSentence g sentence = Translates (IsTreeOfSentence g sentence) (ArePassesOf g) g
 
--- All passes ran over a tree: its solution is left, and the report is true.
+-- All passes ran over a tree: the contents a and b are its last two tree files, with its solution, and the report is true.
 pub record AreLeft (g : Grammar) (m : Passes) (t : Tree) (a b : List ℕ) (report : Report) : Type 0 where
   pub values : Valuation
   pub leaves : LeavesSolution g m report.passes t values (last_content report.last a b) (other_content report.last a b)
@@ -50,16 +50,16 @@ pub record LeavesLastFiles (g : Grammar) (sentence : List ℕ) (honest_a honest_
   pub report : Report
   pub files : LeavesFiles g sentence rows honest_a honest_b a b report
 
--- The meaning of a fault before the text is read: S and P are true of the sentence, and R1, P2 or P3 of a
--- tree file are impossible on honest devices. A device failure and NoMemory have no meaning, and no other
--- fault is possible.
-abbrev pub IsFilesFault : Grammar → (sentence : List ℕ) → (honest_a honest_b : Bool) → Fault → Type 0
-IsFilesFault g sentence ha hb (fault.Scan f) = IsScanFaultOf g sentence f
-IsFilesFault g sentence ha hb (fault.Parse f) = IsParseFaultOf g sentence f
-IsFilesFault g sentence ha hb (fault.Run f) = WhenHonest ha (WhenHonest hb ⊥)
-IsFilesFault g sentence ha hb fault.Device = Unit {0}
-IsFilesFault g sentence ha hb fault.NoMemory = Unit {0}
-IsFilesFault g sentence ha hb _ = ⊥
+-- The meaning of a fault of `leave_files`, before the text of the root is read: S and P are true of the sentence,
+-- and R1, P2 or P3 of a tree file are impossible on honest devices. A device failure and NoMemory have no meaning,
+-- and no other fault is possible.
+abbrev pub IsFaultBeforeText : Grammar → (sentence : List ℕ) → (honest_a honest_b : Bool) → Fault → Type 0
+IsFaultBeforeText g sentence ha hb (fault.Scan f) = IsScanFaultOf g sentence f
+IsFaultBeforeText g sentence ha hb (fault.Parse f) = IsParseFaultOf g sentence f
+IsFaultBeforeText g sentence ha hb (fault.Run f) = WhenHonest ha (WhenHonest hb ⊥)
+IsFaultBeforeText g sentence ha hb fault.Device = Unit {0}
+IsFaultBeforeText g sentence ha hb fault.NoMemory = Unit {0}
+IsFaultBeforeText g sentence ha hb _ = ⊥
 
 -- The meaning of a fault of a translation: S, P and O1 are true of the sentence; R1, B1, B2, and P2 and P3 of
 -- a tree file are impossible on honest devices; after O2 a prefix of the translation was written. A device
@@ -82,7 +82,7 @@ IsAfterPasses (fault.NoText x) = Unit {0}
 IsAfterPasses fault.Write = Unit {0}
 IsAfterPasses _ = ⊥
 
--- a sentence is rejected, by S1 to S4 or P1 to P3
+-- S1 to S4 and P1 to P3: the sentence is rejected
 abbrev pub IsRefusedSentence : Fault → Type 0
 IsRefusedSentence (fault.Scan f) = Unit {0}
 IsRefusedSentence (fault.Parse f) = Unit {0}

@@ -18,7 +18,7 @@ use Rattle.treefile.specs.devices.Device.{WhenHonest}
 use Rattle.treefile.specs.records.TreeFile.{version_two}
 use Rattle.aggen.specs.declared.translations.report.Report.{Report}
 
--- There is exactly one tree of a kind, and it is within the limits.
+-- There is exactly one tree with the property `IsTree`, and it is within the limits.
 pub record IsOneTree (IsTree : Tree → Type 0) (t : Tree) : Type 0 where
   pub is_tree : IsTree t
   pub only : (s : Tree) → IsTree s → s ≡ t
@@ -33,19 +33,19 @@ pub record IsReport (g : Grammar) (passes : ℕ) (t : Tree) (report : Report) : 
   pub read : report.read ≡ passes * node_count t
   pub written : report.written ≡ passes * node_count t
 
--- The translation of a tree was written: its solution is left, the bytes that were added are the text of its
--- root, and the report is true.
-pub record IsTranslated (g : Grammar) (m : Passes) (passes : ℕ) (t : Tree) (now before : List ℕ) (old new : Option (List ℕ)) (report : Report) : Type 0 where
+-- The translation of a tree was written: the last two tree files (`last`, `previous`) have its solution, the bytes
+-- that were added to the output are the text of its root, and the report is true.
+pub record IsTranslated (g : Grammar) (m : Passes) (passes : ℕ) (t : Tree) (last previous : List ℕ) (old new : Option (List ℕ)) (report : Report) : Type 0 where
   pub values : Valuation
-  pub leaves : LeavesSolution g m passes t values now before
+  pub leaves : LeavesSolution g m passes t values last previous
   pub text : List ℕ
   pub root : IsTranslation g values (Text text)
-  pub written : Appends old new text
+  pub output : Appends old new text
   pub report_is : IsReport g passes t report
 
--- The translation theorem: there is exactly one tree; the values left in the last tree file meet every equation at every node; no
--- other values meet them all; and the bytes written are the root's text. `IsTree` defines the trees of the input,
--- and `ArePasses` the assignment of the passes and their number. The statements about files and bytes hold if the devices are honest.
+-- The translation theorem: there is exactly one tree; the values in the last tree file meet every equation at every node; no
+-- other values meet them all; and the bytes written are the root's text. `IsTree` defines the trees of the input, and `ArePasses`
+-- the assignment of the passes and their number. The statements about files and bytes hold if the devices are honest.
 pub record Translates (IsTree : Tree → Type 0) (ArePasses : Passes → ℕ → Type 0) (g : Grammar) (honest_a honest_b : Bool) (a b : List ℕ) (old new : Option (List ℕ)) (report : Report) : Type 0 where
   pub tree : Tree
   pub one : IsOneTree IsTree tree
@@ -72,13 +72,13 @@ pub record BeginsTranslation (IsTree : Tree → Type 0) (g : Grammar) (old new :
   pub prefix : List ℕ
   pub rest : List ℕ
   pub root : IsTranslation g values (Text (prefix ++ rest))
-  pub written : Appends old new prefix
+  pub output : Appends old new prefix
 
--- Ok, whatever the devices returned: some text was written, which is UTF-8 and not too long for a value.
+-- Ok, whatever the devices return: some text was written, which is UTF-8 and not too long for a value.
 pub record WritesText (old new : Option (List ℕ)) : Type 0 where
   pub text : List ℕ
   pub well : IsWellText text
-  pub written : Appends old new text
+  pub output : Appends old new text
 
 -- O2, on any devices: a prefix of some text was written, which is UTF-8 and not too long for a value.
 pub record BeginsText (old new : Option (List ℕ)) : Type 0 where
@@ -91,8 +91,8 @@ pub record IsTreeInFile (g : Grammar) (content : List ℕ) (t : Tree) : Type 0 w
   pub tree : IsTreeOf g t
   pub file : IsFirstFile version_two g t content
 
--- If a tree has a file of its own, the file of the pass before the last one is that file if one pass runs,
--- and else the one on the other device.
+-- The content of the file of the pass before the last one, for a tree that has a file of its own: that file if at
+-- most one pass runs, and otherwise the content of the other device.
 abbrev pub before_last : (passes : ℕ) → Last → (tree a b : List ℕ) → List ℕ
 before_last zero last tree a b = tree
 before_last (suc zero) last tree a b = tree

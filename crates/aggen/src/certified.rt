@@ -23,7 +23,8 @@ pub struct CertifiedPlan {
     pub grammar: Grammar,
     /// The pass of each attribute.
     pub assignment: Assignment,
-    /// The strikes of each pass.
+    /// For each pass, the attributes that it strikes: those that have a later pass, each with an
+    /// argument of one of its rules that is not computed when the pass reaches the rule.
     pub strikes: Strikes,
 }
 
@@ -39,7 +40,7 @@ pub fn certify_plan(alloc: Global, text: &[u8]) -> Result<CertifiedPlan, BuildFa
     // The plan of a translator is a least one too (`Translator::plan`).
     ensures same { IfOk result (λ p. (rows : List (List ℕ)) → IsLeast p.grammar (passes_of rows)
         → (s : ℕ) → passes_of rows s ≡ passes_of p.assignment s) }
-    ensures strikes { IfOk result (λ p. AreStrikesOf p.grammar p.assignment p.strikes.passes) }
+    ensures strikes { IfOk result (λ p. AreStrikesOf p.grammar p.assignment p.strikes.lists) }
     ensures refused { IfErr result (λ e. IsBuildFault text.now e) }
 {
     let grammar = grammar_of(alloc, text)?;

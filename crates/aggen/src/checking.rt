@@ -18,7 +18,7 @@ use std::io::Write;
 /// Fails with G1 to G4 or N1 to N10 as `grammar_of` does, and with O2 Write if a write fails or
 /// takes no byte. Nothing is written before the line is complete.
 pub fn print_counts<W: Write>(alloc: Global, text: &[u8], out: &mut W) -> Result<(), Fault>
-    ensures tells { OnOk result
+    ensures prints { OnOk result
         (PrintsCounts text.now (W.contents out.old) (W.contents out.new)) }
     ensures refused { IfErr result (λ e. e ≢ Fault.Write → IsCheckFault text.now e) }
     ensures kept { IfErr result (λ e. e ≢ Fault.Write → out.new ≡ out.old) }

@@ -17,7 +17,7 @@ use std::io::Write;
 /// write fails or takes no byte. Nothing is written before the listing is complete.
 #[tactic(auto, using(crate::proofs::Building::of_plan))]
 pub fn print_plan<W: Write>(alloc: Global, text: &[u8], out: &mut W) -> Result<(), Fault>
-    ensures tells { OnOk result (PrintsPlan text.now (W.contents out.old) (W.contents out.new)) }
+    ensures prints { OnOk result (PrintsPlan text.now (W.contents out.old) (W.contents out.new)) }
     ensures refused { IfErr result (λ e. e ≢ Fault.Write → IsTranslatorFault text.now e) }
     ensures kept { IfErr result (λ e. e ≢ Fault.Write → out.new ≡ out.old) }
     ensures write { IsErrOf result Fault.Write →
@@ -35,7 +35,7 @@ pub fn print_plan<W: Write>(alloc: Global, text: &[u8], out: &mut W) -> Result<(
 /// write fails or takes no byte. Nothing is written before the listing is complete.
 #[tactic(auto, using(crate::proofs::Building::of_plan))]
 pub fn print_code<W: Write>(alloc: Global, text: &[u8], out: &mut W) -> Result<(), Fault>
-    ensures tells { OnOk result (PrintsCode text.now (W.contents out.old) (W.contents out.new)) }
+    ensures prints { OnOk result (PrintsCode text.now (W.contents out.old) (W.contents out.new)) }
     ensures refused { IfErr result (λ e. e ≢ Fault.Write → IsTranslatorFault text.now e) }
     ensures kept { IfErr result (λ e. e ≢ Fault.Write → out.new ≡ out.old) }
     ensures write { IsErrOf result Fault.Write →

@@ -6,14 +6,14 @@ ghost use Rattle.aggen.specs.Status.{IsSourceFault};
 
 use ag_fault::Fault;
 use ag_grammar::limits::MAX_TEXT_BYTES;
-use ag_job::{ReadFault, read_front};
+use ag_job::{ReadFault, read_prefix};
 use std::alloc::Global;
 use std::fs;
 use std::io::{Error, ErrorKind, Read};
 use std::rt::Files;
 
 /// The greatest number of bytes that are read of a file: one more than a grammar's text may have.
-const MOST: u64 = MAX_TEXT_BYTES as u64 + 1;
+const MAX_SOURCE_BYTES: u64 = MAX_TEXT_BYTES as u64 + 1;
 
 /// Returns the bytes of a file, at most the first 1,048,577. Fails with F1 File if it can't be
 /// opened or read.
@@ -22,7 +22,7 @@ pub fn source_of<R: Files>(rt: &R, alloc: Global, path: &str) -> Result<Vec<u8>,
 {
     match fs::open(rt, path) {
         Ok(file) => bytes_of(alloc, file),
-        Err(error) => Err(refusal(&error)),
+        Err(error) => Err(fault_of(&error)),
     }
 }
 
@@ -33,15 +33,15 @@ pub fn bytes_of<R: Read + Drop>(alloc: Global, reader: R) -> Result<Vec<u8>, Fau
         (λ left. bytes.items ≡ take (max_text_bytes + 1) left)) }
     ensures refused { IfErr result IsSourceFault }
 {
-    match read_front(alloc, reader, MOST) {
+    match read_prefix(alloc, reader, MAX_SOURCE_BYTES) {
         Ok(bytes) => Ok(bytes),
         Err(ReadFault::Read) => Err(Fault::File),
         Err(ReadFault::NoMemory) => Err(Fault::NoMemory),
     }
 }
 
-/// Returns the fault for a file that can't be opened.
-fn refusal(error: &Error) -> Fault
+/// Returns the fault for an error of opening a file.
+fn fault_of(error: &Error) -> Fault
     ensures { IsSourceFault result }
 {
     if error.kind() == ErrorKind::OutOfMemory {

@@ -14,7 +14,7 @@ ghost use Rattle.treefile.specs.records.FirstFile.{IsFirstFile};
 ghost use Rattle.treefile.specs.devices.Several.{BothPersist, ThreePersist};
 ghost use Rattle.treefile.specs.records.TreeFile.{version_two};
 ghost use Rattle.passassign.specs.Least.{IsAlternating, IsLeast};
-ghost use Rattle.passassign.specs.Rows.{passes_of, AreFew};
+ghost use Rattle.passassign.specs.Rows.{passes_of, AreWithinMaxPasses};
 ghost use Rattle.aggen.specs.Building.{IsBuildFault, IsLeastPlan};
 ghost use Rattle.aggen.specs.Checking.{IsGrammarOf};
 ghost use Rattle.aggen.specs.Evaluating.{EvaluatesTree, IsEvaluationFault, LeavesLastFilesOfTree};
@@ -105,7 +105,7 @@ impl Translator {
         })
     }
 
-    /// Lends the grammar. Takes no memory.
+    /// Returns the grammar. Takes no memory.
     pub fn grammar(&self) -> &Grammar
         ensures grammar { result.now ≡ self.now }
         ensures accepted { IsAcceptedGrammar self.now }
@@ -113,14 +113,14 @@ impl Translator {
         &self.grammar
     }
 
-    /// Lends the tables. Takes no memory.
+    /// Returns the tables of the productions. Takes no memory.
     pub fn tables(&self) -> &Tables
         ensures { FitsGrammar self.now result.now }
     {
         &self.tables
     }
 
-    /// Lends the plan of the passes, the least one. Takes no memory.
+    /// Returns the plan of the passes: the least assignment, and its code. Takes no memory.
     pub fn plan(&self) -> &Plan
         ensures { IsLeastPlan self.now result.now.0 result.now.1 }
     {
@@ -132,7 +132,7 @@ impl Translator {
     ///
     /// Fails with S1 to S4 if the sentence has no tokens, before the device is used; with P1 if it
     /// has tokens and no tree; with P2 or P3 if each tree of its tokens is beyond the limits; and with D1 if the
-    /// device failed. After a fault the device has its old content, or a prefix of a file.
+    /// device failed. After a fault the device has its old content, or a prefix of a file of pass 0.
     pub fn parse_tree<D: Device>(&self, sentence: &[u8], device: &mut D) -> Result<u32, Fault>
         // Ok: there is one tree, it is within the limits, and its file is written.
         ensures tree { IfOk result (λ _. (t : Tree) × IsTreeOfSentence self.now sentence.now t) }
@@ -256,7 +256,7 @@ impl Translator {
         b: &mut D,
         out: &mut W,
     ) -> Result<Report, Fault>
-        // The translation theorem, for the tree of a file
+        // the translation theorem, for the tree whose file is on the device `tree`
         ensures evaluates { IfOk result (λ report. EvaluatesTree self.now
             (T.is_honest tree.new) (D.is_honest a.new) (D.is_honest b.new)
             (T.content tree.old) (D.content a.new) (D.content b.new)
@@ -296,12 +296,12 @@ impl Translator {
 
     /// Converts an old tree file: reads the file of version 1 and pass 0 of a tree of the grammar
     /// from `old`, and writes to `to` the file of version 2 and pass 0 of the same tree, the one
-    /// that `parse_tree` writes for a sentence with this tree. `mid` has then the same records from
+    /// that `parse_tree` writes for a sentence with this tree. `mid` then has the same records from
     /// right to left, and `old` is only read. Returns the number of stored nodes.
     ///
     /// Fails with R1 if the content of `old` is the file of version 1 and pass 0 of no tree of the
-    /// grammar; with P2 if it is that of no tree of at most `MAX_TURNED_DEPTH` levels (256), and
-    /// with P3 if it is that of none of at most `MAX_TURNED_NODES` stored nodes (65,536);
+    /// grammar; with P2 if it is that of no tree of at most `MAX_REVERSED_DEPTH` levels (256), and
+    /// with P3 if it is that of none of at most `MAX_REVERSED_NODES` stored nodes (65,536);
     /// and with D1 if a call of a device failed. R1 or P2 with an offset in `mid` are possible only
     /// if `mid` does not return the bytes that were written. After a fault `mid` and `to` have
     /// their old contents, or a prefix of a file.
@@ -337,11 +337,11 @@ impl Translator {
     }
 }
 
-/// Makes the plan of a grammar and its least assignment.
-#[tactic(auto, using(planchecker::proofs::Taken::made_is_taken, crate::proofs::Building::least_plan))]
+/// Returns the plan with the least assignment of a grammar and the code for it.
+#[tactic(auto, using(planchecker::proofs::Taken::made_is_accepted, crate::proofs::Building::least_plan))]
 fn plan_of(alloc: Global, grammar: &Grammar, assignment: Assignment) -> Result<Plan, NoMemory>
     requires least { IsLeast grammar.now (passes_of assignment) }
-    requires few { AreFew assignment }
+    requires few { AreWithinMaxPasses assignment }
     requires rows { length assignment ≤ length grammar.now.symbols }
     ensures { IfOk result (λ p. IsLeastPlan grammar.now p.0 p.1) }
 {

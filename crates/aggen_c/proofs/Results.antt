@@ -34,7 +34,7 @@ has_translation IsTree g m passes tree now before text report one plan is = reco
   plan = plan;
   values = is.values;
   solution = is.leaves.solution;
-  root = subst (λ (s : List ℕ). IsTranslation g is.values (Text s)) (sym is.written) is.root;
+  root = subst (λ (s : List ℕ). IsTranslation g is.values (Text s)) (sym is.output) is.root;
 }
 
 pub translated : (g : Grammar) (sentence a b start text : List ℕ) (report : Report) → start ≡ []

@@ -20,7 +20,7 @@ use Rattle.ag_fault.specs.declared.fault.Fault.{Fault}
 use Rattle.ag_fault.specs.declared.fault.Fault.TheVariants as fault
 use Rattle.aggen_c.specs.declared.number.Number.{Number}
 
--- a letter, by its code, and what follows it
+-- the number with a letter, given by its ASCII code, and what follows the letter
 abbrev pub numbered : ℕ → ℕ → Number
 numbered letter index = record { letter = letter; index = index }
 
@@ -118,7 +118,7 @@ number_of fault.NoMemory = unnumbered
 abbrev pub no_offset : ℕ
 no_offset = 18446744073709551615
 
--- offsets of X, which follow G3 too
+-- the offset of X1 to X4, which is also that of G3
 abbrev pub expr_offset : ExprFault → ℕ
 expr_offset (expr.NoToken at) = at
 expr_offset (expr.Unexpected at) = at
@@ -126,6 +126,7 @@ expr_offset (expr.NumberTooLarge at) = at
 expr_offset (expr.TooDeep at) = at
 expr_offset expr.NoMemory = no_offset
 
+-- the offset of G1 to G3
 abbrev pub text_offset : TextFault → ℕ
 text_offset (text.BadUtf8 at) = at
 text_offset (text.Unexpected line at) = at
@@ -133,6 +134,7 @@ text_offset (text.Expr e) = expr_offset e
 text_offset text.TooLong = no_offset
 text_offset text.NoMemory = no_offset
 
+-- the offset of a fault of a grammar: N3, N6 and N10 have none
 abbrev pub normal_offset : NormalFault → ℕ
 normal_offset (normal.UnknownName at) = at
 normal_offset (normal.DoubledName at) = at
@@ -146,6 +148,7 @@ normal_offset (normal.NotNormal at) = at
 normal_offset (normal.Limit kind) = no_offset
 normal_offset normal.NoMemory = no_offset
 
+-- the offset of S1 to S3
 abbrev pub scan_offset : ScanFault → ℕ
 scan_offset (scan.BadUtf8 at) = at
 scan_offset (scan.NoToken at) = at

@@ -11,7 +11,7 @@ use Rattle.passcode.specs.Rows.{Lists}
 use Rattle.treefile.specs.records.FirstFile.{IsFirstFile}
 use Rattle.treefile.specs.records.TreeFile.{version_two}
 use Rattle.aggen.specs.Building.{IsLeastPlan}
-use Rattle.aggen.specs.Evaluating.{IsFileFault}
+use Rattle.aggen.specs.Evaluating.{IsTreeFileFault}
 use Rattle.aggen.specs.Sentences.{IsParseFaultOf, IsScanFaultOf, IsTreeOfSentence}
 use Rattle.aggen.specs.Translating.{ArePassesOf}
 use Rattle.aggen.specs.Translation.{HasNoText, IsOneTree, IsTreeInFile}
@@ -61,7 +61,7 @@ IsTranslationRefusal g sentence _ = ⊥
 
 -- Why the tree in a file has none: R1, P2, P3 and O1 are true of the file.
 abbrev pub IsEvaluationRefusal : Grammar → (file : List ℕ) → Fault → Type 0
-IsEvaluationRefusal g file (fault.Run f) = IsFileFault g file f
+IsEvaluationRefusal g file (fault.Run f) = IsTreeFileFault g file f
 IsEvaluationRefusal g file (fault.NoText x) = HasNoText (IsTreeInFile g file) g x
 IsEvaluationRefusal g file fault.NoMemory = Unit {0}
 IsEvaluationRefusal g file _ = ⊥

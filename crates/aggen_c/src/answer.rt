@@ -12,7 +12,8 @@ use crate::refusal::{Refusal, RefusalFields};
 use aggen::Translator;
 use std::alloc::Global;
 
-/// Returns the result of an operation on the translator of a handle, which stays as it is.
+/// Returns the result of an operation on the translator of a handle, which the handle keeps. Fails with status 1 if
+/// the handle has none, and else as the operation does.
 pub fn answer_by_handle(
     alloc: Global,
     handle: &mut Handle,
@@ -58,7 +59,8 @@ fn answer_of(
     }
 }
 
-/// Writes an answer to the caller's memory, and returns its status.
+/// Writes an answer to the caller's memory, and returns its status: 0 for a result, which is copied to `out`, or that of
+/// a refusal.
 pub fn write_answer(
     answer: Result<Vec<u8>, Refusal>,
     out: &mut [u8],

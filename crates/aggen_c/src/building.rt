@@ -33,7 +33,7 @@ pub fn build_handle(alloc: Global, grammar: &[u8], handle: &mut Handle) -> Resul
     }
 }
 
-/// Returns the translator of a grammar's text, on the heap.
+/// Returns the translator of a grammar's text, on the heap. Fails if the grammar is refused, and if memory is refused.
 fn build(alloc: Global, grammar: &[u8]) -> Result<Box<Translator>, Refusal>
     ensures built { IfOk result (λ t. IsTranslatorOf grammar.now t.value) }
     ensures refused { IfErr result (λ r.
@@ -57,7 +57,8 @@ fn refusal_of(alloc: Global, fault: Fault, grammar: &[u8]) -> Refusal
     refusal.with_report(alloc, &report)
 }
 
-/// Writes whether a translator was made to the caller's memory, and returns the status.
+/// Writes the fields and the message of a refusal to the caller's memory, if the translator was not made. Returns the
+/// status.
 pub fn write_built(built: Result<(), Refusal>, message: &mut [u8], fields: &mut RefusalFields) -> u8
     ensures ok { OnOk built ((result ≡ 0) × (fields.new ≡ no_fields)) }
     ensures err { IfErr built (λ r. numbers result fields.new ≡ numbers r.status r.fields) }

@@ -14,7 +14,9 @@ use std::mem;
 /// Contracts see the translator's grammar.
 #[repr(C)]
 pub struct Handle {
+    /// The translator, or null.
     at: *mut u8,
+    /// The allocator of the translator. A value of its type has no bytes, so C sees the pointer alone.
     alloc: Global,
     ghost value: { Option Plain } by { grammar_code },
 }

@@ -2,7 +2,7 @@
 //! fills a buffer of the caller: the translation of a sentence or of a tree file, the tree file of a
 //! sentence, or the listing of the passes.
 //!
-//! The exports of `exports` take for granted that no pointer is null and that no two of them overlap.
+//! The functions of `exports` take for granted that no pointer is null and that no two of them overlap.
 //! C code calls the functions of `include/aggen.h`, which `bindings/c/aggen.c` defines: they check the
 //! pointers, and then call these.
 #![tactic(auto)]

@@ -15,7 +15,7 @@ use llparse::{ParseFault, TableFault};
 use normalform::NormalFault;
 use passrun::RunFault;
 
-/// The offset of a refusal that has none.
+/// The offset of a refusal that has none: no input is as long.
 pub const NO_OFFSET: u64 = u64::MAX;
 
 /// The number of a refusal: `N` and 10 of N10. A refusal that has no number has 0 and 0.
@@ -73,7 +73,8 @@ fn expr_number(fault: ExprFault) -> Number
     }
 }
 
-/// Returns the number of a fault of a grammar's text. That of its expression follows G3 in messages.
+/// Returns the number of a fault of a grammar's text. That of a rule's expression is G3, after which a message has the
+/// expression's own.
 fn text_number(fault: TextFault) -> Number
     ensures { result ≡ text_number fault }
 {

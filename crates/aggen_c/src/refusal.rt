@@ -97,7 +97,7 @@ impl Refusal {
         let message = report.to_string(alloc).ok();
         let (line, column) = match report.location {
             Location::At(Position { line, column }) => (line, column),
-            Location::Whole | Location::WithNumber => (0, 0),
+            Location::Whole | Location::InFault => (0, 0),
         };
         let fields = RefusalFields {
             letter: self.fields.letter,

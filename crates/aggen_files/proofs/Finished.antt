@@ -31,7 +31,7 @@ module _ (g : Grammar) (sentence : List ℕ) (ha hb ha' hb' : Bool) (first : ha'
       leaves = is.leaves;
       text = is.text;
       root = is.root;
-      written = subst (λ (w : List ℕ). Appends old new w) is.written printed;
+      output = subst (λ (w : List ℕ). Appends old new w) is.output printed;
       report_is = is.report_is;
     });
   }
@@ -48,8 +48,8 @@ module _ (g : Grammar) (sentence : List ℕ) (ha hb ha' hb' : Bool) (first : ha'
     solves = is.leaves.solution.solves;
     prefix = printed.prefix;
     rest = printed.rest;
-    root = subst (λ (w : List ℕ). IsTranslation g is.values (Text w)) (sym is.written ∙ printed.cut) is.root;
-    written = printed.put;
+    root = subst (λ (w : List ℕ). IsTranslation g is.values (Text w)) (sym is.output ∙ printed.cut) is.root;
+    output = printed.put;
   }
 
   -- the files are whole after all bytes were printed, or some

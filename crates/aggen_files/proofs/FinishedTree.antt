@@ -31,7 +31,7 @@ module _ (g : Grammar) (content : List ℕ) (ht ha hb ha' hb' : Bool) (first : h
         leaves = is.translated.leaves;
         text = is.translated.text;
         root = is.translated.root;
-        written = subst (λ (w : List ℕ). Appends old new w) is.translated.written printed;
+        output = subst (λ (w : List ℕ). Appends old new w) is.translated.output printed;
         report_is = is.translated.report_is;
       };
     });
@@ -49,8 +49,8 @@ module _ (g : Grammar) (content : List ℕ) (ht ha hb ha' hb' : Bool) (first : h
     solves = is.translated.leaves.solution.solves;
     prefix = printed.prefix;
     rest = printed.rest;
-    root = subst (λ (w : List ℕ). IsTranslation g is.translated.values (Text w)) (sym is.translated.written ∙ printed.cut) is.translated.root;
-    written = printed.put;
+    root = subst (λ (w : List ℕ). IsTranslation g is.translated.values (Text w)) (sym is.translated.output ∙ printed.cut) is.translated.root;
+    output = printed.put;
   }
 
   -- a refusal says as much where less is supposed of the files, and nothing but O2 speaks of the bytes printed

@@ -1,6 +1,7 @@
 -- The paths of the two tree files in a folder. This project's.
 use Rattle.std.specs.Prelude.{ℕ, List, ◌++◌, codes}
 
+-- a.agt in the folder, and b.agt
 abbrev pub path_of_a : List ℕ → List ℕ
 path_of_a folder = folder ++ codes "/a.agt"
 

@@ -1,13 +1,13 @@
--- What the file of a device must have after the calls made on it. This project's.
+-- The content of the file of a device, by the calls made on it. This project's.
 use Rattle.std.specs.Prelude.{◌≡◌, ℕ, List}
 use Rattle.noted_file.specs.Calls.{replay}
 use Rattle.treefile.specs.devices.Device.{WhenHonest}
-use Rattle.treefile.specs.devices.Files.{Gathering, content_of, is_honest_of}
+use Rattle.treefile.specs.devices.Files.{FileDeviceState, content_of, is_honest_of}
 
--- the content of the file itself, by its calls: bytes that the device has only gathered are not among it
-abbrev pub stored_of : {F : Type 0} → Gathering F → List ℕ
+-- the content of the file itself, by its calls: without the bytes that the device has only buffered
+abbrev pub stored_of : {F : Type 0} → FileDeviceState F → List ℕ
 stored_of device = (replay device.events).stored
 
--- An honest file has the whole content that its device had.
-abbrev pub StoresContent : {F : Type 0} → Gathering F → Gathering F → Type 0
+-- If the file is honest, it has the whole content that its device (`old`) had: no byte is only buffered.
+abbrev pub StoresContent : {F : Type 0} → FileDeviceState F → FileDeviceState F → Type 0
 StoresContent old new = WhenHonest (is_honest_of new) (stored_of new ≡ content_of old)

@@ -14,26 +14,26 @@ use Rattle.ag_fault.specs.declared.fault.Fault.{Fault}
 use Rattle.ag_fault.specs.declared.fault.Fault.TheVariants as fault
 use Rattle.aggen.specs.declared.translations.report.Report.{Report}
 
--- the translation theorem for the tree in a file, where the passes leave some files in memory
+-- the translation theorem for the tree in a file; the passes leave some tree files a and b in memory, which is honest
 abbrev pub EvaluatesFile : Grammar → (honest_tree : Bool) → (content : List ℕ) → (old new : Option (List ℕ)) → Report → Type 0
 EvaluatesFile g honest content old new report = (a b : List ℕ) × EvaluatesTree g honest true true content a b old new report
 
--- as for any device that has the tree
+-- the meaning of a fault: as for any device with the tree's file, if the other two devices are honest
 abbrev pub IsFileEvaluationFault : Grammar → (honest_tree : Bool) → List ℕ → (old new : Option (List ℕ)) → Fault → Type 0
 IsFileEvaluationFault g honest content old new e = IsEvaluationFault g honest true true content old new e
 
--- the tree of the old file is in the new one, after some file in memory
+-- the tree of the old file is in the new one; some file (`between`) was in memory on the way
 abbrev pub UpgradesFile : Grammar → (honest_old : Bool) → List ℕ → (honest_tree : Bool) → List ℕ → ℕ → Type 0
 UpgradesFile g honest_old content honest_tree tree count = WhenHonest honest_old ((between : List ℕ) × IsUpgraded g content between honest_tree tree count)
 
--- The sentence has a tree with this number of nodes, and an honest file has the tree.
+-- The sentence has a tree with this number of nodes, and if the file is honest its content is the file of the tree.
 pub record ParsesSentence (g : Grammar) (sentence : List ℕ) (honest : Bool) (content : List ℕ) (count : ℕ) : Type 0 where
   pub tree : Tree
   pub is : IsTreeOfSentence g sentence tree
   pub file : WhenHonest honest (IsFirstFile version_two g tree content)
   pub nodes : count ≡ node_count tree
 
--- What a refused conversion leaves of the new content: the previous content, a prefix of a file of pass 0, or the file of the old
+-- What a failed conversion leaves on the new device: the previous content, a prefix of a file of pass 0, or the file of the old
 -- tree. If the old device is dishonest, nothing is said of the last case.
 abbrev pub LeavesConversion : Grammar → (honest_old : Bool) → List ℕ → (old new : List ℕ) → Type 0
 LeavesConversion g honest content old new = LeavesBeginning 0 old new ⊎ ((count : ℕ) × UpgradesFile g honest content true new count)
@@ -44,7 +44,8 @@ abbrev pub IsParsingFault : Grammar → List ℕ → Fault → Type 0
 IsParsingFault g sentence fault.Write = Unit {0}
 IsParsingFault g sentence e = IsSentenceFault g sentence e
 
--- R1, P2 and P3 are true of the old content. O2, a failed device and NoMemory have no meaning for it, and no other fault is possible.
+-- R1, P2 and P3 are true of the old content. O2, a failed device and NoMemory have no meaning for it, and no other
+-- fault is possible.
 abbrev pub IsConversionFault : Grammar → (honest_old : Bool) → List ℕ → Fault → Type 0
 IsConversionFault g honest content fault.Write = Unit {0}
 IsConversionFault g honest content e = IsOldFileFault g honest true content e

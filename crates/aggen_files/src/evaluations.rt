@@ -17,12 +17,13 @@ use std::io::{Read, Seek, Write};
 use treefile::Device;
 
 impl<F: Read + Write + Seek + OpenFile> WorkFiles<F> {
-    /// Translates the tree on a device, which keeps its content, by way of the two files, and prints the
-    /// translation once both have their whole contents. Both are written out after a refusal too.
+    /// Translates the tree whose file of pass 0 is on the device `tree`, which keeps its content.
+    /// The passes use the two files. Prints the translation once both are written out. Both are
+    /// also written out after a failure.
     ///
-    /// Fails with D1 if a file can't be written out, and else as `Translator::evaluate_tree` does; with
-    /// NoMemory also if memory for the translation's bytes is refused. Only with O2 has anything been
-    /// printed.
+    /// Fails with D1 if a file can't be written out, and otherwise as `Translator::evaluate_tree`
+    /// does; with NoMemory also if memory for the translation's bytes cannot be allocated. Only
+    /// with O2 has anything been printed.
     pub fn evaluate<T: Device, W: Write>(
         &mut self,
         alloc: Global,
@@ -47,8 +48,8 @@ impl<F: Read + Write + Seek + OpenFile> WorkFiles<F> {
         ensures b_left { WhenHonest (is_honest_of self.new.b)
             (LeavesSomeFile (content_of self.old.b) (content_of self.new.b)) }
         // unless D1, all bytes were written to the files
-        ensures gathered { result ≢ Err Fault.Device →
-            (self.new.a.gathered ≡ []) × (self.new.b.gathered ≡ []) }
+        ensures buffered { result ≢ Err Fault.Device →
+            (self.new.a.buffered ≡ []) × (self.new.b.buffered ≡ []) }
         // D1 only if the number of failures rose on one of the three
         ensures devices { ThreePersist T.is_honest T.failures tree.old tree.new
             is_honest_of (λ d. d.failures) self.old.a self.new.a

@@ -1,6 +1,10 @@
-//! The commands of the program over files: each opens devices over files, or takes them, calls the
-//! translator, and leaves the whole content in the files. Output goes to any writer, so contracts
-//! can name its bytes.
+//! The commands of the program over files: each takes devices over files (`WorkFiles::open` opens
+//! two), calls the translator, and leaves the whole content in the files. Output goes to any
+//! writer, so contracts can name its bytes.
+//!
+//! A `FileDevice` buffers bytes in memory before it writes them to its file. So contracts
+//! distinguish the content of the device (`content_of`) from that of the file itself (`stored_of`).
+//! They are equal once `finish` has written the buffered bytes: then the file is written out.
 #![tactic(auto)]
 
 mod count;

@@ -1,5 +1,5 @@
-//! Tree files: the file of a sentence's tree, the translation of a tree in a file, and the conversion
-//! of files of version 1.
+//! The commands over one tree file: writing the file of a sentence's tree, translating the tree in
+//! a file, and converting a file of version 1.
 
 ghost use Rattle.std.specs.Prelude.{◌≡◌, ◌≢◌, [], true, Err, IfErr, IfOk, IsErrOf, OnErr, OnOk};
 ghost use Rattle.std.specs.Io.KnownBytes.{Appends};
@@ -27,12 +27,12 @@ use std::fs::OpenFile;
 use std::io::{Read, Seek, Write};
 use treefile::{FileDevice, MemDevice, SharedDevice};
 
-/// Writes the file of a sentence's tree to `tree`, in place of what it has, and then prints the
-/// number of the tree's nodes.
+/// Writes the file of pass 0 of a sentence's tree to `tree`, in place of what it has, and then
+/// prints the number of the tree's stored nodes and returns it.
 ///
-/// Fails with D1 if the file can't be written out, and else as `Translator::parse_tree` and
-/// `print_count` do. After S1 to S4 the file has the content that it had, after P1 to P3 a prefix of
-/// the file of pass 0. After O2 it has the tree, and a prefix of the line was printed.
+/// Fails with D1 if the file can't be written out, and otherwise as `Translator::parse_tree` and
+/// `print_count` do. After S1 to S4 the file has the content that it had, after P1 to P3 a prefix
+/// of the file of pass 0. After O2 it has the tree, and a prefix of the line was printed.
 pub fn parse_to_file<F: Read + Write + Seek + OpenFile, W: Write>(
     alloc: Global,
     translator: &Translator,
@@ -68,7 +68,7 @@ pub fn parse_to_file<F: Read + Write + Seek + OpenFile, W: Write>(
     ensures left { OnErr result (WhenHonest (is_honest_of tree.new)
         (LeavesBeginning 0 (content_of tree.old) (content_of tree.new))) }
     // unless D1, all bytes were written to the file
-    ensures gathered { result ≢ Err Fault.Device → tree.new.gathered ≡ [] }
+    ensures buffered { result ≢ Err Fault.Device → tree.new.buffered ≡ [] }
     // D1 only if the number of failures rose
     ensures persists { FilePersists tree.old tree.new (IsErrOf result Fault.Device) }
 {
@@ -79,8 +79,8 @@ pub fn parse_to_file<F: Read + Write + Seek + OpenFile, W: Write>(
     Ok(count)
 }
 
-/// Translates the tree in the file of `tree`, which stays as it is, and prints the translation. The
-/// files of the passes are in memory.
+/// Translates the tree whose file of pass 0 is on `tree`, which keeps its content, and prints the
+/// translation. The tree files that the passes write are in memory.
 ///
 /// Fails as `Translator::evaluate_tree` does.
 pub fn evaluate_file<F: Read + Write + Seek + OpenFile, W: Write>(
@@ -108,14 +108,15 @@ pub fn evaluate_file<F: Read + Write + Seek + OpenFile, W: Write>(
     translator.evaluate_tree(tree, &mut a, &mut b, out)
 }
 
-/// Converts the tree file of version 1 of `old` to version 2: writes it to `tree`, in place of what
-/// it has, and then prints the number of the tree's nodes. The file of `old` stays as it is. The
-/// records in between are in memory, and all of `old` is read before `tree` is written, so both may
-/// be one file.
+/// Converts the tree file of version 1 on `old` to version 2: writes it to `tree`, in place of what
+/// it has, and then prints the number of the tree's stored nodes and returns it. `old` keeps its
+/// content. The records in between are in memory, and all of `old` is read before `tree` is
+/// written, so both may be devices over one file.
 ///
-/// Fails with D1 if the file can't be written out, and else as `Translator::upgrade` and
-/// `print_count` do. After O2 the new file has the tree, and a prefix of the line was printed. After
-/// another refusal it has the content that it had, a prefix of a file of pass 0, or the whole file.
+/// Fails with D1 if the file can't be written out, and otherwise as `Translator::upgrade` and
+/// `print_count` do. After O2 the new file has the tree, and a prefix of the line was printed.
+/// After another failure it has the content that it had, a prefix of a file of pass 0, or the whole
+/// file.
 pub fn upgrade_file<F: Read + Write + Seek + OpenFile, W: Write>(
     alloc: Global,
     translator: &Translator,
@@ -141,7 +142,7 @@ pub fn upgrade_file<F: Read + Write + Seek + OpenFile, W: Write>(
         (LeavesConversion translator.now (is_honest_of old.new) (content_of old.old)
         (content_of tree.old) (content_of tree.new))) }
     // unless D1, all bytes were written to the new file
-    ensures gathered { result ≢ Err Fault.Device → tree.new.gathered ≡ [] }
+    ensures buffered { result ≢ Err Fault.Device → tree.new.buffered ≡ [] }
     ensures content { LeavesContent (is_honest_of old.new)
         (content_of old.old) (content_of old.new) }
     // D1 only if the number of failures rose on one of the two

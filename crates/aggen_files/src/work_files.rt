@@ -25,11 +25,13 @@ use std::io::{Read, Seek, Write};
 use std::rt::Files;
 use treefile::{DeviceFault, FileDevice};
 
-/// The tree files a.agt and b.agt of a folder, which the passes of a translation read and write in
-/// turns.
+/// The tree files a.agt and b.agt of a folder. Each pass of a translation reads one of them and
+/// writes the other.
 #[derive(Drop)]
 pub struct WorkFiles<F> {
+    /// The device over a.agt.
     pub a: FileDevice<F>,
+    /// The device over b.agt.
     pub b: FileDevice<F>,
 }
 
@@ -44,10 +46,10 @@ fn path_in(alloc: Global, folder: &str, name: &str) -> Result<String, AllocError
 
 impl<F: Read + Write + Seek + OpenFile> WorkFiles<F> {
     /// Opens a.agt and b.agt in a folder, and creates those that are missing. Their contents stay
-    /// until a translation clears them. `first` and `second` are the records that their devices
-    /// continue: `CallRecord::new()`.
+    /// until a translation clears them. `first` and `second` are the records in which contracts see
+    /// the calls of the two files; they occupy no memory, and a caller passes `CallRecord::new()`.
     ///
-    /// Fails with F1 if a file can't be opened, and with NoMemory if there is no memory for a path.
+    /// Fails with F1 if a file can't be opened, and with NoMemory if memory cannot be allocated.
     pub fn open<R: Files<File = F>>(
         rt: &R,
         alloc: Global,
@@ -69,13 +71,13 @@ impl<F: Read + Write + Seek + OpenFile> WorkFiles<F> {
         })
     }
 
-    /// Writes to both files what their devices have gathered, to the second one also if the first
-    /// one fails.
+    /// Writes to both files the bytes that their devices have buffered, to the second one also if
+    /// the first one fails. Fails with `Failed` if a write fails.
     pub(crate) fn finish(&mut self) -> Result<(), DeviceFault>
         ensures a { OnOk result (StoresContent self.old.a self.new.a) }
         ensures b { OnOk result (StoresContent self.old.b self.new.b) }
-        ensures gathered { OnOk result
-            ((self.new.a.gathered ≡ []) × (self.new.b.gathered ≡ [])) }
+        ensures buffered { OnOk result
+            ((self.new.a.buffered ≡ []) × (self.new.b.buffered ≡ [])) }
         ensures a_content { LeavesContent (is_honest_of self.new.a)
             (content_of self.old.a) (content_of self.new.a) }
         ensures b_content { LeavesContent (is_honest_of self.new.b)
@@ -91,14 +93,14 @@ impl<F: Read + Write + Seek + OpenFile> WorkFiles<F> {
         second
     }
 
-    /// Translates a sentence by way of the two files, and prints the translation once both have
-    /// their whole contents. Both are written out after a refusal too.
+    /// Translates a sentence by way of the two files, and prints the translation once both are
+    /// written out. Both are also written out after a failure.
     ///
-    /// Fails with D1 if a file can't be written out, and else as `Translator::translate` does; with
-    /// NoMemory also if there is no memory for the translation's bytes. Only with O2 has anything
-    /// been printed. After O1 and O2 the files are the last two tree files. After S1 to S4 both files
-    /// have the contents that they had. After P1 to P3 b.agt has, and a.agt has a prefix of the file of
-    /// pass 0.
+    /// Fails with D1 if a file can't be written out, and otherwise as `Translator::translate` does;
+    /// with NoMemory also if memory for the translation's bytes cannot be allocated. Only with O2
+    /// has anything been printed. After O1 and O2 the files are the last two tree files. After S1
+    /// to S4 both files have the contents that they had. After P1 to P3 b.agt has, and a.agt has a
+    /// prefix of the file of pass 0.
     pub fn translate<W: Write>(
         &mut self,
         alloc: Global,
@@ -138,8 +140,8 @@ impl<F: Read + Write + Seek + OpenFile> WorkFiles<F> {
             (is_honest_of self.new.a) (is_honest_of self.new.b)
             (stored_of self.new.a) (stored_of self.new.b)) }
         // unless D1, all bytes were written to the files
-        ensures gathered { result ≢ Err Fault.Device →
-            (self.new.a.gathered ≡ []) × (self.new.b.gathered ≡ []) }
+        ensures buffered { result ≢ Err Fault.Device →
+            (self.new.a.buffered ≡ []) × (self.new.b.buffered ≡ []) }
         // D1 only if the number of failures rose on one of the two
         ensures devices { BothPersist is_honest_of (λ d. d.failures) self.old.a self.new.a
             is_honest_of (λ d. d.failures) self.old.b self.new.b
@@ -154,7 +156,8 @@ impl<F: Read + Write + Seek + OpenFile> WorkFiles<F> {
     }
 }
 
-/// Returns the result of a translation into memory: a failed write there means NoMemory.
+/// Returns the result of a translation into a `Vec`, with NoMemory in place of O2: a write to a
+/// `Vec` fails only without memory.
 pub(crate) fn of_buffered(translated: Result<Report, Fault>) -> Result<Report, Fault>
     ensures ok { IfOk result (λ report. translated ≡ Ok report) }
     ensures err { IfErr result (λ e. (translated ≡ Err e) ⊎ (e ≡ Fault.NoMemory)) }

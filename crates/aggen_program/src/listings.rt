@@ -9,18 +9,19 @@ use std::io;
 use std::rt::Files;
 use treefile::MemDevice;
 
-/// A part of a grammar that is printed.
+/// What is printed of a grammar.
 #[derive(Clone, Copy)]
 pub enum Part {
     /// The numbers of symbols and productions.
     Counts,
     /// The passes.
     Plan,
-    /// What the passes do.
+    /// The instructions of the passes.
     Code,
 }
 
-/// Prints a part of a grammar.
+/// Reads a grammar, and prints a part of it. Fails if the grammar can't be read or is refused, and with O2 if the
+/// output fails.
 pub fn print_part<R: Files + Input + Print>(
     rt: &R,
     alloc: Global,
@@ -45,7 +46,8 @@ fn write_part<R: Print>(rt: &R, alloc: Global, text: &[u8], part: Part) -> Resul
     }
 }
 
-/// Prints the value of an expression, by way of a tree file in memory.
+/// Prints the value of an expression. The value is written to a tree file in memory, and read back. Fails with X1 to X4
+/// if the text is not an expression, with O2 if the output fails, and if memory is refused.
 pub fn print_value<R: Print>(rt: &R, alloc: Global, text: &str) -> Result<(), FaultReport> {
     let mut device = MemDevice::new(alloc);
     let mut out = io::writer(rt);

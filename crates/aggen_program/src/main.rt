@@ -6,8 +6,8 @@
 //! and what they do, and `why G` or `why G SYMBOL.attribute` why they are needed; `parse G S TREE`
 //! parses a sentence, and writes its tree's file; `upgrade G OLD TREE` converts a tree file of
 //! version 1 to version 2; `show G TREE` prints the tree in a tree file, and `explain G TREE` where its
-//! values come from; `value EXPR` evaluates an expression, takes its value through a tree file
-//! in memory, and prints what it reads back.
+//! values come from; `value EXPR` evaluates an expression, writes its value to a tree file in memory,
+//! and prints the value that it reads back.
 #![tactic(auto)]
 
 ghost use Rattle.aggen.specs.Status.{IsCommandFault};
@@ -31,7 +31,7 @@ use translation_commands::{
 use tree_commands::{explain_tree, show_tree};
 use why::explain_plan;
 
-/// A file that can be opened, and neither read nor written.
+/// A path that can be opened, but whose file can be neither read nor written.
 const FOLDER: &str = "/";
 
 /// Runs the program.
@@ -46,8 +46,8 @@ fn main(rt: HostRuntime) -> ExitCode {
     exit_code(&rt, rt.stderr().is_terminal())
 }
 
-/// Does what the command line asks for, and returns the status. `is_terminal` says whether standard error
-/// is a terminal.
+/// Runs the command of the command line, and returns the status. `is_terminal` says whether standard error is a
+/// terminal.
 fn exit_code<R: Env + Files + Input + Print + Eprint + Clock + AllocGlobal>(
     rt: &R,
     is_terminal: bool,
@@ -79,7 +79,7 @@ fn exit_code<R: Env + Files + Input + Print + Eprint + Clock + AllocGlobal>(
 /// Prints the message of a failure, and returns its status.
 fn fail<R: Eprint>(rt: &R, alloc: Global, screen: Screen, report: &FaultReport) -> ExitCode {
     screen.print(rt, alloc, report);
-    ExitCode::from(status(&report.number))
+    ExitCode::from(status(&report.fault))
 }
 
 /// Returns the program's fault for a fault of the command line.
@@ -93,7 +93,8 @@ fn fault_of(fault: CommandLineFault) -> Fault
     }
 }
 
-/// Does what a request asks for. Returns the status of what was refused and printed on the way.
+/// Runs the command of a request. Returns the status: of `run` with several sentences that of the first one that
+/// failed, whose message was printed, and else 0.
 fn perform<R: Files + Input + Print + Eprint + Clock>(
     rt: &R,
     alloc: Global,
@@ -119,7 +120,8 @@ fn perform<R: Files + Input + Print + Eprint + Clock>(
     Ok(ExitCode::SUCCESS)
 }
 
-/// Returns the words of the command line; the first is the program's name.
+/// Returns the words of the command line; the first is the program's name. Fails if one of them is not UTF-8, or memory
+/// is refused.
 fn words_of<R: Env + AllocGlobal>(rt: &R, alloc: Global) -> Result<Vec<String>, Fault> {
     let words = match std::env::args(rt) {
         Ok(words) => words,

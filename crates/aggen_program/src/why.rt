@@ -15,8 +15,8 @@ use std::alloc::Global;
 use std::io::{self, Write};
 use std::rt::Files;
 
-/// Prints why a grammar needs its passes, or why no pass before its own can compute an
-/// attribute. If no order of passes evaluates the grammar, prints why, and fails with A1.
+/// Prints why a grammar needs its passes, or why no pass before the one of an attribute can compute it. If no order of
+/// passes evaluates the grammar, prints why, and fails with A1.
 pub fn explain_plan<R: Files + Input + Print>(
     rt: &R,
     alloc: Global,
@@ -40,7 +40,7 @@ pub fn explain_plan<R: Files + Input + Print>(
     }
 }
 
-/// Returns the attribute of a name, if there is a name. Fails if no attribute has it.
+/// Returns the attribute of a name; none if there is no name. Fails if no attribute has the name.
 fn find_attribute(
     alloc: Global,
     grammar: &Grammar,
@@ -103,7 +103,7 @@ fn text_of_stuck(
     Ok(text)
 }
 
-/// Prints a text. Fails if memory for it was refused, or it can't be written.
+/// Prints a text. Fails with NoMemory if memory for it was refused, and with O2 if it can't be written.
 fn print_text<R: Print>(
     rt: &R,
     alloc: Global,

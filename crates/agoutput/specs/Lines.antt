@@ -4,9 +4,9 @@ use Rattle.ag_grammar.specs.grammars.AttributeGrammar.{Grammar}
 use Rattle.ag_value.specs.Shown.{shown_of}
 use Rattle.ag_value.specs.declared.value.Value.{Value}
 
--- the line of a value: its text, and LF
+-- the line of a value: its text as `show` returns it, and LF
 abbrev pub value_line : Value → List ℕ
-value_line is = shown_of is ++ codes "\n"
+value_line value = shown_of value ++ codes "\n"
 
 -- the noun after a number: the singular after 1, else the plural
 abbrev pub noun_for : ℕ → List ℕ → List ℕ → List ℕ

@@ -1,4 +1,6 @@
--- The listings of a plan and of its code, as bytes. All of this is this project's.
+-- The listings of a plan and of its code, as bytes. In these definitions `rows` is an assignment: it has for each symbol the
+-- passes of its attributes, numbered from 1. g is a grammar, k a pass, q a production, p its number, j a place in it (0 is the
+-- left side), a an attribute, and r a rule. All of this is this project's.
 use Rattle.std.specs.Prelude.{ℕ, zero, suc, ◌≡◌, ◌==◌, if◌then◌else◌, List, [], ◌++◌, Option, map, codes, decimal, slice_index_or}
 use Rattle.std.specs.Io.KnownBytes.{Appends}
 use Rattle.std.specs.List.{enumerate_from, flat_map, zip}
@@ -13,12 +15,12 @@ use Rattle.passcode.specs.declared.instr.Instr.{Instr}
 use Rattle.passcode.specs.declared.instr.Instr.TheVariants as instr
 use Rattle.agoutput.specs.Writing.{AppendsBeginning}
 
--- the text of an attribute in the line of pass k, by its symbol's name, and its own name and pass: a space and `SYMBOL.ATTRIBUTE`
--- if its pass is k, else nothing
+-- the text of an attribute in the line of pass k: a space and `SYMBOL.ATTRIBUTE` if its pass is k, else nothing. `name` is its
+-- symbol's name, and x has its own name and its pass
 abbrev pub attribute_text : ℕ → List ℕ → List ℕ × ℕ → List ℕ
 attribute_text k name x = if x.1 == k then codes " " ++ name ++ codes "." ++ x.0 else []
 
--- the attributes of a symbol in the line of pass k, by the symbol and the passes of its attributes
+-- the attributes of a symbol in the line of pass k; x has the symbol, and the passes of its attributes
 abbrev pub symbol_text : ℕ → Symbol × List ℕ → List ℕ
 symbol_text k x = flat_map (attribute_text k x.0.name) (zip (attribute_names x.0) x.1)
 
@@ -37,7 +39,7 @@ pub record IsPlanListing (g : Grammar) (rows : List (List ℕ)) (text : List ℕ
   pub greatest : IsGreatest passes rows
   pub lines : text ≡ plan_text g rows passes
 
--- the name of attribute a at place j of a production; empty if it does not exist
+-- the name of attribute a at place j of production q; empty if it does not exist
 abbrev pub attribute_name : Grammar → Production → ℕ → ℕ → List ℕ
 attribute_name g q j a = slice_index_or (item_names g (item_at q j)) a []
 
@@ -50,12 +52,12 @@ instruction_text g q (instr.Put j) = codes "put " ++ decimal j
 instruction_text g q (instr.Def a r) = codes "def " ++ attribute_name g q 0 a ++ codes " rule " ++ decimal r
 instruction_text g q instr.End = codes "end"
 
--- the line of production p and a pass, by the pass and its list: both numbers, and the instructions, separated by a comma and a
--- space
+-- the line of production q, whose number is p, and a pass: both numbers, and the instructions, separated by a comma and a space.
+-- x has the number of the pass, and its instructions
 abbrev pub code_line : Grammar → ℕ → Production → ℕ × List Instr → List ℕ
 code_line g p q x = decimal p ++ codes " pass " ++ decimal x.0 ++ codes ": " ++ separated (map (instruction_text g q) x.1) ++ codes "\n"
 
--- the lines of a production, by its number, itself and its lists: one line for each pass from 1
+-- the lines of a production, one for each pass from 1. x has the production with its number, and its lists of instructions
 abbrev pub production_text : Grammar → (ℕ × Production) × List (List Instr) → List ℕ
 production_text g x = flat_map (code_line g x.0.0 x.0.1) (enumerate_from 1 x.1)
 

@@ -1,7 +1,7 @@
--- Examples of listings for the first sample grammar of ag_grammar.
+-- Examples of listings for the first sample grammar of ag_grammar, `R = A A` with the attributes R.out, A.s and A.i.
 use Rattle.std.specs.Prelude.{ℕ, List, [], ◌∷◌, codes}
 
--- all attributes belong to pass 1, which goes from right to left
+-- an assignment: all attributes belong to pass 1, which goes from right to left
 abbrev pub sample_rows : List (List ℕ)
 sample_rows = (1 ∷ []) ∷ (1 ∷ 1 ∷ []) ∷ []
 

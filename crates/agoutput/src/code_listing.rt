@@ -19,7 +19,8 @@ use planchecker::Plan;
 use std::alloc::{AllocError, Global};
 use std::io::Write;
 
-/// Appends the name of an instruction and a place in decimal.
+/// Appends the name of an instruction and a place in decimal. Fails if memory is refused, as all `show_`
+/// functions do.
 fn show_place(alloc: Global, out: &mut String, name: &str, place: u16) -> Result<(), AllocError>
     ensures { OnOk result (string_bytes out.new ≡ string_bytes out.old
         ++ (name.now ++ decimal place)) }
@@ -28,8 +29,9 @@ fn show_place(alloc: Global, out: &mut String, name: &str, place: u16) -> Result
     show_number(alloc, out, place as usize)
 }
 
-/// Appends the name of an attribute at a place, and the number of the rule that computes it.
-fn show_given(
+/// Appends the name of the attribute `attr` at a place, and the number of the rule that computes it, as in
+/// `s rule 2`.
+fn show_attribute_and_rule(
     alloc: Global,
     out: &mut String,
     grammar: &Grammar,
@@ -62,13 +64,13 @@ fn show_instruction(
         Instr::Set { place, attr, rule } => {
             show_place(alloc, out, "set ", place)?;
             out.push_str(".")?;
-            show_given(alloc, out, grammar, production, place, attr, rule)?;
+            show_attribute_and_rule(alloc, out, grammar, production, place, attr, rule)?;
         }
         Instr::Go(place) => show_place(alloc, out, "go ", place)?,
         Instr::Put(place) => show_place(alloc, out, "put ", place)?,
         Instr::Def { attr, rule } => {
             out.push_str("def ")?;
-            show_given(alloc, out, grammar, production, 0, attr, rule)?;
+            show_attribute_and_rule(alloc, out, grammar, production, 0, attr, rule)?;
         }
         Instr::End => out.push_str("end")?,
     }
@@ -145,7 +147,7 @@ fn show_production(
     Ok(())
 }
 
-/// Returns the listing of a plan's code.
+/// Returns the listing of a plan's code. Fails if memory is refused.
 fn code_lines(alloc: Global, grammar: &Grammar, code: &Code) -> Result<String, AllocError>
     ensures { IfOk result (λ text. string_bytes text ≡ code_text grammar.now code.now) }
 {

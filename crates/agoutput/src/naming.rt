@@ -8,7 +8,7 @@ ghost use Rattle.agoutput.specs.Listings.{attribute_name as name_at};
 use ag_grammar::{Grammar, Item, Production, Symbol, Terminal};
 use std::alloc::{AllocError, Global};
 
-/// Appends a number in decimal.
+/// Appends a number in decimal. Fails if memory is refused.
 pub(crate) fn show_number(alloc: Global, out: &mut String, number: usize) -> Result<(), AllocError>
     ensures { OnOk result (string_bytes out.new ≡ string_bytes out.old ++ decimal number) }
 {

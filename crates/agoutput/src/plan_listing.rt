@@ -16,7 +16,8 @@ use planchecker::Plan;
 use std::alloc::{AllocError, Global};
 use std::io::Write;
 
-/// Appends the names of a symbol and of its attribute, if `own`, the attribute's pass, is `pass`.
+/// Appends a space and `SYMBOL.ATTRIBUTE`, as in ` L.p`, if the attribute's own pass `own` is the listed
+/// pass `pass`; otherwise nothing. Fails if memory is refused, as all `show_` functions do.
 fn show_attribute(
     out: &mut String,
     pass: u16,
@@ -58,7 +59,8 @@ fn show_symbol(
     Ok(())
 }
 
-/// Appends the attributes that a pass computes, symbol by symbol.
+/// Appends the attributes that a pass computes, symbol by symbol. `rows` has the passes of each symbol's
+/// attributes.
 fn show_symbols(
     out: &mut String,
     pass: u16,
@@ -95,7 +97,7 @@ fn show_pass(
     Ok(())
 }
 
-/// Returns the listing of an assignment.
+/// Returns the listing of an assignment: the lines of its passes. Fails if memory is refused.
 fn plan_lines(
     alloc: Global,
     grammar: &Grammar,

@@ -1,4 +1,5 @@
-//! Examples for the definitions; each is a law.
+//! Examples for the definitions of listings, worked out by hand. Each is a law: the contract of a function with
+//! an empty body.
 
 ghost use Rattle.std.specs.Prelude.{◌≡◌};
 ghost use Rattle.ag_grammar.specs.grammars.Sample.{sample};

@@ -2,7 +2,7 @@
 use Rattle.std.proofs.Common.{◌≡◌, ℕ, Bool, true, false, List, [], ◌∷◌, ◌++◌, length, Option, Some, None, Result, Ok, Err, ap, sym, subst, ◌∙◌}
 use Rattle.ag_grammar.specs.declared.direction.Direction.{Direction}
 use Rattle.ag_grammar.specs.grammars.Passes.{other}
-use Rattle.backreader.specs.Turning.{IsFileOf, IsTurned, IsWithinLimits, TreeTurned, Reverses}
+use Rattle.backreader.specs.Turning.{IsFileOf, IsReversed, IsWithinLimits, ReversesTree, Reverses}
 use Rattle.backreader.specs.declared.turning.TurnFault.{TurnFault}
 use Rattle.backreader.specs.declared.turning.TurnFault.TheVariants as turn_fault
 use Rattle.treefile.specs.framing.Backward.{ReadsBack, next_before}
@@ -16,12 +16,12 @@ use Rattle.treefile.proofs.framing.Files.{begins}
 use Rattle.treefile.proofs.records.Orders.{one_tree}
 use Rattle.backreader.proofs.Whole.{tree_back}
 
-module _ (rank : List ℕ → Option ℕ) (pass : ℕ) (content : List ℕ) (honest : Bool) (turned : List ℕ) (direction : Direction) (tree : BodyTree) (is : IsFileOf rank direction tree content) where
+module _ (arity : List ℕ → Option ℕ) (pass : ℕ) (content : List ℕ) (honest : Bool) (turned : List ℕ) (direction : Direction) (tree : BodyTree) (is : IsFileOf arity direction tree content) where
   is_file : is_tree_file version_two content ≡ true
   is_file = ap (is_tree_file version_two) is.occurs ∙ begins version_two is.pass (flat_map frame (postfix direction tree)) version_two_usable
 
   back : ReadsBack version_two content (length content) (prefix (other direction) tree)
-  back = tree_back rank content direction tree is
+  back = tree_back arity content direction tree is
 
   no_damage : (at : ℕ) (rest : List (List ℕ)) → ReadsBack version_two content at rest → next_before version_two content at ≡ Err (frame_fault.Damaged at) → ⊥
   no_damage at [] none damage =
@@ -31,16 +31,16 @@ module _ (rank : List ℕ → Option ℕ) (pass : ℕ) (content : List ℕ) (hon
       let e : Err (frame_fault.Damaged at) ≡ Ok (Some body) = sym damage ∙ some.0 in
       cc
 
-  same_tree : (another : BodyTree) → IsFileOf rank direction another content → another ≡ tree
+  same_tree : (another : BodyTree) → IsFileOf arity direction another content → another ≡ tree
   same_tree another has =
       let one = prefix (other direction) tree in
       let two = prefix (other direction) another in
-      let same : two ≡ one = reads_same version_two content two one (length content) (tree_back rank content direction another has) back in
-      (one_tree rank (other direction) another tree [] [] has.ranked is.ranked (ap (λ (bodies : List (List ℕ)). bodies ++ []) same)).0
+      let same : two ≡ one = reads_same version_two content two one (length content) (tree_back arity content direction another has) back in
+      (one_tree arity (other direction) another tree [] [] has.arities is.arities (ap (λ (bodies : List (List ℕ)). bodies ++ []) same)).0
 
-  pub tree_exact : (result : Result ℕ TurnFault) → Reverses rank pass content honest turned result → TreeTurned pass direction tree honest turned result
+  pub tree_exact : (result : Result ℕ TurnFault) → Reverses arity pass content honest turned result → ReversesTree pass direction tree honest turned result
   tree_exact (Ok count) so =
-      let it : IsTurned rank pass content honest turned count direction = so direction in
+      let it : IsReversed arity pass content honest turned count direction = so direction in
       let same = same_tree it.tree it.from in (
         subst IsWithinLimits same it.within,
         it.count_is ∙ ap node_count same,

@@ -5,7 +5,7 @@ use Rattle.std.proofs.lemmas.List.Elements.{All-cons, All-nil}
 use Rattle.ag_grammar.specs.declared.direction.Direction.{Direction}
 use Rattle.ag_grammar.specs.declared.direction.Direction.TheVariants.{LeftToRight, RightToLeft}
 use Rattle.backreader.specs.Taking.{levels_before, pending_levels, pending_trees}
-use Rattle.treefile.specs.records.Orders.{AreRanked, BodyForest, BodyTree, IsRanked, branch, deepest, depth_of, more, none, prefix, prefix_all, tree_count}
+use Rattle.treefile.specs.records.Orders.{AllMatchArity, BodyForest, BodyTree, MatchesArity, branch, deepest, depth_of, more, none, prefix, prefix_all, tree_count}
 
 -- one more level at the end of equal ones, or at their beginning
 levels_swap : (count level : ℕ) (levels : List ℕ) → levels_before count level (level ∷ levels) ≡ level ∷ levels_before count level levels
@@ -18,73 +18,73 @@ levels_add (suc count) others level levels =
     let e : suc count + others ≡ suc (count + others) = omega arith in
     ap (λ (n : ℕ). levels_before n level levels) e ∙ ap (λ (ls : List ℕ). level ∷ ls) (levels_add count others level levels)
 
-module _ (rank : List ℕ → Option ℕ) where
+module _ (arity : List ℕ → Option ℕ) where
   -- the trees expected after some bodies and then others
-  pub trees_on : (bodies others : List (List ℕ)) (n : ℕ) → pending_trees rank n (bodies ++ others) ≡ option_and_then (λ m. pending_trees rank m others) (pending_trees rank n bodies)
+  pub trees_on : (bodies others : List (List ℕ)) (n : ℕ) → pending_trees arity n (bodies ++ others) ≡ option_and_then (λ m. pending_trees arity m others) (pending_trees arity n bodies)
   trees_on [] others n = refl
   trees_on (body ∷ bodies) others zero = refl
-  trees_on (body ∷ bodies) others (suc n) = by_rank (rank body) (trees_on bodies others)
+  trees_on (body ∷ bodies) others (suc n) = by_rank (arity body) (trees_on bodies others)
     where
-      by_rank : (found : Option ℕ) → ((m : ℕ) → pending_trees rank m (bodies ++ others) ≡ option_and_then (λ k. pending_trees rank k others) (pending_trees rank m bodies)) → option_and_then (λ c. pending_trees rank (c + n) (bodies ++ others)) found ≡ option_and_then (λ k. pending_trees rank k others) (option_and_then (λ c. pending_trees rank (c + n) bodies) found)
+      by_rank : (found : Option ℕ) → ((m : ℕ) → pending_trees arity m (bodies ++ others) ≡ option_and_then (λ k. pending_trees arity k others) (pending_trees arity m bodies)) → option_and_then (λ c. pending_trees arity (c + n) (bodies ++ others)) found ≡ option_and_then (λ k. pending_trees arity k others) (option_and_then (λ c. pending_trees arity (c + n) bodies) found)
       by_rank None h = refl
       by_rank (Some c) h = h (c + n)
 
-  pub levels_on : (bodies others : List (List ℕ)) (ls : List ℕ) → pending_levels rank ls (bodies ++ others) ≡ option_and_then (λ ms. pending_levels rank ms others) (pending_levels rank ls bodies)
+  pub levels_on : (bodies others : List (List ℕ)) (ls : List ℕ) → pending_levels arity ls (bodies ++ others) ≡ option_and_then (λ ms. pending_levels arity ms others) (pending_levels arity ls bodies)
   levels_on [] others ls = refl
   levels_on (body ∷ bodies) others [] = refl
   levels_on (body ∷ bodies) others (zero ∷ ls) = refl
-  levels_on (body ∷ bodies) others (suc l ∷ ls) = by_rank (rank body) (levels_on bodies others)
+  levels_on (body ∷ bodies) others (suc l ∷ ls) = by_rank (arity body) (levels_on bodies others)
     where
-      by_rank : (found : Option ℕ) → ((ms : List ℕ) → pending_levels rank ms (bodies ++ others) ≡ option_and_then (λ ks. pending_levels rank ks others) (pending_levels rank ms bodies)) → option_and_then (λ c. pending_levels rank (levels_before c l ls) (bodies ++ others)) found ≡ option_and_then (λ ks. pending_levels rank ks others) (option_and_then (λ c. pending_levels rank (levels_before c l ls) bodies) found)
+      by_rank : (found : Option ℕ) → ((ms : List ℕ) → pending_levels arity ms (bodies ++ others) ≡ option_and_then (λ ks. pending_levels arity ks others) (pending_levels arity ms bodies)) → option_and_then (λ c. pending_levels arity (levels_before c l ls) (bodies ++ others)) found ≡ option_and_then (λ ks. pending_levels arity ks others) (option_and_then (λ c. pending_levels arity (levels_before c l ls) bodies) found)
       by_rank None h = refl
       by_rank (Some c) h = h (levels_before c l ls)
 
   -- the bodies of a tree are consumed as one expected tree
   mutual
-    pub past_tree : (d : Direction) (t : BodyTree) (n : ℕ) (rest : List (List ℕ)) → IsRanked rank t → pending_trees rank (suc n) (prefix d t ++ rest) ≡ pending_trees rank n rest
-    past_tree d (branch body ts) n rest r = ap (option_and_then (λ c. pending_trees rank (c + n) (prefix_all d ts ++ rest))) r.0 ∙ past_trees d ts n rest r.1
+    pub past_tree : (d : Direction) (t : BodyTree) (n : ℕ) (rest : List (List ℕ)) → MatchesArity arity t → pending_trees arity (suc n) (prefix d t ++ rest) ≡ pending_trees arity n rest
+    past_tree d (branch body ts) n rest r = ap (option_and_then (λ c. pending_trees arity (c + n) (prefix_all d ts ++ rest))) r.0 ∙ past_trees d ts n rest r.1
 
-    pub past_trees : (d : Direction) (ts : BodyForest) (n : ℕ) (rest : List (List ℕ)) → AreRanked rank ts → pending_trees rank (tree_count ts + n) (prefix_all d ts ++ rest) ≡ pending_trees rank n rest
-    past_trees d none n rest r = ap (λ (m : ℕ). pending_trees rank m rest) (zero-add n)
+    pub past_trees : (d : Direction) (ts : BodyForest) (n : ℕ) (rest : List (List ℕ)) → AllMatchArity arity ts → pending_trees arity (tree_count ts + n) (prefix_all d ts ++ rest) ≡ pending_trees arity n rest
+    past_trees d none n rest r = ap (λ (m : ℕ). pending_trees arity m rest) (zero-add n)
     past_trees LeftToRight (more t ts) n rest r =
         let e : suc (tree_count ts) + n ≡ suc (tree_count ts + n) = omega arith in
-        ap (λ (m : ℕ). pending_trees rank m (prefix_all LeftToRight (more t ts) ++ rest)) e
-        ∙ ap (pending_trees rank (suc (tree_count ts + n))) (append_assoc (prefix LeftToRight t) (prefix_all LeftToRight ts) rest)
+        ap (λ (m : ℕ). pending_trees arity m (prefix_all LeftToRight (more t ts) ++ rest)) e
+        ∙ ap (pending_trees arity (suc (tree_count ts + n))) (append_assoc (prefix LeftToRight t) (prefix_all LeftToRight ts) rest)
         ∙ past_tree LeftToRight t (tree_count ts + n) (prefix_all LeftToRight ts ++ rest) r.0
         ∙ past_trees LeftToRight ts n rest r.1
     past_trees RightToLeft (more t ts) n rest r =
         let e : suc (tree_count ts) + n ≡ tree_count ts + suc n = omega arith in
-        ap (λ (m : ℕ). pending_trees rank m (prefix_all RightToLeft (more t ts) ++ rest)) e
-        ∙ ap (pending_trees rank (tree_count ts + suc n)) (append_assoc (prefix_all RightToLeft ts) (prefix RightToLeft t) rest)
+        ap (λ (m : ℕ). pending_trees arity m (prefix_all RightToLeft (more t ts) ++ rest)) e
+        ∙ ap (pending_trees arity (tree_count ts + suc n)) (append_assoc (prefix_all RightToLeft ts) (prefix RightToLeft t) rest)
         ∙ past_trees RightToLeft ts (suc n) (prefix RightToLeft t ++ rest) r.1
         ∙ past_tree RightToLeft t n rest r.0
 
   -- the same with levels, if the tree is not too deep
   mutual
-    pub below_tree : (d : Direction) (t : BodyTree) (l : ℕ) (ls : List ℕ) (rest : List (List ℕ)) → IsRanked rank t → depth_of t ≤ l → pending_levels rank (l ∷ ls) (prefix d t ++ rest) ≡ pending_levels rank ls rest
+    pub below_tree : (d : Direction) (t : BodyTree) (l : ℕ) (ls : List ℕ) (rest : List (List ℕ)) → MatchesArity arity t → depth_of t ≤ l → pending_levels arity (l ∷ ls) (prefix d t ++ rest) ≡ pending_levels arity ls rest
     below_tree d (branch body ts) zero ls rest r deep = absurd (omega arith)
-    below_tree d (branch body ts) (suc l) ls rest r deep = ap (option_and_then (λ c. pending_levels rank (levels_before c l ls) (prefix_all d ts ++ rest))) r.0 ∙ below_trees d ts l ls rest r.1 (omega arith)
+    below_tree d (branch body ts) (suc l) ls rest r deep = ap (option_and_then (λ c. pending_levels arity (levels_before c l ls) (prefix_all d ts ++ rest))) r.0 ∙ below_trees d ts l ls rest r.1 (omega arith)
 
-    pub below_trees : (d : Direction) (ts : BodyForest) (l : ℕ) (ls : List ℕ) (rest : List (List ℕ)) → AreRanked rank ts → deepest ts ≤ l → pending_levels rank (levels_before (tree_count ts) l ls) (prefix_all d ts ++ rest) ≡ pending_levels rank ls rest
+    pub below_trees : (d : Direction) (ts : BodyForest) (l : ℕ) (ls : List ℕ) (rest : List (List ℕ)) → AllMatchArity arity ts → deepest ts ≤ l → pending_levels arity (levels_before (tree_count ts) l ls) (prefix_all d ts ++ rest) ≡ pending_levels arity ls rest
     below_trees d none l ls rest r deep = refl
     below_trees LeftToRight (more t ts) l ls rest r deep =
-        ap (pending_levels rank (l ∷ levels_before (tree_count ts) l ls)) (append_assoc (prefix LeftToRight t) (prefix_all LeftToRight ts) rest)
+        ap (pending_levels arity (l ∷ levels_before (tree_count ts) l ls)) (append_assoc (prefix LeftToRight t) (prefix_all LeftToRight ts) rest)
         ∙ below_tree LeftToRight t l (levels_before (tree_count ts) l ls) (prefix_all LeftToRight ts ++ rest) r.0 (omega arith)
         ∙ below_trees LeftToRight ts l ls rest r.1 (omega arith)
     below_trees RightToLeft (more t ts) l ls rest r deep =
-        ap (λ (ms : List ℕ). pending_levels rank ms (prefix_all RightToLeft (more t ts) ++ rest)) (sym (levels_swap (tree_count ts) l ls))
-        ∙ ap (pending_levels rank (levels_before (tree_count ts) l (l ∷ ls))) (append_assoc (prefix_all RightToLeft ts) (prefix RightToLeft t) rest)
+        ap (λ (ms : List ℕ). pending_levels arity ms (prefix_all RightToLeft (more t ts) ++ rest)) (sym (levels_swap (tree_count ts) l ls))
+        ∙ ap (pending_levels arity (levels_before (tree_count ts) l (l ∷ ls))) (append_assoc (prefix_all RightToLeft ts) (prefix RightToLeft t) rest)
         ∙ below_trees RightToLeft ts l (l ∷ ls) (prefix RightToLeft t ++ rest) r.1 (omega arith)
         ∙ below_tree RightToLeft t l ls rest r.0 (omega arith)
 
-  -- if the number of expected trees is known, each body has a rank
-  pub all_ranked : (bodies : List (List ℕ)) (n m : ℕ) → pending_trees rank n bodies ≡ Some m → All (λ body. (count : ℕ) × (rank body ≡ Some count)) bodies
-  all_ranked [] n m e = All-nil (λ body. (count : ℕ) × (rank body ≡ Some count))
-  all_ranked (body ∷ bodies) zero m e = absurd cc
-  all_ranked (body ∷ bodies) (suc n) m e =
-      let both = by_rank (rank body) e in
-      All-cons (λ b. (count : ℕ) × (rank b ≡ Some count)) body bodies (both.0, both.1) (all_ranked bodies (both.0 + n) m both.2)
+  -- if the number of expected trees is known, each body has an arity
+  pub all_arities : (bodies : List (List ℕ)) (n m : ℕ) → pending_trees arity n bodies ≡ Some m → All (λ body. (count : ℕ) × (arity body ≡ Some count)) bodies
+  all_arities [] n m e = All-nil (λ body. (count : ℕ) × (arity body ≡ Some count))
+  all_arities (body ∷ bodies) zero m e = absurd cc
+  all_arities (body ∷ bodies) (suc n) m e =
+      let both = by_rank (arity body) e in
+      All-cons (λ b. (count : ℕ) × (arity b ≡ Some count)) body bodies (both.0, both.1) (all_arities bodies (both.0 + n) m both.2)
     where
-      by_rank : (found : Option ℕ) → option_and_then (λ c. pending_trees rank (c + n) bodies) found ≡ Some m → (c : ℕ) × (found ≡ Some c) × (pending_trees rank (c + n) bodies ≡ Some m)
+      by_rank : (found : Option ℕ) → option_and_then (λ c. pending_trees arity (c + n) bodies) found ≡ Some m → (c : ℕ) × (found ≡ Some c) × (pending_trees arity (c + n) bodies ≡ Some m)
       by_rank None h = absurd cc
       by_rank (Some c) h = (c, refl, h)

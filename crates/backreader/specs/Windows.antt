@@ -11,6 +11,6 @@ abbrev pub taken : Window → ℕ → List ℕ
 taken window count = slice_range window.buffer.items window.to (window.to + count)
 
 -- the bytes that were read before and are not taken yet are still the last ones
-pub record Keeps (old now : Window) : Type 0 where
-  pub more : old.to - old.from ≤ now.to - now.from
-  pub last : slice_range now.buffer.items (now.to - (old.to - old.from)) now.to ≡ unread old
+pub record Keeps (old new : Window) : Type 0 where
+  pub more : old.to - old.from ≤ new.to - new.from
+  pub last : slice_range new.buffer.items (new.to - (old.to - old.from)) new.to ≡ unread old

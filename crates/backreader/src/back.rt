@@ -18,7 +18,7 @@ use treefile::{Device, FileVersion, FrameFault, fits_before, pass_in};
 
 /// Reads the bodies of a tree file from the last to the first. The reader holds no device: each
 /// call takes the device that the reader was started on. Contracts see its progress, and the bytes
-/// before its offset that it has read.
+/// before its offset that it has read and not lent yet.
 #[derive(Drop)]
 pub struct Back {
     window: Window,
@@ -46,8 +46,8 @@ impl Model for Back {
       };
     } };
 
-    // each body that was lent is after the offset with its length: so the number of bodies is below
-    // the greatest u64
+    // Each call that lends a body raises the count by 1 and lowers the offset by at least 7, so the
+    // count does not overflow.
     ghost invariant = { λ b. b.records + b.window.at < 2 ^ 64 };
 }
 
@@ -134,8 +134,8 @@ impl Back {
         requires { WhenHonest (D.is_honest device.old) (IsOver (D.content device.old) self.old) }
         // The progress of the reader, which still reads the same content.
         ensures* after { sem 𝓛 (follows_so the_row the_row self.entry.ghost_name none (λ _ _. ⊤)
-            (λ now. HasRead (D.is_honest device.new) (D.content device.old) self.old
-            (lent_body (λ body. body.now) result) now)) }
+            (λ state. HasRead (D.is_honest device.new) (D.content device.old) self.old
+            (lent_body (λ body. body.now) result) state)) }
         // The body, None and B2 agree with the content.
         ensures exact { self.old.progress.fault ≡ None → WhenHonest (D.is_honest device.new)
             (ReadsAs (option_map (λ body. body.now)) result
@@ -170,17 +170,16 @@ impl Back {
                 Ok(Some(self.window.taken(length)))
             }
             Err(fault) => {
-                self.fault = for_good(fault);
+                self.fault = permanent_fault(fault);
                 Err(fault)
             }
         }
     }
 
-    /// Lends the body of the frame before the one that was lent last from the memory of the device,
-    /// if the device has it there. Returns `None`, and changes nothing, if the body has to be read
-    /// by `back`: also at the header, in a file of version 1, after a fault, and if no frame ends
-    /// there. Requires the device of `start`, with the same content if it is honest. Takes no
-    /// memory.
+    /// Lends the same body as the next call of `back` would, but from the memory of the device, if the
+    /// device has it there. Returns `None`, and changes nothing, if `back` has to be called instead:
+    /// also at the header, in a file of version 1, after a permanent fault, and if no frame ends at the
+    /// offset. Requires the device of `start`, with the same content if it is honest. Takes no memory.
     #[inline(always)]
     pub fn lend_back<'d, D: Device>(&mut self, device: &'d D) -> Option<Body<'d>>
         requires { WhenHonest (D.is_honest device.now) (IsOver (D.content device.now) self.old) }
@@ -234,7 +233,7 @@ impl Back {
 }
 
 /// Returns the fault if it is permanent; NoMemory is not.
-fn for_good(fault: FrameFault) -> Option<FrameFault>
+fn permanent_fault(fault: FrameFault) -> Option<FrameFault>
     ensures { (old : Progress) → old.fault ≡ None →
         record old { fault = result } ≡ progress_after old (Err fault) }
 {

@@ -20,16 +20,16 @@ use treefile::{
 /// The initial number of bytes of a buffer.
 const BUFFER: usize = 4096;
 
-/// The number of bytes of the length after a body.
+/// The number of bytes of the length after a body, as a `usize`.
 const LENGTH: usize = LENGTH_BYTES as usize;
 
-/// The least number of bytes of a body.
+/// The least number of bytes of a body, as a `usize`.
 const LEAST: usize = LEAST_BODY as usize;
 
 /// The bytes of a device before the offset `at` in a file of a version, as far as they were read:
-/// those of the buffer from index `from` to index `to`. Before `from` the buffer is free, and from
-/// `to` on it has the bytes that were taken last. The buffer has room for the least block, and at
-/// most for the greatest frame.
+/// those of the buffer from index `from` to index `to` are unread. Before `from` the buffer is free,
+/// and from `to` on it has the bytes of the frame that was taken last. The buffer has at least 4,096
+/// bytes, and at most those of the greatest frame.
 #[derive(Drop)]
 pub(crate) struct Window {
     version: FileVersion,
@@ -47,8 +47,8 @@ pub(crate) struct Window {
 impl Window {
     ghost use Rattle.backreader.specs.Windows.{Keeps, taken, unread};
 
-    /// Makes a window with no bytes before offset `at`, and a buffer of 4,096 bytes. Takes memory
-    /// for it.
+    /// Makes a window at offset `at`, with no bytes read yet and a buffer of 4,096 bytes. Takes memory
+    /// for the buffer, and fails if it is refused.
     #[tactic(auto, using(crate::proofs::EndingAt::buffer_is_small))]
     pub(crate) fn new(alloc: Global, version: FileVersion, at: u64) -> Result<Window, AllocError>
         requires { header_bytes ≤ at }
@@ -67,7 +67,7 @@ impl Window {
         })
     }
 
-    /// Returns the offset where the bytes end.
+    /// Returns the offset in the file (in bytes) where the next frame is expected to end.
     pub(crate) fn at(&self) -> u64
         ensures { result ≡ self.now.at }
     {
@@ -82,7 +82,8 @@ impl Window {
         self.version == FileVersion::Two
     }
 
-    /// Moves before a frame that was not read, whose body has `length` bytes.
+    /// Skips the frame that ends at the offset, whose body has `length` bytes, without reading it.
+    /// Drops the bytes of the buffer.
     #[inline(always)]
     pub(crate) fn pass_over(&mut self, length: usize)
         requires { header_bytes + length + length_bytes ≤ self.old.at }
@@ -183,7 +184,8 @@ impl Window {
     }
 
     /// Returns the length of the body whose frame ends at the offset, or `None` if no frame ends
-    /// there. Fails with D1 if the device fails.
+    /// there. Reads the length from the device if it is not in the buffer. Fails with D1 if the device
+    /// fails.
     #[cold]
     #[inline(never)]
     #[tactic(auto, unfolding(treefile::specs::framing::Ending::body_before))]
@@ -227,7 +229,7 @@ impl Window {
         }
     }
 
-    /// Returns the big-endian number in the last four bytes.
+    /// Returns the big-endian number in the four bytes before the offset, which the buffer has.
     fn number(&self) -> u32
         requires { length_bytes ≤ self.now.to - self.now.from }
         ensures { (content : List ℕ) → EndsAt content self.now.at (unread self.now) →
@@ -238,7 +240,8 @@ impl Window {
         u32::from_be_bytes(number)
     }
 
-    /// Takes the last frame, whose body has `length` bytes.
+    /// Takes the frame that ends at the offset, and whose body has `length` bytes, from the unread bytes:
+    /// moves the offset and `to` before it.
     fn take(&mut self, length: usize)
         requires { length + length_bytes ≤ self.old.to - self.old.from }
         ensures body { (content : List ℕ) →
@@ -257,7 +260,8 @@ impl Window {
         self.at -= (length + LENGTH) as u64;
     }
 
-    /// Grows the buffer to at least `count` bytes. Takes memory if it has fewer.
+    /// Grows the buffer to at least `count` bytes. Takes memory if it has fewer. Fails if memory is
+    /// refused; the window is unchanged then.
     fn grow(&mut self, count: usize) -> Result<(), AllocError>
         requires { count ≤ greatest_body (version_of self.old.version) + length_bytes }
         ensures room { OnOk result (count ≤ vec_len self.new.buffer) }
@@ -275,8 +279,9 @@ impl Window {
         Ok(())
     }
 
-    /// Reads more bytes if fewer than `count` were read. Requires room for `count` bytes in the
-    /// buffer, and `count` bytes between the header and the offset.
+    /// Reads more bytes if fewer than `count` are in the buffer. Requires room for `count` bytes in the
+    /// buffer, and `count` bytes between the header and the offset. Fails with `Failed` if the device
+    /// fails; no bytes were added then.
     fn ensure_loaded<D: Device>(&mut self, device: &mut D, count: usize) -> Result<(), DeviceFault>
         requires room { count ≤ vec_len self.old.buffer }
         requires following { header_bytes + count ≤ self.old.at }
@@ -300,8 +305,9 @@ impl Window {
         self.fill(device)
     }
 
-    /// Moves the bytes to the end of the buffer, and reads those before them: as many as are free,
-    /// or up to the header. After a failure no bytes were added.
+    /// Moves the unread bytes to the end of the buffer, and reads the bytes of the file before them: as
+    /// many as the buffer has room for, or all after the header. Fails with `Failed` if the device
+    /// fails; no bytes were added then.
     #[cold]
     #[inline(never)]
     fn fill<D: Device>(&mut self, device: &mut D) -> Result<(), DeviceFault>
@@ -330,7 +336,7 @@ impl Window {
         Ok(())
     }
 
-    /// Moves the bytes to the end of the buffer.
+    /// Moves the unread bytes to the end of the buffer.
     fn move_to_end(&mut self)
         ensures unread { unread self.new ≡ unread self.old }
         ensures room { vec_len self.new.buffer ≡ vec_len self.old.buffer }
@@ -347,7 +353,8 @@ impl Window {
     }
 }
 
-/// Reads the bytes of a device from an offset on into a part of a buffer.
+/// Reads the bytes of a device from offset `at` on into the part of a buffer from index `from` to
+/// index `to`. Fails with `Failed` if the device fails; that part has arbitrary bytes then.
 fn read_part<D: Device>(
     device: &mut D,
     at: u64,

@@ -26,8 +26,8 @@ impl Arity for Fractions {
     }
 }
 
-/// Returns a device that already has 3 bytes.
-fn used(alloc: Global) -> Result<MemDevice, AllocError> {
+/// Returns a device that already has 3 bytes, which a writer has to clear.
+fn used_device(alloc: Global) -> Result<MemDevice, AllocError> {
     Ok(MemDevice::from_bytes(vec![in alloc; 1, 2, 3]?))
 }
 
@@ -50,24 +50,24 @@ pub fn split_answer(alloc: Global, body: &[u8]) -> Result<String, Mistake> {
     }
 }
 
-/// Returns the bodies of a content from the last to the first, then how reading ends, and whether the next call
-/// returns the same.
+/// Returns the pass of a content, its bodies from the last to the first, then how reading ends, and whether the next
+/// call returns the same.
 pub fn back_answer(alloc: Global, bytes: Vec<u8>) -> Result<String, Mistake> {
     bodies_answer(alloc, &mut MemDevice::from_bytes(bytes))
 }
 
-/// The maximal number of bodies that are read.
-const READ: u32 = 1000;
+/// The greatest number of calls of a reader.
+const MAX_READS: u32 = 1000;
 
 /// Returns the pass of a file, its bodies from the last to the first, how reading ends, and whether the next call
-/// returns the same. Fails with `Unfit` if reading doesn't end within `READ` calls.
+/// returns the same. Fails with `Unfit` if reading doesn't end within `MAX_READS` calls.
 fn bodies_answer<D: Device>(alloc: Global, device: &mut D) -> Result<String, Mistake> {
     let mut back = match Back::start(alloc, device) {
         Ok(back) => back,
         Err(fault) => return printed(alloc, &fault),
     };
     let mut answer = format!(in alloc; "pass {}:", back.pass())?;
-    for _turn in 0..READ {
+    for _turn in 0..MAX_READS {
         let fault = match back.back(device) {
             Ok(Some(body)) => {
                 write!(answer, " {}", shown_bytes(alloc, body)?)?;
@@ -90,26 +90,26 @@ fn bodies_answer<D: Device>(alloc: Global, device: &mut D) -> Result<String, Mis
 /// Reverses a content into the file of a pass, and returns that file or the fault.
 pub fn turn_answer(alloc: Global, pass: u16, bytes: Vec<u8>) -> Result<String, Mistake> {
     let mut from = MemDevice::from_bytes(bytes);
-    let mut to = used(alloc)?;
+    let mut to = used_device(alloc)?;
     match turn(alloc, &mut from, &mut to, pass, &Fractions {}) {
-        Ok(count) => file_exact(alloc, u64::from(count), to.bytes()),
+        Ok(count) => file_answer(alloc, u64::from(count), to.bytes()),
         Err(fault) => printed(alloc, &fault),
     }
 }
 
-/// Returns the number of records and the file.
-fn file_exact(alloc: Global, count: u64, file: &[u8]) -> Result<String, Mistake> {
+/// Returns a number of records, and the bytes of the file with them.
+fn file_answer(alloc: Global, count: u64, file: &[u8]) -> Result<String, Mistake> {
     let file = shown_bytes(alloc, file)?;
     Ok(format!(in alloc; "{count} records, {file}")?)
 }
 
-/// Returns the file of a pass with the records of a text, separated by `;`. `node 4 1 0` and `token 0 14` have
-/// values, `body 090807` has bytes.
-pub fn write_exact(alloc: Global, text: &str) -> Result<String, Mistake> {
+/// Writes the file of a pass with the records of a text, separated by `;`, and returns it. A record is spelled by its
+/// kind, its number and its values, as `node 4 1 0` or `token 0 14`, or by its bytes, as `body 090807`.
+pub fn write_answer(alloc: Global, text: &str) -> Result<String, Mistake> {
     let (pass, records) = halves(text, " : ")?;
-    let mut device = used(alloc)?;
+    let mut device = used_device(alloc)?;
     let count = put_all(alloc, short_number(pass)?, &mut device, records)?;
-    file_exact(alloc, count, device.bytes())
+    file_answer(alloc, count, device.bytes())
 }
 
 /// Writes the file of a pass with the records of a text. Returns their number.
@@ -139,6 +139,7 @@ fn put_records(
     Ok(())
 }
 
+/// Writes the record that a text spells. Fails with `Misspelt` if it spells none.
 fn put_record(
     alloc: Global,
     writer: &mut Writer,
@@ -154,8 +155,8 @@ fn put_record(
     }
 }
 
-/// Maps a failed write to `NoMemory`.
-fn put_or(put: Result<(), DeviceFault>) -> Result<(), Mistake> {
+/// Returns the result of a write to a device in memory: a failed one is `NoMemory`.
+fn put_result(put: Result<(), DeviceFault>) -> Result<(), Mistake> {
     put.map_err(|_| Mistake::NoMemory)
 }
 
@@ -164,7 +165,7 @@ fn put_bytes(writer: &mut Writer, device: &mut MemDevice, body: &[u8]) -> Result
     if writer.written() == u64::MAX || body.len() < 3 || body.len() > 16_777_219 {
         return Err(Mistake::Unfit);
     }
-    put_or(writer.put_body(device, body))
+    put_result(writer.put_body(device, body))
 }
 
 /// Writes a record with its number and its values, which are zero, one or three numbers.
@@ -198,11 +199,11 @@ fn put_numbers(
         return Err(Mistake::Unfit);
     }
     match numbers {
-        [] => put_or(writer.put(device, kind, number, &[])),
-        [one] => put_or(writer.put(device, kind, number, &[Value::Num(*one)])),
+        [] => put_result(writer.put(device, kind, number, &[])),
+        [one] => put_result(writer.put(device, kind, number, &[Value::Num(*one)])),
         [one, two, three] => {
             let values = [Value::Num(*one), Value::Num(*two), Value::Num(*three)];
-            put_or(writer.put(device, kind, number, &values))
+            put_result(writer.put(device, kind, number, &values))
         }
         _ => Err(Mistake::Misspelt),
     }

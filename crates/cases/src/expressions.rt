@@ -4,20 +4,20 @@ use ag_eval::{Environment, Meter, eval};
 use ag_expr::{expected_at, read_expr, read_until};
 use ag_grammar::{Expr, occurrences};
 use ag_value::{Value, is_well, show};
+use rows::current_texts::CurrentTexts;
 use rows::words::{Mistake, first_word, halves, number, printed};
-use rows::written::Written;
 use std::alloc::{AllocError, Global};
 
-/// The maximal number of occurrences of an expression that is evaluated.
-const LENT: usize = 65_536;
+/// The greatest number of occurrences of an expression that is evaluated.
+const MAX_OCCURRENCES: usize = 65_536;
 
 /// An environment that returns the same value for each occurrence.
 #[derive(Drop)]
-struct Same<'a> {
+struct SameValue<'a> {
     value: &'a Value,
 }
 
-impl<'a> Environment for Same<'a> {
+impl<'a> Environment for SameValue<'a> {
     ghost count = { λ _. 65536 };
 
     ghost lent = { λ same k. same.value.now };
@@ -28,59 +28,59 @@ impl<'a> Environment for Same<'a> {
 }
 
 /// Evaluates an expression whose occurrences all have the value `lent`. Fails with `Unfit` if that value is not
-/// well, or if there are more than `LENT` occurrences.
+/// well, or if there are more than `MAX_OCCURRENCES` occurrences.
 #[tactic(auto, using(ag_eval::proofs::Values::are_well))]
-fn evaluated(alloc: Global, expr: &Expr, lent: &Value) -> Result<Value, Mistake> {
-    if !is_well(lent) || occurrences(expr).len() > LENT {
+fn evaluate(alloc: Global, expr: &Expr, lent: &Value) -> Result<Value, Mistake> {
+    if !is_well(lent) || occurrences(expr).len() > MAX_OCCURRENCES {
         return Err(Mistake::Unfit);
     }
     let mut meter = Meter::new();
-    Ok(eval(alloc, expr, &Same { value: lent }, &mut meter)?)
+    Ok(eval(alloc, expr, &SameValue { value: lent }, &mut meter)?)
 }
 
 /// Reads and evaluates an expression. Fails with `Unfit` if the text isn't an expression.
 pub fn value_of(alloc: Global, text: &str, lent: &Value) -> Result<Value, Mistake> {
     match read_expr(alloc, text) {
-        Ok(expr) => evaluated(alloc, &expr, lent),
+        Ok(expr) => evaluate(alloc, &expr, lent),
         Err(_) => Err(Mistake::Unfit),
     }
 }
 
 /// Evaluates an expression and shows its value.
-fn shown(alloc: Global, expr: &Expr, lent: &Value) -> Result<String, Mistake> {
-    let value = evaluated(alloc, expr, lent)?;
+fn value_text(alloc: Global, expr: &Expr, lent: &Value) -> Result<String, Mistake> {
+    let value = evaluate(alloc, expr, lent)?;
     Ok(show(alloc, &value)?)
 }
 
 /// Returns the value of a text as it is shown, or the fault of the text.
-pub fn value_exact(alloc: Global, text: &str, lent: &Value) -> Result<String, Mistake> {
+pub fn value_answer(alloc: Global, text: &str, lent: &Value) -> Result<String, Mistake> {
     match read_expr(alloc, text) {
-        Ok(expr) => shown(alloc, &expr, lent),
+        Ok(expr) => value_text(alloc, &expr, lent),
         Err(fault) => printed(alloc, &fault),
     }
 }
 
 /// Evaluates an expression and returns the meter's count, and whether the meter is full.
 #[tactic(auto, using(ag_eval::proofs::Values::are_well))]
-fn counted(alloc: Global, expr: &Expr, lent: &Value) -> Result<String, Mistake> {
-    if !is_well(lent) || occurrences(expr).len() > LENT {
+fn meter_text(alloc: Global, expr: &Expr, lent: &Value) -> Result<String, Mistake> {
+    if !is_well(lent) || occurrences(expr).len() > MAX_OCCURRENCES {
         return Err(Mistake::Unfit);
     }
     let mut meter = Meter::new();
-    let _value = eval(alloc, expr, &Same { value: lent }, &mut meter);
+    let _value = eval(alloc, expr, &SameValue { value: lent }, &mut meter);
     Ok(format!(in alloc; "{}, full {}", meter.count(), meter.is_full())?)
 }
 
 /// Evaluates a text and returns the meter's count, and whether the meter is full.
 pub fn meter_answer(alloc: Global, text: &str, lent: &Value) -> Result<String, Mistake> {
     match read_expr(alloc, text) {
-        Ok(expr) => counted(alloc, &expr, lent),
+        Ok(expr) => meter_text(alloc, &expr, lent),
         Err(_) => Err(Mistake::Unfit),
     }
 }
 
 /// Returns the tree of a text, or its fault.
-pub fn tree_exact(alloc: Global, text: &str) -> Result<String, Mistake> {
+pub fn tree_answer(alloc: Global, text: &str) -> Result<String, Mistake> {
     match read_expr(alloc, text) {
         Ok(expr) => printed(alloc, &expr),
         Err(fault) => printed(alloc, &fault),
@@ -88,7 +88,7 @@ pub fn tree_exact(alloc: Global, text: &str) -> Result<String, Mistake> {
 }
 
 /// Returns the tree of a text. Fails with `Unfit` if the text isn't an expression.
-fn tree_of(alloc: Global, text: &str) -> Result<String, Mistake> {
+fn tree_text(alloc: Global, text: &str) -> Result<String, Mistake> {
     match read_expr(alloc, text) {
         Ok(expr) => printed(alloc, &expr),
         Err(_) => Err(Mistake::Unfit),
@@ -99,18 +99,19 @@ fn tree_of(alloc: Global, text: &str) -> Result<String, Mistake> {
 /// expression.
 pub fn alike_answer(alloc: Global, texts: &str) -> Result<String, Mistake> {
     let (first, second) = halves(texts, " & ")?;
-    let first = tree_of(alloc, first)?;
-    let second = tree_of(alloc, second)?;
+    let first = tree_text(alloc, first)?;
+    let second = tree_text(alloc, second)?;
     Ok(format!(in alloc; "{}", first.as_str() == second.as_str())?)
 }
 
 /// Returns the number of occurrences in an expression, and each of them.
-fn listed(alloc: Global, expr: &Expr) -> Result<String, Mistake> {
+fn occurrences_text(alloc: Global, expr: &Expr) -> Result<String, Mistake> {
     let mut answer = format!(in alloc; "{} occurrences", occurrences(expr).len())?;
     show_occurrences(&mut answer, expr)?;
     Ok(answer)
 }
 
+/// Writes the place, the name and the offset in bytes of each occurrence in an expression.
 fn show_occurrences(answer: &mut String, expr: &Expr) -> Result<(), AllocError> {
     for occurrence in occurrences(expr) {
         let name = occurrence.attr.as_str();
@@ -122,52 +123,55 @@ fn show_occurrences(answer: &mut String, expr: &Expr) -> Result<(), AllocError> 
 /// Returns the number of occurrences in a text, and each of them, or the fault of the text.
 pub fn occurrences_answer(alloc: Global, text: &str) -> Result<String, Mistake> {
     match read_expr(alloc, text) {
-        Ok(expr) => listed(alloc, &expr),
+        Ok(expr) => occurrences_text(alloc, &expr),
         Err(fault) => printed(alloc, &fault),
     }
 }
 
 /// Returns the number of occurrences in an expression.
-fn number_shown(alloc: Global, expr: &Expr) -> Result<String, Mistake> {
+fn count_text(alloc: Global, expr: &Expr) -> Result<String, Mistake> {
     Ok(occurrences(expr).len().to_string(alloc)?)
 }
 
 /// Returns the number of occurrences in a text, or the fault of the text.
 pub fn count_answer(alloc: Global, text: &str) -> Result<String, Mistake> {
     match read_expr(alloc, text) {
-        Ok(expr) => number_shown(alloc, &expr),
+        Ok(expr) => count_text(alloc, &expr),
         Err(fault) => printed(alloc, &fault),
     }
 }
 
 /// Splits a row into an offset in bytes and a text. If the text is missing, it is the current text.
-fn placed<'a>(written: &'a Written, rest: &'a str) -> Result<(usize, &'a str), Mistake> {
+fn offset_and_text<'a>(
+    texts: &'a CurrentTexts,
+    rest: &'a str,
+) -> Result<(usize, &'a str), Mistake> {
     let (at, text) = first_word(rest);
-    Ok((number(at)? as usize, written.text_or(text)))
+    Ok((number(at)? as usize, texts.text_or(text)))
 }
 
 /// Returns the offset in bytes at which an expression ends, and its occurrences.
-fn ended(alloc: Global, expr: &Expr, at: usize) -> Result<String, Mistake> {
-    let listed = listed(alloc, expr)?;
+fn end_text(alloc: Global, expr: &Expr, at: usize) -> Result<String, Mistake> {
+    let listed = occurrences_text(alloc, expr)?;
     Ok(format!(in alloc; "up to {at}, {listed}")?)
 }
 
 /// Reads the expression from an offset in bytes to the next `;`, and returns where it ends and its occurrences.
 /// Fails with `Unfit` if the offset is not a character boundary.
-pub fn until_answer(alloc: Global, written: &Written, rest: &str) -> Result<String, Mistake> {
-    let (from, text) = placed(written, rest)?;
+pub fn until_answer(alloc: Global, texts: &CurrentTexts, rest: &str) -> Result<String, Mistake> {
+    let (from, text) = offset_and_text(texts, rest)?;
     if !text.is_char_boundary(from) {
         return Err(Mistake::Unfit);
     }
     match read_until(alloc, text, from) {
-        Ok((expr, at)) => ended(alloc, &expr, at),
+        Ok((expr, at)) => end_text(alloc, &expr, at),
         Err(fault) => printed(alloc, &fault),
     }
 }
 
 /// Returns what is expected at an offset of a text.
-pub fn expected_answer(alloc: Global, written: &Written, rest: &str) -> Result<String, Mistake> {
-    let (at, text) = placed(written, rest)?;
+pub fn expected_answer(alloc: Global, texts: &CurrentTexts, rest: &str) -> Result<String, Mistake> {
+    let (at, text) = offset_and_text(texts, rest)?;
     let found = expected_at(alloc, text, at)?;
     printed(alloc, &found)
 }

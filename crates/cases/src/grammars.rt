@@ -14,18 +14,19 @@ use std::alloc::{AllocError, Global};
 /// Returns what a text reads as, or its fault.
 pub fn read_answer(alloc: Global, text: &[u8]) -> Result<String, Mistake> {
     match read_grammar(alloc, text) {
-        Ok(raw) => raw_shown(alloc, &raw),
+        Ok(raw) => raw_text(alloc, &raw),
         Err(fault) => printed(alloc, &fault),
     }
 }
 
 /// Returns a raw grammar as text, with a line for each symbol and each production.
-fn raw_shown(alloc: Global, raw: &RawGrammar) -> Result<String, Mistake> {
+fn raw_text(alloc: Global, raw: &RawGrammar) -> Result<String, Mistake> {
     let mut answer = format!(in alloc; "start {} at {}", raw.start.name.as_str(), raw.start.at)?;
     show_lines(&mut answer, raw)?;
     Ok(answer)
 }
 
+/// Writes a line for each symbol and each production.
 fn show_lines(answer: &mut String, raw: &RawGrammar) -> Result<(), AllocError> {
     for symbol in raw.symbols.as_slice() {
         show_symbol(answer, symbol)?;
@@ -36,6 +37,7 @@ fn show_lines(answer: &mut String, raw: &RawGrammar) -> Result<(), AllocError> {
     Ok(())
 }
 
+/// Writes a line with a symbol and its attributes.
 fn show_symbol(answer: &mut String, symbol: &RawSymbol) -> Result<(), AllocError> {
     write!(answer, "\nsymbol {} syn", symbol.name.name.as_str())?;
     show_names(answer, symbol.syn.as_slice())?;
@@ -43,6 +45,7 @@ fn show_symbol(answer: &mut String, symbol: &RawSymbol) -> Result<(), AllocError
     show_names(answer, symbol.inh.as_slice())
 }
 
+/// Writes the names of attributes.
 fn show_names(answer: &mut String, names: &[Named]) -> Result<(), AllocError> {
     for name in names {
         write!(answer, " {}", name.name.as_str())?;
@@ -50,6 +53,7 @@ fn show_names(answer: &mut String, names: &[Named]) -> Result<(), AllocError> {
     Ok(())
 }
 
+/// Writes a line with a production and its rules.
 fn show_production(answer: &mut String, production: &RawProduction) -> Result<(), AllocError> {
     write!(answer, "\n{} =", production.left.name.as_str())?;
     for item in production.items.as_slice() {
@@ -65,6 +69,7 @@ fn show_production(answer: &mut String, production: &RawProduction) -> Result<()
     Ok(())
 }
 
+/// Writes the target of a rule and the occurrences in its expression, each with its offset in bytes.
 fn show_rule(answer: &mut String, rule: &RawRule) -> Result<(), AllocError> {
     let target = &rule.target;
     write!(
@@ -112,13 +117,13 @@ pub fn grammar(alloc: Global, text: &str) -> Result<Grammar, Mistake> {
     check(alloc, raw).map_err(|_| Mistake::Unfit)
 }
 
-/// Returns the name of a fault, and the name and offset of its symbol.
+/// Returns the name of a fault, and the name of its symbol with the offset in bytes.
 fn with_name(alloc: Global, fault: &str, symbol: &Named) -> Result<String, Mistake> {
     Ok(format!(in alloc; "{fault} {} at {}", symbol.name.as_str(), symbol.at)?)
 }
 
 /// Returns a fault as text. `Unproductive` and `Unreachable` have the symbol's name and offset.
-fn shown_fault(alloc: Global, fault: &NormalFault) -> Result<String, Mistake> {
+fn fault_text(alloc: Global, fault: &NormalFault) -> Result<String, Mistake> {
     match fault {
         NormalFault::Unproductive(symbol) => with_name(alloc, "Unproductive", symbol),
         NormalFault::Unreachable(symbol) => with_name(alloc, "Unreachable", symbol),
@@ -132,7 +137,7 @@ pub fn verdict(alloc: Global, raw: RawGrammar) -> Result<String, Mistake>
 {
     match check(alloc, raw) {
         Ok(_) => Ok(String::from_str(alloc, "accepted")?),
-        Err(fault) => shown_fault(alloc, &fault),
+        Err(fault) => fault_text(alloc, &fault),
     }
 }
 
@@ -153,6 +158,7 @@ pub fn parts_answer(alloc: Global, grammar: &Grammar) -> Result<String, AllocErr
     Ok(answer)
 }
 
+/// Writes the literals, and a line for each production.
 fn show_literals_and_productions(answer: &mut String, grammar: &Grammar) -> Result<(), AllocError> {
     for literal in grammar.literals() {
         write!(answer, " {}", literal.as_str())?;
@@ -163,6 +169,7 @@ fn show_literals_and_productions(answer: &mut String, grammar: &Grammar) -> Resu
     Ok(())
 }
 
+/// Writes a line with a production, by numbers: its items, and the targets and arguments of its rules.
 fn show_numbers(answer: &mut String, production: &Production) -> Result<(), AllocError> {
     write!(
         answer,

@@ -12,14 +12,14 @@ use std::alloc::{AllocError, Global};
 /// Returns the strikes of the passes of a grammar's least assignment, as in a row.
 pub fn strikes_answer(alloc: Global, grammar: &Grammar) -> Result<String, Mistake> {
     match assign_with_strikes(alloc, grammar) {
-        Ok((_, strikes)) => shown(alloc, strikes.passes.as_slice()),
+        Ok((_, strikes)) => lists_text(alloc, strikes.lists.as_slice()),
         Err(AssignFault::Stuck(_)) => Err(Mistake::Unfit),
         Err(AssignFault::NoMemory) => Err(Mistake::NoMemory),
     }
 }
 
 /// Returns lists of strikes as in a row.
-fn shown(alloc: Global, lists: &[Items<Strike>]) -> Result<String, Mistake> {
+fn lists_text(alloc: Global, lists: &[Items<Strike>]) -> Result<String, Mistake> {
     let mut out = String::new(alloc);
     for list in lists {
         out.push_str(if out.is_empty() { "" } else { " | " })?;
@@ -58,7 +58,7 @@ pub fn least_answer(alloc: Global, grammar: &Grammar, spelled: &str) -> Result<S
     let (rows, lists) = halves(spelled, " : ")?;
     let assignment = assignment(alloc, rows)?;
     let strikes = Strikes {
-        passes: lists_of(alloc, lists)?,
+        lists: lists_of(alloc, lists)?,
     };
     Ok(format!(in alloc; "{}", check_least(grammar, &assignment, &strikes))?)
 }

@@ -17,13 +17,13 @@ mod value_questions;
 mod values;
 
 use ag_value::Value;
-use questions::Given;
+use questions::CurrentValue;
 use rows::sheet::try_rows;
 use std::io;
 
 fn main(rt: HostRuntime) -> io::Result<()> {
-    let mut given = Given {
+    let mut current = CurrentValue {
         value: Value::Num(0),
     };
-    try_rows(&rt, rt.alloc(), &mut given)
+    try_rows(&rt, rt.alloc(), &mut current)
 }

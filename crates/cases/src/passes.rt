@@ -8,21 +8,21 @@ use ag_eval::Meter;
 use ag_grammar::Grammar;
 use passrun::{Last, Passed, run_all, run_pass};
 use planchecker::{Plan, check_plan};
+use rows::current_texts::CurrentTexts;
 use rows::words::{Mistake, bytes_of, first_word, halves, printed, short_number, shown_bytes};
-use rows::written::Written;
 use std::alloc::Global;
 use treefile::MemDevice;
 
-/// Splits a row into a number and a content. Returns the number and a device with the content, which is the
-/// current text if it is missing.
+/// Splits a row into a number and a content. Returns the number and a device with the content. If the content is
+/// missing, it is the current text.
 fn numbered_content(
     alloc: Global,
-    written: &Written,
+    texts: &CurrentTexts,
     rest: &str,
 ) -> Result<(u16, MemDevice), Mistake> {
     let (number, content) = first_word(rest);
     let number = short_number(number)?;
-    let bytes = bytes_of(alloc, written.text_or(content))?;
+    let bytes = bytes_of(alloc, texts.text_or(content))?;
     Ok((number, MemDevice::from_bytes(bytes)))
 }
 
@@ -63,10 +63,10 @@ fn pass_over(
 pub fn pass_answer(
     alloc: Global,
     grammar: &Grammar,
-    written: &Written,
+    texts: &CurrentTexts,
     rest: &str,
 ) -> Result<String, Mistake> {
-    let (pass, mut from) = numbered_content(alloc, written, rest)?;
+    let (pass, mut from) = numbered_content(alloc, texts, rest)?;
     let plan = plan_of(alloc, grammar)?;
     let mut to = MemDevice::new(alloc);
     pass_over(alloc, grammar, &plan, pass, &mut from, &mut to)
@@ -76,11 +76,11 @@ pub fn pass_answer(
 pub fn through_answer(alloc: Global, grammar: &Grammar, sentence: &str) -> Result<String, Mistake> {
     let tree = tree_of(alloc, grammar, sentence)?;
     let plan = plan_of(alloc, grammar)?;
-    passes_answer(alloc, grammar, &plan, tree)
+    lines_of_passes(alloc, grammar, &plan, tree)
 }
 
 /// Runs all passes of a plan over a tree file. Returns a line for each pass.
-fn passes_answer(
+fn lines_of_passes(
     alloc: Global,
     grammar: &Grammar,
     plan: &Plan,
@@ -175,10 +175,10 @@ pub fn run_by_answer(alloc: Global, grammar: &Grammar, spelled: &str) -> Result<
 pub fn run_bytes_answer(
     alloc: Global,
     grammar: &Grammar,
-    written: &Written,
+    texts: &CurrentTexts,
     rest: &str,
 ) -> Result<String, Mistake> {
-    let (first, mut device) = numbered_content(alloc, written, rest)?;
+    let (first, mut device) = numbered_content(alloc, texts, rest)?;
     let plan = plan_of(alloc, grammar)?;
     run_from(alloc, grammar, &plan, first, &mut device)
 }

@@ -94,7 +94,7 @@ pub fn pair(alloc: Global, text: &str) -> Result<(Assignment, Code), Mistake> {
 }
 
 /// Returns the number of passes of an assignment and code, or their fault.
-fn verdict(
+fn plan_verdict(
     alloc: Global,
     grammar: &Grammar,
     assignment: Assignment,
@@ -109,7 +109,7 @@ fn verdict(
 /// Returns the number of passes of the assignment and code of a row, or their fault.
 pub fn plan_answer(alloc: Global, grammar: &Grammar, spelled: &str) -> Result<String, Mistake> {
     let (assignment, code) = pair(alloc, spelled)?;
-    Ok(verdict(alloc, grammar, assignment, code)?)
+    Ok(plan_verdict(alloc, grammar, assignment, code)?)
 }
 
 /// Returns the plan of a grammar: its least assignment and the code for it. Fails with `Unfit` if it has none.
@@ -149,7 +149,7 @@ fn write_listings(
     write_code(alloc, listing, grammar, plan).map_err(|_| Mistake::Unfit)
 }
 
-/// Returns lines without the LF of the last one. Fails with `Unfit` if that is missing.
+/// Returns lines without the LF of the last one. Fails with `Unfit` if that LF is missing.
 fn whole_lines(alloc: Global, bytes: &[u8]) -> Result<String, Mistake> {
     let lines = str::from_utf8(bytes).map_err(|_| Mistake::Unfit)?;
     let lines = lines.strip_suffix('\n').ok_or(Mistake::Unfit)?;
@@ -167,11 +167,11 @@ pub fn list_answer(alloc: Global, spelled: &str) -> Result<String, Mistake> {
     let (production, rest) = first_word(spelled);
     let (pass, lists) = halves(rest, " : ")?;
     let rows = rows_of_lists(alloc, lists)?;
-    listed(alloc, rows, short_number(production)?, short_number(pass)?)
+    list_text(alloc, rows, short_number(production)?, short_number(pass)?)
 }
 
 /// Returns the list of a production and a pass. Fails with `Unfit` if the code doesn't have it.
-fn listed(
+fn list_text(
     alloc: Global,
     rows: Vec<Vec<Vec<Instr>>>,
     production: u16,

@@ -7,43 +7,43 @@ use crate::plans::{list_answer, listing_answer, passes_answer, plan_answer};
 use crate::raw_grammars::chain_answer;
 use crate::roots::{root_answer, root_bytes_answer};
 use crate::sentences::{
-    choice_answer, occur_answer, parse_exact, parse_failing_answer, scan_exact, table_answer,
+    choice_answer, parse_answer, parse_failing_answer, scan_answer, stand_answer, table_answer,
 };
 use crate::stuck::{assign_answer, stuck_answer};
 use crate::value_questions;
-use crate::values::given;
+use crate::values::new_value;
 use ag_grammar::Grammar;
 use ag_value::Value;
+use rows::current_texts::CurrentTexts;
 use rows::sheet::Questions;
 use rows::words::{Mistake, bytes_of, number};
-use rows::written::Written;
 use std::alloc::Global;
 
-/// The current value, which the rows set: each occurrence in an expression has it.
+/// The current value, which rows set by `given` and other verbs. Each occurrence in an expression has this value.
 #[derive(Drop)]
-pub struct Given {
+pub struct CurrentValue {
     pub value: Value,
 }
 
-impl Questions for Given {
+impl Questions for CurrentValue {
     fn follow(&mut self, alloc: Global, verb: &str, rest: &str) -> Result<bool, Mistake> {
         if !matches!(verb, "given" | "letters" | "wrap" | "doubled") {
             return Ok(false);
         }
-        self.value = given(alloc, verb, rest, &self.value)?;
+        self.value = new_value(alloc, verb, rest, &self.value)?;
         Ok(true)
     }
 
     fn answer(
         &self,
         alloc: Global,
-        written: &Written,
+        texts: &CurrentTexts,
         verb: &str,
         rest: &str,
     ) -> Result<String, Mistake> {
         let question = Question {
             alloc,
-            written,
+            texts,
             verb,
             rest,
         };
@@ -55,7 +55,7 @@ impl Questions for Given {
 #[derive(Clone, Copy)]
 struct Question<'a> {
     alloc: Global,
-    written: &'a Written,
+    texts: &'a CurrentTexts,
     verb: &'a str,
     rest: &'a str,
 }
@@ -63,7 +63,7 @@ struct Question<'a> {
 impl Question<'_> {
     /// Returns the text after the verb, or the current text if there is none.
     fn text(&self) -> &str {
-        self.written.text_or(self.rest)
+        self.texts.text_or(self.rest)
     }
 
     /// Answers a question about the current grammar, or about texts and the current value.
@@ -71,7 +71,7 @@ impl Question<'_> {
         if !self.is_of_grammar() {
             return self.of_texts(given);
         }
-        let grammar = grammar(self.alloc, self.written.grammar.as_str())?;
+        let grammar = grammar(self.alloc, self.texts.grammar.as_str())?;
         self.of_plans(&grammar)
     }
 
@@ -105,13 +105,13 @@ impl Question<'_> {
 
     /// Answers questions about passes and the text of the root; then those about sentences.
     fn of_passes(&self, grammar: &Grammar) -> Result<String, Mistake> {
-        let (alloc, written) = (self.alloc, self.written);
+        let (alloc, texts) = (self.alloc, self.texts);
         match self.verb {
-            "pass" => pass_answer(alloc, grammar, written, self.rest),
+            "pass" => pass_answer(alloc, grammar, texts, self.rest),
             "through" => through_answer(alloc, grammar, self.text()),
             "run" => run_answer(alloc, grammar, self.text()),
             "run-by" => run_by_answer(alloc, grammar, self.rest),
-            "run-bytes" => run_bytes_answer(alloc, grammar, written, self.rest),
+            "run-bytes" => run_bytes_answer(alloc, grammar, texts, self.rest),
             "root" => root_answer(alloc, grammar, self.text()),
             "root-bytes" => root_bytes_answer(alloc, grammar, self.text()),
             _ => self.of_sentences(grammar),
@@ -124,11 +124,11 @@ impl Question<'_> {
         match self.verb {
             "table" => table_answer(alloc, grammar),
             "choice" => choice_answer(alloc, grammar, self.rest),
-            "scan" => scan_exact(alloc, grammar, self.text().as_bytes()),
-            "scan-bytes" => scan_exact(alloc, grammar, bytes_of(alloc, self.text())?.as_slice()),
-            "parse" => parse_exact(alloc, grammar, self.text()),
+            "scan" => scan_answer(alloc, grammar, self.text().as_bytes()),
+            "scan-bytes" => scan_answer(alloc, grammar, bytes_of(alloc, self.text())?.as_slice()),
+            "parse" => parse_answer(alloc, grammar, self.text()),
             "parse-failing" => parse_failing_answer(alloc, grammar, self.rest),
-            "stand" => occur_answer(alloc, grammar, self.text()),
+            "stand" => stand_answer(alloc, grammar, self.text()),
             _ => Err(Mistake::Misspelt),
         }
     }
@@ -141,11 +141,11 @@ impl Question<'_> {
             "read" => read_answer(alloc, self.text().as_bytes()),
             "read-bytes" => read_answer(alloc, bytes_of(alloc, self.text())?.as_slice()),
             "could" => could_answer(alloc, self.text()),
-            "check" => check_answer(alloc, self.written.grammar.as_str()),
+            "check" => check_answer(alloc, self.texts.grammar.as_str()),
             "chain" => chain_answer(alloc, number(rest)?),
             "passes" => passes_answer(alloc, rest),
             "list" => list_answer(alloc, rest),
-            _ => value_questions::answer(alloc, self.written, given, self.verb, rest),
+            _ => value_questions::answer(alloc, self.texts, given, self.verb, rest),
         }
     }
 }

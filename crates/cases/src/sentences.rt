@@ -57,15 +57,15 @@ pub fn choice_answer(alloc: Global, grammar: &Grammar, spelled: &str) -> Result<
     printed(alloc, &tables.choice(symbol, ahead))
 }
 
-/// Returns the tokens of a sentence, or its fault.
-pub fn scan_exact(alloc: Global, grammar: &Grammar, sentence: &[u8]) -> Result<String, Mistake> {
+/// Returns the tokens of a sentence, or the scanner's fault.
+pub fn scan_answer(alloc: Global, grammar: &Grammar, sentence: &[u8]) -> Result<String, Mistake> {
     match scan(alloc, grammar, sentence) {
         Ok(sentence) => Ok(shown(alloc, &sentence)?),
         Err(fault) => printed(alloc, &fault),
     }
 }
 
-/// Returns the number of tokens, and the kind, text and offset of each.
+/// Returns the number of tokens, and the kind, the text and the offset in bytes of each.
 fn shown(alloc: Global, sentence: &Sentence<'_>) -> Result<String, AllocError> {
     let mut answer = String::new(alloc);
     let mut tokens = sentence.tokens();
@@ -76,9 +76,10 @@ fn shown(alloc: Global, sentence: &Sentence<'_>) -> Result<String, AllocError> {
     format!(in alloc; "{} tokens{answer}", tokens.taken())
 }
 
-/// The maximal length in bytes of a token's text that is printed.
-const PRINTED: usize = 40;
+/// The greatest length in bytes of a token's text that is printed.
+const MAX_PRINTED: usize = 40;
 
+/// Writes the kind, the text and the offset in bytes of a token.
 fn show_token(answer: &mut String, token: Token<'_>) -> Result<(), AllocError> {
     let (kind, number) = match token.kind {
         Terminal::Literal(number) => ("literal", number),
@@ -89,8 +90,9 @@ fn show_token(answer: &mut String, token: Token<'_>) -> Result<(), AllocError> {
     write!(answer, " at {}", token.at)
 }
 
+/// Writes the text of a token, or its length in bytes if it has more than `MAX_PRINTED`.
 fn show_lex(answer: &mut String, lex: &str) -> Result<(), AllocError> {
-    if lex.len() > PRINTED {
+    if lex.len() > MAX_PRINTED {
         return write!(answer, "of {} bytes", lex.len());
     }
     write!(answer, "[{lex}]")
@@ -139,7 +141,7 @@ fn parse_sentence(
 }
 
 /// Returns the number of stored nodes and the tree's file of a sentence, or the parser's fault.
-pub fn parse_exact(alloc: Global, grammar: &Grammar, sentence: &str) -> Result<String, Mistake> {
+pub fn parse_answer(alloc: Global, grammar: &Grammar, sentence: &str) -> Result<String, Mistake> {
     let mut device = MemDevice::new(alloc);
     match parse_sentence(alloc, grammar, sentence, &mut device)? {
         Ok(count) => shown_tree_file(alloc, count, device.bytes()),
@@ -171,14 +173,14 @@ pub fn tree_of(alloc: Global, grammar: &Grammar, sentence: &str) -> Result<MemDe
 }
 
 /// Returns the number of tokens before the one at which a sentence is rejected, and what is expected there.
-pub fn occur_answer(alloc: Global, grammar: &Grammar, sentence: &str) -> Result<String, Mistake> {
+pub fn stand_answer(alloc: Global, grammar: &Grammar, sentence: &str) -> Result<String, Mistake> {
     let tokens = tokens_of(alloc, grammar, sentence)?;
     let tables = tables_of(alloc, grammar)?;
-    stuck_answer(alloc, grammar, &tables, &tokens)
+    stuck_place_answer(alloc, grammar, &tables, &tokens)
 }
 
 /// Returns the number of tokens before the one at which a parse fails, and what is expected there.
-fn stuck_answer(
+fn stuck_place_answer(
     alloc: Global,
     grammar: &Grammar,
     tables: &Tables,

@@ -11,18 +11,19 @@ use std::alloc::{AllocError, Global};
 pub fn assign_answer(alloc: Global, grammar: &Grammar) -> Result<String, Mistake> {
     match assign(alloc, grammar) {
         Ok(assignment) => printed(alloc, &assignment.rows()),
-        Err(AssignFault::Stuck(stuck)) => shown(alloc, &stuck),
+        Err(AssignFault::Stuck(stuck)) => certificate_text(alloc, &stuck),
         Err(AssignFault::NoMemory) => Err(Mistake::NoMemory),
     }
 }
 
 /// Returns a certificate as in a row.
-fn shown(alloc: Global, stuck: &Stuck) -> Result<String, Mistake> {
+fn certificate_text(alloc: Global, stuck: &Stuck) -> Result<String, Mistake> {
     let mut answer = String::from_str(alloc, "stuck")?;
     show_parts(&mut answer, stuck)?;
     Ok(answer)
 }
 
+/// Writes the attributes and the strikes of a certificate.
 fn show_parts(answer: &mut String, stuck: &Stuck) -> Result<(), AllocError> {
     for (symbol, attr) in stuck.set.as_slice() {
         write!(answer, " {symbol}.{attr}")?;
@@ -31,6 +32,7 @@ fn show_parts(answer: &mut String, stuck: &Stuck) -> Result<(), AllocError> {
     show_strikes(answer, stuck.even.as_slice())
 }
 
+/// Writes a `|`, and after it the strikes of one direction.
 fn show_strikes(answer: &mut String, strikes: &[Strike]) -> Result<(), AllocError> {
     answer.push_str(" |")?;
     for strike in strikes {

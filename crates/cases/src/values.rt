@@ -7,7 +7,7 @@ use std::alloc::{AllocError, Global};
 
 /// Returns the new current value: that of an expression (`given`), a text of N letters (`letters`), the current value
 /// in N nested lists (`wrap`), or a table with a key twice (`doubled`).
-pub fn given(alloc: Global, verb: &str, rest: &str, value: &Value) -> Result<Value, Mistake> {
+pub fn new_value(alloc: Global, verb: &str, rest: &str, value: &Value) -> Result<Value, Mistake> {
     match verb {
         "given" => value_of(alloc, rest, value),
         "letters" => Ok(letters(alloc, number(rest)?)?),
@@ -56,17 +56,17 @@ pub fn spell_answer(alloc: Global, value: &Value) -> Result<String, Mistake> {
 }
 
 /// Returns the weight or the depth of a value, whether it is well, or its copy.
-pub fn answer_of_value(alloc: Global, verb: &str, value: &Value) -> Result<String, Mistake> {
+pub fn property_answer(alloc: Global, verb: &str, value: &Value) -> Result<String, Mistake> {
     match verb {
         "weight" => Ok(weight(value).to_string(alloc)?),
         "depth" => Ok(depth(value).to_string(alloc)?),
         "well" => Ok(format!(in alloc; "{}", is_well(value))?),
-        _ => copied(alloc, value),
+        _ => copy_answer(alloc, value),
     }
 }
 
 /// Copies a value and shows the copy.
-fn copied(alloc: Global, value: &Value) -> Result<String, Mistake> {
+fn copy_answer(alloc: Global, value: &Value) -> Result<String, Mistake> {
     let copied = copy(alloc, value)?;
     Ok(show(alloc, &copied)?)
 }

@@ -143,10 +143,10 @@ complete clauses seeds marks added v most settled seeded = follows_in clauses se
 
 -- a clause with a body is settled if no number is marked
 pub settled_first : (marks : List Bool) (added : List Addition) (v : ℕ) (q : Clause) (facts : List ℕ) (p : ℕ) → ((t : ℕ) → is_marked marks t ≡ false) → (q.body ≡ [] → Contains facts p) → IsSettled marks added v q ⊎ Contains facts p
-settled_first marks added v q facts p blank noted = go q.body refl
+settled_first marks added v q facts p blank listed = go q.body refl
   where
     go : (xs : List ℕ) → q.body ≡ xs → IsSettled marks added v q ⊎ Contains facts p
-    go [] e = inr (noted e)
+    go [] e = inr (listed e)
     go (x ∷ xs) e = inl (inr (x, rw e (Contains-get_or (x ∷ xs) 0 0 (omega arith)), inl (blank x)))
 
 -- in a list of false no number is marked
@@ -183,11 +183,11 @@ search_taken clauses seeds marks added v passed lt search = record {
 -- a clause that was settled still is, or its body contains the number
 pub settled_taken : (marks : List Bool) (added : List Addition) (v p : ℕ) (x : Addition) (q : Clause) (uses : List (List ℕ)) → slice_get added v ≡ Some x → ((t : ℕ) → Contains q.body t → Contains (row uses t) p)
     → IsSettled marks added v q → IsSettled marks added (v + 1) q ⊎ Contains (row uses x.number) p
-settled_taken marks added v p x q uses is noted (inl m) = inl (inl m)
-settled_taken marks added v p x q uses is noted (inr w) = elim w.2 [
+settled_taken marks added v p x q uses is listed (inl m) = inl (inl m)
+settled_taken marks added v p x q uses is listed (inr w) = elim w.2 [
   | inl no_mark ↦ inl (inr (w.0, w.1, inl no_mark))
   | inr o ↦ elim (cases_eq o.0 v) [
-    | inl here ↦ inr (let e : Some o.1 ≡ Some x = sym o.3 ∙ rw here is in let f : o.1 ≡ x = cc in rw (← f, o.4) (noted w.0 w.1))
+    | inl here ↦ inr (let e : Some o.1 ≡ Some x = sym o.3 ∙ rw here is in let f : o.1 ≡ x = cc in rw (← f, o.4) (listed w.0 w.1))
     | inr other ↦ (let l = o.2 in inl (inr (w.0, w.1, inr (o.0, o.1, omega arith, o.3, o.4))))
   ]
 ]

@@ -5,10 +5,10 @@ use Rattle.std.proofs.lemmas.List.{get_or-set_other, get_or-set_same, get_or_def
 use Rattle.std.proofs.lemmas.List.Elements.{All-push, Contains-push_cases, Contains-append_left, Contains-push, All-head, All-tail}
 use Rattle.std.specs.Global.{Vec}
 use Rattle.closure.specs.declared.clause.Clause.{Clause}
-use Rattle.closure.specs.Waiting.{Notes, row, rows}
+use Rattle.closure.specs.Waiting.{AddsClause, row, rows}
 
 -- a clause is added at one number
-pub notes_at : (clause symbol : ℕ) (uses : List (List ℕ)) → symbol < length uses → Notes clause uses (set uses symbol (row uses symbol ++ clause ∷ []))
+pub notes_at : (clause symbol : ℕ) (uses : List (List ℕ)) → symbol < length uses → AddsClause clause uses (set uses symbol (row uses symbol ++ clause ∷ []))
 notes_at clause symbol uses lt = record {
   same = length-set uses symbol (row uses symbol ++ clause ∷ []);
   kept = λ t p h. elim (cases_eq t symbol) [
@@ -33,17 +33,17 @@ rows_set table u clause v w lt is pushed =
     map-set (λ (x : Vec ℕ). x.items) table u w ∙ ap (set (rows table) u) (pushed ∙ sym (ap (λ xs. xs ++ clause ∷ []) (row_of table u v lt is)))
 
 -- no clause is added
-pub notes_none : (clause : ℕ) (uses : List (List ℕ)) → Notes clause uses uses
+pub notes_none : (clause : ℕ) (uses : List (List ℕ)) → AddsClause clause uses uses
 notes_none clause uses = record { same = refl; kept = λ t p h. h; fits = λ n below all. all }
 
-pub notes_on : (clause : ℕ) (a b c : List (List ℕ)) → Notes clause a b → Notes clause b c → Notes clause a c
+pub notes_on : (clause : ℕ) (a b c : List (List ℕ)) → AddsClause clause a b → AddsClause clause b c → AddsClause clause a c
 notes_on clause a b c m n = record { same = n.same ∙ m.same; kept = λ t p h. n.kept t p (m.kept t p h); fits = λ k below all. n.fits k below (m.fits k below all) }
 
 -- one more number of the body is done
-pub noted_more : (clause : ℕ) (a b : List (List ℕ)) (body : List ℕ) (i : ℕ) (d : ℕ) → i < length body → Notes clause a b → ((t : ℕ) → Contains (take i body) t → Contains (row a t) clause)
+pub noted_more : (clause : ℕ) (a b : List (List ℕ)) (body : List ℕ) (i : ℕ) (d : ℕ) → i < length body → AddsClause clause a b → ((t : ℕ) → Contains (take i body) t → Contains (row a t) clause)
     → ((t : ℕ) → get_or body i d ≡ t → Contains (row b t) clause) → (t : ℕ) → Contains (take (i + 1) body) t → Contains (row b t) clause
-noted_more clause a b body i d lt notes before here t h = elim (Contains-push_cases (take i body) (get_or body i d) t (rw (← take_more body i d lt) h)) [
-  | inl old ↦ notes.kept t clause (before t old)
+noted_more clause a b body i d lt adds before here t h = elim (Contains-push_cases (take i body) (get_or body i d) t (rw (← take_more body i d lt) h)) [
+  | inl old ↦ adds.kept t clause (before t old)
   | inr e ↦ here t e
 ]
 
@@ -54,10 +54,10 @@ rows_empty (v ∷ table) empty zero = All-head (λ (w : Vec ℕ). w.items ≡ []
 rows_empty (v ∷ table) empty (suc t) = rows_empty table (All-tail (λ (w : Vec ℕ). w.items ≡ []) v table empty) t
 
 -- one more clause is added
-pub noted_lines : (a b : List (List ℕ)) (clauses : List Clause) (at : ℕ) (q : Clause) (body : List ℕ) → at < length clauses → body ≡ (get_or clauses at q).body → Notes at a b
+pub noted_lines : (a b : List (List ℕ)) (clauses : List Clause) (at : ℕ) (q : Clause) (body : List ℕ) → at < length clauses → body ≡ (get_or clauses at q).body → AddsClause at a b
     → ((p t : ℕ) (d : Clause) → p < at → Contains (get_or clauses p d).body t → Contains (row a t) p) → ((t : ℕ) → Contains body t → Contains (row b t) at)
     → (p t : ℕ) (d : Clause) → p < at + 1 → Contains (get_or clauses p d).body t → Contains (row b t) p
-noted_lines a b clauses at q body inside is notes before here p t d lt h = elim (cases_eq p at) [
+noted_lines a b clauses at q body inside is adds before here p t d lt h = elim (cases_eq p at) [
   | inl e ↦ rw e (here t (rw (is, get_or_default clauses at q d inside, ← e) h))
-  | inr other ↦ notes.kept t p (before p t d (omega arith) h)
+  | inr other ↦ adds.kept t p (before p t d (omega arith) h)
 ]

@@ -3,7 +3,7 @@ use Rattle.std.proofs.Common.{Contains, map, ℕ, zero, suc, ◌≡◌, ◌<◌,
 use Rattle.std.proofs.lemmas.List.Elements.{All-cons, All-contains, All-head, All-nil, All-tail, Contains-get_or}
 use Rattle.closure.specs.declared.clause.Clause.{Clause}
 use Rattle.closure.specs.Following.{Follows, seed, by_clause, nothing, one_more}
-use Rattle.closure.specs.Edges.{along}
+use Rattle.closure.specs.Edges.{clause_of_edge}
 use Rattle.closure.specs.Samples.{sample, two_edges}
 use Rattle.closure.specs.declared.edges.Edge.{Edge}
 use Rattle.closure.proofs.Positions.{element_at}
@@ -38,12 +38,12 @@ with_seed = by_clause 2 (record { head = 2; body = 1 ∷ 3 ∷ [] }) refl refl (
 ends : (e : Edge) → Contains two_edges e → e.to < 3
 ends e h = All-contains (λ (d : Edge). d.to < 3) two_edges e (All-cons (λ (d : Edge). d.to < 3) (record { from = 0; to = 1 }) (record { from = 1; to = 2 } ∷ []) (omega arith) (All-cons (λ (d : Edge). d.to < 3) (record { from = 1; to = 2 }) [] (omega arith) (All-nil (λ (d : Edge). d.to < 3)))) h
 
-pub two_is_reached : Follows (map along two_edges) (0 ∷ []) 2
+pub two_is_reached : Follows (map clause_of_edge two_edges) (0 ∷ []) 2
 two_is_reached =
     let one = step two_edges (0 ∷ []) (record { from = 0; to = 1 }) (element_at two_edges 0 _ refl) (seed (element_at (0 ∷ []) 0 0 refl)) in
     step two_edges (0 ∷ []) (record { from = 1; to = 2 }) (element_at two_edges 1 _ refl) one
 
-pub three_is_not : Follows (map along two_edges) (0 ∷ []) 3 → ⊥
+pub three_is_not : Follows (map clause_of_edge two_edges) (0 ∷ []) 3 → ⊥
 three_is_not h =
     let low = reached_in two_edges (0 ∷ []) (λ t. t < 3) (λ t k. All-contains (λ u. u < 3) (0 ∷ []) t (All-cons (λ u. u < 3) 0 [] (omega arith) (All-nil (λ u. u < 3))) k) (λ e k before. ends e k) 3 h in
     absurd (omega arith)

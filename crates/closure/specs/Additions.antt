@@ -5,16 +5,16 @@ use Rattle.closure.specs.declared.addition.Reason.{Reason}
 use Rattle.closure.specs.declared.addition.Reason.TheVariants as reason
 use Rattle.closure.specs.declared.clause.Clause.{Clause}
 
--- a list adds a number
+-- a list of additions contains a number
 abbrev pub IsAdded : List Addition → ℕ → Type 0
 IsAdded xs t = (i : ℕ) × (x : Addition) × (slice_get xs i ≡ Some x) × (x.number ≡ t)
 
--- it adds the number before an index
+-- it contains the number before the index n
 abbrev pub IsAddedBefore : List Addition → ℕ → ℕ → Type 0
 IsAddedBefore xs n t = (i : ℕ) × (x : Addition) × (i < n) × (slice_get xs i ≡ Some x) × (x.number ≡ t)
 
--- The reason why a number is added, given the numbers that are there: it is the seed with an index, or the
--- head of the clause with an index, of whose body each number is there.
+-- The reason why the number n is added, if the numbers that satisfy `there` are added already: n is the seed with
+-- an index, or the head of the clause with an index, each number of whose body satisfies `there`.
 abbrev pub IsReason : List Clause → List ℕ → (there : ℕ → Type 0) → ℕ → Reason → Type 0
 IsReason clauses seeds there n (reason.Seed i) = slice_get seeds i ≡ Some n
 IsReason clauses seeds there n (reason.Clause p) = (q : Clause) × (slice_get clauses p ≡ Some q) × (q.head ≡ n) × All there q.body

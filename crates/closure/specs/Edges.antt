@@ -4,13 +4,13 @@ use Rattle.closure.specs.Clauses.{Clauses}
 use Rattle.closure.specs.declared.clause.Clause.{Clause}
 use Rattle.closure.specs.declared.edges.Edge.{Edge}
 
--- the end of an edge follows from its start
-abbrev pub along : Edge → Clause
-along e = record { head = e.to; body = e.from ∷ [] }
+-- the clause of an edge: its end follows from its start
+abbrev pub clause_of_edge : Edge → Clause
+clause_of_edge e = record { head = e.to; body = e.from ∷ [] }
 
--- edges between the numbers below a count, as clauses
-abbrev pub over : List Edge → ℕ → Clauses
-over edges count = record { clauses = map along edges; count = count }
+-- the clauses of edges between the numbers below a count
+abbrev pub clauses_of_edges : List Edge → ℕ → Clauses
+clauses_of_edges edges count = record { clauses = map clause_of_edge edges; count = count }
 
 -- both ends of an edge are below a number
 pub record IsEdgeBelow (count : ℕ) (e : Edge) : Type 0 where

@@ -7,7 +7,7 @@ use Rattle.closure.specs.Following.{Follows, is_marked}
 use Rattle.closure.specs.declared.addition.Addition.{Addition}
 use Rattle.closure.specs.declared.clause.Clause.{Clause}
 
--- a number that is not marked, or whose clauses are still to be visited
+-- a number that is not marked, or that is added but not yet visited
 abbrev pub IsOpen : List Bool → List Addition → (visited : ℕ) → ℕ → Type 0
 IsOpen marks added visited t = (is_marked marks t ≡ false) ⊎ ((i : ℕ) × (x : Addition) × (visited ≤ i) × (slice_get added i ≡ Some x) × (x.number ≡ t))
 
@@ -15,7 +15,7 @@ IsOpen marks added visited t = (is_marked marks t ≡ false) ⊎ ((i : ℕ) × (
 abbrev pub IsSettled : List Bool → List Addition → ℕ → Clause → Type 0
 IsSettled marks added visited q = (is_marked marks q.head ≡ true) ⊎ ((t : ℕ) × Contains q.body t × IsOpen marks added visited t)
 
--- marks are kept, and open numbers stay open
+-- marks stay set, and open numbers stay open
 pub record Grows (visited : ℕ) (marks : List Bool) (added : List Addition) (marks' : List Bool) (added' : List Addition) : Type 0 where
   pub count : length marks' ≡ length marks
   pub marked : (t : ℕ) → is_marked marks t ≡ true → is_marked marks' t ≡ true

@@ -1,4 +1,4 @@
--- The clauses that wait for each number.
+-- The clauses with each number in their bodies.
 use Rattle.std.specs.Prelude.{ℕ, map, ◌≡◌, ◌<◌, List, [], length, slice_index_or, All, Contains}
 use Rattle.std.specs.Global.{Vec}
 use Rattle.closure.specs.Clauses.{IsClauseBelow}
@@ -12,8 +12,9 @@ rows table = map (λ v. v.items) table
 abbrev pub row : List (List ℕ) → ℕ → List ℕ
 row table t = slice_index_or table t []
 
--- A clause is added to a table: old entries of a row are kept, and a new entry is the clause.
-pub record Notes (clause : ℕ) (old new : List (List ℕ)) : Type 0 where
+-- The table `new` is `old` with entries for the clause added: each row contains the entries that it had, and
+-- any new entry is the clause.
+pub record AddsClause (clause : ℕ) (old new : List (List ℕ)) : Type 0 where
   pub same : length new ≡ length old
   pub kept : (t p : ℕ) → Contains (row old t) p → Contains (row new t) p
   pub fits : (n : ℕ) → clause < n → ((t : ℕ) → All (λ p. p < n) (row old t)) → (t : ℕ) → All (λ p. p < n) (row new t)
@@ -21,7 +22,8 @@ pub record Notes (clause : ℕ) (old new : List (List ℕ)) : Type 0 where
 -- Each number's row has the clauses whose bodies contain the number, and a list those that have no body.
 pub record AreWaiting (clauses : List Clause) (uses : List (List ℕ)) (facts : List ℕ) : Type 0 where
   pub below : All (IsClauseBelow (length uses)) clauses
-  pub noted : (p t : ℕ) (d : Clause) → p < length clauses → Contains (slice_index_or clauses p d).body t → Contains (row uses t) p
+  pub listed : (p t : ℕ) (d : Clause) → p < length clauses → Contains (slice_index_or clauses p d).body t
+      → Contains (row uses t) p
   pub fits : (t : ℕ) → All (λ p. p < length clauses) (row uses t)
-  pub facts_noted : (p : ℕ) (d : Clause) → p < length clauses → (slice_index_or clauses p d).body ≡ [] → Contains facts p
+  pub facts_listed : (p : ℕ) (d : Clause) → p < length clauses → (slice_index_or clauses p d).body ≡ [] → Contains facts p
   pub facts_fit : All (λ p. p < length clauses) facts

@@ -12,13 +12,17 @@ pub enum Reason {
 /// A number that follows, and the reason why.
 #[derive(Clone, Copy, Debug, PartialEq, Eq)]
 pub struct Addition {
+    /// The number.
     pub number: usize,
+    /// The seed or the clause by which it follows.
     pub reason: Reason,
 }
 
 /// All numbers that follow, in the order in which they are found, and their marks.
 #[derive(Debug, Drop)]
 pub struct FoundNumbers {
+    /// The numbers that follow, each once.
     pub added: Vec<Addition>,
+    /// For each number below the count, whether it follows.
     pub marks: Vec<bool>,
 }

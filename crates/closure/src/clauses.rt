@@ -2,7 +2,7 @@
 ghost use Rattle.std.specs.Prelude.{ℕ, true, ◌≡◌, ◌<◌, ◌↔◌, length, All, IfOk};
 ghost use Rattle.closure.specs.Additions.{IsAdded, AreInOrder};
 ghost use Rattle.closure.specs.Clauses.{IsClauseBelow};
-ghost use Rattle.closure.specs.Edges.{over, IsEdgeBelow};
+ghost use Rattle.closure.specs.Edges.{clauses_of_edges, IsEdgeBelow};
 ghost use Rattle.closure.specs.Following.{is_marked, AreClosure};
 
 use crate::addition::FoundNumbers;
@@ -18,7 +18,9 @@ use std::marker::Model;
 #[derive(Drop)]
 pub struct Clauses {
     clauses: Vec<Clause>,
+    /// For each number below the count, the indices of the clauses with this number in the body.
     uses: Vec<Vec<usize>>,
+    /// The indices of the clauses with an empty body.
     facts: Vec<usize>,
 }
 
@@ -38,8 +40,8 @@ impl Model for Clauses {
 }
 
 impl Clauses {
-    /// Makes clauses over the numbers below `count`. Takes memory, and time linear in their
-    /// lengths.
+    /// Makes clauses over the numbers below `count`. Takes memory, and time linear in their lengths and
+    /// in `count`. Fails with NoMemory.
     pub fn new(alloc: Global, clauses: Vec<Clause>, count: usize) -> Result<Clauses, NoMemory>
         requires { All (IsClauseBelow count) clauses.items }
         ensures { IfOk result (λ c. c ≡ record {
@@ -57,10 +59,11 @@ impl Clauses {
     }
 
     /// Makes clauses of edges between the numbers below `count`: the numbers that follow are those
-    /// that are reached. Takes memory, and time linear in the number of edges and in `count`.
+    /// that are reached. Takes memory, and time linear in the number of edges and in `count`. Fails
+    /// with NoMemory.
     pub fn of_edges(alloc: Global, edges: &[Edge], count: usize) -> Result<Clauses, NoMemory>
         requires { All (IsEdgeBelow count) edges.now }
-        ensures { IfOk result (λ c. c ≡ over edges.now count) }
+        ensures { IfOk result (λ c. c ≡ clauses_of_edges edges.now count) }
     {
         let clauses = clauses_along(alloc, edges)?;
         Clauses::new(alloc, clauses, count)
@@ -68,6 +71,7 @@ impl Clauses {
 
     /// Returns the marks of the numbers that follow from the clauses and seeds, and of no others.
     /// Takes memory, and time linear in the lengths of the clauses and the seeds, and in the count.
+    /// Fails with NoMemory.
     pub fn closure(&self, alloc: Global, seeds: &[usize]) -> Result<Vec<bool>, NoMemory>
         requires { All (λ t. t < self.now.count) seeds.now }
         ensures len { IfOk result (λ marks. length marks.items ≡ self.now.count) }
@@ -80,10 +84,10 @@ impl Clauses {
     /// found: each number once, with the seed or the clause by which it follows, and after all
     /// numbers of that clause's body; and the marks of these numbers.
     ///
-    /// The order is that of a queue: the heads of clauses without a body, by their indices; the
-    /// seeds, by theirs; and then for each number in its turn the heads of the clauses that wait
-    /// for it, by their indices. Takes memory, and time linear in the lengths of the clauses and
-    /// the seeds, and in the count.
+    /// The order is that of a queue: the heads of clauses with an empty body, by their indices; the
+    /// seeds, by theirs; and then, for each number in the queue, the heads of the clauses whose body
+    /// contains it and now follows, by their indices. Takes memory, and time linear in the lengths of
+    /// the clauses and the seeds, and in the count. Fails with NoMemory.
     pub fn find(&self, alloc: Global, seeds: &[usize]) -> Result<FoundNumbers, NoMemory>
         requires { All (λ t. t < self.now.count) seeds.now }
         ensures len { IfOk result (λ found. length found.marks.items ≡ self.now.count) }

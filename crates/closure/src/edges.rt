@@ -1,7 +1,7 @@
 //! Edges between numbers, as clauses with one number in the body: the numbers that follow are those
 //! that are reached.
 ghost use Rattle.std.specs.Prelude.{◌≡◌, map, IfOk};
-ghost use Rattle.closure.specs.Edges.{along};
+ghost use Rattle.closure.specs.Edges.{clause_of_edge};
 
 use crate::clause::Clause;
 use ag_value::{Items, NoMemory};
@@ -10,13 +10,15 @@ use std::alloc::Global;
 /// An edge: if its start is reached, its end is.
 #[derive(Clone, Copy, Debug, PartialEq, Eq)]
 pub struct Edge {
+    /// The start.
     pub from: usize,
+    /// The end.
     pub to: usize,
 }
 
-/// Returns the clauses of edges.
+/// Returns one clause for each edge: its end follows from its start. Fails with NoMemory.
 pub(crate) fn clauses_along(alloc: Global, edges: &[Edge]) -> Result<Vec<Clause>, NoMemory>
-    ensures { IfOk result (λ clauses. clauses.items ≡ map along edges.now) }
+    ensures { IfOk result (λ clauses. clauses.items ≡ map clause_of_edge edges.now) }
 {
     let mut clauses = Vec::new(alloc);
     for edge in edges {

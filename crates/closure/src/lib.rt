@@ -1,5 +1,5 @@
-//! The consequences of clauses: the least set of numbers that contains the seeds, and with the body
-//! of a clause its head.
+//! The consequences of Horn clauses over numbers: the least set that contains the seeds and, for each
+//! clause whose body it contains, the clause's head.
 #![tactic(auto)]
 
 mod addition;

@@ -1,26 +1,26 @@
 //! Examples of the definitions, each a law.
 
-ghost use Rattle.closure.specs.Edges.{along};
+ghost use Rattle.closure.specs.Edges.{clause_of_edge};
 ghost use Rattle.closure.specs.Following.{Follows};
 ghost use Rattle.closure.specs.Samples.{sample, two_edges};
 ghost use Rattle.std.specs.Prelude.{[], ◌∷◌, map};
 
-/// Without seeds 1 follows from 0; 2 and 3 don't, since each waits for the other.
+/// States that without seeds 1 follows from 0, and 2 does not, since 2 and 3 wait for each other.
 #[tactic(auto, using(crate::proofs::Sample::without_seeds))]
 pub fn without_seeds()
     ensures follows { Follows sample [] 1 }
     ensures waits { Follows sample [] 2 → ⊥ }
 {}
 
-/// With the seed 3, 2 follows too.
+/// States that with the seed 3, 2 follows.
 #[tactic(auto, using(crate::proofs::Sample::with_seed))]
 pub fn with_seed()
     ensures { Follows sample (3 ∷ []) 2 }
 {}
 
-/// Two edges lead from 0 to 2, and none to 3.
+/// States that two edges lead from 0 to 2, and none to 3.
 #[tactic(auto, using(crate::proofs::Sample::two_is_reached, crate::proofs::Sample::three_is_not))]
 pub fn edges_lead_on()
-    ensures reached { Follows (map along two_edges) (0 ∷ []) 2 }
-    ensures unreached { Follows (map along two_edges) (0 ∷ []) 3 → ⊥ }
+    ensures reached { Follows (map clause_of_edge two_edges) (0 ∷ []) 2 }
+    ensures unreached { Follows (map clause_of_edge two_edges) (0 ∷ []) 3 → ⊥ }
 {}

@@ -1,4 +1,4 @@
-//! The search for the numbers that follow: it moves along each clause once, number by number.
+//! The search for the numbers that follow. It traverses the body of each clause once, number by number.
 ghost use Rattle.std.specs.Prelude.{◌≡◌, ◌<◌, ◌≤◌, ◌⊎◌, ◌↔◌, ℕ, true, false, length, take, All};
 ghost use Rattle.std.specs.Prelude.{Contains, IfOk, OnOk, slice_index_or};
 ghost use Rattle.std.specs.List.{list_all};
@@ -22,7 +22,7 @@ fn is_known(marks: &[bool], number: usize) -> bool
 
 /// Returns the length of the longest prefix of a body whose numbers are marked, if the first `from`
 /// are.
-fn leading_known(marks: &[bool], body: &[usize], from: usize) -> usize
+fn known_prefix_len(marks: &[bool], body: &[usize], from: usize) -> usize
     requires within { from ≤ length body.now }
     requires known { list_all (is_marked marks.now) (take from body.now) ≡ true }
     ensures within { result ≤ length body.now }
@@ -38,20 +38,23 @@ fn leading_known(marks: &[bool], body: &[usize], from: usize) -> usize
     body.len()
 }
 
-/// The state of a search: the marks, the marked numbers in the order in which they were added, the
-/// count of visited ones, and for each clause the length of the prefix of its body that is passed.
+/// The state of a search.
 #[derive(Drop)]
 struct Search<'g> {
     clauses: &'g [Clause],
     seeds: &'g [usize],
+    /// For each number, whether it is found to follow.
     marks: Vec<bool>,
+    /// The marked numbers, in the order in which they were found.
     added: Vec<Addition>,
+    /// The number of entries of `added` whose clauses have been visited.
     visited: usize,
+    /// For each clause, the length of a prefix of its body whose numbers are known to be marked.
     passed: Vec<usize>,
 }
 
 impl<'g> Search<'g> {
-    /// Passes the marked numbers of a clause, and returns whether these are all.
+    /// Advances in the body of a clause past the marked numbers; returns whether all are marked.
     fn advance(&mut self, clause: usize) -> bool
         requires clause { clause < length self.old.clauses.now }
         requires search { IsSearch self.old.clauses.now self.old.seeds.now self.old.marks.items
@@ -69,12 +72,12 @@ impl<'g> Search<'g> {
             self.old.added.items self.old.visited (slice_index_or self.old.clauses.now clause d) }
     {
         let body = self.clauses[clause].body.as_slice();
-        let passed = leading_known(self.marks.as_slice(), body, self.passed[clause]);
+        let passed = known_prefix_len(self.marks.as_slice(), body, self.passed[clause]);
         self.passed[clause] = passed;
         passed == body.len()
     }
 
-    /// Adds a number for a reason, and marks it, unless it is marked already.
+    /// Adds a number for a reason, and marks it, unless it is marked already. Fails with NoMemory.
     fn mark(&mut self, number: usize, reason: Reason) -> Result<(), NoMemory>
         requires number { number < length self.old.marks.items }
         requires reason { IsReason self.old.clauses.now self.old.seeds.now
@@ -97,7 +100,7 @@ impl<'g> Search<'g> {
         Ok(())
     }
 
-    /// Marks the seeds.
+    /// Marks the seeds. Fails with NoMemory.
     fn mark_seeds(&mut self) -> Result<(), NoMemory>
         requires seeds { All (λ t. t < length self.old.marks.items) self.old.seeds.now }
         requires search { IsSearch self.old.clauses.now self.old.seeds.now self.old.marks.items
@@ -119,7 +122,7 @@ impl<'g> Search<'g> {
         Ok(())
     }
 
-    /// Marks the head of a clause, if its whole body is marked.
+    /// Marks the head of a clause, if its whole body is marked. Fails with NoMemory.
     fn visit(&mut self, clause: usize) -> Result<(), NoMemory>
         requires clause { clause < length self.old.clauses.now }
         requires search { IsSearch self.old.clauses.now self.old.seeds.now self.old.marks.items
@@ -141,7 +144,9 @@ impl<'g> Search<'g> {
         Ok(())
     }
 
-    /// Visits clauses, which are then settled, as are those that were settled before.
+    /// Visits clauses, given by their indices. They are then settled (`IsSettled`: the head is marked, or
+    /// a number of the body is still to be marked or visited), as are those settled before. Fails with
+    /// NoMemory.
     fn visit_all(&mut self, waiting: &[usize]) -> Result<(), NoMemory>
         requires clauses { All (λ p. p < length self.old.clauses.now) waiting.now }
         requires search { IsSearch self.old.clauses.now self.old.seeds.now self.old.marks.items
@@ -166,8 +171,9 @@ impl<'g> Search<'g> {
     }
 }
 
-/// Returns the numbers that follow from clauses and seeds. `uses` has the clauses that wait for
-/// each number. It takes time linear in the lengths of the clauses, of the seeds and of the table.
+/// Returns the numbers that follow from clauses and seeds. `uses` has the indices of the clauses with
+/// each number in their body, and `facts` those of the clauses with an empty body. Takes time linear
+/// in the lengths of the clauses, the seeds and `uses`. Fails with NoMemory.
 pub(crate) fn find<'g>(
     alloc: Global,
     clauses: &'g [Clause],

@@ -1,37 +1,38 @@
-//! The clauses that wait for each number, and those that wait for none.
+//! The clauses with each number in their bodies, and those with an empty body.
 ghost use Rattle.std.specs.Prelude.{◌≡◌, ◌<◌, ℕ, [], length, All, Contains, IfOk, OnOk};
 ghost use Rattle.std.specs.Prelude.{slice_index_or};
 ghost use Rattle.closure.specs.Clauses.{IsClauseBelow};
-ghost use Rattle.closure.specs.Waiting.{row, rows, Notes};
+ghost use Rattle.closure.specs.Waiting.{row, rows, AddsClause};
 
 use crate::clause::Clause;
 use ag_value::NoMemory;
 use std::alloc::Global;
 
-/// Adds a clause to the list of a number.
-fn note(uses: &mut Vec<Vec<usize>>, clause: usize, number: usize) -> Result<(), NoMemory>
+/// Adds a clause, by its index, to the list of a number. Fails with NoMemory.
+fn add_use(uses: &mut Vec<Vec<usize>>, clause: usize, number: usize) -> Result<(), NoMemory>
     requires { number < length uses.old.items }
-    ensures notes { OnOk result (Notes clause (rows uses.old.items) (rows uses.new.items)) }
-    ensures noted { OnOk result (Contains (row (rows uses.new.items) number) clause) }
+    ensures adds { OnOk result (AddsClause clause (rows uses.old.items) (rows uses.new.items)) }
+    ensures listed { OnOk result (Contains (row (rows uses.new.items) number) clause) }
 {
     uses[number].push(clause)?;
     Ok(())
 }
 
-/// Adds a clause to the list of each number of its body.
-fn note_all(uses: &mut Vec<Vec<usize>>, clause: usize, body: &[usize]) -> Result<(), NoMemory>
+/// Adds a clause, by its index, to the list of each number of its body. Fails with NoMemory.
+fn add_uses(uses: &mut Vec<Vec<usize>>, clause: usize, body: &[usize]) -> Result<(), NoMemory>
     requires { All (λ t. t < length uses.old.items) body.now }
-    ensures notes { OnOk result (Notes clause (rows uses.old.items) (rows uses.new.items)) }
-    ensures noted { OnOk result ((t : ℕ) → Contains body.now t → Contains (row (rows
+    ensures adds { OnOk result (AddsClause clause (rows uses.old.items) (rows uses.new.items)) }
+    ensures listed { OnOk result ((t : ℕ) → Contains body.now t → Contains (row (rows
         uses.new.items) t) clause) }
 {
     for number in body {
-        note(uses, clause, *number)?;
+        add_use(uses, clause, *number)?;
     }
     Ok(())
 }
 
-/// Returns the clauses whose bodies contain each number.
+/// Returns, for each number below `count`, the indices of the clauses whose bodies contain it: once for
+/// each time that they contain it. Fails with NoMemory.
 pub(crate) fn uses(
     alloc: Global,
     clauses: &[Clause],
@@ -39,7 +40,7 @@ pub(crate) fn uses(
 ) -> Result<Vec<Vec<usize>>, NoMemory>
     requires { All (IsClauseBelow count) clauses.now }
     ensures len { IfOk result (λ uses. length uses.items ≡ count) }
-    ensures noted { IfOk result (λ uses. (p t : ℕ) (d : Clause) → p < length clauses.now → Contains
+    ensures listed { IfOk result (λ uses. (p t : ℕ) (d : Clause) → p < length clauses.now → Contains
         (slice_index_or clauses.now p d).body t → Contains (row (rows uses.items) t) p) }
     ensures fits { IfOk result (λ uses. (t : ℕ) → All (λ p. p < length clauses.now) (row (rows
         uses.items) t)) }
@@ -49,14 +50,14 @@ pub(crate) fn uses(
         uses.push(Vec::new(alloc))?;
     }
     for (at, clause) in clauses.iter().enumerate() {
-        note_all(&mut uses, at, clause.body.as_slice())?;
+        add_uses(&mut uses, at, clause.body.as_slice())?;
     }
     Ok(uses)
 }
 
-/// Returns the clauses that have no body.
+/// Returns the indices of the clauses with an empty body. Fails with NoMemory.
 pub(crate) fn facts(alloc: Global, clauses: &[Clause]) -> Result<Vec<usize>, NoMemory>
-    ensures noted { IfOk result (λ facts. (p : ℕ) (d : Clause) → p < length clauses.now →
+    ensures listed { IfOk result (λ facts. (p : ℕ) (d : Clause) → p < length clauses.now →
         (slice_index_or clauses.now p d).body ≡ [] → Contains facts.items p) }
     ensures fits { IfOk result (λ facts. All (λ p. p < length clauses.now) facts.items) }
 {

@@ -32,13 +32,13 @@ pub const OUTPUT: &str = "output";
 /// The option that names the folder for translations.
 pub const OUT_DIR: &str = "out-dir";
 
-/// The option that says when messages are marked.
+/// The option that says when messages are marked with colour.
 pub const COLOR: &str = "color";
 
 /// The option that turns messages off.
 pub const QUIET: &str = "quiet";
 
-/// The values of the option that says when messages are marked.
+/// The values of the option that says when messages are marked with colour.
 const COLORS: &[&str] = &["auto", "always", "never"];
 
 /// The commands, in the order in which help lists them.
@@ -60,7 +60,7 @@ const COMMANDS: &[Entry] = &[
         about: "Translates the tree in a tree file that `parse` wrote, and prints the translation",
         arguments: &[
             Argument::Grammar,
-            Argument::KeptTree,
+            Argument::EvaluatedTree,
             Argument::Output,
             Argument::WorkFolder,
         ],
@@ -148,7 +148,7 @@ struct Entry {
 }
 
 impl Entry {
-    /// Returns the command with its arguments.
+    /// Returns the command with its arguments. Fails if memory is refused.
     fn to_command<'a>(self, alloc: Global) -> Result<Command<'a>, AllocError> {
         let mut command = Command::new(alloc, self.name)
             .about(self.about)
@@ -169,8 +169,8 @@ enum Argument {
     Sentence,
     /// The names of the files of one or more sentences.
     Sentences,
-    /// The name of a tree file that is only read.
-    KeptTree,
+    /// The name of a tree file of pass 0 that is only read.
+    EvaluatedTree,
     /// The name of a tree file of any pass that is only read.
     ShownTree,
     /// The name of a tree file of any pass that is only read, or of the folder of two.
@@ -224,7 +224,7 @@ impl Argument {
                 "The file with the sentence, `-` for standard input",
             ),
             Argument::Sentences => sentences(alloc),
-            Argument::KeptTree => file(
+            Argument::EvaluatedTree => file(
                 alloc,
                 TREE,
                 "The tree file, which is only read, `-` for standard input",
@@ -322,7 +322,7 @@ fn work_folder<'a>(alloc: Global) -> Arg<'a> {
     )
 }
 
-/// Returns the option of every command that says when messages are marked.
+/// Returns the option of every command that says when messages are marked with colour.
 fn color<'a>(alloc: Global) -> Arg<'a> {
     Arg::new(alloc, COLOR)
         .long(COLOR)
@@ -351,7 +351,7 @@ pub fn program<'a>(alloc: Global) -> Result<Command<'a>, AllocError> {
     Ok(program)
 }
 
-/// Returns the program's command with one more subcommand.
+/// Returns the program's command with one more subcommand. Fails if memory is refused.
 fn with_command<'a>(
     alloc: Global,
     program: Command<'a>,
@@ -363,7 +363,7 @@ fn with_command<'a>(
     }
 }
 
-/// Returns the program's command without subcommands.
+/// Returns the program's command without subcommands. Fails if memory is refused.
 fn root_command<'a>(alloc: Global) -> Result<Command<'a>, AllocError> {
     let program = Command::new(alloc, "aggen")
         .version("1.0.0")
@@ -375,8 +375,8 @@ fn root_command<'a>(alloc: Global) -> Result<Command<'a>, AllocError> {
     program.bin_name("aggen")
 }
 
-/// Returns what clap prints of a misuse of the command `name` that it can't find itself, with the
-/// command's usage.
+/// Returns an error that clap prints with `message` and the usage of the command `name`: for words that are wrong
+/// although clap accepts them. The error is that of refused memory if memory for it is refused.
 pub fn misuse_of(alloc: Global, name: &str, message: &str) -> Error {
     match usage_error(alloc, name, message) {
         Ok(error) => error,
@@ -384,7 +384,8 @@ pub fn misuse_of(alloc: Global, name: &str, message: &str) -> Error {
     }
 }
 
-/// Returns an error with the usage of the command `name`. Fails if memory is refused.
+/// Returns an error with `message` and the usage of the command `name`, or that of the program if it has no such
+/// command. Fails if memory is refused.
 fn usage_error(alloc: Global, name: &str, message: &str) -> Result<Error, AllocError> {
     let bin_name = format!(in alloc; "aggen {name}")?;
     for entry in COMMANDS {

@@ -15,7 +15,7 @@ mod tree_requests;
 
 pub use fault::CommandLineFault;
 pub use input::InputPath;
-pub use misuse::name_of;
+pub use misuse::file_name_of;
 pub use request::{
     BatchPaths, Color, CommandLine, EvalPaths, Messages, ParsePaths, Request, RunPaths,
     UpgradePaths, WhyWords,

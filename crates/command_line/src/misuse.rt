@@ -1,4 +1,4 @@
-//! What is wrong with words that clap accepts.
+//! Checks of words that clap accepts. Each fails with the error that clap prints with the command's usage.
 
 use crate::commands::misuse_of;
 use crate::input::{InputPath, STANDARD};
@@ -40,7 +40,7 @@ pub fn check_sentences(alloc: Global, paths: &[&str]) -> Result<(), Error> {
     }
     match doubled_name(alloc, paths)? {
         Some((first, second)) => {
-            let name = name_of(second);
+            let name = file_name_of(second);
             let message = format!(in alloc;
                 "the sentences '{first}' and '{second}' would both be translated to '{name}.out'"
             )?;
@@ -50,17 +50,18 @@ pub fn check_sentences(alloc: Global, paths: &[&str]) -> Result<(), Error> {
     }
 }
 
-/// Returns two paths of the same name, if there are some. Fails if memory is refused.
+/// Returns two paths whose files have the same name in their folders, if there are some. Fails if memory is
+/// refused.
 fn doubled_name<'a>(
     alloc: Global,
     paths: &[&'a str],
 ) -> Result<Option<(&'a str, &'a str)>, AllocError> {
     let mut sorted = Vec::from_slice(alloc, paths)?;
-    sorted.sort_unstable_by(|a, b| name_of(a).cmp(name_of(b)));
+    sorted.sort_unstable_by(|a, b| file_name_of(a).cmp(file_name_of(b)));
     let mut last: Option<&str> = None;
     for path in sorted {
         if let Some(before) = last {
-            if name_of(before) == name_of(path) {
+            if file_name_of(before) == file_name_of(path) {
                 return Ok(Some((before, path)));
             }
         }
@@ -70,7 +71,7 @@ fn doubled_name<'a>(
 }
 
 /// Returns the name of a path's file in its folder: what follows the last slash.
-pub fn name_of(path: &str) -> &str {
+pub fn file_name_of(path: &str) -> &str {
     match path.rsplit_once('/') {
         Some((_, name)) => name,
         None => path,

@@ -2,11 +2,12 @@
 
 use std::fmt;
 
-/// A text with the number of each character that controls a terminal, but for line feeds.
+/// A text in which each character that controls a terminal, but for line feeds, prints as an escape with its
+/// number, such as `\u{1b}`.
 #[derive(Clone, Copy)]
-pub struct Plain<'a>(pub &'a str);
+pub struct PlainLines<'a>(pub &'a str);
 
-impl fmt::Display for Plain<'_> {
+impl fmt::Display for PlainLines<'_> {
     fn fmt<W: fmt::Write>(&self, f: &mut fmt::Formatter<W>) -> fmt::Result {
         for character in self.0.chars() {
             if character == '\n' || !character.is_control() {

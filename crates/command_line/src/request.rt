@@ -10,7 +10,7 @@ use crate::commands::{
 use crate::fault::CommandLineFault;
 use crate::input::{InputPath, STANDARD};
 use crate::misuse::{check_once, check_sentences, check_tree};
-use crate::plain::Plain;
+use crate::plain::PlainLines;
 use crate::tree_requests::{ExplainWords, ShowWords, explain_words, show_words};
 use clap::error::ErrorKind;
 use clap::{ArgMatches, Error};
@@ -28,13 +28,13 @@ pub struct CommandLine<'a> {
 /// How the messages of refusals are printed.
 #[derive(Clone, Copy)]
 pub struct Messages {
-    /// When the number and the place are marked.
+    /// When the fault's number and the place are marked with colour.
     pub color: Color,
-    /// No message is printed.
+    /// Whether no message of a refusal is printed.
     pub is_quiet: bool,
 }
 
-/// When the number and the place of a message are marked.
+/// When the number and the place of a message are marked with colour.
 #[derive(Clone, Copy)]
 pub enum Color {
     /// On a terminal only.
@@ -165,7 +165,7 @@ impl<'a> CommandLine<'a> {
         }
     }
 
-    /// Returns a command line that asks for nothing more.
+    /// Returns the command line after help or the version was printed: there is nothing more to do.
     fn nothing() -> CommandLine<'a> {
         CommandLine {
             request: Request::Nothing,
@@ -177,7 +177,7 @@ impl<'a> CommandLine<'a> {
     }
 }
 
-/// Parses the words of a command line.
+/// Parses the words of a command line. Fails with the error that clap prints: help, the version, or what is wrong.
 fn parse<'a>(alloc: Global, words: &'a [String]) -> Result<CommandLine<'a>, Error> {
     let matches = program(alloc)?.try_get_matches_from(words)?;
     match matches.subcommand() {
@@ -314,13 +314,15 @@ fn output_of<'a>(matches: &ArgMatches<'a>) -> Option<&'a str> {
     }
 }
 
-/// Returns the value of an argument; the empty text if it has none, as a required one always has.
+/// Returns the value of an argument, which is required: clap accepts no command line without it. If it is missing
+/// all the same, returns the empty text.
 fn value_of<'a>(matches: &ArgMatches<'a>, name: &str) -> &'a str {
     matches.get_str(name).unwrap_or("")
 }
 
 /// Prints help, the version, or what is wrong with the words. Fails with `Write` if help or the
-/// version can't be printed, and with `Usage` if something is wrong with the words.
+/// version can't be printed, with `Usage` if something is wrong with the words, and with `NoMemory` if the error is
+/// that of refused memory.
 fn print_error<'a, R: Print + Eprint>(
     rt: &R,
     alloc: Global,
@@ -349,6 +351,6 @@ fn print_error<'a, R: Print + Eprint>(
 fn print_misuse<R: Eprint>(rt: &R, alloc: Global, error: &Error) {
     // the status says enough if the message can't be printed
     if let Ok(text) = error.to_string(alloc) {
-        let _ = rt.eprint(&Plain(text.as_str()));
+        let _ = rt.eprint(&PlainLines(text.as_str()));
     }
 }

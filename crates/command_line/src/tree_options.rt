@@ -12,7 +12,7 @@ pub const NODE: &str = "node";
 /// The option that names an attribute that is printed.
 pub const ONLY: &str = "only";
 
-/// The option that limits the characters of a value.
+/// The option that limits the number of characters of a value.
 pub const WIDTH: &str = "width";
 
 /// The option that prints nodes as JSON.

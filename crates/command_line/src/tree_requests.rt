@@ -17,22 +17,22 @@ pub struct ShowWords<'a> {
     pub grammar: InputPath<'a>,
     /// The tree file.
     pub tree: &'a str,
-    /// The greatest level that is printed, below the first node.
+    /// The greatest level that is printed; that of the first node is 0.
     pub depth: u32,
     /// The path of the first node. If there is none, it is the root.
     pub node: Option<&'a str>,
     /// The names of the attributes that are printed. If there are none, all are.
     pub only: Vec<&'a str>,
-    /// The greatest number of characters of a value; 0 if there is no limit.
+    /// The greatest number of characters of a value; 0 for whole values.
     pub width: usize,
     /// Whether nodes are printed as JSON.
     pub json: bool,
 }
 
-/// How a node is named.
+/// How the words name a node.
 #[derive(Clone, Copy)]
 pub enum NodeWords<'a> {
-    /// It is not named.
+    /// Not at all: it is the root.
     None,
     /// By its path.
     Path(&'a str),
@@ -58,7 +58,7 @@ pub struct ExplainWords<'a> {
     pub grammar: InputPath<'a>,
     /// The tree file, or the folder of two.
     pub tree: &'a str,
-    /// The node. If there is none, it is the root.
+    /// The node.
     pub node: NodeWords<'a>,
     /// Whether the rules in which errors arise are printed, and not a node.
     pub errors: bool,
@@ -66,7 +66,7 @@ pub struct ExplainWords<'a> {
     pub attributes: Vec<&'a str>,
 }
 
-/// Returns the words that `show` takes.
+/// Returns the words that `show` takes. Fails with the error that clap prints if one of them is wrong.
 pub fn show_words<'a>(alloc: Global, matches: &ArgMatches<'a>) -> Result<ShowWords<'a>, Error> {
     let tree = matches.get_str(TREE).unwrap_or("");
     check_tree(alloc, "show", tree)?;
@@ -90,7 +90,8 @@ pub fn show_words<'a>(alloc: Global, matches: &ArgMatches<'a>) -> Result<ShowWor
     })
 }
 
-/// Returns the number that an option has, or another if it is not there. Returns `None` if it is not a number.
+/// Returns the number that an option has, or `other` if the option is not there. Returns `None` if its value is not a
+/// number.
 fn number_of(matches: &ArgMatches<'_>, name: &str, other: u32) -> Option<u32> {
     match matches.get_str(name) {
         Some(word) => word.parse::<u32>().ok(),
@@ -98,7 +99,7 @@ fn number_of(matches: &ArgMatches<'_>, name: &str, other: u32) -> Option<u32> {
     }
 }
 
-/// Returns the words that `explain` takes.
+/// Returns the words that `explain` takes. Fails with the error that clap prints if one of them is wrong.
 pub fn explain_words<'a>(
     alloc: Global,
     matches: &ArgMatches<'a>,
@@ -119,7 +120,7 @@ pub fn explain_words<'a>(
     })
 }
 
-/// Returns how the node that `explain` explains is named.
+/// Returns how the words name the node that `explain` explains.
 fn node_words<'a>(alloc: Global, matches: &ArgMatches<'a>) -> Result<NodeWords<'a>, Error> {
     let Some(at) = matches.get_str(AT) else {
         return Ok(match matches.get_str(NODE) {

@@ -1,8 +1,8 @@
-//! Texts, listings, values and translations for a writer that doesn't accept all bytes: a prefix is written.
+//! Texts, listings, values and translations for a writer that doesn't accept all bytes: only a prefix is written.
 
 use crate::endings::Ending;
 use crate::fractions::{FRACTION_SENTENCE, FRACTIONS, translator};
-use crate::narrow::{Narrow, with_room};
+use crate::narrow::{NarrowWriter, with_room};
 use aggen::{Translator, print_code, print_counts, print_plan, show_value};
 use agoutput::{TextOutFault, write_text};
 use rows::words::{Mistake, first_word, number};
@@ -11,7 +11,7 @@ use treefile::MemDevice;
 
 /// Calls what a word names with the writer: a text, a grammar's counts, a plan, its code, the value 14, or a
 /// translation. Returns how the call ends.
-fn written_to(alloc: Global, what: &str, out: &mut Narrow) -> Result<Ending, Mistake> {
+fn ending_of_writes(alloc: Global, what: &str, out: &mut NarrowWriter) -> Result<Ending, Mistake> {
     let fractions = FRACTIONS.as_bytes();
     match what {
         "text-into" => Ok(text_ending(out)),
@@ -24,7 +24,7 @@ fn written_to(alloc: Global, what: &str, out: &mut Narrow) -> Result<Ending, Mis
 }
 
 /// Writes the text `abc` and returns how the call ends.
-fn text_ending(out: &mut Narrow) -> Ending {
+fn text_ending(out: &mut NarrowWriter) -> Ending {
     match write_text(out, "abc") {
         Ok(()) => Ending::Done,
         Err(TextOutFault::Write) => Ending::Write,
@@ -32,18 +32,19 @@ fn text_ending(out: &mut Narrow) -> Ending {
 }
 
 /// Shows the value 14 and returns how the call ends.
-fn value_ending(alloc: Global, out: &mut Narrow) -> Ending {
+fn value_ending(alloc: Global, out: &mut NarrowWriter) -> Ending {
     let mut device = MemDevice::new(alloc);
     Ending::of(show_value(alloc, "14", &mut device, out))
 }
 
 /// Builds a translator, translates the sentence and returns how the call ends.
-fn translation_ending(alloc: Global, out: &mut Narrow) -> Result<Ending, Mistake> {
+fn translation_ending(alloc: Global, out: &mut NarrowWriter) -> Result<Ending, Mistake> {
     let translator = translator(alloc, FRACTIONS)?;
-    Ok(ended(alloc, &translator, out))
+    Ok(ending_of_translation(alloc, &translator, out))
 }
 
-fn ended(alloc: Global, translator: &Translator, out: &mut Narrow) -> Ending {
+/// Translates the sentence and returns how the call ends.
+fn ending_of_translation(alloc: Global, translator: &Translator, out: &mut NarrowWriter) -> Ending {
     let mut a = MemDevice::new(alloc);
     let mut b = MemDevice::new(alloc);
     Ending::of(translator.translate(FRACTION_SENTENCE, &mut a, &mut b, out))
@@ -54,6 +55,6 @@ fn ended(alloc: Global, translator: &Translator, out: &mut Narrow) -> Ending {
 pub fn beginning_answer(alloc: Global, what: &str, spelled: &str) -> Result<String, Mistake> {
     let (room, rest) = first_word(spelled);
     let mut out = with_room(alloc, number(room)? as usize, rest == "fails")?;
-    let ending = written_to(alloc, what, &mut out)?;
+    let ending = ending_of_writes(alloc, what, &mut out)?;
     Ok(ending.answer(alloc, out.taken.as_slice())?)
 }

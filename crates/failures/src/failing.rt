@@ -36,7 +36,7 @@ enum RunDevice {
 
 /// Returns whether the first of two runs succeeds. Then the failing call must be one of the second run. If the first
 /// run fails, it must have written nothing, and the second run must succeed. Fails with `Unfit` in all other cases.
-fn is_whole(first: &str, second: &str) -> Result<bool, Mistake> {
+fn first_succeeds(first: &str, second: &str) -> Result<bool, Mistake> {
     match (first, second) {
         ("Done \"868352\"", "Device \"\"") => Ok(true),
         ("Device \"\"", "Done \"868352\"") => Ok(false),
@@ -44,7 +44,7 @@ fn is_whole(first: &str, second: &str) -> Result<bool, Mistake> {
     }
 }
 
-/// Returns an empty device whose given call fails, or none if the number is 0.
+/// Returns an empty device whose call number `call`, counted from 1, fails; no call fails if `call` is 0.
 fn fused(alloc: Global, call: u64) -> Fused {
     FuseDevice::new(MemDevice::new(alloc), call)
 }
@@ -58,7 +58,7 @@ fn translates_twice(
 ) -> Result<bool, Mistake> {
     let first = translated(alloc, translator, FRACTION_SENTENCE, a, b)?;
     let second = translated(alloc, translator, FRACTION_SENTENCE, a, b)?;
-    is_whole(first.as_str(), second.as_str())
+    first_succeeds(first.as_str(), second.as_str())
 }
 
 /// Translates the sentence twice over devices whose given calls fail. Returns whether the first translation succeeds.
@@ -87,7 +87,7 @@ fn evaluates_twice(
     if tree.inner().bytes() != FRACTION_TREE {
         return Err(Mistake::Unfit);
     }
-    is_whole(first.as_str(), second.as_str())
+    first_succeeds(first.as_str(), second.as_str())
 }
 
 /// Evaluates the tree twice over devices whose given calls fail. Returns whether the first evaluation succeeds.
@@ -144,7 +144,7 @@ fn upgrades_without(
 }
 
 /// Returns whether the first of two runs succeeds if a given call of one device fails.
-fn is_whole_without(
+fn first_succeeds_without(
     alloc: Global,
     translator: &Translator,
     device: RunDevice,
@@ -164,9 +164,13 @@ fn is_whole_without(
 
 /// Returns the first call of a device that a run doesn't make, counted from 1. Fails with `Unfit` if an earlier call
 /// doesn't fail as it should.
-fn counted(alloc: Global, translator: &Translator, device: RunDevice) -> Result<u64, Mistake> {
+fn first_unmade_call(
+    alloc: Global,
+    translator: &Translator,
+    device: RunDevice,
+) -> Result<u64, Mistake> {
     for call in 1..1000 {
-        if is_whole_without(alloc, translator, device, call)? {
+        if first_succeeds_without(alloc, translator, device, call)? {
             return Ok(call);
         }
     }
@@ -195,6 +199,6 @@ pub fn failing_answer(alloc: Global, spelled: &str) -> Result<String, Mistake> {
     let device = run_device(word)?;
     let least = number(least)? as u64;
     let translator = translator(alloc, FRACTIONS)?;
-    let calls = counted(alloc, &translator, device)?;
+    let calls = first_unmade_call(alloc, &translator, device)?;
     Ok(format!(in alloc; "{}", least < calls)?)
 }

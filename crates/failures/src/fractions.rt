@@ -34,7 +34,7 @@ pub const FRACTION_TREE: &[u8] = b"AGT2\0\0\
     \0\0\x03\0\0\0\x03\0\0\x06\0\0\0\x03\0\0\x07\0\0\0\x03\0\0\x04\0\0\0\x03\
     \0\0\x05\0\0\0\x03\0\0\x03\0\0\0\x03\0\0\x02\0\0\0\x03\0\0\0\0\0\0\x03";
 
-/// Returns the same file in version 1. The tree has no tokens, so only the version's number differs.
+/// Returns the file of the same tree in version 1. The tree has no tokens, so only the version's number differs.
 pub fn old_tree(alloc: Global) -> Result<Vec<u8>, Mistake> {
     let mut bytes = FRACTION_TREE.to_vec(alloc)?;
     if let Some(version) = bytes.get_mut(3) {
@@ -75,7 +75,7 @@ fn parsed_without(alloc: Global, translator: &Translator, call: u64) -> Ending {
     Ending::of(translator.parse_tree(b"1", &mut device))
 }
 
-/// Builds a translator, and parses `1` over a device whose given call fails.
+/// Builds a translator, parses `1` over a device whose given call fails, and returns how the call of the parser ends.
 pub fn parse_without_answer(alloc: Global, call: &str) -> Result<String, Mistake> {
     let call = number(call)? as u64;
     let translator = translator(alloc, FRACTIONS)?;

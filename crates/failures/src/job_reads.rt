@@ -10,28 +10,28 @@ use treefile::MemDevice;
 
 /// A reader that returns at most `step` bytes in a read, and fails when `reads_left` reaches 0.
 #[derive(Drop)]
-struct Faltering<'a> {
+struct FalteringReader<'a> {
     bytes: &'a [u8],
     step: usize,
     reads_left: u64,
 }
 
-impl Read for Faltering<'_> {
+impl Read for FalteringReader<'_> {
     fn read(&mut self, buf: &mut [u8]) -> io::Result<usize> {
         self.reads_left = self.reads_left.saturating_sub(1);
         if self.reads_left == 0 {
             return Err(io::Error::from(io::ErrorKind::Other));
         }
         let count = self.step.min(self.bytes.len()).min(buf.len());
-        let (given, left) = self.bytes.split_at(count);
-        buf[..count].copy_from_slice(given);
-        self.bytes = left;
+        let (prefix, rest) = self.bytes.split_at(count);
+        buf[..count].copy_from_slice(prefix);
+        self.bytes = rest;
         Ok(count)
     }
 }
 
 /// Runs a job from a reader and returns how the call ends.
-fn ended(alloc: Global, reader: Faltering<'_>, out: &mut Vec<u8>) -> Ending {
+fn ending_of_job(alloc: Global, reader: FalteringReader<'_>, out: &mut Vec<u8>) -> Ending {
     let mut a = MemDevice::new(alloc);
     let mut b = MemDevice::new(alloc);
     Ending::of(run_job(alloc, reader, out, &mut a, &mut b))
@@ -39,21 +39,21 @@ fn ended(alloc: Global, reader: Faltering<'_>, out: &mut Vec<u8>) -> Ending {
 
 /// Runs a job from a reader that returns at most `step` bytes in a read and whose given read fails. Returns how
 /// the call ends, and what was written.
-fn reported_of(alloc: Global, bytes: &[u8], step: usize, read: u64) -> Result<String, Mistake> {
-    let reader = Faltering {
+fn job_ending(alloc: Global, bytes: &[u8], step: usize, read: u64) -> Result<String, Mistake> {
+    let reader = FalteringReader {
         bytes,
         step,
         reads_left: read,
     };
     let mut out = Vec::new(alloc);
-    let ending = ended(alloc, reader, &mut out);
+    let ending = ending_of_job(alloc, reader, &mut out);
     Ok(ending.answer(alloc, out.as_slice())?)
 }
 
 /// Returns whether a job succeeds if a given read fails. Otherwise it must fail with J2 and write nothing; in
 /// all other cases this fails with `Unfit`.
 fn is_done(alloc: Global, job: &[u8], step: usize, read: u64) -> Result<bool, Mistake> {
-    let answer = reported_of(alloc, job, step, read)?;
+    let answer = job_ending(alloc, job, step, read)?;
     match answer.as_str() {
         "Read \"\"" => Ok(false),
         "Done \"868352\"" => Ok(true),
@@ -63,7 +63,7 @@ fn is_done(alloc: Global, job: &[u8], step: usize, read: u64) -> Result<bool, Mi
 
 /// Returns the first read that a job doesn't make, counted from 1. Fails with `Unfit` if an earlier read
 /// doesn't fail as it should.
-fn reads_of(alloc: Global, job: &[u8], step: usize) -> Result<u64, Mistake> {
+fn first_unmade_read(alloc: Global, job: &[u8], step: usize) -> Result<u64, Mistake> {
     for read in 1..1000 {
         if is_done(alloc, job, step, read)? {
             return Ok(read);
@@ -79,6 +79,6 @@ pub fn job_reads_answer(alloc: Global, spelled: &str) -> Result<String, Mistake>
     let step = number(step)? as usize;
     let least = number(least)? as u64;
     let job = format!(in alloc; "{FRACTIONS}%%\n1101.01")?;
-    let reads = reads_of(alloc, job.as_bytes(), step)?;
+    let reads = first_unmade_read(alloc, job.as_bytes(), step)?;
     Ok(format!(in alloc; "{}", least < reads)?)
 }

@@ -1,4 +1,5 @@
-//! Devices that lie: each call over them returns, and a call that fails writes nothing.
+//! Devices that lie, which means that they return wrong lengths or bytes. Each call over them returns, and a call that
+//! fails writes nothing.
 
 ghost use Rattle.std.specs.Prelude.{[], false, Some};
 
@@ -28,13 +29,13 @@ enum Lie {
 
 /// A device that lies.
 #[derive(Drop)]
-struct Liar {
+struct LyingDevice {
     file: MemDevice,
     lie: Lie,
     calls: u64,
 }
 
-impl Device for Liar {
+impl Device for LyingDevice {
     ghost content = { λ _. [] };
 
     ghost is_honest = { λ _. false };
@@ -96,9 +97,9 @@ impl Arity for Chain {
 }
 
 /// Returns a device with these bytes that lies.
-fn liar_over(alloc: Global, bytes: &[u8], lie: Lie) -> Result<Liar, Mistake> {
+fn lying_device(alloc: Global, bytes: &[u8], lie: Lie) -> Result<LyingDevice, Mistake> {
     let bytes = bytes.to_vec(alloc)?;
-    Ok(Liar {
+    Ok(LyingDevice {
         file: MemDevice::from_bytes(bytes),
         lie,
         calls: 0,
@@ -106,8 +107,8 @@ fn liar_over(alloc: Global, bytes: &[u8], lie: Lie) -> Result<Liar, Mistake> {
 }
 
 /// Returns an empty device that lies.
-fn empty_liar(alloc: Global, lie: Lie) -> Liar {
-    Liar {
+fn empty_lying_device(alloc: Global, lie: Lie) -> LyingDevice {
+    LyingDevice {
         file: MemDevice::new(alloc),
         lie,
         calls: 0,
@@ -121,21 +122,21 @@ fn is_clean(answer: &str) -> bool {
 
 /// Translates the sentence over devices that lie. Returns how the call ends, and what was written.
 fn translation(alloc: Global, translator: &Translator, lie: Lie) -> Result<String, Mistake> {
-    let mut a = empty_liar(alloc, lie);
-    let mut b = empty_liar(alloc, lie);
+    let mut a = empty_lying_device(alloc, lie);
+    let mut b = empty_lying_device(alloc, lie);
     translated(alloc, translator, FRACTION_SENTENCE, &mut a, &mut b)
 }
 
 /// Evaluates the tree over devices that lie. Returns how the call ends, and what was written.
 fn evaluation(alloc: Global, translator: &Translator, lie: Lie) -> Result<String, Mistake> {
-    let mut tree = liar_over(alloc, FRACTION_TREE, lie)?;
-    let mut a = empty_liar(alloc, lie);
-    let mut b = empty_liar(alloc, lie);
+    let mut tree = lying_device(alloc, FRACTION_TREE, lie)?;
+    let mut a = empty_lying_device(alloc, lie);
+    let mut b = empty_lying_device(alloc, lie);
     evaluated(alloc, translator, &mut tree, &mut a, &mut b)
 }
 
 /// Runs the first pass, and then all passes, over devices that lie.
-fn run_passes(alloc: Global, translator: &Translator, a: &mut Liar, b: &mut Liar) {
+fn run_passes(alloc: Global, translator: &Translator, a: &mut LyingDevice, b: &mut LyingDevice) {
     let (grammar, plan) = (translator.grammar(), translator.plan());
     if plan.assignment().passes() == 0 {
         return;
@@ -147,28 +148,28 @@ fn run_passes(alloc: Global, translator: &Translator, a: &mut Liar, b: &mut Liar
 }
 
 /// Runs passes over the sentence's tree on devices that lie.
-fn passes(alloc: Global, translator: &Translator, lie: Lie) -> Result<(), Mistake> {
-    let mut a = liar_over(alloc, FRACTION_TREE, lie)?;
-    let mut b = empty_liar(alloc, lie);
+fn run_lying_passes(alloc: Global, translator: &Translator, lie: Lie) -> Result<(), Mistake> {
+    let mut a = lying_device(alloc, FRACTION_TREE, lie)?;
+    let mut b = empty_lying_device(alloc, lie);
     run_passes(alloc, translator, &mut a, &mut b);
     Ok(())
 }
 
 /// Upgrades the old tree over devices that lie.
-fn upgrade(alloc: Global, translator: &Translator, lie: Lie) -> Result<(), Mistake> {
+fn upgrade_lying(alloc: Global, translator: &Translator, lie: Lie) -> Result<(), Mistake> {
     let bytes = old_tree(alloc)?;
-    let mut old = liar_over(alloc, bytes.as_slice(), lie)?;
-    let mut mid = empty_liar(alloc, lie);
-    let mut to = empty_liar(alloc, lie);
+    let mut old = lying_device(alloc, bytes.as_slice(), lie)?;
+    let mut mid = empty_lying_device(alloc, lie);
+    let mut to = empty_lying_device(alloc, lie);
     let _count = translator.upgrade(&mut old, &mut mid, &mut to);
     Ok(())
 }
 
-/// Runs all calls of a translator. Returns whether the translation and the evaluation wrote nothing, unless
-/// they succeeded or their writer failed.
-fn return_clean(alloc: Global, translator: &Translator, lie: Lie) -> Result<bool, Mistake> {
-    passes(alloc, translator, lie)?;
-    upgrade(alloc, translator, lie)?;
+/// Makes all calls of a translator over devices that lie. Returns whether the translation and the evaluation wrote
+/// nothing, unless they succeeded or their writer failed.
+fn leave_no_output(alloc: Global, translator: &Translator, lie: Lie) -> Result<bool, Mistake> {
+    run_lying_passes(alloc, translator, lie)?;
+    upgrade_lying(alloc, translator, lie)?;
     let translation = translation(alloc, translator, lie)?;
     let evaluation = evaluation(alloc, translator, lie)?;
     Ok(is_clean(translation.as_str()) && is_clean(evaluation.as_str()))
@@ -178,26 +179,26 @@ fn return_clean(alloc: Global, translator: &Translator, lie: Lie) -> Result<bool
 pub fn lie_answer(alloc: Global, word: &str) -> Result<String, Mistake> {
     let lie = lie_named(word)?;
     let translator = translator(alloc, FRACTIONS)?;
-    let is_clean = return_clean(alloc, &translator, lie)?;
+    let is_clean = leave_no_output(alloc, &translator, lie)?;
     Ok(format!(in alloc; "{is_clean}")?)
 }
 
 /// Reverses a file over devices that lie.
-fn turned(alloc: Global, lie: Lie) -> Result<(), Mistake> {
-    let mut from = liar_over(alloc, FRACTION_TREE, lie)?;
-    let mut to = empty_liar(alloc, lie);
+fn reverse_lying(alloc: Global, lie: Lie) -> Result<(), Mistake> {
+    let mut from = lying_device(alloc, FRACTION_TREE, lie)?;
+    let mut to = empty_lying_device(alloc, lie);
     let _turned = turn(alloc, &mut from, &mut to, 1, &Chain {});
     Ok(())
 }
 
 /// Reverses a file over devices that lie, and returns `returned`.
 pub fn lie_turn_answer(alloc: Global, word: &str) -> Result<String, Mistake> {
-    turned(alloc, lie_named(word)?)?;
+    reverse_lying(alloc, lie_named(word)?)?;
     Ok(String::from_str(alloc, "returned")?)
 }
 
 /// Returns the number of bodies that a reader returns, calling it at most 1,000 times.
-fn lent(alloc: Global, device: &mut Liar) -> Result<u64, Mistake> {
+fn count_bodies(alloc: Global, device: &mut LyingDevice) -> Result<u64, Mistake> {
     let Ok(mut back) = Back::start(alloc, device) else {
         return Err(Mistake::Unfit);
     };
@@ -211,7 +212,7 @@ fn lent(alloc: Global, device: &mut Liar) -> Result<u64, Mistake> {
 
 /// Returns whether a reader returns no more bodies than the file has frames: its 118 bytes contain 16.
 pub fn lie_back_answer(alloc: Global, word: &str) -> Result<String, Mistake> {
-    let mut device = liar_over(alloc, FRACTION_TREE, lie_named(word)?)?;
-    let lent = lent(alloc, &mut device)?;
+    let mut device = lying_device(alloc, FRACTION_TREE, lie_named(word)?)?;
+    let lent = count_bodies(alloc, &mut device)?;
     Ok(format!(in alloc; "{}", lent < 17)?)
 }

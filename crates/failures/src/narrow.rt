@@ -5,14 +5,16 @@ use std::io::{self, Write};
 
 /// A writer that accepts `room` bytes, one in each call, and then none, or fails.
 #[derive(Drop)]
-pub struct Narrow {
+pub struct NarrowWriter {
     /// The bytes that were written.
     pub taken: Vec<u8>,
+    /// The number of bytes that are accepted.
     room: usize,
+    /// Whether a write after that fails, instead of accepting no byte.
     fails: bool,
 }
 
-impl Write for Narrow {
+impl Write for NarrowWriter {
     fn write(&mut self, buf: &[u8]) -> io::Result<usize> {
         if self.taken.len() < self.room && !buf.is_empty() {
             self.taken.push(buf[0])?;
@@ -30,8 +32,8 @@ impl Write for Narrow {
 }
 
 /// Returns a writer that accepts `room` bytes, and allocates the memory for them.
-pub fn with_room(alloc: Global, room: usize, fails: bool) -> Result<Narrow, AllocError> {
-    Ok(Narrow {
+pub fn with_room(alloc: Global, room: usize, fails: bool) -> Result<NarrowWriter, AllocError> {
+    Ok(NarrowWriter {
         taken: Vec::with_capacity(alloc, room)?,
         room,
         fails,

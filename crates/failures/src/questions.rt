@@ -9,9 +9,9 @@ use crate::sharing::sharing_answer;
 use crate::showing::{show_of_answer, show_without_answer};
 use crate::sources::source_of_answer;
 use crate::translating::translate_three_answer;
+use rows::current_texts::CurrentTexts;
 use rows::sheet::Questions;
 use rows::words::{Mistake, bytes_of};
-use rows::written::Written;
 use std::alloc::Global;
 use std::rt::Files;
 
@@ -25,7 +25,7 @@ impl<R: Files> Questions for Failures<'_, R> {
     fn answer(
         &self,
         alloc: Global,
-        _written: &Written,
+        _texts: &CurrentTexts,
         verb: &str,
         rest: &str,
     ) -> Result<String, Mistake> {

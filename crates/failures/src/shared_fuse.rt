@@ -12,8 +12,11 @@ use treefile::{Device, DeviceFault, SharedDevice};
 #[derive(Drop)]
 pub struct SharedFuse {
     inner: SharedDevice,
-    left: u64,
+    /// The number of calls up to the one that fails; 0 if none fails any more.
+    calls_left: u64,
+    /// The number of calls that failed.
     failed: u64,
+    /// The number of calls of `append_parts` that were forwarded.
     shared: u64,
 }
 
@@ -22,7 +25,7 @@ impl SharedFuse {
     pub fn new(alloc: Global, k: u64) -> SharedFuse {
         SharedFuse {
             inner: SharedDevice::new(alloc),
-            left: k,
+            calls_left: k,
             failed: 0,
             shared: 0,
         }
@@ -41,12 +44,12 @@ impl SharedFuse {
         ensures bounded { self.old.failed ≤ max_failures → self.new.failed ≤ max_failures }
         ensures risen { IsTrue result → HasRisen self.old.failed self.new.failed }
     {
-        let count_call = self.left == 1;
-        self.left = self.left.saturating_sub(1);
-        if count_call {
+        let is_failing = self.calls_left == 1;
+        self.calls_left = self.calls_left.saturating_sub(1);
+        if is_failing {
             self.failed = self.failed.saturating_add(1);
         }
-        count_call
+        is_failing
     }
 }
 

@@ -22,7 +22,7 @@ A = \"y\" {
 ";
 
 /// A sentence of this grammar. Its translation is 6.
-const FRACTION_SENTENCE: &[u8] = b"xxy";
+const SENTENCE: &[u8] = b"xxy";
 
 /// The ending of a translation that succeeds.
 const DONE: &str = "Done \"6\"";
@@ -43,8 +43,8 @@ fn devices(alloc: Global, word: &str, call: u64) -> Result<(SharedFuse, SharedFu
     ))
 }
 
-/// Translates the sentence twice over the same devices, of which one call fails. Returns whether that is a
-/// call of the second translation. Fails with `Unfit` if the other translation doesn't succeed, or if no value was
+/// Translates the sentence twice over the same devices, of which one call fails. Returns whether that call is one
+/// of the second translation. Fails with `Unfit` if the other translation doesn't succeed, or if no value was
 /// shared.
 fn fails_later(
     alloc: Global,
@@ -53,8 +53,8 @@ fn fails_later(
     call: u64,
 ) -> Result<bool, Mistake> {
     let (mut a, mut b) = devices(alloc, word, call)?;
-    let first = translated(alloc, translator, FRACTION_SENTENCE, &mut a, &mut b)?;
-    let second = translated(alloc, translator, FRACTION_SENTENCE, &mut a, &mut b)?;
+    let first = translated(alloc, translator, SENTENCE, &mut a, &mut b)?;
+    let second = translated(alloc, translator, SENTENCE, &mut a, &mut b)?;
     if a.shared() == 0 || b.shared() == 0 {
         return Err(Mistake::Unfit);
     }
@@ -65,8 +65,9 @@ fn fails_later(
     }
 }
 
-/// Returns the first call of a device that the first translation doesn't make, counted from 1.
-fn first_later(alloc: Global, translator: &Translator, word: &str) -> Result<u64, Mistake> {
+/// Returns the first call of a device that the first translation doesn't make, counted from 1. Fails with `Unfit` if an
+/// earlier call doesn't fail as it should.
+fn first_unmade_call(alloc: Global, translator: &Translator, word: &str) -> Result<u64, Mistake> {
     for call in 1..1000 {
         if fails_later(alloc, translator, word, call)? {
             return Ok(call);
@@ -79,7 +80,7 @@ fn first_later(alloc: Global, translator: &Translator, word: &str) -> Result<u64
 fn translated_in_memory(alloc: Global, translator: &Translator) -> Result<String, Mistake> {
     let mut a = MemDevice::new(alloc);
     let mut b = MemDevice::new(alloc);
-    translated(alloc, translator, FRACTION_SENTENCE, &mut a, &mut b)
+    translated(alloc, translator, SENTENCE, &mut a, &mut b)
 }
 
 /// Returns whether each call of a device fails as it should, and whether there are at least the row's number of
@@ -91,6 +92,6 @@ pub fn sharing_answer(alloc: Global, spelled: &str) -> Result<String, Mistake> {
     if translated_in_memory(alloc, &translator)?.as_str() != DONE {
         return Err(Mistake::Unfit);
     }
-    let calls = first_later(alloc, &translator, word)?;
+    let calls = first_unmade_call(alloc, &translator, word)?;
     Ok(format!(in alloc; "{}", least < calls)?)
 }

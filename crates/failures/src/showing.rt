@@ -15,8 +15,8 @@ fn shown_over<D: Device>(alloc: Global, text: &str, device: &mut D) -> Result<St
     Ok(ending.answer(alloc, out.as_slice())?)
 }
 
-/// Shows 14 over a device whose given call fails. Returns how the call ends, and what was written. The device
-/// is called eight times: it is cleared, appended to, measured and read.
+/// Shows 14 over a device whose given call fails. Returns how `show_value` ends, and what was written. It makes eight
+/// calls of the device: it clears it, appends to it, asks for its length, and reads it.
 pub fn show_without_answer(alloc: Global, call: &str) -> Result<String, Mistake> {
     let call = number(call)? as u64;
     let mut device = FuseDevice::new(MemDevice::new(alloc), call);
@@ -25,11 +25,11 @@ pub fn show_without_answer(alloc: Global, call: &str) -> Result<String, Mistake>
 
 /// A device that ignores what is written, and returns the bytes of another file.
 #[derive(Drop)]
-struct Other {
+struct OtherFileDevice {
     file: MemDevice,
 }
 
-impl Device for Other {
+impl Device for OtherFileDevice {
     ghost content = { λ d. d.file };
 
     ghost is_honest = { λ _. false };
@@ -55,7 +55,7 @@ impl Device for Other {
 
 /// Shows 1 over a device that returns these bytes. Returns how the call ends, and what was written.
 pub fn show_of_answer(alloc: Global, file: Vec<u8>) -> Result<String, Mistake> {
-    let mut device = Other {
+    let mut device = OtherFileDevice {
         file: MemDevice::from_bytes(file),
     };
     shown_over(alloc, "1", &mut device)

@@ -19,14 +19,14 @@ fn three_answer(
     Ok(format!(in alloc; "{first}, {refused}, {last}")?)
 }
 
-/// Translates three sentences over two devices in memory.
+/// Translates three sentences over two devices in memory. Returns how each call ends.
 fn three_translated(alloc: Global, translator: &Translator) -> Result<String, Mistake> {
     let mut a = MemDevice::new(alloc);
     let mut b = MemDevice::new(alloc);
     three_answer(alloc, translator, &mut a, &mut b)
 }
 
-/// Builds a translator, and translates three sentences.
+/// Builds a translator, translates three sentences, and returns how each call ends.
 pub fn translate_three_answer(alloc: Global) -> Result<String, Mistake> {
     let translator = translator(alloc, FRACTIONS)?;
     three_translated(alloc, &translator)

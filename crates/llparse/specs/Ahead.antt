@@ -39,14 +39,14 @@ pub data InFollow (g : Grammar) : ℕ → Ahead → Type 0 where
   last : (p : ℕ) (q : Production) {s : ℕ} {x : Ahead} (xs ys : List Item) → IsProduction g p q → q.items ≡ xs ++ item.Symbol s ∷ ys → AreNullable g ys → InFollow g q.left x → InFollow g s x
 
 -- a look-ahead is in FIRST of items; the end is in none
-abbrev pub CanBeFirst : Grammar → List Item → Ahead → Type 0
-CanBeFirst g xs (ahead.Terminal a) = InFirstOf g xs a
-CanBeFirst g xs ahead.End = ⊥
+abbrev pub IsInFirstOf : Grammar → List Item → Ahead → Type 0
+IsInFirstOf g xs (ahead.Terminal a) = InFirstOf g xs a
+IsInFirstOf g xs ahead.End = ⊥
 
 -- A production predicts a look-ahead that is in FIRST of its right side, and, if its right side is nullable,
 -- one that is in FOLLOW of its left side.
 abbrev pub Predicts : Grammar → Production → Ahead → Type 0
-Predicts g q x = CanBeFirst g q.items x ⊎ (AreNullable g q.items × InFollow g q.left x)
+Predicts g q x = IsInFirstOf g q.items x ⊎ (AreNullable g q.items × InFollow g q.left x)
 
 -- Two productions of one symbol, by their numbers and the lesser one first, predict the same look-ahead.
 pub record IsConflict (g : Grammar) (first second : ℕ) (x : Ahead) : Type 0 where

@@ -4,7 +4,7 @@ ghost use Rattle.std.specs.Prelude.{◌≡◌, ◌∷◌, [], Some, None};
 ghost use Rattle.ag_grammar.specs.declared.grammar.Terminal.TheVariants.{Class, Literal};
 ghost use Rattle.ag_grammar.specs.grammars.Sample.{sample};
 ghost use Rattle.llparse.specs.Ahead.{HasNoConflict, IsConflict};
-ghost use Rattle.llparse.specs.Laws.{OneTree, TextsAreGiven, WhatIsLeftIsSo};
+ghost use Rattle.llparse.specs.Laws.{OneTree, TextsAreGiven, LeftTreesAreBeyondTheLimit};
 ghost use Rattle.llparse.specs.table.Nodes.{index_of};
 ghost use Rattle.llparse.specs.table.Tables.{choice_of, IsChoice, IsLeastConflict};
 ghost use Rattle.llparse.specs.Worked.{left_recursive, small_tables};
@@ -17,8 +17,8 @@ pub fn one_tree()
 
 /// If words leave only trees beyond a limit, as P2 and P3 state, each tree of these words is beyond
 /// it.
-pub fn what_is_left_is_so()
-    ensures { WhatIsLeftIsSo }
+pub fn left_trees_are_beyond_the_limit()
+    ensures { LeftTreesAreBeyondTheLimit }
 {}
 
 /// Each tree has values that give each of its leaves its text.
@@ -37,13 +37,14 @@ pub fn sample_is_free()
     ensures { HasNoConflict sample }
 {}
 
-/// That conflict is the least, and its symbol is 0.
+/// The conflict of `L = L "x"` and `L = "x"` at `x` is the least of that grammar, and its symbol is
+/// 0.
 #[tactic(auto, using(crate::proofs::Examples::left_recursion_least))]
 pub fn left_recursion_is_least()
     ensures { IsLeastConflict left_recursive 0 0 1 (ahead.Terminal (Literal 0)) }
 {}
 
-/// The first of those two productions is a choice of its symbol at `x`.
+/// The production `L = L "x"` is a choice of its symbol at `x`.
 #[tactic(auto, using(crate::proofs::Examples::first_choice))]
 pub fn left_recursion_is_a_choice()
     ensures { IsChoice left_recursive 0 (ahead.Terminal (Literal 0)) 0 }

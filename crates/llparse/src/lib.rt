@@ -12,8 +12,8 @@ mod table;
 pub use ahead::Ahead;
 pub use laws::{
     indices_are_in_order, left_recursion_conflicts, left_recursion_is_a_choice,
-    left_recursion_is_least, one_tree, sample_is_free, small_tables_are_read, texts_are_given,
-    what_is_left_is_so,
+    left_recursion_is_least, left_trees_are_beyond_the_limit, one_tree, sample_is_free,
+    small_tables_are_read, texts_are_given,
 };
 pub use sentence::expected::{StuckPlace, expected_at};
 pub use sentence::parse_fault::ParseFault;

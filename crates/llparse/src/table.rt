@@ -1,4 +1,8 @@
 //! The tables of a grammar: FIRST, FOLLOW, and the production that each look-ahead chooses.
+//!
+//! Symbols and look-aheads are numbered as the nodes of graphs (`nodes`). For one look-ahead, FIRST
+//! and FOLLOW are sets of nodes that edges reach. A set is a list of marks: `true` at the numbers
+//! of its nodes.
 
 pub mod building;
 pub mod choosing;

@@ -10,11 +10,11 @@ pub const MAX_NAMED: usize = 12;
 /// The greatest number of characters of a token that a message shows.
 const MAX_SHOWN: usize = 24;
 
-/// A number, with a comma before each of its last two groups of three digits.
+/// A number that prints with a comma before each of its last two groups of three digits: `1,048,576`.
 #[derive(Clone, Copy)]
-pub struct Grouped(pub usize);
+pub struct GroupedNumber(pub usize);
 
-impl fmt::Display for Grouped {
+impl fmt::Display for GroupedNumber {
     fn fmt<W: fmt::Write>(&self, f: &mut fmt::Formatter<W>) -> fmt::Result {
         let (thousands, rest) = (self.0 / 1_000, self.0 % 1_000);
         if thousands == 0 {
@@ -32,8 +32,8 @@ impl fmt::Display for Grouped {
     }
 }
 
-/// A text, with the number of each character that controls a terminal, can't be seen, or can be taken
-/// for a plain space.
+/// A text that prints in one line. Each character that controls a terminal, can't be seen, or can be taken for
+/// a plain space prints as an escape with its number, such as `\u{1b}`.
 #[derive(Clone, Copy)]
 pub struct PlainText<'a>(pub &'a str);
 
@@ -46,8 +46,8 @@ impl fmt::Display for PlainText<'_> {
     }
 }
 
-/// The text at an offset, printed as by `PlainText`, and only the first characters of a long one. None is the
-/// end of the text.
+/// The text at an offset, which prints in backquotes and as by `PlainText`, and only the first characters of a
+/// long one. None is the end of the text.
 #[derive(Clone, Copy)]
 pub struct FoundText<'a>(pub Option<&'a str>);
 
@@ -80,8 +80,8 @@ fn is_unseen(character: char) -> bool {
     )
 }
 
-/// Writes a character, by its number if it controls a terminal, can't be seen, or can be taken for a plain
-/// space.
+/// Writes a character, as an escape with its number if it controls a terminal, can't be seen, or can be taken
+/// for a plain space.
 fn write_character<W: fmt::Write>(f: &mut fmt::Formatter<W>, character: char) -> fmt::Result {
     let is_plain = character == ' ' || !character.is_whitespace();
     if is_plain && !character.is_control() && !is_unseen(character) {
@@ -105,8 +105,8 @@ pub fn utf8_prefix(bytes: &[u8]) -> &str {
     }
 }
 
-/// Returns the token at an offset, or else the characters up to the next separator, at least one. None at
-/// the text's end.
+/// Returns the token at an offset in bytes, or else the characters up to the next separator, at least one. None
+/// at the text's end.
 pub fn found_at(text: &str, at: usize) -> Option<&str> {
     let rest = text.get(at..)?;
     let mut cursor = Cursor::new(rest);
@@ -127,7 +127,7 @@ fn first_word(text: &str) -> Option<&str> {
     if text.is_empty() { None } else { Some(text) }
 }
 
-/// Returns whether a character separates tokens: no other space does.
+/// Returns whether a character separates tokens. No other space of Unicode does.
 fn is_separator(character: char) -> bool {
     matches!(character, ' ' | '\t' | '\r' | '\n')
 }

@@ -1,15 +1,15 @@
-//! What a text could go on with.
+//! The part of a message that lists what a text could go on with.
 
 use ag_expr::ExpectedPart as Part;
 use ag_text::Expected;
 use std::alloc::AllocError;
 
-/// The end of a text or a sentence.
+/// How a message names the end of a text or a sentence.
 pub const END: &str = "the end of the text";
 
-/// Returns the separator after an item of a list, by the number of items that follow.
-pub fn separator_before(left: usize) -> &'static str {
-    match left {
+/// Returns the separator after an item of a list, by the number of items that remain.
+pub fn separator_before(remaining: usize) -> &'static str {
+    match remaining {
         0 => "",
         1 => " or ",
         _ => ", ",
@@ -22,16 +22,16 @@ pub fn write_expected(out: &mut String, expected: &[Expected]) -> Result<(), All
         return Ok(());
     }
     out.push_str("expected ")?;
-    let mut left = expected.len();
-    for one in expected {
-        left = left.saturating_sub(1);
-        write_one(out, *one, separator_before(left))?;
+    let mut remaining = expected.len();
+    for item in expected {
+        remaining = remaining.saturating_sub(1);
+        write_item(out, *item, separator_before(remaining))?;
     }
     Ok(())
 }
 
 /// Writes one thing that a text could go on with, and the separator after it.
-fn write_one(out: &mut String, expected: Expected, separator: &str) -> Result<(), AllocError> {
+fn write_item(out: &mut String, expected: Expected, separator: &str) -> Result<(), AllocError> {
     let quote = match expected {
         Expected::Sign(_) | Expected::Part(Part::Sign(_)) => "`",
         _ => "",

@@ -17,12 +17,12 @@ const UNBOUND: &str = ", a name that no `let` binds here";
 /// What is wrong with an occurrence in an expression that is not in a grammar.
 const NO_VALUE: &str = ", but attributes have values only in a grammar";
 
-/// Returns the location of a fault of an expression: a line and a column too, if its text has several
-/// lines.
+/// Returns the location of a fault of an expression: a line and a column if its text has several lines, and
+/// else only the offset that the fault prints.
 pub fn locate_in_expression(fault: ExprFault, text: &str) -> Location {
     match offset_in(fault) {
         Some(at) if text.contains('\n') => Location::At(Position::of(text, at)),
-        _ => Location::WithNumber,
+        _ => Location::InFault,
     }
 }
 
@@ -40,7 +40,7 @@ pub fn describe_expression(
     }
 }
 
-/// Returns what an expression could go on with at X2, and nothing for other faults.
+/// Returns what an expression could go on with at X2, and nothing for other faults. Fails if memory is refused.
 fn expected_in(alloc: Global, fault: ExprFault, text: &str) -> Result<Vec<Expected>, NoMemory> {
     let mut expected = Vec::new(alloc);
     if let ExprFault::Unexpected(at) = fault {
@@ -51,7 +51,7 @@ fn expected_in(alloc: Global, fault: ExprFault, text: &str) -> Result<Vec<Expect
     Ok(expected)
 }
 
-/// Returns the offset of a fault of an expression.
+/// Returns the offset in bytes of a fault of an expression. None for refused memory.
 pub fn offset_in(fault: ExprFault) -> Option<usize> {
     match fault {
         ExprFault::NoToken(at)

@@ -2,8 +2,8 @@
 //! the names of the grammar. The crate `messages` makes reports of them.
 //!
 //! Each kind of fault has a function that locates it (`locate_..`) and one that writes the parts of its
-//! message (`describe_..`). They take memory, and leave out what it is refused for. Characters that control
-//! a terminal are written by their numbers.
+//! message (`describe_..`). They take memory: if it is refused, a function fails or writes less. Characters that
+//! control a terminal are written as escapes, such as `\u{1b}`.
 #![tactic(auto)]
 
 pub mod display;

@@ -1,17 +1,17 @@
 //! The parts of a message, and the location that it is about.
 
-use crate::display::Grouped;
+use crate::display::GroupedNumber;
 use crate::position::Position;
 use std::alloc::{AllocError, Global};
 
 /// Where a fault is.
 #[derive(Clone, Copy)]
 pub enum Location {
-    /// In the whole of a text or a file: nothing follows the fault's number.
+    /// In the whole of a text or a file: only the parts follow the fault's number.
     Whole,
-    /// Where the number is followed by it, as by an offset or by names.
-    WithNumber,
-    /// At a line and a column too, of the message's file if it has one.
+    /// Where the fault itself says, which prints an offset or names after its number.
+    InFault,
+    /// At a line and a column, which the message prints with its file, if it has one.
     At(Position),
 }
 
@@ -43,7 +43,7 @@ impl Parts {
         self.help.clear();
     }
 
-    /// Appends to what was found, and to what to do.
+    /// Appends texts to what was found, and to what to do.
     pub fn add(&mut self, found: &str, help: &str) -> Result<(), AllocError> {
         self.found.push_str(found)?;
         self.help.push_str(help)
@@ -56,7 +56,7 @@ impl Parts {
         bytes: usize,
         help: &str,
     ) -> Result<(), AllocError> {
-        let most = Grouped(bytes);
+        let most = GroupedNumber(bytes);
         write!(self.found, "{subject} has more than {most} bytes")?;
         self.help.push_str(help)
     }
@@ -69,7 +69,7 @@ impl Parts {
         subject: &str,
         help: &str,
     ) -> Result<(), AllocError> {
-        let most = Grouped(limit);
+        let most = GroupedNumber(limit);
         write!(self.found, "{subject} has no tree of at most {most} {unit}")?;
         self.help.push_str(help)
     }

@@ -1,9 +1,9 @@
-//! Positions in texts, and the files that have the texts.
+//! Positions in texts, and the files that contain the texts.
 
 use crate::display::{PlainText, utf8_prefix};
 use std::fmt;
 
-/// The name of standard input among those of files.
+/// The name of standard input instead of a file's name.
 const STANDARD_INPUT: &str = "-";
 
 /// A line of a file, and a column in characters, both from 1.
@@ -14,7 +14,7 @@ pub struct Position {
 }
 
 impl Position {
-    /// Returns the position of an offset in bytes.
+    /// Returns the position of an offset in bytes; of the end of the text if the offset is not in it.
     pub fn of(text: &str, at: usize) -> Position {
         let mut line = 1usize;
         let mut column = 1usize;
@@ -45,7 +45,7 @@ impl fmt::Display for Position {
     }
 }
 
-/// A text that a message is about, and the file that has it.
+/// A text that a message is about, and the file that contains it.
 #[derive(Clone, Copy)]
 pub struct Source<'a> {
     /// The name of the file as it was given, `-` for standard input.

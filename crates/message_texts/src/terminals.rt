@@ -30,27 +30,28 @@ pub fn class_name(number: u16) -> &'static str {
     }
 }
 
-/// Writes a list of look-aheads, at most the first twelve: `0`, `1` or the end of the text.
+/// Writes a list of look-aheads, at most the first twelve, and the number of the rest: `0`, `1` or the end of the
+/// text.
 pub fn write_aheads(
     out: &mut String,
     grammar: &Grammar,
     aheads: &[Ahead],
 ) -> Result<(), AllocError> {
-    let mut left = aheads.len();
+    let mut remaining = aheads.len();
     for ahead in aheads.iter().take(MAX_NAMED) {
         write_ahead(out, grammar, *ahead)?;
-        left = left.saturating_sub(1);
-        out.push_str(separator_before(left))?;
+        remaining = remaining.saturating_sub(1);
+        out.push_str(separator_before(remaining))?;
     }
-    write_rest(out, left)
+    write_rest(out, remaining)
 }
 
-/// Writes the number of those that are not named.
-fn write_rest(out: &mut String, left: usize) -> Result<(), AllocError> {
-    match left {
+/// Writes the number of terminals that are not named, if there are any.
+fn write_rest(out: &mut String, remaining: usize) -> Result<(), AllocError> {
+    match remaining {
         0 => Ok(()),
         1 => out.push_str("one more"),
-        _ => write!(out, "one of {left} more"),
+        _ => write!(out, "one of {remaining} more"),
     }
 }
 
@@ -65,15 +66,15 @@ pub fn terminal_count(grammar: &Grammar) -> usize {
 /// Writes the terminals of a grammar, at most the first twelve, and the number of the rest.
 pub fn write_terminals(out: &mut String, grammar: &Grammar) -> Result<(), AllocError> {
     let count = terminal_count(grammar);
-    let mut left = count;
+    let mut remaining = count;
     for index in 0..count.min(MAX_NAMED) {
         if let Some(terminal) = terminal_at(grammar, index) {
             write_ahead(out, grammar, Ahead::Terminal(terminal))?;
         }
-        left = left.saturating_sub(1);
-        out.push_str(separator_before(left))?;
+        remaining = remaining.saturating_sub(1);
+        out.push_str(separator_before(remaining))?;
     }
-    write_rest(out, left)
+    write_rest(out, remaining)
 }
 
 /// Returns the terminal of an index: the literals first, and then the classes in use.

@@ -1,12 +1,13 @@
 //! Translations that are not texts.
 
-use crate::display::{FoundText, Grouped};
+use crate::display::{FoundText, GroupedNumber};
 use crate::parts::Parts;
 use ag_value::{ErrorCode, MAX_WEIGHT, Value, show};
 use std::alloc::{AllocError, Global};
 
-/// The greatest number of bytes of a text that is a value: its spelling has 5 more.
-const MAX_TEXT_BYTES: usize = MAX_WEIGHT as usize - 5;
+/// The greatest number of bytes of a text that is a value. The spelling of a text in a tree file has 5 bytes more,
+/// and its length is the value's weight.
+const MAX_BYTES_OF_TEXT: usize = MAX_WEIGHT as usize - 5;
 
 /// What to do about a value that is an error.
 const CORRECT_RULE: &str =
@@ -24,7 +25,7 @@ pub fn describe_value(alloc: Global, parts: &mut Parts, value: &Value) -> Result
     }
 }
 
-/// Describes a value that is shown like this.
+/// Describes a value of the root's `out` that is not a text, by how it is shown.
 fn describe_shown(parts: &mut Parts, value: &Value, shown: &str) -> Result<(), AllocError> {
     write!(
         parts.found,
@@ -43,7 +44,10 @@ fn describe_shown(parts: &mut Parts, value: &Value, shown: &str) -> Result<(), A
 
 /// Writes which limit a value exceeded.
 fn write_size(out: &mut String) -> Result<(), AllocError> {
-    let (most, max_of_text) = (Grouped(MAX_WEIGHT as usize), Grouped(MAX_TEXT_BYTES));
+    let (most, max_of_text) = (
+        GroupedNumber(MAX_WEIGHT as usize),
+        GroupedNumber(MAX_BYTES_OF_TEXT),
+    );
     write!(
         out,
         ", since the translation or a value that it is computed from has more than {most} bytes (a text: {max_of_text})"

@@ -15,27 +15,27 @@ place_text (Some path) position =
     codes " (" ++ string_bytes path ++ codes ":" ++ decimal position.line ++ codes ":" ++ decimal position.column ++ codes ")"
 place_text None position = codes " " ++ position_text position
 
--- what follows the number: the position, if there is one
+-- what follows the fault: the position, if there is one
 abbrev pub location_text : Location → Option (String Global) → List ℕ
 location_text location.Whole file = []
-location_text location.WithNumber file = []
+location_text location.InFault file = []
 location_text (location.At position) file = place_text file position
 
 -- the separator before the first part: a colon, left out for a fault in the whole of its input
 abbrev pub first_separator : Location → List ℕ
 first_separator location.Whole = codes " "
-first_separator location.WithNumber = codes ": "
+first_separator location.InFault = codes ": "
 first_separator (location.At position) = codes ": "
 
 -- a part after its separator; an empty one is not printed
 abbrev pub part_text : List ℕ → List ℕ → List ℕ
 part_text separator part = if length part == 0 then [] else separator ++ part
 
--- what is before the part after this one
+-- the separator before the part after this one: an empty part leaves its own separator unused
 abbrev pub next_separator : List ℕ → List ℕ → List ℕ
 next_separator separator part = if length part == 0 then separator else codes ", "
 
--- three parts, each after its separator
+-- three parts, each after its separator; the first one is after `separator`
 abbrev pub three_parts : List ℕ → List ℕ → List ℕ → List ℕ → List ℕ
 three_parts separator first second third =
     part_text separator first
@@ -51,11 +51,11 @@ parts_text separator parts =
 abbrev pub file_text : Location → Option (String Global) → List ℕ
 file_text (location.At position) file = []
 file_text location.Whole None = []
-file_text location.WithNumber None = []
+file_text location.InFault None = []
 file_text location.Whole (Some path) = codes ": " ++ string_bytes path
-file_text location.WithNumber (Some path) = codes ": " ++ string_bytes path
+file_text location.InFault (Some path) = codes ": " ++ string_bytes path
 
--- the line: the fault with its number first, where it is, and what a reader can do
+-- the line: the fault with its number first, its position, its parts, and its file if there is no position
 abbrev pub line_of : FaultReport → List ℕ
-line_of report = printed report.number ++ location_text report.location report.file
+line_of report = printed report.fault ++ location_text report.location report.file
     ++ parts_text (first_separator report.location) report.parts ++ file_text report.location report.file

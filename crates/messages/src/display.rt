@@ -9,7 +9,7 @@ use crate::report::FaultReport;
 use message_texts::{Location, Parts, Position};
 use std::fmt;
 
-/// Prints `N8 at 95 (grammar.ag:4:47): ..`: the number, the position, and after a colon what was expected,
+/// Prints `N8 at 95 (grammar.ag:4:47): ..`: the fault, the position, and after a colon what was expected,
 /// what was found and what to do, with commas between. A report without a position ends with its file,
 /// if it has one. For a fault in the whole of its input the colon is left out.
 impl fmt::Display for FaultReport {
@@ -19,7 +19,7 @@ impl fmt::Display for FaultReport {
     ghost output = { λ report. Some (line_of report) };
 
     fn fmt<W: fmt::Write>(&self, f: &mut fmt::Formatter<W>) -> fmt::Result {
-        write!(f, "{}", self.number)?;
+        write!(f, "{}", self.fault)?;
         self.write_location(f)?;
         write_parts(f, self.first_separator(), &self.parts)?;
         self.write_file(f)
@@ -34,17 +34,17 @@ impl FaultReport {
     {
         match self.location {
             Location::At(position) => write_place(f, &self.file, position),
-            Location::Whole | Location::WithNumber => Ok(()),
+            Location::Whole | Location::InFault => Ok(()),
         }
     }
 
-    /// Returns what is before the first part.
+    /// Returns the separator before the first part.
     fn first_separator(&self) -> &'static str
         ensures { result.now ≡ first_separator self.now.location }
     {
         match self.location {
             Location::Whole => " ",
-            Location::WithNumber | Location::At(_) => ": ",
+            Location::InFault | Location::At(_) => ": ",
         }
     }
 
@@ -54,7 +54,7 @@ impl FaultReport {
             (file_text self.now.location self.now.file) f.new }
     {
         match (self.location, &self.file) {
-            (Location::Whole | Location::WithNumber, Some(path)) => {
+            (Location::Whole | Location::InFault, Some(path)) => {
                 write!(f, ": {}", path.as_str())
             }
             _ => Ok(()),
@@ -62,7 +62,8 @@ impl FaultReport {
     }
 }
 
-/// Writes a position, as editors read it if there is a file.
+/// Writes a position: as editors read it, ` (grammar.ag:4:47)`, if there is a file, and else as
+/// ` (line 4, column 47)`.
 fn write_place<W: fmt::Write>(
     f: &mut fmt::Formatter<W>,
     file: &Option<String>,
@@ -77,7 +78,7 @@ fn write_place<W: fmt::Write>(
     }
 }
 
-/// Writes the parts, the first after a separator.
+/// Writes the parts that are not empty: the first one after the separator `first`, the others after commas.
 fn write_parts<W: fmt::Write>(f: &mut fmt::Formatter<W>, first: &str, parts: &Parts) -> fmt::Result
     ensures { WritesOnOk W.write_str_gives f.old result (parts_text first.now parts.now) f.new }
 {

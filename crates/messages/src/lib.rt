@@ -1,9 +1,10 @@
-//! Messages about faults: `FaultReport` has a fault with its number, its location by file, line and column,
-//! what was expected, what was found, and what to do, with the names of the grammar. It prints as one line.
+//! Messages about faults: `FaultReport` has a fault, its location by file, line and column, what was expected,
+//! what was found, and what to do, with the names of the grammar. It prints as one line.
 //!
 //! Each kind of input has a call that makes the report of a fault: `of_expression`, `of_grammar`,
-//! `of_sentence`, `of_tree`, `of_old_tree`; `of_file` and `new` are for faults of no text. They take memory,
-//! and leave out what it is refused for. Characters that control a terminal are written by their numbers.
+//! `of_sentence`, `of_tree`, `of_old_tree`; `of_file` and `new` are for other faults. All but `new` take memory.
+//! If memory is refused, the report leaves out what needs it. Characters that control a terminal are written as
+//! escapes, such as `\u{1b}`.
 #![tactic(auto)]
 
 mod display;

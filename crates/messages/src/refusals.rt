@@ -29,10 +29,11 @@ pub struct ConvertedPaths<'a> {
 }
 
 impl FaultReport {
-    /// Returns the report of a fault of the file of this name, or of its content.
-    pub fn of_file(alloc: Global, number: Fault, path: &str) -> FaultReport {
-        let is_named = matches!(number, Fault::File | Fault::Device | Fault::Run(_));
-        let report = FaultReport::new(alloc, number);
+    /// Returns the report of a fault of the file at `path`, or of its content. It names the file if the fault is
+    /// F1 or D1, or one of the tree in it: R1, P2 or P3.
+    pub fn of_file(alloc: Global, fault: Fault, path: &str) -> FaultReport {
+        let is_named = matches!(fault, Fault::File | Fault::Device | Fault::Run(_));
+        let report = FaultReport::new(alloc, fault);
         if is_named {
             report.with_file(alloc, path)
         } else {
@@ -41,9 +42,9 @@ impl FaultReport {
     }
 
     /// Returns the report of a fault of the text of an expression.
-    pub fn of_expression(alloc: Global, number: Fault, text: &str) -> FaultReport {
-        let mut report = FaultReport::new(alloc, number);
-        let written = match &report.number {
+    pub fn of_expression(alloc: Global, fault: Fault, text: &str) -> FaultReport {
+        let mut report = FaultReport::new(alloc, fault);
+        let written = match &report.fault {
             Fault::Expr(fault) => {
                 report.location = locate_in_expression(*fault, text);
                 describe_expression(alloc, &mut report.parts, *fault, text)
@@ -54,29 +55,25 @@ impl FaultReport {
     }
 
     /// Returns the report of a fault of the text of a grammar, which is read again.
-    pub fn of_grammar(alloc: Global, number: Fault, source: Source<'_>) -> FaultReport {
+    pub fn of_grammar(alloc: Global, fault: Fault, source: Source<'_>) -> FaultReport {
         let text = GrammarText::new(alloc, source);
-        let location = locate_fault_of_grammar(&number, &text);
-        let mut report = FaultReport::new(alloc, number).with_location(
-            alloc,
-            location,
-            source.name,
-        );
-        let written = describe_fault_of_grammar(&mut report.parts, &report.number, &text);
+        let location = locate_fault_of_grammar(&fault, &text);
+        let mut report = FaultReport::new(alloc, fault).with_location(alloc, location, source.name);
+        let written = describe_fault_of_grammar(&mut report.parts, &report.fault, &text);
         report.or_bare(written)
     }
 
-    /// Returns the report of a fault of a sentence, which is scanned again, or of its translation. The
-    /// tables are the grammar's.
+    /// Returns the report of a fault of a sentence, which is scanned again, or of its translation. `tables` are
+    /// the parse tables of the grammar.
     pub fn of_sentence(
         alloc: Global,
-        number: Fault,
+        fault: Fault,
         grammar: &Grammar,
         tables: &Tables,
         sentence: Source<'_>,
     ) -> FaultReport {
-        let location = locate_fault_of_sentence(&number, &sentence);
-        let mut report = FaultReport::new(alloc, number).with_location(
+        let location = locate_fault_of_sentence(&fault, &sentence);
+        let mut report = FaultReport::new(alloc, fault).with_location(
             alloc,
             location,
             sentence.name,
@@ -89,7 +86,7 @@ impl FaultReport {
         let written = describe_fault_of_sentence(
             alloc,
             &mut report.parts,
-            &report.number,
+            &report.fault,
             &sentence,
         );
         report.or_bare(written)
@@ -99,14 +96,14 @@ impl FaultReport {
     /// translation.
     pub fn of_tree<D: Device>(
         alloc: Global,
-        number: Fault,
+        fault: Fault,
         grammar: &Grammar,
         tree: &mut D,
         path: &str,
     ) -> FaultReport
         ensures content { LeavesContent (D.is_honest tree.new)
             (D.content tree.old) (D.content tree.new) }
-        // nothing is said of a device that failed
+        // ⊥: the result does not say that a call of the device failed
         ensures persists { Persists (D.is_honest tree.old) (D.is_honest tree.new)
             (D.failures tree.old) (D.failures tree.new) ⊥ }
     {
@@ -114,21 +111,22 @@ impl FaultReport {
             version: FileVersion::Two,
             grammar,
         };
-        FaultReport::of_file(alloc, number, path).with_tree(alloc, format, tree)
+        FaultReport::of_file(alloc, fault, path).with_tree(alloc, format, tree)
     }
 
-    /// Returns the report of a fault of converting the tree in an old file, which is read again. It names
-    /// the old file if the fault is of that one: if reading it fails again after a failed call.
+    /// Returns the report of a fault of converting the tree in an old file, which is read again. It names the
+    /// old file if that one is damaged or exceeds a limit, or if the fault is D1 and its device fails again;
+    /// otherwise it can name only the new file.
     pub fn of_old_tree<D: Device>(
         alloc: Global,
-        number: Fault,
+        fault: Fault,
         grammar: &Grammar,
         old: &mut D,
         paths: ConvertedPaths<'_>,
     ) -> FaultReport
         ensures content { LeavesContent (D.is_honest old.new)
             (D.content old.old) (D.content old.new) }
-        // nothing is said of a device that failed
+        // ⊥: the result does not say that a call of the device failed
         ensures persists { Persists (D.is_honest old.old) (D.is_honest old.new)
             (D.failures old.old) (D.failures old.new) ⊥ }
     {
@@ -136,13 +134,13 @@ impl FaultReport {
             version: FileVersion::One,
             grammar,
         };
-        let is_of_old = match &number {
+        let is_of_old = match &fault {
             Fault::Run(_) => true,
             Fault::Device => old.len().is_err(),
             _ => false,
         };
         let path = if is_of_old { paths.old } else { paths.new };
-        FaultReport::of_file(alloc, number, path).with_tree(alloc, format, old)
+        FaultReport::of_file(alloc, fault, path).with_tree(alloc, format, old)
     }
 
     /// Returns the report with what is wrong with the tree in a file, or with its translation.
@@ -158,7 +156,7 @@ impl FaultReport {
             (D.failures tree.old) (D.failures tree.new) ⊥ }
     {
         let parts = &mut self.parts;
-        let written = match &self.number {
+        let written = match &self.fault {
             Fault::Run(RunFault::Damaged(at)) => describe_damage(alloc, parts, format, tree, *at),
             Fault::Run(RunFault::TooDeep) => {
                 self.location = Location::Whole;
@@ -176,31 +174,31 @@ impl FaultReport {
 }
 
 /// Returns the location of a fault of the text of a grammar.
-fn locate_fault_of_grammar(number: &Fault, text: &GrammarText<'_>) -> Location {
-    match number {
+fn locate_fault_of_grammar(fault: &Fault, text: &GrammarText<'_>) -> Location {
+    match fault {
         Fault::Text(fault) => locate_in_text(*fault, text),
         Fault::Normal(fault) => locate_in_grammar(fault, text),
         Fault::Table(fault) => locate_conflict(*fault, text),
-        _ => Location::WithNumber,
+        _ => Location::InFault,
     }
 }
 
 /// Returns the location of a fault of a sentence.
-fn locate_fault_of_sentence(number: &Fault, sentence: &Source<'_>) -> Location {
-    match number {
+fn locate_fault_of_sentence(fault: &Fault, sentence: &Source<'_>) -> Location {
+    match fault {
         Fault::Scan(fault) => locate_token(*fault, sentence),
         Fault::Parse(fault) => locate_in_sentence(*fault, sentence),
-        _ => Location::WithNumber,
+        _ => Location::InFault,
     }
 }
 
 /// Describes a fault of the text of a grammar.
 fn describe_fault_of_grammar(
     parts: &mut Parts,
-    number: &Fault,
+    fault: &Fault,
     text: &GrammarText<'_>,
 ) -> Result<(), AllocError> {
-    match number {
+    match fault {
         Fault::Text(fault) => describe_text(parts, *fault, text),
         Fault::Normal(fault) => describe_normal(parts, fault, text),
         Fault::Table(fault) => describe_conflict(parts, *fault, text),
@@ -213,10 +211,10 @@ fn describe_fault_of_grammar(
 fn describe_fault_of_sentence(
     alloc: Global,
     parts: &mut Parts,
-    number: &Fault,
+    fault: &Fault,
     sentence: &ParsedSentence<'_>,
 ) -> Result<(), AllocError> {
-    match number {
+    match fault {
         Fault::Scan(fault) => describe_scan(parts, *fault, sentence.grammar, &sentence.source),
         Fault::Parse(fault) => describe_parse(alloc, parts, *fault, sentence),
         Fault::NoText(value) => describe_value(alloc, parts, value),

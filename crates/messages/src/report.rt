@@ -8,22 +8,22 @@ use std::alloc::{AllocError, Global};
 /// The report of a fault.
 #[derive(Drop)]
 pub struct FaultReport {
-    /// The fault, which prints its number first.
-    pub number: Fault,
-    /// Where it is.
+    /// The fault, which prints with its number first, as in `N8 at 95`.
+    pub fault: Fault,
+    /// Where the fault is.
     pub location: Location,
     /// The name of the file that the location is in, or that the fault is about.
     pub file: Option<String>,
-    /// What else is said of it.
+    /// What was expected, what was found, and what to do.
     pub parts: Parts,
 }
 
 impl FaultReport {
-    /// Returns a report that says the number alone. Takes no memory.
-    pub fn new(alloc: Global, number: Fault) -> FaultReport {
+    /// Returns a report that prints as the fault alone. Takes no memory.
+    pub fn new(alloc: Global, fault: Fault) -> FaultReport {
         FaultReport {
-            number,
-            location: Location::WithNumber,
+            fault,
+            location: Location::InFault,
             file: None,
             parts: Parts::new(alloc),
         }
@@ -42,11 +42,12 @@ impl FaultReport {
         self.location = location;
         match location {
             Location::At(_) => self.with_file(alloc, name),
-            Location::Whole | Location::WithNumber => self,
+            Location::Whole | Location::InFault => self,
         }
     }
 
-    /// Returns the report once its parts are written, without them if memory for that was refused.
+    /// Returns the report with its parts, or without them if memory for writing them was refused. `written` is
+    /// the result of writing them.
     pub fn or_bare(mut self, written: Result<(), AllocError>) -> FaultReport {
         if written.is_err() {
             self.parts.clear();

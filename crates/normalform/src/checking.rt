@@ -14,10 +14,10 @@ ghost use Rattle.normalform.specs.numbers.Numbers.{symbol_of, symbol_names, numb
 ghost use Rattle.normalform.specs.numbers.Numbers.{numbered};
 
 use crate::fault::NormalFault;
-use crate::faults::clause::{clauses_of, reaching};
-use crate::faults::limits::exceeded;
-use crate::faults::naming::{doubled_checks, unknown_checks};
-use crate::faults::rules::{doubled_rules, missing_checks, not_defined_here, not_found};
+use crate::faults::clause::{clauses_of, reach_edges};
+use crate::faults::limits::first_limit;
+use crate::faults::naming::{first_doubled, first_unknown};
+use crate::faults::rules::{first_doubled_rule, first_missing, first_not_defined, first_not_normal};
 use crate::faults::underivable::first_underivable;
 use crate::numbers::declared::Declared;
 use crate::numbers::moving::{move_symbols, name_at};
@@ -27,7 +27,7 @@ use ag_value::{Items, NoMemory, Text};
 use closure::{Clause, Clauses, Edge};
 use std::alloc::Global;
 
-/// The first fault that is found: a fault, or the number of a symbol.
+/// The first fault, as it is found: N4 and N5 have the number of the symbol, and not yet its name.
 #[derive(Debug, Drop)]
 enum Found {
     /// This fault.
@@ -59,10 +59,10 @@ fn naming_fault(
     requires { declared.now ≡ map symbol_of raw.now.symbols }
     ensures { IfOk result (λ f. f ≡ first_wrong (naming_checks raw.now)) }
 {
-    if let Some(fault) = unknown_checks(alloc, declared, raw.productions.as_slice())? {
+    if let Some(fault) = first_unknown(alloc, declared, raw.productions.as_slice())? {
         return Ok(Some(fault));
     }
-    if let Some(fault) = doubled_checks(alloc, raw.symbols.as_slice())? {
+    if let Some(fault) = first_doubled(alloc, raw.symbols.as_slice())? {
         return Ok(Some(fault));
     }
     Ok(bad_start(declared, &raw.start))
@@ -76,16 +76,16 @@ fn rule_fault(
 ) -> Result<Option<NormalFault>, NoMemory>
     ensures { IfOk result (λ f. f ≡ first_wrong (rule_kinds declared.now productions.now)) }
 {
-    if let Some(fault) = missing_checks(alloc, declared, productions)? {
+    if let Some(fault) = first_missing(alloc, declared, productions)? {
         return Ok(Some(fault));
     }
-    if let Some(fault) = doubled_rules(alloc, declared, productions)? {
+    if let Some(fault) = first_doubled_rule(alloc, declared, productions)? {
         return Ok(Some(fault));
     }
-    if let Some(fault) = not_defined_here(alloc, declared, productions)? {
+    if let Some(fault) = first_not_defined(alloc, declared, productions)? {
         return Ok(Some(fault));
     }
-    not_found(alloc, declared, productions)
+    first_not_normal(alloc, declared, productions)
 }
 
 /// Returns the first fault of N6 to N10.
@@ -102,7 +102,7 @@ fn further_fault(
     if let Some(fault) = rule_fault(alloc, declared, productions)? {
         return Ok(Some(fault));
     }
-    exceeded(alloc, declared, symbols, productions)
+    first_limit(alloc, declared, symbols, productions)
 }
 
 /// Returns the number of the first symbol that is not productive (N4).
@@ -129,7 +129,7 @@ fn unreachable(
     start: usize,
     edges: &[Edge],
 ) -> Result<Option<usize>, NoMemory>
-    requires edges { edges.now ≡ spec.reaching
+    requires edges { edges.now ≡ spec.reach_edges
         (spec.clauses_of (map symbol_of raw.now.symbols) raw.now.productions) }
     requires start { start
         ≡ number_in (symbol_names (map symbol_of raw.now.symbols)) raw.now.start.name }
@@ -143,7 +143,7 @@ fn unreachable(
     first_underivable(alloc, &clauses, &[start])
 }
 
-/// Returns the first fault of N4 to N10.
+/// Returns the first fault of N4 to N10, for a grammar without N1 to N3.
 fn structure_fault(
     alloc: Global,
     raw: &RawGrammar,
@@ -154,7 +154,7 @@ fn structure_fault(
     ensures { IfOk result (λ found. IsFound raw.now found) }
 {
     let clauses = clauses_of(alloc, declared, raw.productions.as_slice())?;
-    let edges = reaching(alloc, clauses.as_slice())?;
+    let edges = reach_edges(alloc, clauses.as_slice())?;
     if let Some(number) = unproductive(alloc, raw, clauses)? {
         return Ok(Some(Found::Unproductive(number)));
     }
@@ -168,7 +168,8 @@ fn structure_fault(
     Ok(None)
 }
 
-/// Returns the first fault, if there is one.
+/// Returns the first fault of a raw grammar, if there is one. Fails with `NoMemory` if memory is
+/// refused.
 fn first_fault(alloc: Global, raw: &RawGrammar) -> Result<Option<Found>, NoMemory>
     ensures { IfOk result (λ found. IsFound raw.now found) }
 {
@@ -225,7 +226,7 @@ fn number(alloc: Global, raw: RawGrammar) -> Result<Grammar, NoMemory>
     Ok(Grammar::new(symbols, productions, literals, classes, start))
 }
 
-/// Returns a found fault; a symbol's name is moved into it.
+/// Returns the fault that was found, with the symbol's name moved into it for N4 and N5.
 fn refusal(found: Found, raw: RawGrammar) -> NormalFault
     requires { IsFound raw (Some found) }
     ensures { IsFirstFault raw result }
@@ -243,8 +244,7 @@ fn refusal(found: Found, raw: RawGrammar) -> NormalFault
 ///
 /// Fails with the first fault: of the kinds in the order of `NormalFault` the first that has one,
 /// and within a kind the first in the order of the lists. Then the numbered grammar is not
-/// accepted, and the raw grammar is dropped. Fails with NoMemory only if memory was refused. Takes
-/// memory.
+/// accepted, and the raw grammar is dropped. Fails with `NoMemory` only if memory was refused.
 #[tactic(auto, using(crate::proofs::numbered::Accepting::refused))]
 pub fn check(alloc: Global, raw: RawGrammar) -> Result<Grammar, NormalFault>
     requires { IsReadable raw }

@@ -16,7 +16,7 @@ pub enum LimitKind {
     Productions,
     /// A right side of more than 64 items.
     Items,
-    /// A right side with more than 16 symbols and classes.
+    /// A right side with more than 16 symbols and classes, whose nodes are stored in tree files.
     Stored,
     /// A literal of more than 255 bytes.
     LiteralLength,

@@ -22,23 +22,24 @@ pub fn one_first_fault()
     ensures { OneFirstFault }
 {}
 
-/// A raw grammar with a first fault is not without faults.
+/// A raw grammar without faults has no first fault.
 #[tactic(auto, using(crate::proofs::numbered::Accepting::first_excludes))]
 pub fn no_first_fault_without_fault()
     ensures { NoFirstFaultWithoutFault }
 {}
 
-/// The numbers of a small grammar.
+/// The numbers of a small grammar are those computed by hand.
 pub fn worked_numbers()
     ensures { WorkedNumbers }
 {}
 
-/// The faults of wrong names and of a wrong start symbol in small grammars.
+/// The faults of wrong names and of a wrong start symbol in small grammars are those computed by
+/// hand.
 pub fn worked_names()
     ensures { WorkedNames }
 {}
 
-/// The faults of wrong rules in small grammars.
+/// The faults of wrong rules in small grammars are those computed by hand.
 pub fn worked_rules()
     ensures { WorkedRules }
 {}

@@ -1,7 +1,8 @@
--- The calls of a file, and the answers of a file that keeps what is written to it. All of this is this project's.
+-- The entries of a record of calls on a file, and a replay of them: the content that the file must have, and whether the
+-- returned lengths and bytes agree with it. All of this is this project's.
 use Rattle.std.specs.Prelude.{◌≡◌, ℕ, zero, suc, ◌==◌, Bool, true, false, not, ◌&&◌, ◌||◌, if◌then◌else◌, List, [], ◌∷◌, ◌++◌, length, take, drop, slice_index, bytes_eq, refl}
 
--- A call with its answer: the kind of call (0 to 5), an offset or a length, whether it succeeded, and bytes.
+-- A call with its result: the kind of call (0 to 5), an offset or a length in bytes, whether it succeeded, and bytes.
 abbrev pub Event : Type 0
 Event = ℕ × ℕ × Bool × List ℕ
 
@@ -13,19 +14,19 @@ initial_event bytes = (0, 0, true, bytes)
 abbrev pub open_event : List ℕ → Event
 open_event path = (1, 0, true, path)
 
--- the length of the file was requested, and this was the result
+-- the length of the file was requested, and `len` was the result; if `ok` is false, the request failed
 abbrev pub length_event : Bool → ℕ → Event
 length_event ok len = (2, len, ok, [])
 
--- these bytes were to be appended
+-- these bytes were appended if `ok` is true; otherwise the append failed
 abbrev pub append_event : Bool → List ℕ → Event
 append_event ok bytes = (3, 0, ok, bytes)
 
--- bytes were read from an offset on, and these came
+-- these bytes were read from offset `at` on; if `ok` is false, the read failed and they mean nothing
 abbrev pub read_event : ℕ → Bool → List ℕ → Event
 read_event at ok bytes = (4, at, ok, bytes)
 
--- the file was to be truncated to length 0
+-- the file was truncated to length 0 if `ok` is true; otherwise the truncation failed
 abbrev pub truncate_event : Bool → Event
 truncate_event ok = (5, 0, ok, [])
 
@@ -33,7 +34,7 @@ truncate_event ok = (5, 0, ok, [])
 abbrev pub event_of : List ℕ → List ℕ → Event
 event_of numbers bytes = (slice_index numbers 0, slice_index numbers 1, slice_index numbers 2 == 1, bytes)
 
--- The content that a file must have after its calls, and whether every answer agreed with that.
+-- The content that a file must have after its calls, and whether every returned length and byte agreed with that.
 pub record Replay : Type 0 where
   pub stored : List ℕ
   pub is_honest : Bool
@@ -42,8 +43,9 @@ pub record Replay : Type 0 where
 abbrev pub has_bytes_at : List ℕ → ℕ → List ℕ → Bool
 has_bytes_at stored at bytes = bytes_eq (take (length bytes) (drop at stored)) bytes
 
--- A failed call changes nothing and shows nothing. A successful append or truncation did what it was to do. A length or bytes
--- that were returned agree with the content, or the file is not honest from then on.
+-- The effect of a call, given by the four parts of its event, on a replay. A failed call has no effect. A successful append or
+-- truncation changes the content. A returned length, or returned bytes, agree with the content, or the file is not honest from
+-- then on.
 abbrev pub after_call : ℕ → ℕ → Bool → List ℕ → Replay → Replay
 after_call zero number ok bytes file = record file { stored = bytes }
 after_call (suc zero) number ok bytes file = file
@@ -52,7 +54,7 @@ after_call (suc (suc (suc zero))) number ok bytes file = record file { stored = 
 after_call (suc (suc (suc (suc zero)))) at ok bytes file = record file { is_honest = file.is_honest && (not ok || has_bytes_at file.stored at bytes) }
 after_call (suc (suc (suc (suc (suc more))))) number ok bytes file = record file { stored = if ok then [] else file.stored }
 
--- the file after these calls, newest first
+-- the replay of these calls, newest first
 abbrev pub replay : List Event → Replay
 replay [] = record { stored = []; is_honest = true }
 replay (e ∷ earlier) = after_call e.0 e.1 e.2 e.3 (replay earlier)
@@ -65,7 +67,7 @@ IsFresh events = (bytes : List ℕ) × (events ≡ initial_event bytes ∷ [])
 pub length_of_three : (replay (length_event true 3 ∷ append_event true (8 ∷ 9 ∷ []) ∷ open_event [] ∷ initial_event (7 ∷ []) ∷ [])).is_honest ≡ true
 length_of_three = refl
 
--- one that answers two is not honest, and is not honest again after it answers three
+-- a file that returns the length 2 is not honest, and does not become honest again when it returns 3
 pub length_of_two : (replay (length_event true 3 ∷ length_event true 2 ∷ append_event true (8 ∷ 9 ∷ []) ∷ open_event [] ∷ initial_event (7 ∷ []) ∷ [])).is_honest ≡ false
 length_of_two = refl
 

@@ -1,5 +1,7 @@
-//! Each function makes one call to the operating system and then records it with its answer. No
-//! clause can say that the call was made: these lines are to be read.
+//! A file that records the calls made on it. Each method of `NotedFile` uses the file of the operating
+//! system once, and then adds one entry with the result to the record; `read_at` moves the file's
+//! position and reads. No clause can say that the file was used as recorded: a reviewer has to compare
+//! the two in each body.
 ghost use Rattle.std.specs.Prelude.{◌≡◌, ◌∷◌, true, false, is_ok, length, IfOk, MatchResult, OnOk};
 ghost use Rattle.std.specs.Io.KnownBytes.{Appends};
 ghost use Rattle.noted_file.specs.Calls.{append_event, length_event, open_event, read_event};
@@ -11,6 +13,7 @@ use std::io::{self, Read, Seek, SeekFrom, Write};
 use std::marker::Model;
 use std::rt::Files;
 
+// the kinds of calls, as in `specs/Calls.antt`; 0 is the initial content of the file
 const OPEN: u64 = 1;
 
 const LENGTH: u64 = 2;
@@ -21,7 +24,8 @@ const READ: u64 = 4;
 
 const TRUNCATE: u64 = 5;
 
-/// An open file with the record of its calls. Contracts see both.
+/// An open file with the record of its calls. Contracts see both. An entry of the record has a kind, an
+/// offset or a length in bytes, whether the call succeeded, and bytes.
 #[derive(Drop)]
 pub struct NotedFile<F> {
     file: F,
@@ -36,14 +40,16 @@ impl<F> Model for NotedFile<F> {
     ghost view = { λ n. record { file = n.file; events = n.calls.events } };
 }
 
-/// Fills `out` with the bytes of a file from offset `at` on.
+/// Fills `out` with the bytes of a file from offset `at` on. Fails with the system's error, and with
+/// `UnexpectedEof` if there are fewer bytes; `out` has arbitrary bytes then.
 fn fill_from<F: Read + Seek>(file: &mut F, at: u64, out: &mut [u8]) -> io::Result<()> {
     file.seek(SeekFrom::Start(at))?;
     file.read_exact(out)
 }
 
 impl<F: Read + Write + Seek + OpenFile> NotedFile<F> {
-    /// Opens the file at `path` with the options `how`. Fails as the system does.
+    /// Opens the file at `path` with the options `how`, and continues the record `before`. Fails with the
+    /// system's error if the file can't be opened; nothing is recorded then.
     pub fn open<Rt: Files<File = F>>(
         rt: &Rt,
         how: &OpenOptions,
@@ -58,7 +64,7 @@ impl<F: Read + Write + Seek + OpenFile> NotedFile<F> {
         Ok(NotedFile { file, calls })
     }
 
-    /// Returns the length of the file in bytes.
+    /// Returns the length of the file in bytes. Fails with the system's error; a failure is recorded too.
     pub fn len(&mut self) -> io::Result<u64>
         ensures noted { MatchResult result
             (λ n. self.new.events ≡ length_event true n ∷ self.old.events)
@@ -78,7 +84,10 @@ impl<F: Read + Write + Seek + OpenFile> NotedFile<F> {
         }
     }
 
-    /// Appends bytes to the file.
+    /// Appends bytes to the file, which has to be open for appending (`OpenOptions::append`): in another
+    /// file they would be written at its current position, which `read_at` moves. No clause requires
+    /// that. Fails with the system's error, which is recorded too; a prefix of the bytes may be written
+    /// then, though the record counts none.
     pub fn append(&mut self, bytes: &[u8]) -> io::Result<()>
         ensures noted { self.new.events
             ≡ append_event (is_ok result) bytes.now ∷ self.old.events }
@@ -91,7 +100,8 @@ impl<F: Read + Write + Seek + OpenFile> NotedFile<F> {
         answer
     }
 
-    /// Fills `out` with the bytes of the file from offset `at` on.
+    /// Fills `out` with the bytes of the file from offset `at` on. Fails with the system's error, and with
+    /// `UnexpectedEof` if there are fewer bytes; both are recorded too.
     pub fn read_at(&mut self, at: u64, out: &mut [u8]) -> io::Result<()>
         ensures noted { self.new.events
             ≡ read_event at (is_ok result) out.new ∷ self.old.events }
@@ -101,7 +111,7 @@ impl<F: Read + Write + Seek + OpenFile> NotedFile<F> {
         answer
     }
 
-    /// Truncates the file to length 0.
+    /// Truncates the file to length 0. Fails with the system's error; a failure is recorded too.
     pub fn truncate(&mut self) -> io::Result<()>
         ensures noted { self.new.events ≡ truncate_event (is_ok result) ∷ self.old.events }
     {

@@ -1,12 +1,12 @@
-//! A list of calls that only contracts can read.
+//! The record of the calls on a file, which only contracts can read.
 ghost use Rattle.std.specs.Prelude.{◌≡◌, List, [], ◌∷◌};
 ghost use Rattle.std.specs.Borrow.{ftrue};
 ghost use Rattle.noted_file.specs.Calls.{Event, IsFresh, event_of};
 
 use std::marker::{Model, PhantomData};
 
-/// The calls of one file with their answers, newest first, down to the content that the file had
-/// when it was opened. It occupies no memory: only contracts can read it.
+/// The calls on one file with their results, newest first. The oldest entry has the content that the file
+/// had when it was opened. The record occupies no memory: only contracts can read it.
 #[derive(Drop)]
 pub struct CallRecord {
     marker: PhantomData<u8>,
@@ -28,8 +28,9 @@ impl CallRecord {
         }
     }
 
-    /// Adds a call to the record: its kind, a number (an offset or a length), and 1 for success or
-    /// 0 for failure, and then bytes.
+    /// Adds a call to the record. `_numbers` has its kind, an offset or a length in bytes, and 1 for
+    /// success or 0 for failure; `_bytes` has the bytes that it wrote, read or took as a path. The body
+    /// is empty, since the record is ghost state: a proof by hand sets it.
     pub(crate) fn note(&mut self, _numbers: &[u64], _bytes: &[u8])
         ensures { self.new.events ≡ event_of _numbers.now _bytes.now ∷ self.old.events }
     {}

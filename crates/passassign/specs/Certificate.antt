@@ -26,15 +26,15 @@ abbrev pub IsStruckBy : List Strike → ℕ → ℕ → Type 0
 IsStruckBy [] s a = ⊥
 IsStruckBy (x ∷ xs) s a = ((x.symbol ≡ s) × (x.attr ≡ a)) ⊎ IsStruckBy xs s a
 
--- an item's attribute is one of some
+-- attribute a of an item is one of these attributes: those of a terminal never are
 abbrev pub IsOneOf : Attributes → Option Item → ℕ → Type 0
 IsOneOf some None a = ⊥
 IsOneOf some (Some (item.Symbol s)) a = some s a
 IsOneOf some (Some (item.Terminal t)) a = ⊥
 
--- The child at place i is the one at place j, or a pass of this direction visits it later.
-abbrev pub IsAhead : Direction → (j i : ℕ) → Type 0
-IsAhead d j i = (1 ≤ j) × (1 ≤ i) × ((i ≡ j) ⊎ IsBefore d j i)
+-- The child at place i is the one at place j, or a pass of this direction visits it later. Place 0 is not a child.
+abbrev pub IsSameOrLater : Direction → (j i : ℕ) → Type 0
+IsSameOrLater d j i = (1 ≤ j) × (1 ≤ i) × ((i ≡ j) ⊎ IsBefore d j i)
 
 -- The reason why an argument keeps a rule's target at place j out of a pass of this direction, whose
 -- candidates have no earlier pass: the argument is struck itself; or it is a candidate at the target's child
@@ -43,9 +43,9 @@ IsAhead d j i = (1 ≤ j) × (1 ≤ i) × ((i ≡ j) ⊎ IsBefore d j i)
 abbrev pub IsReasonWhere : Direction → (candidate struck : Attributes) → Production → ℕ → Target → Type 0
 IsReasonWhere d candidate struck q j o =
     IsOneOf struck (item_at q o.place) o.attr
-    ⊎ (IsAhead d j o.place × IsOneOf candidate (item_at q o.place) o.attr)
+    ⊎ (IsSameOrLater d j o.place × IsOneOf candidate (item_at q o.place) o.attr)
 
--- the same after strikes
+-- the same, where the attributes that a list strikes are struck
 abbrev pub IsReason : Direction → Attributes → List Strike → Production → ℕ → Target → Type 0
 IsReason d candidate struck q j o = IsReasonWhere d candidate (IsStruckBy struck) q j o
 
@@ -62,7 +62,7 @@ pub record IsGoodWhere (g : Grammar) (d : Direction) (candidate struck : Attribu
   pub attr : rule.target.attr ≡ x.attr
   pub reason : IsReasonWhere d candidate struck production rule.target.place argument
 
--- a strike that is good after others
+-- a strike that is good after those of a list
 abbrev pub IsGood : Grammar → Direction → Attributes → List Strike → Strike → Type 0
 IsGood g d candidate struck x = IsGoodWhere g d candidate (IsStruckBy struck) x
 

@@ -7,9 +7,9 @@ use Rattle.ag_grammar.specs.declared.grammar.Target.{Target}
 use Rattle.ag_grammar.specs.grammars.AttributeGrammar.{Grammar, IsProduction, item_at}
 use Rattle.ag_grammar.specs.declared.direction.Direction.{Direction}
 use Rattle.passassign.specs.declared.stuck.Strike.{Strike}
-use Rattle.passassign.specs.Certificate.{Attributes, IsAhead, IsGood, IsStruckBy}
+use Rattle.passassign.specs.Certificate.{Attributes, IsSameOrLater, IsGood, IsStruckBy}
 
--- the list of a list's first strike, if there is one
+-- the list with only the first strike of a list, empty if the list is
 abbrev pub first_only : List Strike → List Strike
 first_only [] = []
 first_only (x ∷ xs) = x ∷ []
@@ -42,23 +42,23 @@ pub record WaitsFor (g : Grammar) (d : Direction) (x : Strike) (s a : ℕ) : Typ
   pub rule : Rule
   pub argument : Target
   pub named : Names g x production rule argument
-  pub not_ahead : IsAhead d rule.target.place argument.place → ⊥
+  pub not_same_or_later : IsSameOrLater d rule.target.place argument.place → ⊥
   pub symbol : item_at production argument.place ≡ Some (item.Symbol s)
   pub attr : argument.attr ≡ a
 
 -- a strike waits for no attribute
 abbrev pub WaitsForNone : Grammar → Direction → Strike → Type 0
-WaitsForNone g d x = (q : Production) (u : Rule) (o : Target) (s : ℕ) → Names g x q u o → item_at q o.place ≡ Some (item.Symbol s) → IsAhead d u.target.place o.place
+WaitsForNone g d x = (q : Production) (u : Rule) (o : Target) (s : ℕ) → Names g x q u o → item_at q o.place ≡ Some (item.Symbol s) → IsSameOrLater d u.target.place o.place
 
--- the attribute that a strike waits for, if there is one
+-- the attribute that a strike waits for; for None, it waits for none
 abbrev pub IsWait : Grammar → Direction → Strike → Option (ℕ × ℕ) → Type 0
 IsWait g d x None = WaitsForNone g d x
 IsWait g d x (Some w) = WaitsFor g d x w.0 w.1
 
--- the same of an argument of a rule
+-- the attribute that a strike by this argument of a rule waits for; for None, it waits for none
 abbrev pub IsAwaited : Direction → Production → Rule → Target → Option (ℕ × ℕ) → Type 0
-IsAwaited d q u o None = (s : ℕ) → item_at q o.place ≡ Some (item.Symbol s) → IsAhead d u.target.place o.place
-IsAwaited d q u o (Some w) = (IsAhead d u.target.place o.place → ⊥) × (item_at q o.place ≡ Some (item.Symbol w.0)) × (o.attr ≡ w.1)
+IsAwaited d q u o None = (s : ℕ) → item_at q o.place ≡ Some (item.Symbol s) → IsSameOrLater d u.target.place o.place
+IsAwaited d q u o (Some w) = (IsSameOrLater d u.target.place o.place → ⊥) × (item_at q o.place ≡ Some (item.Symbol w.0)) × (o.attr ≡ w.1)
 
 -- the strike at an index
 abbrev pub strike_at : List Strike → ℕ → Strike

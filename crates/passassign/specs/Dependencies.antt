@@ -24,7 +24,7 @@ IsAcceptedProduction q = (g : Grammar) × (p : ℕ) × IsAccepted g × IsProduct
 abbrev pub AreOfAccepted : List Rule → Type 0
 AreOfAccepted rules = (q : Production) × IsAcceptedProduction q × (q.rules ≡ rules)
 
--- one of them
+-- a rule of such a production
 abbrev pub IsOfAccepted : Rule → Type 0
 IsOfAccepted rule = (q : Production) × IsAcceptedProduction q × IsRule q rule
 
@@ -34,7 +34,7 @@ symbol_of None = None
 symbol_of (Some (item.Symbol s)) = Some s
 symbol_of (Some (item.Terminal t)) = None
 
--- the slot of an attribute of a symbol
+-- the slot of attribute a of a symbol, if there is a symbol
 abbrev pub table_slot : Option ℕ → ℕ → Option ℕ
 table_slot None a = None
 table_slot (Some s) a = Some (slot_of s a)
@@ -43,7 +43,7 @@ table_slot (Some s) a = Some (slot_of s a)
 abbrev pub dependency_of : Strike → (j i k from : ℕ) → Dependency
 dependency_of head j i k from = record { strike = record head { arg = i }; place = j; argument = k; from = from }
 
--- y is in a relation with some element and its index
+-- some element of a list, with its index, is related to y
 abbrev pub OfEach : {X Y : Type 0} → (ℕ → X → Y → Type 0) → List X → Y → Type 0
 OfEach {X} R xs y = (i : ℕ) × (x : X) × (slice_get xs i ≡ Some x) × R i x y
 

@@ -9,8 +9,8 @@ use Rattle.passassign.specs.declared.stuck.Strike.{Strike}
 use Rattle.passassign.specs.declared.stuck.Stuck.{Stuck}
 use Rattle.passassign.specs.Certificate.{Members, IsStruckBy, IsGood, AreGood, IsCertificate, stuck_of}
 use Rattle.passassign.specs.Chains.{IsChainOf}
-use Rattle.passassign.specs.Least.{Partial, partial_of, IsAttribute, IsOver, IsLegalPartial, IsStuck, IsLeast, IsAlternating}
-use Rattle.passassign.specs.Making.{IsOpen, AreFinished, IsPass, IsMade, AreIdle, AreMarks, given_by}
+use Rattle.passassign.specs.Least.{Partial, partial_of, IsAttribute, AssignsOnlyAttributes, IsLegalPartial, IsStuck, IsLeast, IsAlternating}
+use Rattle.passassign.specs.Making.{IsOpen, AreFinished, IsPass, IsMade, AreIdle, AreMarks, pass_after}
 use Rattle.passassign.specs.PassStrikes.{HasPassFrom, HasPassAfter, AreStrikesAt, AreStrikesOf, list_for}
 use Rattle.passassign.specs.Rows.{passes_of, IsGreatest}
 
@@ -65,7 +65,7 @@ StrikesGrow = (g : Grammar) (d : Direction) (m : Partial) (xs : List Strike) (x 
 
 -- Good strikes to which no other can be added make a pass, if marks are those of the struck attributes.
 abbrev pub MarksMakePass : Type 0
-MarksMakePass = (g : Grammar) (k : ℕ) (m after : Partial) (xs : List Strike) (hit : ℕ → ℕ → Bool) → IsOver g m → IsOver g after → AreGood g (direction_of k) (IsOpen g m) [] xs → AreFinished g (direction_of k) (IsOpen g m) xs → AreMarks hit xs → ((s a : ℕ) → IsAttribute g s a → after s a ≡ given_by k (m s a) (hit s a)) → IsPass g k m after xs
+MarksMakePass = (g : Grammar) (k : ℕ) (m after : Partial) (xs : List Strike) (hit : ℕ → ℕ → Bool) → AssignsOnlyAttributes g m → AssignsOnlyAttributes g after → AreGood g (direction_of k) (IsOpen g m) [] xs → AreFinished g (direction_of k) (IsOpen g m) xs → AreMarks hit xs → ((s a : ℕ) → IsAttribute g s a → after s a ≡ pass_after k (m s a) (hit s a)) → IsPass g k m after xs
 
 -- If an assignment has strikes, no legal assignment gives any attribute an earlier pass;
 abbrev pub NoneIsEarlier : Type 0

@@ -24,8 +24,8 @@ abbrev pub IsAttribute : Grammar → ℕ → ℕ → Type 0
 IsAttribute g s a = (k : Kind) × (slice_get (symbol_kinds (slice_get g.symbols s)) a ≡ Some k)
 
 -- it assigns passes only to attributes that exist
-abbrev pub IsOver : Grammar → Partial → Type 0
-IsOver g n = (s a p : ℕ) → n s a ≡ Some p → IsAttribute g s a
+abbrev pub AssignsOnlyAttributes : Grammar → Partial → Type 0
+AssignsOnlyAttributes g n = (s a p : ℕ) → n s a ≡ Some p → IsAttribute g s a
 
 -- The pass of an item's attribute, if it has one. A token's text has pass 0.
 abbrev pub pass_at : Partial → Option Item → ℕ → Option ℕ
@@ -34,16 +34,16 @@ pass_at n (Some (item.Symbol s)) a = n s a
 pass_at n (Some (item.Terminal (Class c))) a = slice_get (0 ∷ []) a
 pass_at n (Some (item.Terminal (Literal l))) a = None
 
--- the attribute at a place has this pass
-abbrev pub GivesPass : Partial → Production → Target → ℕ → Type 0
-GivesPass n q o p = pass_at n (item_at q o.place) o.attr ≡ Some p
+-- the attribute at a place has pass p in a partial assignment
+abbrev pub HasPassIn : Partial → Production → Target → ℕ → Type 0
+HasPassIn n q o p = pass_at n (item_at q o.place) o.attr ≡ Some p
 
 -- A legal partial assignment: it assigns passes of at least 1 to attributes that exist, and the arguments of
 -- their rules have passes too, which the rules may use (after Jazayeri and Walter 1975).
 pub record IsLegalPartial (g : Grammar) (n : Partial) : Type 0 where
-  pub known : IsOver g n
+  pub known : AssignsOnlyAttributes g n
   pub positive : (s a p : ℕ) → n s a ≡ Some p → 1 ≤ p
-  pub allowed : Each (IsLegalFor (GivesPass n)) g.productions
+  pub allowed : Each (IsLegalFor (HasPassIn n)) g.productions
 
 -- A stuck attribute: no legal partial assignment assigns it a pass (this project's).
 abbrev pub IsStuck : Grammar → ℕ → ℕ → Type 0

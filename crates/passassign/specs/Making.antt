@@ -16,12 +16,13 @@ abbrev pub AreFinished : Grammar → Direction → Attributes → List Strike �
 AreFinished g d candidate xs = (x : Strike) → candidate x.symbol x.attr → IsGood g d candidate xs x → IsStruckBy xs x.symbol x.attr
 
 -- Pass k extends a partial assignment: of the attributes without a pass some are struck, one by one, until no
--- other can be, and the rest get pass k (after Jazayeri and Walter 1975).
+-- other can be, and the rest get pass k (after Jazayeri and Walter 1975). An attribute keeps its pass (`kept`), or it
+-- gets pass k and is not struck (`gained`), or it is struck and has no pass after pass k (`left`).
 pub record IsPass (g : Grammar) (k : ℕ) (before after : Partial) (strikes : List Strike) : Type 0 where
   pub good : AreGood g (direction_of k) (IsOpen g before) [] strikes
   pub finished : AreFinished g (direction_of k) (IsOpen g before) strikes
   pub kept : (s a p : ℕ) → before s a ≡ Some p → after s a ≡ Some p
-  pub given : (s a p : ℕ) → before s a ≡ None → after s a ≡ Some p → IsAttribute g s a × (p ≡ k) × (IsStruckBy strikes s a → ⊥)
+  pub gained : (s a p : ℕ) → before s a ≡ None → after s a ≡ Some p → IsAttribute g s a × (p ≡ k) × (IsStruckBy strikes s a → ⊥)
   pub left : (s a : ℕ) → IsOpen g before s a → after s a ≡ None → IsStruckBy strikes s a
 
 -- The assignments that the passes before pass k make, starting from the empty one (after Jazayeri and Walter
@@ -43,7 +44,7 @@ abbrev pub AreMarks : (ℕ → ℕ → Bool) → List Strike → Type 0
 AreMarks hit xs = (s a : ℕ) → (hit s a ≡ true) ↔ IsStruckBy xs s a
 
 -- the pass of an attribute after pass k: its old one, else k if it is not marked as struck
-abbrev pub given_by : ℕ → Option ℕ → Bool → Option ℕ
-given_by k (Some p) hit = Some p
-given_by k None true = None
-given_by k None false = Some k
+abbrev pub pass_after : ℕ → Option ℕ → Bool → Option ℕ
+pass_after k (Some p) hit = Some p
+pass_after k None true = None
+pass_after k None false = Some k

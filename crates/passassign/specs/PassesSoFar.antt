@@ -11,18 +11,19 @@ use Rattle.passassign.specs.declared.stuck.Strike.{Strike}
 use Rattle.passassign.specs.declared.table.State.{State}
 use Rattle.passassign.specs.declared.table.State.TheVariants.{Open}
 use Rattle.passassign.specs.Making.{IsMade, IsPass}
-use Rattle.passassign.specs.Searching.{AreOf}
+use Rattle.passassign.specs.Searching.{BelongTo}
 use Rattle.passassign.specs.Tables.{state_at, is_open, table_passes}
 
 -- an accepted grammar with these symbols and productions
-pub record IsWith (symbols : List Symbol) (productions : List Production) (g : Grammar) : Type 0 where
+pub record IsAcceptedWith (symbols : List Symbol) (productions : List Production) (g : Grammar) : Type 0 where
   pub accepted : IsAccepted g
   pub symbols_are : g.symbols ≡ symbols
   pub productions_are : g.productions ≡ productions
 
--- The state of a grammar after passes: a table of its attributes, the next pass, and its direction.
+-- The state between two passes belongs to a grammar: its table is the partial assignment that the passes before the next one
+-- make, and the direction is that of the next pass.
 pub record IsProgress (g : Grammar) (all : List Dependency) (p : PassesSoFar) : Type 0 where
-  pub of : AreOf g all p.states.items
+  pub of : BelongTo g all p.states.items
   pub made : IsMade g p.next (table_passes p.states.items)
   pub turned : p.direction ≡ direction_of p.next
 
@@ -36,10 +37,10 @@ pub record IsNext (g : Grammar) (all : List Dependency) (old new : PassesSoFar) 
   pub pass : IsPass g old.next (table_passes old.states.items) (table_passes new.states.items) strikes
 
 -- no attribute loses its pass
-abbrev pub AreOpenIn : List State → List State → Type 0
-AreOpenIn new old = (k : ℕ) → state_at new k ≡ Open → state_at old k ≡ Open
+abbrev pub KeepPasses : List State → List State → Type 0
+KeepPasses new old = (k : ℕ) → state_at new k ≡ Open → state_at old k ≡ Open
 
 -- The numbers of attributes without a pass: `after` is the current one, and less than `before`.
-pub record IsLeft (before after : ℕ) (p : PassesSoFar) : Type 0 where
+pub record IsFewerOpen (before after : ℕ) (p : PassesSoFar) : Type 0 where
   pub count : after ≡ open_count p.states.items
   pub less : after < before

@@ -5,7 +5,7 @@ use Rattle.ag_grammar.specs.grammars.Accepted.{IsAccepted}
 use Rattle.ag_grammar.specs.grammars.AttributeGrammar.{Grammar}
 use Rattle.ag_grammar.specs.declared.direction.Direction.{Direction}
 use Rattle.closure.specs.Clauses.{Clauses}
-use Rattle.closure.specs.Edges.{over}
+use Rattle.closure.specs.Edges.{clauses_of_edges}
 use Rattle.closure.specs.declared.addition.Addition.{Addition}
 use Rattle.closure.specs.declared.addition.Reason.{Reason}
 use Rattle.closure.specs.declared.addition.Reason.TheVariants as reason
@@ -16,7 +16,7 @@ use Rattle.passassign.specs.declared.search.Struck.{Struck}
 use Rattle.passassign.specs.declared.stuck.Strike.{Strike}
 use Rattle.passassign.specs.declared.table.State.{State}
 use Rattle.passassign.specs.declared.table.State.TheVariants.{Open}
-use Rattle.passassign.specs.Certificate.{AreGood, IsAhead}
+use Rattle.passassign.specs.Certificate.{AreGood, IsSameOrLater}
 use Rattle.passassign.specs.Dependencies.{AreDependencies}
 use Rattle.passassign.specs.Making.{IsOpen, AreFinished}
 use Rattle.passassign.specs.Tables.{slot_of, state_at, is_marked, table_passes, IsTable}
@@ -35,34 +35,33 @@ edge_of u = record { from = u.argument; to = target_of u }
 
 -- dependencies as edges between `count` slots
 abbrev pub edges_of : List Dependency → ℕ → Clauses
-edges_of all count = over (map edge_of all) count
+edges_of all count = clauses_of_edges (map edge_of all) count
 
 -- Dependencies and their edges are those for a table of this many slots.
 pub record AreReady (found : Dependencies) (count : ℕ) : Type 0 where
   pub edges : found.edges ≡ edges_of found.all.items count
   pub within : (u : Dependency) → Has found.all.items u → (u.argument < count) × (target_of u < count)
 
--- A dependency keeps its target out of a pass, whatever is struck: the argument has no pass yet, and is at
+-- A dependency bars its target from a pass, whatever else is struck: the argument has no pass yet, and is at
 -- the target's own child or at one that is visited later.
 abbrev pub IsBarred : Direction → List State → Dependency → Type 0
-IsBarred d states u = IsAhead d u.place u.from × (state_at states u.argument ≡ Open)
+IsBarred d states u = IsSameOrLater d u.place u.from × (state_at states u.argument ≡ Open)
 
--- a list has the dependencies that keep their targets out of a pass, and no others
+-- a list has the dependencies that bar their targets from a pass, and no others
 abbrev pub AreBarred : Direction → List State → (all barred : List Dependency) → Type 0
 AreBarred d states all barred = (u : Dependency) → Has barred u ↔ (Has all u × IsBarred d states u)
 
--- the dependency by which a target is struck: of the dependencies that keep their targets out for a seed, of
--- all for a clause
+-- the dependency by which a target is struck: one of `barred` for a seed, one of `all` for a clause
 abbrev pub dependency_by : (all barred : List Dependency) → Reason → Option Dependency
 dependency_by all barred (reason.Seed i) = slice_get barred i
 dependency_by all barred (reason.Clause p) = slice_get all p
 
--- the strike at an index is by the dependency that is the reason of an addition
+-- the strike at index i is that of the dependency that is the reason of an addition
 abbrev pub IsStrikeOf : (all barred : List Dependency) → List Strike → ℕ → Addition → Type 0
 IsStrikeOf all barred xs i x = (u : Dependency) × (dependency_by all barred x.reason ≡ Some u) × (slice_get xs i ≡ Some u.strike)
 
--- Strikes by the dependencies that are the reasons of additions.
-pub record AreStrikesOf (all barred : List Dependency) (added : List Addition) (xs : List Strike) : Type 0 where
+-- The strikes of the dependencies that are the reasons of additions, in their order.
+pub record AreStrikesBy (all barred : List Dependency) (added : List Addition) (xs : List Strike) : Type 0 where
   pub len : length xs ≡ length added
   pub exact : (i : ℕ) (x : Addition) → slice_get added i ≡ Some x → IsStrikeOf all barred xs i x
 
@@ -72,7 +71,7 @@ IsStruckAt xs k = (x : Strike) × Has xs x × (struck_slot x ≡ k)
 
 -- A list of dependencies and a table are those of a grammar, and an attribute with a pass does not depend on
 -- one without.
-pub record AreOf (g : Grammar) (all : List Dependency) (states : List State) : Type 0 where
+pub record BelongTo (g : Grammar) (all : List Dependency) (states : List State) : Type 0 where
   pub accepted : IsAccepted g
   pub dependencies : AreDependencies g.productions all
   pub table : IsTable g.symbols states
@@ -83,9 +82,9 @@ pub record AreOf (g : Grammar) (all : List Dependency) (states : List State) : T
 pub record IsSearch (all : List Dependency) (d : Direction) (states : List State) (xs : List Strike) (marks : List Bool) : Type 0 where
   pub marked : (k : ℕ) → (is_marked marks k ≡ true) ↔ IsStruckAt xs k
   pub closed : (u : Dependency) → Has all u → is_marked marks u.argument ≡ true → is_marked marks (target_of u) ≡ true
-  pub good : (g : Grammar) → AreOf g all states → AreGood g d (IsOpen g (table_passes states)) [] xs
-  pub finished : (g : Grammar) → AreOf g all states → AreFinished g d (IsOpen g (table_passes states)) xs
+  pub good : (g : Grammar) → BelongTo g all states → AreGood g d (IsOpen g (table_passes states)) [] xs
+  pub finished : (g : Grammar) → BelongTo g all states → AreFinished g d (IsOpen g (table_passes states)) xs
 
--- the same of the program's strikes and marks
+-- the result of `search`: such strikes and marks
 abbrev pub IsSearched : List Dependency → Direction → List State → Struck → Type 0
 IsSearched all d states found = IsSearch all d states found.strikes.items found.marks.items

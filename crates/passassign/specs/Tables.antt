@@ -4,7 +4,7 @@ use Rattle.ag_grammar.specs.declared.grammar.Symbol.{Symbol}
 use Rattle.ag_grammar.specs.grammars.Accepted.{max_attributes, max_symbols}
 use Rattle.ag_grammar.specs.grammars.AttributeGrammar.{Kind, symbol_names, symbol_kinds}
 use Rattle.passassign.specs.declared.table.State.{State}
-use Rattle.passassign.specs.declared.table.State.TheVariants.{Absent, Open, Given}
+use Rattle.passassign.specs.declared.table.State.TheVariants.{Absent, Open, Assigned}
 use Rattle.passassign.specs.Least.{Partial}
 use Rattle.passassign.specs.Rows.{passes_of}
 
@@ -16,7 +16,7 @@ slot_of s a = s * max_attributes + a
 abbrev pub max_slots : ℕ
 max_slots = max_symbols * max_attributes
 
--- the state of a slot
+-- the state of a slot, Absent if the table has no such slot
 abbrev pub state_at : List State → ℕ → State
 state_at states k = slice_index_or states k Absent
 
@@ -24,20 +24,21 @@ state_at states k = slice_index_or states k Absent
 abbrev pub state_of : List State → ℕ → ℕ → State
 state_of states s a = cond (nat_lt a max_attributes) (state_at states (slot_of s a)) Absent
 
--- the pass of a state
-abbrev pub given : State → Option ℕ
-given Absent = None
-given Open = None
-given (Given p) = Some p
+-- the pass of a state, if it has one
+abbrev pub pass_of_state : State → Option ℕ
+pass_of_state Absent = None
+pass_of_state Open = None
+pass_of_state (Assigned p) = Some p
 
 -- the partial assignment of a table
 abbrev pub table_passes : List State → Partial
-table_passes states s a = given (state_of states s a)
+table_passes states s a = pass_of_state (state_of states s a)
 
+-- the slot has an attribute without a pass
 abbrev pub is_open : State → Bool
 is_open Absent = false
 is_open Open = true
-is_open (Given p) = false
+is_open (Assigned p) = false
 
 -- the number of attributes of a symbol
 abbrev pub attribute_count : Option Symbol → ℕ
@@ -69,12 +70,12 @@ is_marked marks k = slice_index_or marks k false
 abbrev pub after_pass : ℕ → State → Bool → State
 after_pass p Absent struck = Absent
 after_pass p Open true = Open
-after_pass p Open false = Given p
-after_pass p (Given q) struck = Given q
+after_pass p Open false = Assigned p
+after_pass p (Assigned q) struck = Assigned q
 
 -- The rows of a table: there is one for each symbol, with the passes of its attributes, and 0 if one has
 -- none.
 pub record AreRowsOfTable (symbols : List Symbol) (states : List State) (rows : List (List ℕ)) : Type 0 where
   pub count : length rows ≡ length symbols
   pub len : (s : ℕ) → length (passes_of rows s) ≡ attribute_count (slice_get symbols s)
-  pub passes : (s a : ℕ) → a < attribute_count (slice_get symbols s) → slice_get (passes_of rows s) a ≡ Some (unwrap_or (given (state_at states (slot_of s a))) 0)
+  pub passes : (s a : ℕ) → a < attribute_count (slice_get symbols s) → slice_get (passes_of rows s) a ≡ Some (unwrap_or (pass_of_state (state_at states (slot_of s a))) 0)

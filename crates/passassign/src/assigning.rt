@@ -9,9 +9,9 @@ ghost use Rattle.passassign.specs.Answer.{IsInDeclaredOrder, IsFault};
 ghost use Rattle.passassign.specs.Certificate.{stuck_of};
 ghost use Rattle.passassign.specs.Least.{IsLeast};
 ghost use Rattle.passassign.specs.PassStrikes.{AreStrikesOf, AreStrikesSoFar, IsLastInUse};
-ghost use Rattle.passassign.specs.PassesSoFar.{AreOpenIn, IsLeft, IsNext, IsProgress};
-ghost use Rattle.passassign.specs.PassesSoFar.{IsWith, open_count};
-ghost use Rattle.passassign.specs.Rows.{passes_of, AreFew};
+ghost use Rattle.passassign.specs.PassesSoFar.{KeepPasses, IsFewerOpen, IsNext, IsProgress};
+ghost use Rattle.passassign.specs.PassesSoFar.{IsAcceptedWith, open_count};
+ghost use Rattle.passassign.specs.Rows.{passes_of, AreWithinMaxPasses};
 ghost use Rattle.passassign.specs.Searching.{AreReady};
 ghost use Rattle.passassign.specs.Tables.{max_slots, slot_of, state_at, table_passes};
 ghost use Rattle.passassign.specs.declared.assigning.AssignFault.TheVariants as fault;
@@ -20,7 +20,7 @@ ghost use Rattle.passassign.specs.declared.table.State.TheVariants.{Open};
 use crate::assignment::Assignment;
 use crate::search::{Dependencies, search};
 use crate::stuck::{Strike, Strikes, Stuck};
-use crate::table::{State, count_open, give, open_all, open_ones, rows};
+use crate::table::{State, assign_passes, count_open, open_attributes, open_table, rows};
 use ag_grammar::{Direction, Grammar, Production, Symbol};
 use ag_value::{Items, NoMemory};
 use std::alloc::Global;
@@ -42,8 +42,8 @@ impl From<NoMemory> for AssignFault {
     }
 }
 
-/// The passes made so far: the states of the attributes, the number of the next pass, and its
-/// direction.
+/// The state between two passes: the table of the attributes, the number of the next pass, from 1,
+/// and its direction.
 #[derive(Debug, Drop)]
 pub(crate) struct PassesSoFar {
     pub states: Vec<State>,
@@ -72,7 +72,8 @@ impl StrikeLog {
     }
 }
 
-/// Makes the next pass, and returns its strikes.
+/// Assigns the next pass to each attribute without a pass that it can compute. Returns its strikes of
+/// the others.
 fn make_pass(
     alloc: Global,
     dependencies: &Dependencies,
@@ -84,7 +85,7 @@ fn make_pass(
         (length progress.new.states.items ≡ length progress.old.states.items) }
     ensures next { OnOk result (progress.new.next ≡ progress.old.next + 1) }
     ensures left { OnOk result
-        (AreOpenIn progress.new.states.items progress.old.states.items) }
+        (KeepPasses progress.new.states.items progress.old.states.items) }
     ensures made { IfOk result (λ strikes. (g : Plain)
         → IsProgress g dependencies.now.all.items progress.old
         → IsNext g dependencies.now.all.items progress.old progress.new strikes.items) }
@@ -95,15 +96,15 @@ fn make_pass(
         progress.states.as_slice(),
         progress.direction,
     )?;
-    give(&mut progress.states, struck.marks.as_slice(), progress.next);
+    assign_passes(&mut progress.states, struck.marks.as_slice(), progress.next);
     progress.next += 1;
     progress.direction = progress.direction.turned();
     Ok(struck.strikes)
 }
 
-/// Returns the certificate of the attributes without a pass, with the strikes of two passes, the
-/// first of which has the direction of the next pass.
-fn left_of(
+/// Returns the certificate of the attributes without a pass, with the strikes of the last two passes.
+/// Directions alternate, so `first` has the direction of the next pass.
+fn certificate_of(
     alloc: Global,
     progress: &PassesSoFar,
     first: Vec<Strike>,
@@ -116,7 +117,7 @@ fn left_of(
         ↔ (a < max_attributes) × (state_at progress.now.states.items (slot_of s a) ≡ Open)) }
     ensures ordered { IfOk result (λ c. IsInDeclaredOrder c.set) }
 {
-    let set = Items::from_vec(open_ones(alloc, progress.states.as_slice())?);
+    let set = Items::from_vec(open_attributes(alloc, progress.states.as_slice())?);
     let first = Items::from_vec(first);
     let second = Items::from_vec(second);
     match progress.direction {
@@ -133,9 +134,10 @@ fn left_of(
     }
 }
 
-/// Makes the next pass, and a second one if the first leaves as many attributes open. Returns the
-/// number of open attributes. Fails with A1 if the second pass assigns no pass either. Records the
-/// strikes of these passes, if they are wanted.
+/// Makes the next pass, and a second one if the first assigns nothing. `open_before` is the number of
+/// attributes without a pass before the call. Returns their number after it, which is smaller. Fails
+/// with A1 if the second pass assigns nothing either. Appends the strikes of the passes to `kept`, if
+/// they are wanted.
 fn advance(
     alloc: Global,
     dependencies: &Dependencies,
@@ -151,7 +153,7 @@ fn advance(
     ensures len { OnOk result
         (length progress.new.states.items ≡ length progress.old.states.items) }
     ensures next { OnOk result (progress.new.next ≤ progress.old.next + 2) }
-    ensures left { IfOk result (λ left. IsLeft open_before left progress.new) }
+    ensures left { IfOk result (λ left. IsFewerOpen open_before left progress.new) }
     ensures made { OnOk result ((g : Plain)
         → IsProgress g dependencies.now.all.items progress.old
         → IsProgress g dependencies.now.all.items progress.new) }
@@ -179,31 +181,31 @@ fn advance(
         kept.keep(second)?;
         return Ok(left);
     }
-    Err(AssignFault::Stuck(left_of(alloc, progress, first, second)?))
+    Err(AssignFault::Stuck(certificate_of(alloc, progress, first, second)?))
 }
 
 /// Returns the least legal assignment for the symbols and productions of an accepted grammar, and
-/// its strikes, if they are wanted. Fails with A1 if there is none.
+/// its strikes, or no lists if they are not wanted. Fails with A1 if there is none.
 pub(crate) fn assign_all(
     alloc: Global,
     symbols: &[Symbol],
     productions: &[Production],
     wants_strikes: bool,
 ) -> Result<(Assignment, Strikes), AssignFault>
-    requires accepted { (g : Plain) × IsWith symbols.now productions.now g }
+    requires accepted { (g : Plain) × IsAcceptedWith symbols.now productions.now g }
     requires count { length symbols.now ≤ max_symbols }
     requires attributes { Each (λ s. length (attribute_names s) ≤ max_attributes) symbols.now }
     ensures least { IfOk result (λ x. (g : Plain)
-        → IsWith symbols.now productions.now g → IsLeast g (passes_of x.0)) }
+        → IsAcceptedWith symbols.now productions.now g → IsLeast g (passes_of x.0)) }
     ensures few { IfOk result (λ x. (g : Plain)
-        → IsWith symbols.now productions.now g → AreFew x.0) }
+        → IsAcceptedWith symbols.now productions.now g → AreWithinMaxPasses x.0) }
     ensures rows { IfOk result (λ x. length x.0 ≡ length symbols.now) }
     ensures strikes { IfOk result (λ x. (g : Plain)
-        → IsWith symbols.now productions.now g → wants_strikes ≡ true → AreStrikesOf g x.0 x.1.passes) }
+        → IsAcceptedWith symbols.now productions.now g → wants_strikes ≡ true → AreStrikesOf g x.0 x.1.lists) }
     ensures refused { IfErr result (λ e. (g : Plain)
-        → IsWith symbols.now productions.now g → IsFault g e) }
+        → IsAcceptedWith symbols.now productions.now g → IsFault g e) }
 {
-    let states = open_all(alloc, symbols)?;
+    let states = open_table(alloc, symbols)?;
     let dependencies = Dependencies::of(alloc, productions, states.len())?;
     let mut open_now = count_open(states.as_slice());
     let mut progress = PassesSoFar {
@@ -220,7 +222,7 @@ pub(crate) fn assign_all(
     }
     let rows = rows(alloc, symbols, progress.states.as_slice())?;
     let strikes = Strikes {
-        passes: Items::from_vec(kept.lists),
+        lists: Items::from_vec(kept.lists),
     };
     Ok((Assignment::of_rows(rows), strikes))
 }
@@ -230,14 +232,14 @@ pub(crate) fn assign_all(
 /// which is two for each attribute that a grammar may have, and there is one row for each symbol.
 ///
 /// Fails with A1 Stuck if there is no legal assignment, with any number of passes. The certificate
-/// has all attributes that have no pass in any legal assignment of some of the attributes, in
-/// declared order, and shows why they can have none in a pass of either direction: the strikes of
-/// the last two passes tried, in their order.
+/// has exactly the stuck attributes, in declared order: no legal assignment of some attributes gives
+/// them a pass. It shows why they can't have a pass of either direction: it has the strikes of
+/// the last two passes tried, in their order. Fails with NoMemory if the allocator refuses memory.
 ///
-/// Takes memory for the dependencies of the rules and for the strikes of a pass.
+/// Allocates the result, the dependencies of the rules and the strikes of one pass.
 pub fn assign(alloc: Global, grammar: &Grammar) -> Result<Assignment, AssignFault>
     ensures least { IfOk result (λ m. IsLeast grammar.now (passes_of m)) }
-    ensures few { IfOk result AreFew }
+    ensures few { IfOk result AreWithinMaxPasses }
     ensures rows { IfOk result (λ m. length m ≡ length grammar.now.symbols) }
     ensures refused { IfErr result (IsFault grammar.now) }
 {
@@ -248,16 +250,15 @@ pub fn assign(alloc: Global, grammar: &Grammar) -> Result<Assignment, AssignFaul
 /// Returns the assignment of `assign` and the strikes of each of its passes, which show that it is
 /// the least one. Fails as `assign` does.
 ///
-/// Takes memory for all strikes besides: one of 10 bytes for each attribute and each pass before its
-/// own.
+/// Also allocates all strikes: one of 10 bytes for each attribute and each pass before its own.
 pub fn assign_with_strikes(
     alloc: Global,
     grammar: &Grammar,
 ) -> Result<(Assignment, Strikes), AssignFault>
     ensures least { IfOk result (λ x. IsLeast grammar.now (passes_of x.0)) }
-    ensures few { IfOk result (λ x. AreFew x.0) }
+    ensures few { IfOk result (λ x. AreWithinMaxPasses x.0) }
     ensures rows { IfOk result (λ x. length x.0 ≡ length grammar.now.symbols) }
-    ensures strikes { IfOk result (λ x. AreStrikesOf grammar.now x.0 x.1.passes) }
+    ensures strikes { IfOk result (λ x. AreStrikesOf grammar.now x.0 x.1.lists) }
     ensures refused { IfErr result (IsFault grammar.now) }
 {
     assign_all(alloc, grammar.symbols(), grammar.productions(), true)

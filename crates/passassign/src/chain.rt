@@ -12,14 +12,14 @@ ghost use Rattle.passassign.specs.PassStrikes.{strikes_of};
 ghost use Rattle.passassign.specs.Rows.{passes_of};
 ghost use Rattle.passassign.specs.declared.stuck.Strike.{Strike as TheStrike};
 
-use crate::search::is_ahead;
+use crate::search::is_same_or_later;
 use crate::stuck::{Strike, Strikes, Stuck};
 use ag_grammar::{Direction, Grammar, Item, Production, Rule, Target};
 use ag_value::NoMemory;
 use std::alloc::Global;
 
-/// Returns the attribute that an argument of a rule is, or `None` if it is at the target's own child
-/// or at one that a pass in the direction visits later: there no rule of the pass may use it.
+/// Returns the attribute that an argument of a rule is. `None` if it is no attribute of a symbol, or
+/// is at the target's own child or at one that a pass in the direction visits later.
 fn awaited_attribute(
     direction: Direction,
     production: &Production,
@@ -28,7 +28,7 @@ fn awaited_attribute(
 ) -> Option<(u16, u16)>
     ensures { IsAwaited direction production.now rule.now argument result }
 {
-    if is_ahead(direction, rule.target.place, argument.place) {
+    if is_same_or_later(direction, rule.target.place, argument.place) {
         return None;
     }
     match production.item_at(argument.place) {
@@ -38,8 +38,9 @@ fn awaited_attribute(
     }
 }
 
-/// Returns the attribute that a strike waits for: that of its argument, unless this is at the
-/// target's own child or at one that a pass in the direction visits later.
+/// Returns the attribute that a strike waits for: that of its argument. `None` if the argument is at
+/// the target's own child or at one that a pass in the direction visits later, which is a reason by
+/// itself, or if the strike names no attribute of a symbol.
 fn waits_for(grammar: &Grammar, direction: Direction, strike: Strike) -> Option<(u16, u16)>
     ensures { IsWait grammar.now direction strike result }
 {
@@ -56,7 +57,7 @@ fn waits_for(grammar: &Grammar, direction: Direction, strike: Strike) -> Option<
 }
 
 /// Returns whether a strike is of this attribute.
-fn is_of(strike: Strike, symbol: u16, attr: u16) -> bool
+fn is_strike_of(strike: Strike, symbol: u16, attr: u16) -> bool
     ensures { IsTrue result ↔ ((strike.symbol ≡ symbol) × (strike.attr ≡ attr)) }
 {
     strike.symbol == symbol && strike.attr == attr
@@ -69,15 +70,15 @@ fn index_of(strikes: &[Strike], symbol: u16, attr: u16) -> Option<usize>
     ensures none { result ≡ None → IsStruckBy strikes.now symbol attr → ⊥ }
 {
     for (index, strike) in strikes.iter().enumerate() {
-        if is_of(*strike, symbol, attr) {
+        if is_strike_of(*strike, symbol, attr) {
             return Some(index);
         }
     }
     None
 }
 
-/// Returns the index of the strike that the one at an index waits for, if it waits and there is one
-/// before it.
+/// Returns the index of an earlier strike of the attribute that the strike at index `at` waits for.
+/// `None` if it waits for none, or if no earlier strike is of that attribute.
 fn awaited_index(
     grammar: &Grammar,
     direction: Direction,
@@ -146,14 +147,15 @@ fn chain_in(
 }
 
 impl Strikes {
-    /// Lends the strikes of a pass, from 1; none if the assignment has no such pass. Takes no memory.
+    /// Returns the strikes of a pass, numbered from 1; empty if there is no list for it. Does not
+    /// allocate.
     pub fn of_pass(&self, pass: u16) -> &[Strike]
-        ensures { result.now ≡ strikes_of self.now.passes pass }
+        ensures { result.now ≡ strikes_of self.now.lists pass }
     {
         if pass == 0 {
             return &[];
         }
-        match self.passes.as_slice().get(pass as usize - 1) {
+        match self.lists.as_slice().get(pass as usize - 1) {
             Some(list) => list.as_slice(),
             None => &[],
         }
@@ -161,9 +163,11 @@ impl Strikes {
 
     /// Returns why a pass can't compute an attribute that has a later one: a chain of the pass's
     /// strikes, from that of the attribute down to one that waits for no other. Each strike's
-    /// argument is the attribute of the next one. Empty if the pass does not strike the attribute.
+    /// argument is the attribute of the next one. Empty if the pass does not strike the attribute. An
+    /// attribute is its symbol's number and its own.
     ///
-    /// Takes memory for the chain. Its time is the number of the pass's strikes for each link.
+    /// Allocates the chain, and fails if memory is refused. Reads at most all strikes of the pass for
+    /// each strike of the chain.
     pub fn chain_of(
         &self,
         alloc: Global,
@@ -171,7 +175,7 @@ impl Strikes {
         pass: u16,
         attribute: (u16, u16),
     ) -> Result<Vec<Strike>, NoMemory>
-        ensures chain { IfOk result (λ links. (rows : List (List ℕ)) → AreStrikesOf grammar.now rows self.now.passes
+        ensures chain { IfOk result (λ links. (rows : List (List ℕ)) → AreStrikesOf grammar.now rows self.now.lists
             → 1 ≤ pass → HasPassAfter (passes_of rows) pass attribute.0 attribute.1
             → IsChainOf grammar.now (direction_of pass) (HasPassFrom (passes_of rows) pass) attribute.0 attribute.1 links.items) }
     {
@@ -186,7 +190,7 @@ impl Strikes {
 }
 
 impl Stuck {
-    /// Lends the strikes of the passes of a direction. Takes no memory.
+    /// Returns the strikes of a pass of a direction. Does not allocate.
     pub fn of_direction(&self, direction: Direction) -> &[Strike]
         ensures { result.now ≡ list_for self.now direction }
     {
@@ -197,7 +201,8 @@ impl Stuck {
     }
 
     /// Returns why no pass of a direction can compute an attribute of the set: a chain of strikes, as
-    /// `Strikes::chain_of` returns one of an assignment.
+    /// `Strikes::chain_of` does. Empty if the list does not strike the attribute. Fails if memory is
+    /// refused.
     pub fn chain_of(
         &self,
         alloc: Global,

@@ -42,7 +42,7 @@ fn symbol_at(places: &[Item], place: u16) -> Option<u16>
     }
 }
 
-/// Returns the slot of an attribute at a place, if a symbol is there.
+/// Returns the slot in a table of an attribute at a place, if a symbol is there.
 fn slot_at(places: &[Item], attribute: Target) -> Option<usize>
     ensures { result
         ≡ table_slot (symbol_of (slice_get places.now attribute.place)) attribute.attr }
@@ -53,9 +53,10 @@ fn slot_at(places: &[Item], attribute: Target) -> Option<usize>
     }
 }
 
-/// Appends the dependency of a rule's target at a place on an argument, if the argument is an
-/// attribute of a symbol.
-fn put_argument(
+/// Appends the dependency of a rule's target at place `place` on argument `arg` of the rule, if the
+/// argument is an attribute of a symbol. `head` is a strike of the target by this rule; its argument
+/// is replaced.
+fn append_argument(
     found: &mut Vec<Dependency>,
     places: &[Item],
     head: Strike,
@@ -86,8 +87,9 @@ fn put_argument(
     }
 }
 
-/// Appends the dependencies of a rule's target on the rule's arguments.
-fn put_arguments(
+/// Appends the dependencies of a rule's target on the rule's arguments. `head` is a strike of the
+/// target by this rule; its argument is replaced.
+fn append_arguments(
     found: &mut Vec<Dependency>,
     places: &[Item],
     head: Strike,
@@ -99,13 +101,13 @@ fn put_arguments(
         found.old.items found.new.items) }
 {
     for (index, argument) in args.iter().enumerate() {
-        put_argument(found, places, head, place, index as u16, *argument)?;
+        append_argument(found, places, head, place, index as u16, *argument)?;
     }
     Ok(())
 }
 
-/// Lends the arguments of a rule: there is one for each of the different occurrences in its
-/// expression.
+/// Returns the arguments of a rule: one for each of the distinct occurrences in its expression. The
+/// call of `occurrences` is there for its contract: they are distinct.
 fn arguments(rule: &Rule) -> &[Target]
     ensures lent { result.now ≡ rule.now.args }
     ensures different { AreDifferent rule.now.expr.1 }
@@ -115,7 +117,7 @@ fn arguments(rule: &Rule) -> &[Target]
 }
 
 /// Appends the dependencies of a rule.
-fn put_rule(
+fn append_rule(
     found: &mut Vec<Dependency>,
     places: &[Item],
     production: u16,
@@ -136,7 +138,7 @@ fn put_rule(
                 rule: number,
                 arg: 0,
             };
-            put_arguments(found, places, head, target.place, arguments(rule))?;
+            append_arguments(found, places, head, target.place, arguments(rule))?;
             Ok(())
         }
         None => Ok(()),
@@ -144,7 +146,7 @@ fn put_rule(
 }
 
 /// Appends the dependencies of rules of one production.
-fn put_rules(
+fn append_rules(
     found: &mut Vec<Dependency>,
     places: &[Item],
     production: u16,
@@ -155,13 +157,13 @@ fn put_rules(
         found.old.items found.new.items) }
 {
     for (index, rule) in rules.iter().enumerate() {
-        put_rule(found, places, production, index as u16, rule)?;
+        append_rule(found, places, production, index as u16, rule)?;
     }
     Ok(())
 }
 
 /// Appends the dependencies of a production.
-fn put_production(
+fn append_production(
     alloc: Global,
     found: &mut Vec<Dependency>,
     number: u16,
@@ -172,7 +174,7 @@ fn put_production(
         found.old.items found.new.items) }
 {
     let places = production.places(alloc)?;
-    put_rules(
+    append_rules(
         found,
         places.as_slice(),
         number,
@@ -191,7 +193,7 @@ pub(crate) fn all_dependencies(
 {
     let mut found = Vec::new(alloc);
     for (index, production) in productions.iter().enumerate() {
-        put_production(alloc, &mut found, index as u16, production)?;
+        append_production(alloc, &mut found, index as u16, production)?;
     }
     Ok(found)
 }

@@ -25,24 +25,25 @@ pub fn certified_is_refused()
     ensures { CertifiedIsRefused }
 {}
 
-/// Passes made one after the other assign no later pass than a legal partial assignment.
+/// Passes made one after the other assign no attribute a later pass than a legal partial assignment
+/// does.
 pub fn made_is_at_most()
     ensures { MadeIsAtMost }
 {}
 
-/// An attribute that they have not assigned yet has in a legal partial assignment no earlier pass
-/// than the next.
+/// An attribute to which such passes have assigned no pass yet has no pass in a legal partial
+/// assignment that is earlier than the next one to be made.
 pub fn left_is_later()
     ensures { LeftIsLater }
 {}
 
-/// The assignment that the passes make is legal, if each production is complete and normal.
+/// The partial assignment that such passes make is legal, if each production is complete and normal.
 #[tactic(auto, using(crate::proofs::making::Legal::made_legal))]
 pub fn made_is_legal()
     ensures { MadeIsLegal }
 {}
 
-/// If they assign a pass to every attribute, that is the least assignment.
+/// If such passes assign a pass to every attribute, their assignment is the least one.
 pub fn whole_is_least()
     ensures { WholeIsLeast }
 {}
@@ -75,8 +76,8 @@ pub fn strikes_grow()
     ensures { StrikesGrow }
 {}
 
-/// Good strikes to which no other can be added make a pass, if marks are those of the struck
-/// attributes.
+/// Good strikes to which no other can be added make a pass, which the open attributes get that are not
+/// marked as struck.
 #[tactic(auto, using(crate::proofs::making::Marked::pass_by_marks))]
 pub fn marks_make_pass()
     ensures { MarksMakePass }
@@ -103,7 +104,7 @@ pub fn chains_show_later()
     ensures { ChainsShowLater }
 {}
 
-/// Each attribute of a later pass has a chain in the strikes of a pass.
+/// Each attribute that has a later pass than k has a chain of strikes of pass k.
 pub fn chains_are_there()
     ensures { ChainsAreThere }
 {}

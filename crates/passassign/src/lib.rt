@@ -1,5 +1,11 @@
-//! The least assignment of passes to the attributes of a grammar, and certificates that there is
+//! The least assignment of passes to the attributes of a grammar, or a certificate that there is
 //! none.
+//!
+//! A pass visits the nodes of a tree depth first: odd passes visit the children of a node from right
+//! to left, even ones from left to right. An assignment gives each attribute the pass that computes
+//! it. It is legal if each rule finds its arguments computed when the pass reaches the rule. The
+//! least one is computed pass by pass. A pass strikes each attribute that it can't compute, with the
+//! rule and the argument that are the reason, and the rest get the pass.
 #![tactic(auto)]
 
 mod assigning;
@@ -14,5 +20,5 @@ mod table;
 
 pub use assigning::{AssignFault, assign, assign_with_strikes};
 pub use assignment::Assignment;
-pub use search::is_ahead;
+pub use search::is_same_or_later;
 pub use stuck::{Strike, Strikes, Stuck};

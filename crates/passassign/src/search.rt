@@ -5,15 +5,15 @@ ghost use Rattle.std.specs.Prelude.{ℕ, ◌≡◌, ◌*◌, ◌↔◌, Some, If
 ghost use Rattle.ag_grammar.specs.Lists.{Each};
 ghost use Rattle.ag_grammar.specs.grammars.Accepted.{IsAccepted, max_attributes};
 ghost use Rattle.ag_grammar.specs.grammars.AttributeGrammar.{Grammar as Plain};
-ghost use Rattle.passassign.specs.Certificate.{IsAhead};
+ghost use Rattle.passassign.specs.Certificate.{IsSameOrLater};
 ghost use Rattle.passassign.specs.Dependencies.{Adds, AreDependencies};
 ghost use Rattle.passassign.specs.Searching.{edge_of, target_of, dependency_by, IsBarred, AreBarred};
-ghost use Rattle.passassign.specs.Searching.{AreReady, AreStrikesOf, IsSearched};
+ghost use Rattle.passassign.specs.Searching.{AreReady, AreStrikesBy, IsSearched};
 ghost use Rattle.passassign.specs.declared.dependency.Dependency.{Dependency as PlainDependency};
 
 use crate::dependency::{Dependency, all_dependencies};
 use crate::stuck::Strike;
-use crate::table::{State, has_none, look_up, slot};
+use crate::table::{State, has_no_pass, look_up, slot};
 use ag_grammar::{Direction, Production};
 use ag_value::NoMemory;
 use closure::{Addition, Clauses, Edge, Reason};
@@ -28,13 +28,13 @@ pub(crate) struct Dependencies {
 }
 
 /// Returns the slot of a dependency's target.
-fn target(one: Dependency) -> usize
+fn target_slot(one: Dependency) -> usize
     ensures { result ≡ target_of one }
 {
     slot(one.strike.symbol, one.strike.attr)
 }
 
-/// Returns dependencies as edges.
+/// Returns the dependencies as edges from the argument's slot to the target's.
 fn edges(alloc: Global, all: &[Dependency]) -> Result<Vec<Edge>, NoMemory>
     ensures { IfOk result (λ edges. edges.items ≡ map edge_of all.now) }
 {
@@ -42,7 +42,7 @@ fn edges(alloc: Global, all: &[Dependency]) -> Result<Vec<Edge>, NoMemory>
     for one in all {
         edges.push(Edge {
             from: one.argument,
-            to: target(*one),
+            to: target_slot(*one),
         })?;
     }
     Ok(edges)
@@ -75,11 +75,11 @@ pub(crate) struct Struck {
     pub marks: Vec<bool>,
 }
 
-/// Returns whether the child at the second place is the one at the first, or a pass in a direction
-/// visits it later: a rule for the first child can't use attributes that the pass computes there.
-/// Place 0 is not a child.
-pub fn is_ahead(direction: Direction, first: u16, second: u16) -> bool
-    ensures { IsTrue result ↔ IsAhead direction first second }
+/// Returns whether the child at place `second` is the one at place `first`, or a pass in the
+/// direction visits it later. A rule with a target at `first` can't use what this pass computes at
+/// `second`. False if a place is 0, which is not a child. Does not allocate.
+pub fn is_same_or_later(direction: Direction, first: u16, second: u16) -> bool
+    ensures { IsTrue result ↔ IsSameOrLater direction first second }
 {
     if first == 0 || second == 0 {
         return false;
@@ -87,16 +87,16 @@ pub fn is_ahead(direction: Direction, first: u16, second: u16) -> bool
     second == first || direction.is_before(first, second)
 }
 
-/// Returns whether a dependency keeps its target out of a pass, whatever is struck: the argument
+/// Returns whether a dependency bars its target from a pass, whatever else is struck: the argument
 /// has no pass yet, and is at the target's own child or at one that is visited later.
 fn is_barred(direction: Direction, states: &[State], one: Dependency) -> bool
     ensures { IsTrue result ↔ IsBarred direction states.now one }
 {
-    is_ahead(direction, one.place, one.from) && has_none(look_up(states, one.argument))
+    is_same_or_later(direction, one.place, one.from) && has_no_pass(look_up(states, one.argument))
 }
 
-/// Appends a dependency if it keeps its target out of a pass.
-fn put_barred(
+/// Appends a dependency if it bars its target from a pass.
+fn append_barred(
     barred: &mut Vec<Dependency>,
     direction: Direction,
     states: &[State],
@@ -111,8 +111,8 @@ fn put_barred(
     Ok(())
 }
 
-/// Returns the dependencies that keep their targets out of a pass, in the same order.
-fn barred_ones(
+/// Returns the dependencies that bar their targets from a pass, in the order of `all`.
+fn barred_dependencies(
     alloc: Global,
     direction: Direction,
     states: &[State],
@@ -122,24 +122,25 @@ fn barred_ones(
 {
     let mut barred = Vec::new(alloc);
     for one in all {
-        put_barred(&mut barred, direction, states, *one)?;
+        append_barred(&mut barred, direction, states, *one)?;
     }
     Ok(barred)
 }
 
 /// Returns the slots of the targets of dependencies.
-fn targets(alloc: Global, dependencies: &[Dependency]) -> Result<Vec<usize>, NoMemory>
+fn target_slots(alloc: Global, dependencies: &[Dependency]) -> Result<Vec<usize>, NoMemory>
     ensures { IfOk result (λ targets. targets.items ≡ map target_of dependencies.now) }
 {
     let mut targets = Vec::new(alloc);
     for one in dependencies {
-        targets.push(target(*one))?;
+        targets.push(target_slot(*one))?;
     }
     Ok(targets)
 }
 
-/// Returns the dependency by which a target is struck.
-fn by_reason(all: &[Dependency], barred: &[Dependency], reason: Reason) -> Dependency
+/// Returns the dependency by which a target is struck: one of `barred` for a seed, one of `all` for
+/// a clause.
+fn dependency_for(all: &[Dependency], barred: &[Dependency], reason: Reason) -> Dependency
     requires { (u : PlainDependency) × (dependency_by all.now barred.now reason ≡ Some u) }
     ensures { dependency_by all.now barred.now reason ≡ Some result }
 {
@@ -158,18 +159,19 @@ fn strikes_of(
 ) -> Result<Vec<Strike>, NoMemory>
     requires { Each (λ x. (u : PlainDependency) × (dependency_by all.now barred.now x.reason ≡ Some u))
         added.now }
-    ensures { IfOk result (λ xs. AreStrikesOf all.now barred.now added.now xs.items) }
+    ensures { IfOk result (λ xs. AreStrikesBy all.now barred.now added.now xs.items) }
 {
     let mut strikes = Vec::new(alloc);
     for one in added {
-        strikes.push(by_reason(all, barred, one.reason).strike)?;
+        strikes.push(dependency_for(all, barred, one.reason).strike)?;
     }
     Ok(strikes)
 }
 
-/// Returns the strikes of a pass in a direction over a table: first of the targets that are kept
-/// out of it whatever is struck, in the order of the dependencies, and then of those that depend on
-/// struck attributes, in the order in which these are struck.
+/// Returns the strikes of a pass in a direction, and marks of the struck attributes. `states` is the
+/// table before the pass. The targets that a dependency bars come first, in the order of the
+/// dependencies, and then those that depend on struck attributes, in the order in which these are
+/// struck.
 pub(crate) fn search(
     alloc: Global,
     dependencies: &Dependencies,
@@ -180,8 +182,8 @@ pub(crate) fn search(
     ensures { IfOk result (IsSearched dependencies.now.all.items direction states.now) }
 {
     let all = dependencies.all.as_slice();
-    let barred = barred_ones(alloc, direction, states, all)?;
-    let seeds = targets(alloc, barred.as_slice())?;
+    let barred = barred_dependencies(alloc, direction, states, all)?;
+    let seeds = target_slots(alloc, barred.as_slice())?;
     let found = dependencies.edges.find(alloc, seeds.as_slice())?;
     let strikes = strikes_of(alloc, all, barred.as_slice(), found.added.as_slice())?;
     Ok(Struck {

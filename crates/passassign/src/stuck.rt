@@ -3,37 +3,39 @@
 
 use ag_value::Items;
 
-/// A reason why an attribute can't have a pass of some direction: an argument of a rule that
-/// defines it.
+/// A reason why a pass of some direction can't compute an attribute: one of its rules, and an
+/// argument of this rule that is not computed when the pass reaches the rule. All numbers are from
+/// 0. The data alone don't make a strike true: `Certificate.IsGood` says when it is a good one.
 #[derive(Clone, Copy, Debug, PartialEq, Eq)]
 pub struct Strike {
     /// The number of the attribute's symbol.
     pub symbol: u16,
     /// The attribute's number at its symbol.
     pub attr: u16,
-    /// The number of a production.
+    /// The number of the rule's production.
     pub production: u16,
-    /// The number of one of its rules.
+    /// The rule's number in its production.
     pub rule: u16,
-    /// The number of one of the rule's arguments.
+    /// The argument's number in the rule.
     pub arg: u16,
 }
 
-/// A set of attributes, and two lists of strikes of them, each in the order in which they are made.
+/// A certificate that a grammar has no legal assignment: a set of attributes, and for each direction
+/// of passes a list that strikes all of them, in the order of the strikes.
 #[derive(Debug, Drop)]
 pub struct Stuck {
-    /// The attributes, each by its symbol's number and its own.
+    /// The attributes, each by its symbol's number and its own at the symbol.
     pub set: Items<(u16, u16)>,
-    /// The strikes of a pass from right to left, like the odd passes.
+    /// The strikes of a pass from right to left, the direction of odd passes.
     pub odd: Items<Strike>,
-    /// The strikes of a pass from left to right, like the even passes.
+    /// The strikes of a pass from left to right, the direction of even passes.
     pub even: Items<Strike>,
 }
 
-/// The strikes of each pass of an assignment: the first list is that of pass 1. The list of a pass
-/// strikes each attribute that has a later pass.
+/// A certificate that no attribute can have an earlier pass than in an assignment: the strikes of
+/// each of its passes. The list of a pass strikes each attribute that has a later pass.
 #[derive(Debug, Drop)]
 pub struct Strikes {
-    /// The strikes of each pass, in the order in which they are made.
-    pub passes: Items<Items<Strike>>,
+    /// One list for each pass, the first for pass 1, each in the order of its strikes.
+    pub lists: Items<Items<Strike>>,
 }

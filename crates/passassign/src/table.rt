@@ -1,4 +1,5 @@
-//! A table of all attributes, with their passes so far.
+//! A table of all attributes, with their passes so far. Each symbol has `MAX_ATTRIBUTES` slots, one
+//! for each attribute that it may have.
 
 ghost use Rattle.std.specs.Prelude.{ℕ, ◌≡◌, ◌+◌, ◌*◌, ◌/◌, ◌%◌, ◌^◌, ◌<◌, ◌≤◌, ◌↔◌, ◌++◌};
 ghost use Rattle.std.specs.Prelude.{[], ◌∷◌, count_by, length};
@@ -8,7 +9,7 @@ ghost use Rattle.ag_grammar.specs.grammars.Accepted.{max_attributes, max_symbols
 ghost use Rattle.ag_grammar.specs.grammars.AttributeGrammar.{attribute_names};
 ghost use Rattle.passassign.specs.Answer.{IsInDeclaredOrder};
 ghost use Rattle.passassign.specs.Rows.{numbers_of};
-ghost use Rattle.passassign.specs.Tables.{max_slots, slot_of, state_at, first_state, given, is_open};
+ghost use Rattle.passassign.specs.Tables.{max_slots, slot_of, state_at, first_state, pass_of_state, is_open};
 ghost use Rattle.passassign.specs.Tables.{after_pass, is_marked, AreRowsOfTable, IsFirstTable};
 ghost use Rattle.passassign.specs.declared.table.State.TheVariants.{Open};
 
@@ -24,18 +25,18 @@ pub(crate) enum State {
     Absent,
     /// The attribute has no pass yet.
     Open,
-    /// The attribute has this pass.
-    Given(u16),
+    /// The attribute has this pass, from 1.
+    Assigned(u16),
 }
 
-/// Returns the slot of an attribute.
+/// Returns the slot of an attribute: the index of its state in the table.
 pub(crate) fn slot(symbol: u16, attr: u16) -> usize
     ensures { result ≡ slot_of symbol attr }
 {
     symbol as usize * MAX_ATTRIBUTES + attr as usize
 }
 
-/// Returns the state of a slot.
+/// Returns the state of a slot, `Absent` if the table has no such slot.
 pub(crate) fn look_up(states: &[State], slot: usize) -> State
     ensures { result ≡ state_at states.now slot }
 {
@@ -47,18 +48,18 @@ pub(crate) fn look_up(states: &[State], slot: usize) -> State
 }
 
 /// Returns whether the slot has an attribute without a pass.
-pub(crate) fn has_none(state: State) -> bool
+pub(crate) fn has_no_pass(state: State) -> bool
     ensures { result ≡ is_open state }
 {
     match state {
         State::Absent => false,
         State::Open => true,
-        State::Given(_) => false,
+        State::Assigned(_) => false,
     }
 }
 
 /// Returns the initial state of an attribute whose symbol has `count` attributes.
-fn state_at_first(attr: usize, count: usize) -> State
+fn initial_state(attr: usize, count: usize) -> State
     ensures { result ≡ first_state count attr }
 {
     if attr < count {
@@ -68,8 +69,8 @@ fn state_at_first(attr: usize, count: usize) -> State
     }
 }
 
-/// Appends the slots of a symbol with `count` attributes.
-fn open_symbol(states: &mut Vec<State>, count: usize) -> Result<(), NoMemory>
+/// Appends the `MAX_ATTRIBUTES` slots of a symbol, of which the first `count` have an attribute.
+fn append_slots(states: &mut Vec<State>, count: usize) -> Result<(), NoMemory>
     ensures len { OnOk result (length states.new.items ≡ length states.old.items + max_attributes) }
     ensures kept { OnOk result ((k : ℕ) → k < length states.old.items
         → state_at states.new.items k ≡ state_at states.old.items k) }
@@ -77,29 +78,29 @@ fn open_symbol(states: &mut Vec<State>, count: usize) -> Result<(), NoMemory>
         → state_at states.new.items (length states.old.items + a) ≡ first_state count a) }
 {
     for attr in 0..MAX_ATTRIBUTES {
-        states.push(state_at_first(attr, count))?;
+        states.push(initial_state(attr, count))?;
     }
     Ok(())
 }
 
-/// Makes the table of all attributes, none of which has a pass.
-pub(crate) fn open_all(alloc: Global, symbols: &[Symbol]) -> Result<Vec<State>, NoMemory>
+/// Returns the table of all attributes, none of which has a pass.
+pub(crate) fn open_table(alloc: Global, symbols: &[Symbol]) -> Result<Vec<State>, NoMemory>
     requires { Each (λ s. length (attribute_names s) ≤ max_attributes) symbols.now }
     ensures { IfOk result (λ states. IsFirstTable symbols.now states.items) }
 {
     let mut states = Vec::new(alloc);
     for symbol in symbols {
-        open_symbol(&mut states, symbol.attribute_count())?;
+        append_slots(&mut states, symbol.attribute_count())?;
     }
     Ok(states)
 }
 
 /// Returns the pass in a slot, 0 if there is none.
 fn pass_at(states: &[State], slot: usize) -> u16
-    ensures { result ≡ unwrap_or (given (state_at states.now slot)) 0 }
+    ensures { result ≡ unwrap_or (pass_of_state (state_at states.now slot)) 0 }
 {
     match look_up(states, slot) {
-        State::Given(pass) => pass,
+        State::Assigned(pass) => pass,
         State::Open => 0,
         State::Absent => 0,
     }
@@ -111,7 +112,7 @@ fn row(alloc: Global, states: &[State], from: usize, count: usize) -> Result<Vec
     requires count { count ≤ max_attributes }
     ensures len { IfOk result (λ row. length row.items ≡ count) }
     ensures passes { IfOk result (λ row. (a : ℕ) → a < count
-        → slice_get row.items a ≡ Some (unwrap_or (given (state_at states.now (from + a))) 0)) }
+        → slice_get row.items a ≡ Some (unwrap_or (pass_of_state (state_at states.now (from + a))) 0)) }
 {
     let mut row = Vec::new(alloc);
     for attr in 0..count {
@@ -120,7 +121,7 @@ fn row(alloc: Global, states: &[State], from: usize, count: usize) -> Result<Vec
     Ok(row)
 }
 
-/// Returns the passes of all attributes, by symbols.
+/// Returns a row for each symbol, with the passes of its attributes, and 0 for one that has none.
 pub(crate) fn rows(
     alloc: Global,
     symbols: &[Symbol],
@@ -142,15 +143,15 @@ pub(crate) fn rows(
     Ok(rows)
 }
 
-/// Appends an attribute if it has no pass.
-fn put_open(found: &mut Vec<(u16, u16)>, state: State, slot: usize) -> Result<(), NoMemory>
+/// Appends the attribute of a slot in this state, if it has no pass.
+fn append_open(found: &mut Vec<(u16, u16)>, state: State, slot: usize) -> Result<(), NoMemory>
     requires { slot < 2 ^ 16 * max_attributes }
     ensures puts { OnOk result (is_open state ≡ true
         → found.new.items
         ≡ found.old.items ++ (slot / max_attributes, slot % max_attributes) ∷ []) }
     ensures other { OnOk result (is_open state ≡ false → found.new.items ≡ found.old.items) }
 {
-    if has_none(state) {
+    if has_no_pass(state) {
         found.push((
             (slot / MAX_ATTRIBUTES) as u16,
             (slot % MAX_ATTRIBUTES) as u16,
@@ -159,8 +160,8 @@ fn put_open(found: &mut Vec<(u16, u16)>, state: State, slot: usize) -> Result<()
     Ok(())
 }
 
-/// Returns the attributes that have no pass, in the order of the table.
-pub(crate) fn open_ones(alloc: Global, states: &[State]) -> Result<Vec<(u16, u16)>, NoMemory>
+/// Returns the attributes that have no pass, by symbol and then by attribute.
+pub(crate) fn open_attributes(alloc: Global, states: &[State]) -> Result<Vec<(u16, u16)>, NoMemory>
     requires { length states.now ≤ max_slots }
     ensures all { IfOk result (λ found. (s a : ℕ)
         → Has found.items (s, a) ↔ (a < max_attributes) × (state_at states.now (slot_of s a) ≡ Open)) }
@@ -168,12 +169,12 @@ pub(crate) fn open_ones(alloc: Global, states: &[State]) -> Result<Vec<(u16, u16
 {
     let mut found = Vec::new(alloc);
     for (index, state) in states.iter().enumerate() {
-        put_open(&mut found, *state, index)?;
+        append_open(&mut found, *state, index)?;
     }
     Ok(found)
 }
 
-/// Returns the state of an attribute after pass `pass`.
+/// Returns the state of an attribute after pass `pass`, which strikes it or does not.
 fn after(state: State, pass: u16, is_struck: bool) -> State
     ensures { result ≡ after_pass pass state is_struck }
 {
@@ -182,21 +183,21 @@ fn after(state: State, pass: u16, is_struck: bool) -> State
         State::Open => if is_struck {
             State::Open
         } else {
-            State::Given(pass)
+            State::Assigned(pass)
         },
-        State::Given(earlier) => State::Given(earlier),
+        State::Assigned(earlier) => State::Assigned(earlier),
     }
 }
 
-/// Returns whether a slot is marked.
+/// Returns whether a slot is marked; false if there is no mark for it.
 pub(crate) fn has_mark(marks: &[bool], slot: usize) -> bool
     ensures { result ≡ is_marked marks.now slot }
 {
     slot < marks.len() && marks[slot]
 }
 
-/// Assigns a pass to each attribute that has none and is not marked.
-pub(crate) fn give(states: &mut Vec<State>, marks: &[bool], pass: u16)
+/// Assigns pass `pass` to each attribute that has none and is not marked.
+pub(crate) fn assign_passes(states: &mut Vec<State>, marks: &[bool], pass: u16)
     ensures len { length states.new.items ≡ length states.old.items }
     ensures after { (k : ℕ) → state_at states.new.items k
         ≡ after_pass pass (state_at states.old.items k) (is_marked marks.now k) }
@@ -211,5 +212,5 @@ pub(crate) fn give(states: &mut Vec<State>, marks: &[bool], pass: u16)
 pub(crate) fn count_open(states: &[State]) -> usize
     ensures { result ≡ count_by is_open states.now }
 {
-    states.iter().filter(|state| has_none(**state)).count()
+    states.iter().filter(|state| has_no_pass(**state)).count()
 }

@@ -14,10 +14,10 @@ use Rattle.ag_grammar.specs.grammars.AttributeGrammar.{item_at, IsArgument}
 use Rattle.ag_grammar.specs.grammars.Passes.{Passes, HasPass, IsBefore, direction_of, item_passes}
 use Rattle.passcode.specs.declared.instr.Instr.{Instr}
 use Rattle.passcode.specs.declared.instr.Instr.TheVariants as instr
-use Rattle.passcode.specs.Agreement.{GivesTargets, HasArguments, HasPlace, IsAvailable, IsChild, IsGiving, IsListFor, IsRuleAt}
-use Rattle.passcode.specs.Agreement.{Precedes, OccursBefore, OccursOnceIf, VisitsPlaces, def_of, instruction_of}
+use Rattle.passcode.specs.Agreement.{ComputesTargets, HasArguments, HasPlace, IsAvailableAt, IsChild, IsComputation}
+use Rattle.passcode.specs.Agreement.{ListAgrees, IsRuleAt, Precedes, OccursBefore, OccursOnceIf, VisitsPlaces, set_or_def, instruction_of}
 use Rattle.passcode.specs.Course as Course
-use Rattle.passcode.specs.Course.{Phase, State, Between, Got, Gone, Ended, MayGive, MayRun, IsTurnOf, Runs, after, arity}
+use Rattle.passcode.specs.Course.{Phase, State, Between, Got, Gone, Ended, MayCompute, MayRun, IsTurnOf, Runs, after, arity}
 use Rattle.passcode.specs.Course.{place_of, start, state_at}
 use Rattle.passcode.proofs.Marks.{end_mark, got_child, get_mark, go_mark, put_mark, read_is, rule_mark, run_stays, run_is, run_in}
 use Rattle.passcode.proofs.Marks.{read_in}
@@ -201,10 +201,10 @@ module _ (m : Passes) (q : Production) (k : ℕ) (xs : List Instr) (one : 1 ≤ 
   }
 
   -- a rule's own instruction
-  of_rule : (s : State) (j a r : ℕ) (g : MayGive m q k s j a r) → def_of j a r ≡ instruction_of g.rule r
-  of_rule s j a r g = ap (λ (o : Target). def_of o.place o.attr r) (sym g.target)
+  of_rule : (s : State) (j a r : ℕ) (g : MayCompute m q k s j a r) → set_or_def j a r ≡ instruction_of g.rule r
+  of_rule s j a r g = ap (λ (o : Target). set_or_def o.place o.attr r) (sym g.target)
 
-  is_own : (i : Instr) → IsGiving i → Has xs i → (r : ℕ) × (u : Rule) × IsRuleAt q r u × (i ≡ instruction_of u r)
+  is_own : (i : Instr) → IsComputation i → Has xs i → (r : ℕ) × (u : Rule) × IsRuleAt q r u × (i ≡ instruction_of u r)
   is_own i (zero, a, r, inl e) h = let turn = (may h.0 (instr.Set 0 a r) (h.1 ∙ ap Some e)).0 in
       absurd (let p = turn.place in omega arith)
   is_own i (suc j, a, r, inl e) h = let g = (may h.0 (instr.Set (suc j) a r) (h.1 ∙ ap Some e)).1 in
@@ -213,21 +213,21 @@ module _ (m : Passes) (q : Production) (k : ℕ) (xs : List Instr) (one : 1 ≤ 
       (r, g.rule, g.numbered, e ∙ of_rule (state_at q start xs h.0) 0 a r g)
 
   -- where a rule's own instruction is it may give its value
-  may_give : (j a r n : ℕ) → slice_get xs n ≡ Some (def_of j a r) → MayGive m q k (state_at q start xs n) j a r
-  may_give zero a r n e = (may n (instr.Def a r) e).1
-  may_give (suc j) a r n e = (may n (instr.Set (suc j) a r) e).1
+  may_compute : (j a r n : ℕ) → slice_get xs n ≡ Some (set_or_def j a r) → MayCompute m q k (state_at q start xs n) j a r
+  may_compute zero a r n e = (may n (instr.Def a r) e).1
+  may_compute (suc j) a r n e = (may n (instr.Set (suc j) a r) e).1
 
   -- and the rule is this one
   module _ (r n : ℕ) (u : Rule) (is : IsRuleAt q r u) (e : slice_get xs n ≡ Some (instruction_of u r)) where
-    its_own : MayGive m q k (state_at q start xs n) u.target.place u.target.attr r
-    its_own = may_give u.target.place u.target.attr r n e
+    its_own : MayCompute m q k (state_at q start xs n) u.target.place u.target.attr r
+    its_own = may_compute u.target.place u.target.attr r n e
 
     same : its_own.rule ≡ u
     same = let both : Some its_own.rule ≡ Some u = sym its_own.numbered ∙ is in cc
 
-  gives : GivesTargets m q k xs
-  gives = record {
-    given = λ r u is. occurring (λ s. Has s.done r) (instruction_of u r) (rule_mark m q k r u is) (HasPass m q u.target k)
+  computes : ComputesTargets m q k xs
+  computes = record {
+    computed = λ r u is. occurring (λ s. Has s.done r) (instruction_of u r) (rule_mark m q k r u is) (HasPass m q u.target k)
         (run_rule r u is)
         (λ h. subst (λ (w : Rule). HasPass m q w.target k) (same r h.0 u is h.1) (its_own r h.0 u is h.1).passed);
     own = is_own;
@@ -253,7 +253,7 @@ module _ (m : Passes) (q : Production) (k : ℕ) (xs : List Instr) (one : 1 ≤ 
       hand : Course.IsAvailable m q k (state_at q start xs n) o
       hand = (its_own r n u is e).available o (subst (λ (w : Rule). IsArgument w o) (sym (same r n u is e)) arg)
 
-      go : Course.IsAvailable m q k (state_at q start xs n) o → IsAvailable m q k xs n o
+      go : Course.IsAvailable m q k (state_at q start xs n) o → IsAvailableAt m q k xs n o
       go (p, has, most, inl less) = inr (inl (p, has, less))
       go (p, has, most, inr (inl own)) = inl own
       go (p, has, most, inr (inr (t, less, place))) = elim (cases_lt p k) [
@@ -270,5 +270,10 @@ module _ (m : Passes) (q : Production) (k : ℕ) (xs : List Instr) (one : 1 ≤ 
             inr (inr (now, subst (λ j. OccursBefore xs n (instr.Go j)) (sym place) go)))
       ]
 
-  pub agrees : IsListFor m q k xs
-  agrees = record { visits = visits; gives = gives; arguments = arguments; ends = record { there = (end.0, end.2); last = last } }
+  pub agrees : ListAgrees m q k xs
+  agrees = record {
+    visits = visits;
+    computes = computes;
+    arguments = arguments;
+    ends = record { there = (end.0, end.2); last = last };
+  }

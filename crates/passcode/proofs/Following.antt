@@ -12,9 +12,10 @@ use Rattle.ag_grammar.specs.grammars.AttributeGrammar.{item_at, IsArgument}
 use Rattle.ag_grammar.specs.grammars.Passes.{Passes, HasPass, IsBefore, IsLegalFor, MayUse, direction_of}
 use Rattle.passcode.specs.declared.instr.Instr.{Instr}
 use Rattle.passcode.specs.declared.instr.Instr.TheVariants as instr
-use Rattle.passcode.specs.Agreement.{HasPlace, IsAvailable, IsChild, IsListFor, IsRuleAt, OccursOnceIf, def_of, instruction_of}
+use Rattle.passcode.specs.Agreement.{HasPlace, IsAvailableAt, IsChild, ListAgrees, IsRuleAt, OccursOnceIf}
+use Rattle.passcode.specs.Agreement.{set_or_def, instruction_of}
 use Rattle.passcode.specs.Course as Course
-use Rattle.passcode.specs.Course.{AreGiven, Phase, State, Between, Got, Gone, Ended, IsTurnOf, MayGive, MayRun, Runs, after}
+use Rattle.passcode.specs.Course.{AreDone, Phase, State, Between, Got, Gone, Ended, IsTurnOf, MayCompute, MayRun, Runs, after}
 use Rattle.passcode.specs.Course.{arity, place_of, read_count, run_count, start, state_at}
 use Rattle.passcode.proofs.Agreeing.{has_symbol}
 use Rattle.passcode.proofs.Marks.{end_mark, get_mark, go_mark, got_child, put_mark, read_in, read_is, read_within, run_is}
@@ -49,36 +50,36 @@ may_use_most k (suc j) i p (inr (inl h)) = h.1
 may_use_most k (suc j) i p (inr (inr less)) = omega arith
 
 -- the parts of a rule's own instruction
-set_parts : (j a r : ℕ) (o : Target) (s : ℕ) → instr.Set j a r ≡ def_of o.place o.attr s → (o ≡ record { place = j; attr = a })
-    × (r ≡ s)
+set_parts : (j a r : ℕ) (o : Target) (s : ℕ) → instr.Set j a r ≡ set_or_def o.place o.attr s
+    → (o ≡ record { place = j; attr = a }) × (r ≡ s)
 set_parts j a r o s = go o.place o.attr
   where
-    go : (p b : ℕ) → instr.Set j a r ≡ def_of p b s → ◌≡◌ {A = Target} (record { place = p; attr = b })
+    go : (p b : ℕ) → instr.Set j a r ≡ set_or_def p b s → ◌≡◌ {A = Target} (record { place = p; attr = b })
         (record { place = j; attr = a }) × (r ≡ s)
     go zero b e = absurd (let bad : ⊥ = cc in bad)
     go (suc p) b e = (cc, cc)
 
-def_parts : (a r : ℕ) (o : Target) (s : ℕ) → instr.Def a r ≡ def_of o.place o.attr s → (o ≡ record { place = 0; attr = a })
+def_parts : (a r : ℕ) (o : Target) (s : ℕ) → instr.Def a r ≡ set_or_def o.place o.attr s → (o ≡ record { place = 0; attr = a })
     × (r ≡ s)
 def_parts a r o s = go o.place o.attr
   where
-    go : (p b : ℕ) → instr.Def a r ≡ def_of p b s → ◌≡◌ {A = Target} (record { place = p; attr = b })
+    go : (p b : ℕ) → instr.Def a r ≡ set_or_def p b s → ◌≡◌ {A = Target} (record { place = p; attr = b })
         (record { place = 0; attr = a }) × (r ≡ s)
     go zero b e = (cc, cc)
     go (suc p) b e = absurd (let bad : ⊥ = cc in bad)
 
-set_place : (j a r : ℕ) (o : Target) (s : ℕ) → instr.Set j a r ≡ def_of o.place o.attr s → 1 ≤ j
+set_place : (j a r : ℕ) (o : Target) (s : ℕ) → instr.Set j a r ≡ set_or_def o.place o.attr s → 1 ≤ j
 set_place j a r o s = go o.place
   where
-    go : (p : ℕ) → instr.Set j a r ≡ def_of p o.attr s → 1 ≤ j
+    go : (p : ℕ) → instr.Set j a r ≡ set_or_def p o.attr s → 1 ≤ j
     go zero e = absurd (let bad : ⊥ = cc in bad)
     go (suc p) e = let same : j ≡ suc p = cc in omega arith
 
 set_of : (u : Rule) (r j : ℕ) → 1 ≤ j → u.target.place ≡ j → instruction_of u r ≡ instr.Set j u.target.attr r
 set_of u r zero least e = absurd (omega arith)
-set_of u r (suc j) least e = ap (λ p. def_of p u.target.attr r) e
+set_of u r (suc j) least e = ap (λ p. set_or_def p u.target.attr r) e
 
-not_end : (j a r : ℕ) → def_of j a r ≡ instr.End → ⊥
+not_end : (j a r : ℕ) → set_or_def j a r ≡ instr.End → ⊥
 not_end zero a r e = let bad : ⊥ = cc in bad
 not_end (suc j) a r e = let bad : ⊥ = cc in bad
 
@@ -89,7 +90,7 @@ turn_read Gone t = omega arith
 turn_read Ended t = omega arith
 
 module _ (m : Passes) (q : Production) (k : ℕ) (xs : List Instr) (one : 1 ≤ k) (allowed : IsLegalFor (HasPass m) q)
-    (list : IsListFor m q k xs) where
+    (list : ListAgrees m q k xs) where
   -- the instruction at an index, if those before it were followed
   module _ (n : ℕ) (x : Instr) (is : slice_get xs n ≡ Some x) (may : MayRunTo m q k start xs n) where
     abbrev s : State
@@ -140,7 +141,7 @@ module _ (m : Passes) (q : Production) (k : ℕ) (xs : List Instr) (one : 1 ≤ 
     was_given : (r : ℕ) (u : Rule) → IsRuleAt q r u → HasPass m q u.target k
         → ((i : ℕ) → slice_get xs i ≡ Some (instruction_of u r) → i < n) → Has (state_at q start xs n).done r
     was_given r u at passed prefix =
-        let run_rule = (list.gives.given r u at).there passed in
+        let run_rule = (list.computes.computed r u at).there passed in
         seen (λ s. Has s.done r) (instruction_of u r) (rule_mark m q k r u at) run_rule.0 (prefix run_rule.0 run_rule.1) run_rule.1
 
     turn_here : (p : Phase) (t j : ℕ) → t < arity q → j ≡ place_of q k t → s.phase ≡ p → t ≡ s.turn → IsTurnOf q k s p j
@@ -148,8 +149,8 @@ module _ (m : Passes) (q : Production) (k : ℕ) (xs : List Instr) (one : 1 ≤ 
         { phase_is = phase; within = subst (λ t. t < arity q) same within; place = place ∙ ap (place_of q k) same }
 
     -- what is at hand at the index is at hand in its state
-    hand : (r : ℕ) (u : Rule) → IsRuleAt q r u → HasPass m q u.target k → (o : Target) → IsArgument u o → IsAvailable m q k xs n o
-        → Course.IsAvailable m q k s o
+    hand : (r : ℕ) (u : Rule) → IsRuleAt q r u → HasPass m q u.target k → (o : Target) → IsArgument u o
+        → IsAvailableAt m q k xs n o → Course.IsAvailable m q k s o
     hand r u at passed o arg (inl own) = let p = allowed u o k (r, at) arg passed in
         (p.0, p.1, may_use_most k u.target.place o.place p.0 p.2, inr (inl own))
     hand r u at passed o arg (inr (inl h)) = let low = h.2 in (h.0, h.1, omega arith, inl low)
@@ -163,23 +164,23 @@ module _ (m : Passes) (q : Production) (k : ℕ) (xs : List Instr) (one : 1 ≤ 
         (k, h.0, omega arith, inr (inr (turn.0, run, turn.2)))
 
     -- a rule's own instruction may give its value
-    may_give : (j a r : ℕ) (u : Rule) → IsRuleAt q r u → u.target ≡ record { place = j; attr = a } → x ≡ instruction_of u r
-        → MayGive m q k s j a r
-    may_give j a r u at target own = record {
+    may_compute : (j a r : ℕ) (u : Rule) → IsRuleAt q r u → u.target ≡ record { place = j; attr = a } → x ≡ instruction_of u r
+        → MayCompute m q k s j a r
+    may_compute j a r u at target own = record {
       rule = u;
       numbered = at;
       target = target;
       passed = passed;
       available = λ o arg. hand r u at passed o arg (list.arguments r n u o at here arg);
       fresh = new (λ s. Has s.done r) (subst (IsMark m q k (λ s. Has s.done r)) (sym own) (rule_mark m q k r u at))
-          (HasPass m q u.target k) (subst (OccursOnceIf (HasPass m q u.target k) xs) (sym own) (list.gives.given r u at));
+          (HasPass m q u.target k) (subst (OccursOnceIf (HasPass m q u.target k) xs) (sym own) (list.computes.computed r u at));
     }
       where
         here : slice_get xs n ≡ Some (instruction_of u r)
         here = is ∙ ap Some own
 
         passed : HasPass m q u.target k
-        passed = (list.gives.given r u at).only (n, here)
+        passed = (list.computes.computed r u at).only (n, here)
 
   module _ (n : ℕ) (may : MayRunTo m q k start xs n) where
     abbrev now : State
@@ -238,20 +239,20 @@ module _ (m : Passes) (q : Production) (k : ℕ) (xs : List Instr) (one : 1 ≤ 
 
     set_may : (j a r : ℕ) → slice_get xs n ≡ Some (instr.Set j a r) → MayRun m q k (state_at q start xs n) (instr.Set j a r)
     set_may j a r is = (
-      got_turn (instr.Set j a r) is j child (λ i e. list.gives.after_get j a r i n e is)
-          (λ i less e. let after = list.gives.before_go j a r n i is e in omega arith),
-      subst (MayGive m q k (state_at q start xs n) j a) (sym parts.1)
-          (may_give n (instr.Set j a r) is may j a own.0 own.1 own.2 parts.0 own.3),
+      got_turn (instr.Set j a r) is j child (λ i e. list.computes.after_get j a r i n e is)
+          (λ i less e. let after = list.computes.before_go j a r n i is e in omega arith),
+      subst (MayCompute m q k (state_at q start xs n) j a) (sym parts.1)
+          (may_compute n (instr.Set j a r) is may j a own.0 own.1 own.2 parts.0 own.3),
     )
       where
         own : (r' : ℕ) × (u : Rule) × IsRuleAt q r' u × (instr.Set j a r ≡ instruction_of u r')
-        own = list.gives.own (instr.Set j a r) (j, a, r, inl refl) (n, is)
+        own = list.computes.own (instr.Set j a r) (j, a, r, inl refl) (n, is)
 
         parts : (own.1.target ≡ record { place = j; attr = a }) × (r ≡ own.0)
         parts = set_parts j a r own.1.target own.0 own.3
 
         symbol : (s : ℕ) × (item_at q own.1.target.place ≡ Some (item.Symbol s))
-        symbol = has_symbol m q own.1.target k one ((list.gives.given own.0 own.1 own.2).only (n, is ∙ ap Some own.3))
+        symbol = has_symbol m q own.1.target k one ((list.computes.computed own.0 own.1 own.2).only (n, is ∙ ap Some own.3))
 
         child : IsChild q j
         child = (
@@ -266,12 +267,12 @@ module _ (m : Passes) (q : Production) (k : ℕ) (xs : List Instr) (one : 1 ≤ 
     def_may : (a r : ℕ) → slice_get xs n ≡ Some (instr.Def a r) → MayRun m q k (state_at q start xs n) (instr.Def a r)
     def_may a r is = (
       going n (instr.Def a r) is may,
-      subst (MayGive m q k (state_at q start xs n) 0 a) (sym parts.1)
-          (may_give n (instr.Def a r) is may 0 a own.0 own.1 own.2 parts.0 own.3),
+      subst (MayCompute m q k (state_at q start xs n) 0 a) (sym parts.1)
+          (may_compute n (instr.Def a r) is may 0 a own.0 own.1 own.2 parts.0 own.3),
     )
       where
         own : (r' : ℕ) × (u : Rule) × IsRuleAt q r' u × (instr.Def a r ≡ instruction_of u r')
-        own = list.gives.own (instr.Def a r) (0, a, r, inr refl) (n, is)
+        own = list.computes.own (instr.Def a r) (0, a, r, inr refl) (n, is)
 
         parts : (own.1.target ≡ record { place = 0; attr = a }) × (r ≡ own.0)
         parts = def_parts a r own.1.target own.0 own.3
@@ -281,7 +282,7 @@ module _ (m : Passes) (q : Production) (k : ℕ) (xs : List Instr) (one : 1 ≤ 
       got_turn (instr.Go j) is j child (λ i e. list.visits.go_after_get j i n e is)
           (λ i less e. let same = (list.visits.gone j).once i n e is in omega arith),
       λ r u at here passed. was_given n (instr.Go j) is may r u at passed
-          (λ i e. list.gives.before_go j u.target.attr r i n (e ∙ ap Some (set_of u r j child.1.0 here)) is),
+          (λ i e. list.computes.before_go j u.target.attr r i n (e ∙ ap Some (set_of u r j child.1.0 here)) is),
     )
       where
         child : IsChild q j
@@ -325,7 +326,7 @@ module _ (m : Passes) (q : Production) (k : ℕ) (xs : List Instr) (one : 1 ≤ 
     end_may is = (
       phase_between now.phase now.turn (let a = all_put in let b = most in omega arith) (going n instr.End is may),
       (let a = all_put in let b = most in let c = turn_read now.phase now.turn in omega arith),
-      given,
+      computed,
     )
       where
         -- all is before `End`
@@ -345,8 +346,8 @@ module _ (m : Passes) (q : Production) (k : ℕ) (xs : List Instr) (one : 1 ≤ 
         most : read_in now ≤ arity q
         most = kept m q k xs n may (λ s. read_in s ≤ arity q) (read_within m q k) 0 n (omega arith) (omega arith) (omega arith)
 
-        given : (j : ℕ) → AreGiven m q k now j
-        given j r u at here passed = was_given n instr.End is may r u at passed
+        computed : (j : ℕ) → AreDone m q k now j
+        computed j r u at here passed = was_given n instr.End is may r u at passed
             (prefix (instruction_of u r) (not_end u.target.place u.target.attr r))
 
     step : (x : Instr) → slice_get xs n ≡ Some x → MayRun m q k (state_at q start xs n) x

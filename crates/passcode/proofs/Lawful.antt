@@ -11,10 +11,10 @@ use Rattle.ag_grammar.specs.grammars.AttributeGrammar.{Grammar, IsProduction, Sy
 use Rattle.ag_grammar.specs.grammars.AttributeGrammar.{symbol_kinds}
 use Rattle.ag_grammar.specs.grammars.Passes.{Passes, IsLegal, item_passes}
 use Rattle.passassign.proofs.slots.Few.{few_rules}
-use Rattle.passcode.specs.Agreement.{Agrees, IsListFor}
+use Rattle.passcode.specs.Agreement.{Agrees, ListAgrees}
 use Rattle.passcode.specs.Laws.{ListsRun}
 use Rattle.passcode.specs.Limits.{IsPlanned}
-use Rattle.passcode.specs.Listing.{AreLists, list_of}
+use Rattle.passcode.specs.Listing.{AreGeneratedLists, generated_list}
 use Rattle.passcode.specs.Rows.{Lists}
 use Rattle.passcode.proofs.Agreeing.{agrees}
 use Rattle.passcode.proofs.Following.{follows}
@@ -48,11 +48,11 @@ module _ (g : Grammar) (m : Passes) (accepted : IsAccepted g) (legal : IsLegal g
     allowed = legal.allowed p q is;
   }
 
-  pub lists_agree : (code : Lists) → AreLists g m code → Agrees g m code
+  pub lists_agree : (code : Lists) → AreGeneratedLists g m code → Agrees g m code
   lists_agree code are p k q xs is at =
       let known = planned p q is in
-      subst (IsListFor m q k) (sym (are p k q xs is at))
-      (agrees m q k (list_of m q k) at.0 (list_runs m q k at.0 known.single known.allowed))
+      subst (ListAgrees m q k) (sym (are p k q xs is at))
+      (agrees m q k (generated_list m q k) at.0 (list_runs m q k at.0 known.single known.allowed))
 
 pub lists_run : ListsRun
 lists_run g m p k q xs accepted legal is one =

@@ -19,11 +19,11 @@ use Rattle.ag_grammar.specs.grammars.Counts.{is_pass, pass_at}
 use Rattle.ag_grammar.specs.grammars.Passes.{Passes, HasPass, IsBefore, IsLegalFor, MayUse, direction_of, item_passes}
 use Rattle.passcode.specs.declared.instr.Instr.{Instr}
 use Rattle.passcode.specs.declared.instr.Instr.TheVariants as instr
-use Rattle.passcode.specs.Agreement.{IsChild, IsRuleAt, def_of}
-use Rattle.passcode.specs.Course.{AreGiven, IsAvailable, IsFinal, IsTurnOf, IsVisited, MayGive, MayRun, Phase, Runs, State, Between}
-use Rattle.passcode.specs.Course.{Got, Gone, Ended, after, after_get, arity, place_of, run_count, start}
-use Rattle.passcode.specs.Listing.{child_part, instruction_left, own_part, visits, is_same, left_at, left_for, left_from, left_in}
-use Rattle.passcode.specs.Listing.{list_of, rule_for, visit}
+use Rattle.passcode.specs.Agreement.{IsChild, IsRuleAt, set_or_def}
+use Rattle.passcode.specs.Course.{AreDone, IsAvailable, IsFinal, IsTurnOf, IsVisited, MayCompute, MayRun, Phase, Runs, State}
+use Rattle.passcode.specs.Course.{Between, Got, Gone, Ended, after, after_get, arity, place_of, run_count, start}
+use Rattle.passcode.specs.Listing.{child_part, own_part, visits, is_same, remaining_instruction, remaining_at, remaining_for}
+use Rattle.passcode.specs.Listing.{remaining_from, remaining_in, generated_list, rule_for, visit}
 use Rattle.passcode.proofs.Agreeing.{has_symbol}
 use Rattle.passcode.proofs.Following.{may_use_most}
 use Rattle.passcode.proofs.Marks.{read_in, read_is, read_within, run_after, run_in, run_is}
@@ -45,7 +45,7 @@ same_target o w e = both (nat_eq o.place w.place) refl e
 is_same_refl : (o : Target) → is_same o o ≡ true
 is_same_refl o = ap (λ b. cond b (nat_eq o.attr o.attr) false) (eq-eqb o.place o.place refl) ∙ eq-eqb o.attr o.attr refl
 
--- the rule that was found gives the attribute, and where none was found none does
+-- the rule that was found computes the attribute, and where none was found none does
 rule_found : (us : List Rule) (o : Target) (r : ℕ) → position (λ u. is_same u.target o) us ≡ Some r → (u : Rule)
     × (slice_get us r ≡ Some u) × (u.target ≡ o)
 rule_found [] o r e = absurd (let bad : ⊥ = cc in bad)
@@ -98,9 +98,9 @@ is_the_pass k (Some p) = (
 
 module _ (m : Passes) (q : Production) (k : ℕ) (one : 1 ≤ k) (single : DifferIn (λ u. u.target) q.rules)
     (allowed : IsLegalFor (HasPass m) q) (old : List ℕ) where
-  -- What is left for one attribute: nothing, where no rule of the pass that was not run gives it; else its rule's instruction.
+  -- What is left for one attribute: nothing, where no rule of the pass that was not run computes it; else its rule's instruction.
   record IsNothing (o : Target) : Type 0 where
-    pub empty : left_for m q k old o ≡ []
+    pub empty : remaining_for m q k old o ≡ []
     pub run : (r : ℕ) (u : Rule) → IsRuleAt q r u → u.target ≡ o → HasPass m q o k → Has old r
 
   record IsOne (o : Target) : Type 0 where
@@ -110,7 +110,7 @@ module _ (m : Passes) (q : Production) (k : ℕ) (one : 1 ≤ k) (single : Diffe
     pub target : rule.target ≡ o
     pub passed : HasPass m q o k
     pub new : Has old number → ⊥
-    pub alone : left_for m q k old o ≡ def_of o.place o.attr number ∷ []
+    pub alone : remaining_for m q k old o ≡ set_or_def o.place o.attr number ∷ []
 
   left_is : (o : Target) → IsNothing o ⊎ IsOne o
   left_is o = by_pass (is_pass k (pass_at m q o)) refl
@@ -118,8 +118,8 @@ module _ (m : Passes) (q : Production) (k : ℕ) (one : 1 ≤ k) (single : Diffe
       by_list : (r : ℕ) → is_pass k (pass_at m q o) ≡ true → rule_for q o ≡ Some r → (b : Bool) → list_any (nat_eq r) old ≡ b
           → IsNothing o ⊎ IsOne o
       by_list r p e true h = inl record {
-        empty = ap (λ b. cond b (instruction_left old o (rule_for q o)) []) p ∙ ap (instruction_left old o) e
-            ∙ ap (λ b. cond b [] (def_of o.place o.attr r ∷ [])) h;
+        empty = ap (λ b. cond b (remaining_instruction old o (rule_for q o)) []) p ∙ ap (remaining_instruction old o) e
+            ∙ ap (λ b. cond b [] (set_or_def o.place o.attr r ∷ [])) h;
         run = λ s u at same passed. (
             let found = rule_found q.rules o r e in
             let this : s ≡ r = single s r u found.0 at found.1 (same ∙ sym found.2) in
@@ -134,13 +134,13 @@ module _ (m : Passes) (q : Production) (k : ℕ) (one : 1 ≤ k) (single : Diffe
             target = found.2;
             passed = (is_the_pass k (pass_at m q o)).0 p;
             new = lacks_number old r h;
-            alone = ap (λ b. cond b (instruction_left old o (rule_for q o)) []) p ∙ ap (instruction_left old o) e
-                ∙ ap (λ b. cond b [] (def_of o.place o.attr r ∷ [])) h;
+            alone = ap (λ b. cond b (remaining_instruction old o (rule_for q o)) []) p ∙ ap (remaining_instruction old o) e
+                ∙ ap (λ b. cond b [] (set_or_def o.place o.attr r ∷ [])) h;
           }
 
       by_rule : is_pass k (pass_at m q o) ≡ true → (n : Option ℕ) → rule_for q o ≡ n → IsNothing o ⊎ IsOne o
       by_rule p None e = inl record {
-        empty = ap (λ b. cond b (instruction_left old o (rule_for q o)) []) p ∙ ap (instruction_left old o) e;
+        empty = ap (λ b. cond b (remaining_instruction old o (rule_for q o)) []) p ∙ ap (remaining_instruction old o) e;
         run = λ s u at same passed. absurd (none_found q.rules o e s u at same);
       }
       by_rule p (Some r) e = by_list r p e (list_any (nat_eq r) old) refl
@@ -148,7 +148,7 @@ module _ (m : Passes) (q : Production) (k : ℕ) (one : 1 ≤ k) (single : Diffe
       by_pass : (b : Bool) → is_pass k (pass_at m q o) ≡ b → IsNothing o ⊎ IsOne o
       by_pass true p = by_rule p (rule_for q o) refl
       by_pass false p = inl record {
-        empty = ap (λ b. cond b (instruction_left old o (rule_for q o)) []) p;
+        empty = ap (λ b. cond b (remaining_instruction old o (rule_for q o)) []) p;
         run = λ s u at same passed. absurd ((is_the_pass k (pass_at m q o)).1 p passed);
       }
 
@@ -162,21 +162,21 @@ module _ (m : Passes) (q : Production) (k : ℕ) (one : 1 ≤ k) (single : Diffe
     pub ran : (r : ℕ) (u : Rule) → IsRuleAt q r u → HasPass m q u.target k → IsPassed t j a u.target → Has s.done r
     pub only : (r : ℕ) (u : Rule) → IsRuleAt q r u → Has s.done r → Has old r ⊎ IsPassed t j a u.target
 
-  -- A node gives the attributes of a place: of the child whose turn it is, or its own where all children are complete.
-  abbrev IsGivingAt : (t j : ℕ) → State → Type 0
-  IsGivingAt t j s = ((s.phase ≡ Got) × (s.turn ≡ t) × (t < arity q) × (j ≡ place_of q k t))
+  -- A node computes the attributes of a place: of the child whose turn it is, or its own where all children are complete.
+  abbrev IsComputingAt : (t j : ℕ) → State → Type 0
+  IsComputingAt t j s = ((s.phase ≡ Got) × (s.turn ≡ t) × (t < arity q) × (j ≡ place_of q k t))
       ⊎ ((s.phase ≡ Between) × (s.turn ≡ t) × (t ≡ arity q) × (j ≡ 0))
 
-  new_place : (t j : ℕ) (s : State) → IsGivingAt t j s → IsVisited q k t j → ⊥
+  new_place : (t j : ℕ) (s : State) → IsComputingAt t j s → IsVisited q k t j → ⊥
   new_place t j s (inl (phase, turn, within, is)) (u, less, place) = let same =
       one_turn q k t u within (omega arith) (sym is ∙ place) in omega arith
   new_place t j s (inr (phase, turn, all, is)) (u, less, place) = omega arith
 
-  after_giving : (s : State) (j a r : ℕ) → after q s (def_of j a r) ≡ record s { done = r ∷ s.done }
+  after_giving : (s : State) (j a r : ℕ) → after q s (set_or_def j a r) ≡ record s { done = r ∷ s.done }
   after_giving s zero a r = refl
   after_giving s (suc j) a r = refl
 
-  may_run : (t j a r : ℕ) (s : State) → IsGivingAt t j s → MayGive m q k s j a r → MayRun m q k s (def_of j a r)
+  may_run : (t j a r : ℕ) (s : State) → IsComputingAt t j s → MayCompute m q k s j a r → MayRun m q k s (set_or_def j a r)
   may_run t zero a r s (inl (phase, turn, within, is)) run_rule = absurd (omega arith)
   may_run t (suc j) a r s (inl (phase, turn, within, is)) run_rule =
       (record { phase_is = phase; within = omega arith; place = is ∙ ap (place_of q k) (sym turn) }, run_rule)
@@ -194,7 +194,7 @@ module _ (m : Passes) (q : Production) (k : ℕ) (one : 1 ≤ k) (single : Diffe
   used_before (suc j) i p (inr (inl h)) least late right = h.0
   used_before (suc j) i p (inr (inr h)) least late right = absurd (late h)
 
-  final : (t j : ℕ) (s : State) → IsGivingAt t j s → (o : Target) (p : ℕ) → HasPass m q o p → MayUse k j o.place p
+  final : (t j : ℕ) (s : State) → IsComputingAt t j s → (o : Target) (p : ℕ) → HasPass m q o p → MayUse k j o.place p
       → IsFinal q k s o.place p
   final t j s here o p has may = elim (cases_lt p k) [
     | inl less ↦ inl less
@@ -207,7 +207,7 @@ module _ (m : Passes) (q : Production) (k : ℕ) (one : 1 ≤ k) (single : Diffe
     ]
   ]
     where
-      seen : IsGivingAt t j s → (u : ℕ) × (u < arity q) × (o.place ≡ place_of q k u) → (p < k → ⊥) → (o.place ≡ 0 → ⊥)
+      seen : IsComputingAt t j s → (u : ℕ) × (u < arity q) × (o.place ≡ place_of q k u) → (p < k → ⊥) → (o.place ≡ 0 → ⊥)
           → IsVisited q k (run_count s.phase s.turn) o.place
       seen (inl (phase, turn, within, is)) (u, less, place) late right =
           let before = used_before j o.place p may (omega arith) late right in
@@ -268,8 +268,8 @@ module _ (m : Passes) (q : Production) (k : ℕ) (one : 1 ≤ k) (single : Diffe
             inr (inr (place, omega arith))
         only r u at (suc i, e) = elim (way.only r u at (i, e)) [ inl is ↦ inl is | inr h ↦ inr (further t j a u.target h) ]
 
-    may_give : IsGivingAt t j s → MayGive m q k s j a it.number
-    may_give here = record {
+    may_compute : IsComputingAt t j s → MayCompute m q k s j a it.number
+    may_compute here = record {
       rule = it.rule;
       numbered = it.numbered;
       target = it.target;
@@ -296,25 +296,25 @@ module _ (m : Passes) (q : Production) (k : ℕ) (one : 1 ≤ k) (single : Diffe
 
   -- what is left at a place from an attribute on runs, if what comes after it does
   abbrev at_place : (j a n : ℕ) → List Instr
-  at_place j a n = flat_map (λ a. left_for m q k old (record { place = j; attr = a })) (range_with_len a n)
+  at_place j a n = flat_map (λ a. remaining_for m q k old (record { place = j; attr = a })) (range_with_len a n)
 
-  run_rule : (n t j a : ℕ) (s : State) (ys : List Instr) → IsGivingAt t j s → Way t j a s
-      → ((s' : State) → IsGivingAt t j s' → Way t j (a + n) s' → Runs m q k s' ys) → Runs m q k s (at_place j a n ++ ys)
+  run_rule : (n t j a : ℕ) (s : State) (ys : List Instr) → IsComputingAt t j s → Way t j a s
+      → ((s' : State) → IsComputingAt t j s' → Way t j (a + n) s' → Runs m q k s' ys) → Runs m q k s (at_place j a n ++ ys)
   run_rule zero t j a s ys here way next = next s here (subst (λ a. Way t j a s) (let z : a ≡ a + 0 = omega arith in z) way)
   run_rule (suc n) t j a s ys here way next = elim (left_is (record { place = j; attr = a })) [
     | inl none ↦ subst (λ l. Runs m q k s ((l ++ at_place j (a + 1) n) ++ ys)) (sym none.empty)
         (run_rule n t j (a + 1) s ys here (skip t j a s way none) onward)
     | inr it ↦ subst (λ l. Runs m q k s ((l ++ at_place j (a + 1) n) ++ ys)) (sym it.alone) (
-      may_run t j a it.number s here (may_give t j a s way it here),
+      may_run t j a it.number s here (may_compute t j a s way it here),
       subst (λ s. Runs m q k s (at_place j (a + 1) n ++ ys)) (sym (after_giving s j a it.number))
           (run_rule n t j (a + 1) (record s { done = it.number ∷ s.done }) ys here (run_one t j a s way it) onward),
     )
   ]
     where
-      onward : (s' : State) → IsGivingAt t j s' → Way t j (a + 1 + n) s' → Runs m q k s' ys
+      onward : (s' : State) → IsComputingAt t j s' → Way t j (a + 1 + n) s' → Runs m q k s' ys
       onward s' here way = next s' here (subst (λ a. Way t j a s') (let z : a + 1 + n ≡ a + suc n = omega arith in z) way)
 
-  -- all attributes at a place were given
+  -- all attributes at a place were computed
   abbrev attribute_count : ℕ → ℕ
   attribute_count j = length (item_passes m (item_at q j))
 
@@ -322,7 +322,7 @@ module _ (m : Passes) (q : Production) (k : ℕ) (one : 1 ≤ k) (single : Diffe
   within_count o j place has = let less = slice_get_within (item_passes m (item_at q o.place)) o.attr k has in
       subst (λ j. o.attr < length (item_passes m (item_at q j))) place less
 
-  all_given : (t j : ℕ) (s : State) → Way t j (attribute_count j) s → AreGiven m q k s j
+  all_given : (t j : ℕ) (s : State) → Way t j (attribute_count j) s → AreDone m q k s j
   all_given t j s way r u at place has = way.ran r u at has (inr (place, within_count u.target j place has))
 
   -- so the way goes on at the next turn,
@@ -345,7 +345,7 @@ module _ (m : Passes) (q : Production) (k : ℕ) (one : 1 ≤ k) (single : Diffe
       later o (inl (u, less, place)) = (u, omega arith, place)
       later o (inr (place, less)) = (t, omega arith, place)
 
-  -- as it does past a token, for which no rule of the pass gives anything,
+  -- as it does past a token, for which no rule of the pass computes anything,
   past_token : (t i : ℕ) (s : State) → (IsChild q (place_of q k t) → ⊥) → Way t i 0 s → Way (suc t) i 0 s
   past_token t i s none way = record {
     kept = way.kept;
@@ -385,12 +385,13 @@ module _ (m : Passes) (q : Production) (k : ℕ) (one : 1 ≤ k) (single : Diffe
       → ((s' : State) → IsBetween (suc t) s' → Runs m q k s' ys) → Runs m q k s (child_part m q k old (place_of q k t) ++ ys)
   child_runs t s ys within phase turn way next =
       subst (Runs m q k s)
-      (sym (append_assoc (left_at m q k old (place_of q k t)) (instr.Go (place_of q k t) ∷ instr.Put (place_of q k t) ∷ [])
+      (sym (append_assoc (remaining_at m q k old (place_of q k t)) (instr.Go (place_of q k t) ∷ instr.Put (place_of q k t) ∷ [])
       ys))
       (run_rule (attribute_count (place_of q k t)) t (place_of q k t) 0 s
       (instr.Go (place_of q k t) ∷ instr.Put (place_of q k t) ∷ ys) (inl (phase, turn, within, refl)) way following)
     where
-      following : (s' : State) → IsGivingAt t (place_of q k t) s' → Way t (place_of q k t) (0 + attribute_count (place_of q k t)) s'
+      following : (s' : State) → IsComputingAt t (place_of q k t) s'
+          → Way t (place_of q k t) (0 + attribute_count (place_of q k t)) s'
           → Runs m q k s' (instr.Go (place_of q k t) ∷ instr.Put (place_of q k t) ∷ ys)
       following s' (inl (phase, turn, within, is)) way =
           let way' : Way t (place_of q k t) (attribute_count (place_of q k t)) s' =
@@ -411,13 +412,13 @@ module _ (m : Passes) (q : Production) (k : ℕ) (one : 1 ≤ k) (single : Diffe
   own_runs s (phase, turn, way) = run_rule (attribute_count 0) (arity q) 0 0 s (instr.End ∷ []) (inr (phase, turn, refl, refl)) way
       following
     where
-      following : (s' : State) → IsGivingAt (arity q) 0 s' → Way (arity q) 0 (0 + attribute_count 0) s'
+      following : (s' : State) → IsComputingAt (arity q) 0 s' → Way (arity q) 0 (0 + attribute_count 0) s'
           → Runs m q k s' (instr.End ∷ [])
       following s' (inl h) way = absurd (let none = h.3 in omega arith)
-      following s' (inr (phase, turn, all, is)) way = ((phase, turn, given), refl)
+      following s' (inr (phase, turn, all, is)) way = ((phase, turn, computed), refl)
         where
-          given : (j : ℕ) → AreGiven m q k s' j
-          given j r u at place has = elim (cases_eq u.target.place 0) [
+          computed : (j : ℕ) → AreDone m q k s' j
+          computed j r u at place has = elim (cases_eq u.target.place 0) [
             | inl own ↦ way.ran r u at has (inr (own, (let less = within_count u.target 0 own has in omega arith)))
             | inr right ↦ way.ran r u at has (inl (place_turn u.target has right))
           ]
@@ -464,29 +465,29 @@ module _ (m : Passes) (q : Production) (k : ℕ) (one : 1 ≤ k) (single : Diffe
 -- A state that a node can come to: there are as many children, and the rules of those in which the pass has run were run.
 pub record IsReached (m : Passes) (q : Production) (k : ℕ) (s : State) : Type 0 where
   pub within : read_in s ≤ arity q
-  pub given : (t : ℕ) → t < run_in s → AreGiven m q k s (place_of q k t)
+  pub computed : (t : ℕ) → t < run_in s → AreDone m q k s (place_of q k t)
 
 module _ (m : Passes) (q : Production) (k : ℕ) (one : 1 ≤ k) where
   pub starts : IsReached m q k start
-  starts = record { within = omega arith; given = λ t less. absurd (omega arith) }
+  starts = record { within = omega arith; computed = λ t less. absurd (omega arith) }
 
   pub reached : IsKept m q k (IsReached m q k)
-  reached s x may is = record { within = read_within m q k s x may is.within; given = given s x may is.given }
+  reached s x may is = record { within = read_within m q k s x may is.within; computed = computed s x may is.computed }
     where
-      more : (s : State) (n j : ℕ) → AreGiven m q k s j → AreGiven m q k (record s { done = n ∷ s.done }) j
-      more s n j given r u at place has = let h = given r u at place has in (suc h.0, h.1)
+      more : (s : State) (n j : ℕ) → AreDone m q k s j → AreDone m q k (record s { done = n ∷ s.done }) j
+      more s n j computed r u at place has = let h = computed r u at place has in (suc h.0, h.1)
 
-      given : (s : State) (x : Instr) → MayRun m q k s x → ((t : ℕ) → t < run_in s → AreGiven m q k s (place_of q k t)) → (t : ℕ)
-          → t < run_in (after q s x) → AreGiven m q k (after q s x) (place_of q k t)
-      given s (instr.Get j) may was t less = by_item (item_at q j) refl
+      computed : (s : State) (x : Instr) → MayRun m q k s x → ((t : ℕ) → t < run_in s → AreDone m q k s (place_of q k t))
+          → (t : ℕ) → t < run_in (after q s x) → AreDone m q k (after q s x) (place_of q k t)
+      computed s (instr.Get j) may was t less = by_item (item_at q j) refl
         where
           count : run_in s ≡ s.turn
           count = run_is s Between may.phase_is
 
-          old_one : t < s.turn → AreGiven m q k s (place_of q k t)
+          old_one : t < s.turn → AreDone m q k s (place_of q k t)
           old_one h = was t (let c = count in omega arith)
 
-          by_item : (o : Option Item) → item_at q j ≡ o → AreGiven m q k s (place_of q k t)
+          by_item : (o : Option Item) → item_at q j ≡ o → AreDone m q k s (place_of q k t)
           by_item o e = elim (cases_lt t s.turn) [
             | inl h ↦ old_one h
             | inr le ↦ λ r u at place has. (
@@ -498,42 +499,42 @@ module _ (m : Passes) (q : Production) (k : ℕ) (one : 1 ≤ k) where
                 let none : run_count (after_get (item_at q j)) s.turn ≡ s.turn = ap (λ o. run_count (after_get o) s.turn) here in
                 absurd (omega arith))
           ]
-      given s (instr.Set j a r) may was t less = more s r (place_of q k t) (was t less)
-      given s (instr.Go j) may was t less = elim (cases_eq t s.turn) [
-        | inl same ↦ subst (AreGiven m q k s) (may.0.place ∙ ap (place_of q k) (sym same)) may.1
+      computed s (instr.Set j a r) may was t less = more s r (place_of q k t) (was t less)
+      computed s (instr.Go j) may was t less = elim (cases_eq t s.turn) [
+        | inl same ↦ subst (AreDone m q k s) (may.0.place ∙ ap (place_of q k) (sym same)) may.1
         | inr other ↦ was t (let c = run_is s Got may.0.phase_is in omega arith)
       ]
-      given s (instr.Put j) may was t less = was t (let c = run_is s Gone may.phase_is in omega arith)
-      given s (instr.Def a r) may was t less = more s r (place_of q k t) (was t less)
-      given s instr.End may was t less = was t (let c = run_is s Between may.0 in omega arith)
+      computed s (instr.Put j) may was t less = was t (let c = run_is s Gone may.phase_is in omega arith)
+      computed s (instr.Def a r) may was t less = more s r (place_of q k t) (was t less)
+      computed s instr.End may was t less = was t (let c = run_is s Between may.0 in omega arith)
 
 module _ (m : Passes) (q : Production) (k : ℕ) (one : 1 ≤ k) (single : DifferIn (λ u. u.target) q.rules)
     (allowed : IsLegalFor (HasPass m) q) where
   -- what is left in a state that a node can come to runs
-  pub left_runs : (s : State) → IsReached m q k s → Runs m q k s (left_in m q k s.phase s.turn s.done)
-  left_runs s is = at_phase s.phase refl
+  pub remaining_runs : (s : State) → IsReached m q k s → Runs m q k s (remaining_in m q k s.phase s.turn s.done)
+  remaining_runs s is = at_phase s.phase refl
     where
       way : (t i : ℕ) → t ≤ run_in s → Way m q k one single allowed s.done t i 0 s
       way t i le = record {
         kept = λ r h. h;
         ran = λ r u at has passed. elim passed [
-          | inl h ↦ (let less = h.1 in is.given h.0 (omega arith) r u at h.2 has)
+          | inl h ↦ (let less = h.1 in is.computed h.0 (omega arith) r u at h.2 has)
           | inr h ↦ (let less = h.1 in absurd (omega arith))
         ];
         only = λ r u at h. inl h;
       }
 
       from : (t : ℕ) (s' : State) → t ≤ arity q → IsBetween m q k one single allowed s.done t s'
-          → Runs m q k s' (left_from m q k s.done t)
+          → Runs m q k s' (remaining_from m q k s.done t)
       from t s' le = from_turn m q k one single allowed s.done (arity q - t) t s' (omega arith)
 
-      at_phase : (p : Phase) → s.phase ≡ p → Runs m q k s (left_in m q k p s.turn s.done)
+      at_phase : (p : Phase) → s.phase ≡ p → Runs m q k s (remaining_in m q k p s.turn s.done)
       at_phase Between e = from s.turn s (let c = read_is s Between e in let w = is.within in omega arith)
           (e, refl, way s.turn 0 (let c = run_is s Between e in omega arith))
       at_phase Got e =
           let c = read_is s Got e in
           let w = is.within in
-          child_runs m q k one single allowed s.done s.turn s (left_from m q k s.done (suc s.turn)) (omega arith) e refl
+          child_runs m q k one single allowed s.done s.turn s (remaining_from m q k s.done (suc s.turn)) (omega arith) e refl
           (way s.turn (place_of q k s.turn) (let c = run_is s Got e in omega arith))
           (λ s' here. from (suc s.turn) s' (omega arith) here)
       at_phase Gone e =
@@ -547,5 +548,5 @@ module _ (m : Passes) (q : Production) (k : ℕ) (one : 1 ≤ k) (single : Diffe
       at_phase Ended e = e
 
   -- and so does the list for the production and the pass from the start
-  pub list_runs : Runs m q k start (list_of m q k)
-  list_runs = left_runs start (starts m q k one)
+  pub list_runs : Runs m q k start (generated_list m q k)
+  list_runs = remaining_runs start (starts m q k one)

@@ -11,8 +11,8 @@ use Rattle.ag_grammar.specs.grammars.AttributeGrammar.{item_at}
 use Rattle.ag_grammar.specs.grammars.Passes.{Passes}
 use Rattle.passcode.specs.declared.instr.Instr.{Instr}
 use Rattle.passcode.specs.declared.instr.Instr.TheVariants as instr
-use Rattle.passcode.specs.Agreement.{IsChild, IsRuleAt, def_of, instruction_of}
-use Rattle.passcode.specs.Course.{Phase, State, Between, Got, Gone, Ended, MayGive, MayRun, after, after_get, arity, place_of}
+use Rattle.passcode.specs.Agreement.{IsChild, IsRuleAt, set_or_def, instruction_of}
+use Rattle.passcode.specs.Course.{Phase, State, Between, Got, Gone, Ended, MayCompute, MayRun, after, after_get, arity, place_of}
 use Rattle.passcode.specs.Course.{read_count, run_count, start}
 use Rattle.passcode.proofs.States.{IsKept, IsMark}
 use Rattle.passcode.proofs.Turns.{one_turn}
@@ -208,11 +208,11 @@ module _ (m : Passes) (q : Production) (k : ℕ) where
 
   -- the own instruction of a rule
   module _ (r : ℕ) (u : Rule) (at : IsRuleAt q r u) where
-    own : (s : State) (j a : ℕ) → MayGive m q k s j a r → def_of j a r ≡ instruction_of u r
-    own s j a gives =
-        let both : Some gives.rule ≡ Some u = sym gives.numbered ∙ at in
-        let same : u ≡ gives.rule = cc in
-        ap (λ (o : Target). def_of o.place o.attr r) (sym gives.target) ∙ ap (λ (w : Rule). instruction_of w r) (sym same)
+    own : (s : State) (j a : ℕ) → MayCompute m q k s j a r → set_or_def j a r ≡ instruction_of u r
+    own s j a computes =
+        let both : Some computes.rule ≡ Some u = sym computes.numbered ∙ at in
+        let same : u ≡ computes.rule = cc in
+        ap (λ (o : Target). set_or_def o.place o.attr r) (sym computes.target) ∙ ap (λ (w : Rule). instruction_of w r) (sym same)
 
     pub rule_mark : IsMark m q k (λ s. Has s.done r) (instruction_of u r)
     rule_mark = record {
@@ -238,11 +238,11 @@ module _ (m : Passes) (q : Production) (k : ℕ) where
         stays s (instr.Def a n) may h = more s n h
         stays s instr.End may h = h
 
-        made : (j a : ℕ) (s : State) → MayRun m q k s (def_of j a r) → Has (after q s (def_of j a r)).done r
+        made : (j a : ℕ) (s : State) → MayRun m q k s (set_or_def j a r) → Has (after q s (set_or_def j a r)).done r
         made zero a s may = (0, refl)
         made (suc j) a s may = (0, refl)
 
-        before : (j a : ℕ) (s : State) → MayRun m q k s (def_of j a r) → Has s.done r → ⊥
+        before : (j a : ℕ) (s : State) → MayRun m q k s (set_or_def j a r) → Has s.done r → ⊥
         before zero a s may h = may.1.fresh h
         before (suc j) a s may h = may.1.fresh h
 
@@ -251,10 +251,10 @@ module _ (m : Passes) (q : Production) (k : ℕ) where
         only s (instr.Set j a n) may (suc i, e) = inl (i, e)
         only s (instr.Set zero a n) may (zero, e) = let p = may.0.place in absurd (omega arith)
         only s (instr.Set (suc j) a n) may (zero, e) = let same : n ≡ r = cc in
-            inr (ap (instr.Set (suc j) a) same ∙ own s (suc j) a (subst (MayGive m q k s (suc j) a) same may.1))
+            inr (ap (instr.Set (suc j) a) same ∙ own s (suc j) a (subst (MayCompute m q k s (suc j) a) same may.1))
         only s (instr.Go j) may h = inl h
         only s (instr.Put j) may h = inl h
         only s (instr.Def a n) may (suc i, e) = inl (i, e)
         only s (instr.Def a n) may (zero, e) = let same : n ≡ r = cc in
-            inr (ap (instr.Def a) same ∙ own s 0 a (subst (MayGive m q k s 0 a) same may.1))
+            inr (ap (instr.Def a) same ∙ own s 0 a (subst (MayCompute m q k s 0 a) same may.1))
         only s instr.End may h = inl h

@@ -7,8 +7,8 @@ use Rattle.ag_grammar.specs.grammars.AttributeGrammar.{IsArgument}
 use Rattle.ag_grammar.specs.grammars.Passes.{HasPass, IsLegal}
 use Rattle.ag_grammar.specs.grammars.Sample.{attribute, sample, sample_passes, rule_out}
 use Rattle.ag_grammar.proofs.grammars.samples.NumberSample.{accepted}
-use Rattle.passcode.specs.Agreement.{IsListFor, IsRuleAt, OccursOnceIf, instruction_of}
-use Rattle.passcode.specs.Course.{AreGiven, IsAvailable, IsVisited, Runs, start}
+use Rattle.passcode.specs.Agreement.{ListAgrees, IsRuleAt, OccursOnceIf, instruction_of}
+use Rattle.passcode.specs.Course.{AreDone, IsAvailable, IsVisited, Runs, start}
 use Rattle.passcode.specs.Limits.{IsPlanned}
 use Rattle.passcode.specs.Sample.{sample_production, sample_list, forward_list, late_list, undefined_list}
 use Rattle.passcode.specs.Sample.{hasty_list, hasty_passes, hasty_production, hasty_rule}
@@ -30,17 +30,17 @@ known legal = planned sample sample_passes accepted legal 0 sample_production re
 pub sample_runs : IsLegal sample sample_passes → Runs sample_passes sample_production 1 start sample_list
 sample_runs legal = let k = known legal in list_runs sample_passes sample_production 1 (omega arith) k.single k.allowed
 
-pub sample_agrees : IsLegal sample sample_passes → IsListFor sample_passes sample_production 1 sample_list
+pub sample_agrees : IsLegal sample sample_passes → ListAgrees sample_passes sample_production 1 sample_list
 sample_agrees legal = agrees sample_passes sample_production 1 sample_list (omega arith) (sample_runs legal)
 
-pub forward_refused : IsListFor sample_passes sample_production 1 forward_list → ⊥
+pub forward_refused : ListAgrees sample_passes sample_production 1 forward_list → ⊥
 forward_refused h = let bad : 7 < 0 = h.visits.in_direction 2 1 (omega arith) 7 0 refl refl in omega arith
 
-pub late_refused : IsListFor sample_passes sample_production 1 late_list → ⊥
-late_refused h = let bad : 6 < 5 = h.gives.before_go 1 1 1 6 5 refl refl in omega arith
+pub late_refused : ListAgrees sample_passes sample_production 1 late_list → ⊥
+late_refused h = let bad : 6 < 5 = h.computes.before_go 1 1 1 6 5 refl refl in omega arith
 
 -- at the `End` of the last list rule 0 was not run
-pub undefined_refused : IsLegal sample sample_passes → IsListFor sample_passes sample_production 1 undefined_list → ⊥
+pub undefined_refused : IsLegal sample sample_passes → ListAgrees sample_passes sample_production 1 undefined_list → ⊥
 undefined_refused legal h = let k = known legal in let runs =
     follows sample_passes sample_production 1 undefined_list (omega arith) k.allowed h in
     none (runs.1.1.1.1.1.1.1.1.0.2 0 0 rule_out refl refl refl)
@@ -77,30 +77,35 @@ calm_runs = (
       fresh = λ h. (let e : slice_get {X = ℕ} [] h.0 ≡ Some 0 = h.1 in let bad : ⊥ = cc in bad);
     },
   ),
-  ((refl, refl, given), refl),
+  ((refl, refl, computed), refl),
 )
   where
-    given : (j : ℕ) → AreGiven calm_passes hasty_production 1 (record { phase = start.phase; turn = 0; done = 0 ∷ [] }) j
-    given j r u at place has = (0, ap Some (only_rule r u at).1)
+    computed : (j : ℕ) → AreDone calm_passes hasty_production 1 (record { phase = start.phase; turn = 0; done = 0 ∷ [] }) j
+    computed j r u at place has = (0, ap Some (only_rule r u at).1)
 
 -- and so it agrees under the other one too, which differs in an argument's pass alone
-pub hasty_agrees : IsListFor hasty_passes hasty_production 1 hasty_list
+pub hasty_agrees : ListAgrees hasty_passes hasty_production 1 hasty_list
 hasty_agrees = record {
   visits = calm.visits;
-  gives = record { given = given; own = calm.gives.own; after_get = calm.gives.after_get; before_go = calm.gives.before_go };
+  computes = record {
+    computed = computed;
+    own = calm.computes.own;
+    after_get = calm.computes.after_get;
+    before_go = calm.computes.before_go;
+  };
   arguments = λ r n u o at occurs arg. inl
       (ap (λ (o : Target). o.place)
       (sym (own_attribute o (subst (λ (w : Rule). IsArgument w o) (sym (only_rule r u at).0) arg))));
   ends = calm.ends;
 }
   where
-    calm : IsListFor calm_passes hasty_production 1 hasty_list
+    calm : ListAgrees calm_passes hasty_production 1 hasty_list
     calm = agrees calm_passes hasty_production 1 hasty_list (omega arith) calm_runs
 
-    given : (r : ℕ) (u : Rule) → IsRuleAt hasty_production r u
+    computed : (r : ℕ) (u : Rule) → IsRuleAt hasty_production r u
         → OccursOnceIf (HasPass hasty_passes hasty_production u.target 1) hasty_list (instruction_of u r)
-    given r u at =
-        let was = calm.gives.given r u at in
+    computed r u at =
+        let was = calm.computes.computed r u at in
         let is = only_rule r u at in
         record {
           there = λ has. was.there (subst (λ (w : Rule). HasPass calm_passes hasty_production w.target 1) is.0 refl);

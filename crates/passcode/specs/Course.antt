@@ -21,14 +21,14 @@ pub record State : Type 0 where
   pub turn : ℕ
   pub done : List ℕ
 
--- the number of children that were read
+-- the number of children that were read, of a node in this phase with t complete children
 abbrev pub read_count : Phase → ℕ → ℕ
 read_count Between t = t
 read_count Got t = suc t
 read_count Gone t = suc t
 read_count Ended t = t
 
--- the number of children in which the pass has run
+-- the number of children in which the pass has run, of a node in this phase with t complete children
 abbrev pub run_count : Phase → ℕ → ℕ
 run_count Between t = t
 run_count Got t = t
@@ -56,8 +56,9 @@ IsFinal q k s j p = (p < k) ⊎ ((j ≡ 0) ⊎ IsVisited q k (run_count s.phase 
 abbrev pub IsAvailable : Passes → Production → ℕ → State → Target → Type 0
 IsAvailable m q k s o = (p : ℕ) × HasPass m q o p × (p ≤ k) × IsFinal q k s o.place p
 
--- Rule r may compute an attribute at a place in pass k: its arguments are available, and it was not run before.
-pub record MayGive (m : Passes) (q : Production) (k : ℕ) (s : State) (j a r : ℕ) : Type 0 where
+-- Rule r may compute attribute a at place j in pass k: it is a rule for this attribute, which has the pass, its arguments are
+-- available, and it was not run before.
+pub record MayCompute (m : Passes) (q : Production) (k : ℕ) (s : State) (j a r : ℕ) : Type 0 where
   pub rule : Rule
   pub numbered : IsRuleAt q r rule
   pub target : rule.target ≡ record { place = j; attr = a }
@@ -66,8 +67,8 @@ pub record MayGive (m : Passes) (q : Production) (k : ℕ) (s : State) (j a r : 
   pub fresh : Has s.done r → ⊥
 
 -- each rule of the pass with a target at a place was run
-abbrev pub AreGiven : Passes → Production → ℕ → State → ℕ → Type 0
-AreGiven m q k s j = (r : ℕ) (u : Rule) → IsRuleAt q r u → u.target.place ≡ j → HasPass m q u.target k → Has s.done r
+abbrev pub AreDone : Passes → Production → ℕ → State → ℕ → Type 0
+AreDone m q k s j = (r : ℕ) (u : Rule) → IsRuleAt q r u → u.target.place ≡ j → HasPass m q u.target k → Has s.done r
 
 -- a node is in a phase, and this is the place of its current child
 pub record IsTurnOf (q : Production) (k : ℕ) (s : State) (phase : Phase) (j : ℕ) : Type 0 where
@@ -79,11 +80,11 @@ pub record IsTurnOf (q : Production) (k : ℕ) (s : State) (phase : Phase) (j : 
 -- run, and its `Put`; a `Def` anywhere; and `End` if all children are complete and all rules of the pass were run.
 abbrev pub MayRun : Passes → Production → ℕ → State → Instr → Type 0
 MayRun m q k s (instr.Get j) = IsTurnOf q k s Between j
-MayRun m q k s (instr.Set j a r) = IsTurnOf q k s Got j × MayGive m q k s j a r
-MayRun m q k s (instr.Go j) = IsTurnOf q k s Got j × AreGiven m q k s j
+MayRun m q k s (instr.Set j a r) = IsTurnOf q k s Got j × MayCompute m q k s j a r
+MayRun m q k s (instr.Go j) = IsTurnOf q k s Got j × AreDone m q k s j
 MayRun m q k s (instr.Put j) = IsTurnOf q k s Gone j
-MayRun m q k s (instr.Def a r) = (s.phase ≡ Ended → ⊥) × MayGive m q k s 0 a r
-MayRun m q k s instr.End = (s.phase ≡ Between) × (s.turn ≡ arity q) × ((j : ℕ) → AreGiven m q k s j)
+MayRun m q k s (instr.Def a r) = (s.phase ≡ Ended → ⊥) × MayCompute m q k s 0 a r
+MayRun m q k s instr.End = (s.phase ≡ Between) × (s.turn ≡ arity q) × ((j : ℕ) → AreDone m q k s j)
 
 -- the phase of a node after the `Get` of an item: the pass has nothing to do in a token
 abbrev pub after_get : Option Item → Phase

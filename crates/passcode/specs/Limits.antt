@@ -2,15 +2,15 @@
 use Rattle.std.specs.Prelude.{ℕ, ◌≤◌, length}
 use Rattle.ag_grammar.specs.Lists.{DifferIn}
 use Rattle.ag_grammar.specs.declared.grammar.Production.{Production}
-use Rattle.ag_grammar.specs.grammars.Accepted.{max_attributes, max_rules, max_stored}
+use Rattle.ag_grammar.specs.grammars.Accepted.{max_attributes, max_rules, max_children}
 use Rattle.ag_grammar.specs.grammars.AttributeGrammar.{item_at}
 use Rattle.ag_grammar.specs.grammars.Passes.{Passes, HasPass, IsLegalFor, item_passes}
 use Rattle.passcode.specs.Course.{arity}
 
--- Its places, its rules and their attributes are at most the limits, each attribute is given by one rule at most, and the rules
--- use what they may.
+-- The numbers of its places, of its rules and of the attributes at each place are within the limits, each attribute is computed
+-- by at most one rule, and each rule uses only arguments that it may use.
 pub record IsPlanned (m : Passes) (q : Production) : Type 0 where
-  pub places : arity q ≤ max_stored
+  pub places : arity q ≤ max_children
   pub rules : length q.rules ≤ max_rules
   pub attributes : (j : ℕ) → length (item_passes m (item_at q j)) ≤ max_attributes
   pub single : DifferIn (λ u. u.target) q.rules

@@ -1,4 +1,4 @@
-//! The list of instructions of one production in one pass.
+//! The list of instructions for one production in one pass.
 
 ghost use Rattle.std.specs.Prelude.{◌≡◌, ◌≤◌, ◌++◌, ◌↔◌, [], IfOk, IsTrue, OnOk, length};
 ghost use Rattle.ag_grammar.specs.grammars.Accepted.{max_rules};
@@ -6,10 +6,10 @@ ghost use Rattle.ag_grammar.specs.grammars.AttributeGrammar.{item_at};
 ghost use Rattle.ag_grammar.specs.grammars.Counts.{pass_at};
 ghost use Rattle.ag_grammar.specs.grammars.Passes.{HasPass};
 ghost use Rattle.passassign.specs.Rows.{passes_of};
-ghost use Rattle.passcode.specs.Agreement.{def_of};
+ghost use Rattle.passcode.specs.Agreement.{set_or_def};
 ghost use Rattle.passcode.specs.Course.{arity};
 ghost use Rattle.passcode.specs.Limits.{IsPlanned};
-ghost use Rattle.passcode.specs.Listing.{is_same, left_at, left_for, list_of, rule_for, visit};
+ghost use Rattle.passcode.specs.Listing.{is_same, remaining_at, remaining_for, generated_list, rule_for, visit};
 
 use crate::instr::Instr;
 use ag_grammar::{Direction, Item, Production, Target};
@@ -17,10 +17,10 @@ use ag_value::NoMemory;
 use passassign::Assignment;
 use std::alloc::Global;
 
-/// Returns the instruction that computes an attribute at a place by the rule with a number. Does not
-/// allocate.
+/// Returns the instruction that computes an attribute at a place by the rule with a number: a `Def`
+/// for place 0, the left side, and otherwise a `Set`. Does not allocate.
 pub fn instruction(place: u16, attr: u16, rule: u16) -> Instr
-    ensures { result ≡ def_of place attr rule }
+    ensures { result ≡ set_or_def place attr rule }
 {
     if place == 0 {
         Instr::Def { attr, rule }
@@ -29,7 +29,8 @@ pub fn instruction(place: u16, attr: u16, rule: u16) -> Instr
     }
 }
 
-/// Returns the number of children of a production's node. Does not allocate.
+/// Returns the number of children of a production's node: of the symbols and token classes of its
+/// right side. A literal is not a child. Does not allocate.
 pub fn arity(production: &Production) -> usize
     ensures { result ≡ arity production.now }
 {
@@ -42,31 +43,37 @@ pub fn arity(production: &Production) -> usize
     count
 }
 
-/// Returns whether two attributes at places are the same. Does not allocate.
+/// Returns whether two attributes at places have the same place and number. Does not allocate.
 pub fn is_same(one: Target, other: Target) -> bool
     ensures { result ≡ is_same one other }
 {
     one.place == other.place && one.attr == other.attr
 }
 
-/// The production, the pass and the assignment of a list of instructions.
+/// What a list of instructions is for: an assignment, a production and a pass.
+///
+/// In its methods a `Target` is an attribute at a place of the production, whether a rule computes it
+/// or uses it as an argument.
 #[derive(Clone, Copy)]
-pub struct Course<'a> {
+pub struct ListContext<'a> {
+    /// The pass of each attribute.
     pub assignment: &'a Assignment,
+    /// The production of the node.
     pub production: &'a Production,
+    /// The number of the pass, from 1.
     pub pass: u16,
 }
 
-impl<'a> Course<'a> {
+impl<'a> ListContext<'a> {
     /// Returns the pass of an attribute at a place, or `None` if the place has no attribute with
-    /// this number.
+    /// this number. Does not allocate.
     pub fn pass_of(&self, target: Target) -> Option<u16>
         ensures { result ≡ pass_at (passes_of self.now.assignment.now) self.now.production.now target }
     {
         self.assignment.pass_at(self.production, target)
     }
 
-    /// Returns whether an attribute at a place has the pass.
+    /// Returns whether an attribute at a place has this pass. Does not allocate.
     pub fn has_pass(&self, target: Target) -> bool
         ensures { IsTrue result ↔ HasPass (passes_of self.now.assignment.now)
             self.now.production.now target self.now.pass }
@@ -74,7 +81,7 @@ impl<'a> Course<'a> {
         self.pass_of(target) == Some(self.pass)
     }
 
-    /// Returns the number of the rule that computes an attribute at a place, if there is one.
+    /// Returns the number, from 0, of the rule that computes an attribute at a place, if there is one.
     fn rule_for(&self, target: Target) -> Option<u16>
         requires { length self.now.production.now.rules ≤ max_rules }
         ensures { result ≡ rule_for self.now.production.now target }
@@ -87,11 +94,11 @@ impl<'a> Course<'a> {
         None
     }
 
-    /// Appends the instruction that computes an attribute at a place, if the attribute has the pass and
+    /// Appends the instruction that computes an attribute at a place, if the attribute has this pass and
     /// a rule computes it.
-    fn put_given(&self, list: &mut Vec<Instr>, target: Target) -> Result<(), NoMemory>
+    fn append_instruction(&self, list: &mut Vec<Instr>, target: Target) -> Result<(), NoMemory>
         requires { length self.now.production.now.rules ≤ max_rules }
-        ensures { OnOk result (list.new.items ≡ list.old.items ++ left_for
+        ensures { OnOk result (list.new.items ≡ list.old.items ++ remaining_for
             (passes_of self.now.assignment.now) self.now.production.now self.now.pass [] target) }
     {
         if self.pass_of(target) == Some(self.pass) {
@@ -102,14 +109,15 @@ impl<'a> Course<'a> {
         Ok(())
     }
 
-    /// Appends the instructions that compute the attributes at a place, in their order.
-    fn put_all_given(&self, list: &mut Vec<Instr>, place: u16) -> Result<(), NoMemory>
+    /// Appends the instructions that compute the attributes at a place that have this pass, in the order
+    /// of their numbers.
+    fn append_instructions(&self, list: &mut Vec<Instr>, place: u16) -> Result<(), NoMemory>
         requires { IsPlanned (passes_of self.now.assignment.now) self.now.production.now }
-        ensures { OnOk result (list.new.items ≡ list.old.items ++ left_at
+        ensures { OnOk result (list.new.items ≡ list.old.items ++ remaining_at
             (passes_of self.now.assignment.now) self.now.production.now self.now.pass [] place) }
     {
         for attr in 0..self.assignment.passes_at(self.production, place).len() {
-            self.put_given(
+            self.append_instruction(
                 list,
                 Target {
                     place,
@@ -120,8 +128,9 @@ impl<'a> Course<'a> {
         Ok(())
     }
 
-    /// Appends the instructions of a place of the right side.
-    fn put_visit(&self, list: &mut Vec<Instr>, place: u16) -> Result<(), NoMemory>
+    /// Appends the instructions for a place of the right side: `Get`, the `Set`s, `Go` and `Put` for a
+    /// symbol, `Get` and `Put` for a token.
+    fn append_visit(&self, list: &mut Vec<Instr>, place: u16) -> Result<(), NoMemory>
         requires { IsPlanned (passes_of self.now.assignment.now) self.now.production.now }
         ensures { OnOk result (list.new.items ≡ list.old.items ++ visit
             (passes_of self.now.assignment.now) self.now.production.now self.now.pass [] place
@@ -130,7 +139,7 @@ impl<'a> Course<'a> {
         match self.production.item_at(place) {
             Some(Item::Symbol(_)) => {
                 list.push(Instr::Get(place))?;
-                self.put_all_given(list, place)?;
+                self.append_instructions(list, place)?;
                 list.push(Instr::Go(place))?;
                 list.push(Instr::Put(place))?;
             }
@@ -143,19 +152,19 @@ impl<'a> Course<'a> {
         Ok(())
     }
 
-    /// Returns the list for the production in the pass.
+    /// Returns the list for the production in the pass. `children` is the production's `arity`.
     pub(crate) fn list(&self, alloc: Global, children: usize) -> Result<Vec<Instr>, NoMemory>
         requires planned { IsPlanned (passes_of self.now.assignment.now) self.now.production.now }
         requires children { children ≡ arity self.now.production.now }
-        ensures { IfOk result (λ list. list.items ≡ list_of (passes_of self.now.assignment.now)
+        ensures { IfOk result (λ list. list.items ≡ generated_list (passes_of self.now.assignment.now)
             self.now.production.now self.now.pass) }
     {
         let direction = Direction::of_pass(self.pass);
         let mut list = Vec::new(alloc);
         for turn in 0..children {
-            self.put_visit(&mut list, 1 + direction.nth(children, turn) as u16)?;
+            self.append_visit(&mut list, 1 + direction.nth(children, turn) as u16)?;
         }
-        self.put_all_given(&mut list, 0)?;
+        self.append_instructions(&mut list, 0)?;
         list.push(Instr::End)?;
         Ok(list)
     }

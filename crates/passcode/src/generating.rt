@@ -5,20 +5,20 @@ ghost use Rattle.ag_grammar.specs.grammars.Passes.{IsLegal};
 ghost use Rattle.passassign.specs.Rows.{passes_of};
 ghost use Rattle.passcode.specs.Agreement.{Agrees};
 ghost use Rattle.passcode.specs.Limits.{IsPlanned};
-ghost use Rattle.passcode.specs.Listing.{AreLists, list_of};
+ghost use Rattle.passcode.specs.Listing.{AreGeneratedLists, generated_list};
 ghost use Rattle.passcode.specs.Rows.{row_of};
 ghost use Rattle.passcode.specs.Shape.{HasLists, HasNumbers, HasShape};
 ghost use Rattle.passcode.specs.declared.instr.Instr.{Instr as TheInstr};
 
 use crate::code::Code;
-use crate::course::{Course, arity};
+use crate::course::{ListContext, arity};
 use crate::instr::Instr;
 use ag_grammar::{Grammar, Production};
 use ag_value::NoMemory;
 use passassign::Assignment;
 use std::alloc::Global;
 
-/// Returns the lists of a production, for passes from 1 up to this number.
+/// Returns the lists of a production, for the passes from 1 to `passes`.
 fn lists_of(
     alloc: Global,
     production: &Production,
@@ -29,17 +29,17 @@ fn lists_of(
     ensures len { IfOk result (λ lists. length lists.items ≡ passes) }
     ensures lists { IfOk result (λ lists. (i : ℕ) (xs : List TheInstr)
         → slice_get (row_of lists.items) i ≡ Some xs
-        → xs ≡ list_of (passes_of assignment.now) production.now (i + 1)) }
+        → xs ≡ generated_list (passes_of assignment.now) production.now (i + 1)) }
 {
     let children = arity(production);
     let mut lists = Vec::new(alloc);
     for before in 0..passes {
-        let course = Course {
+        let context = ListContext {
             assignment,
             production,
             pass: before + 1,
         };
-        lists.push(course.list(alloc, children)?)?;
+        lists.push(context.list(alloc, children)?)?;
     }
     Ok(lists)
 }
@@ -51,15 +51,15 @@ fn lists_of(
 /// this pass in the order of their attributes, the `Go` if a declared symbol is there, and
 /// the `Put`; then the `Def`s of this pass in the order of their attributes; then `End`.
 ///
-/// Fails with NoMemory if a request for memory is refused. Takes memory only for the code. It looks at
-/// each attribute of each place once in each pass, and searches its rule once in all passes.
+/// Fails with NoMemory if the allocator refuses memory. Allocates only the code. Reads each attribute
+/// of each place once in each pass, and searches for its rule only in the attribute's own pass.
 pub fn generate(alloc: Global, grammar: &Grammar, assignment: &Assignment) -> Result<Code, NoMemory>
     requires { IsLegal grammar.now (passes_of assignment.now) }
     ensures agrees { IfOk result (Agrees grammar.now (passes_of assignment.now)) }
     ensures lists { IfOk result (HasLists grammar.now assignment.now) }
     ensures shape { IfOk result (λ code. HasNumbers grammar.now assignment.now
         → HasShape grammar.now assignment.now code) }
-    ensures order { IfOk result (AreLists grammar.now (passes_of assignment.now)) }
+    ensures order { IfOk result (AreGeneratedLists grammar.now (passes_of assignment.now)) }
 {
     let passes = assignment.passes();
     let mut rows = Vec::new(alloc);

@@ -1,14 +1,14 @@
-//! The phase of a node between two instructions.
+//! The phase of a node while a pass runs its list.
 
-/// The phase of a node between two instructions of its list.
+/// The phase of a node: which part of a child's instructions was run last.
 #[derive(Clone, Copy, Debug, PartialEq, Eq)]
 pub enum Phase {
-    /// Between two children, or before the first or after the last.
+    /// Between two children, before the first one, or after the last one and before `End`.
     Between,
-    /// At a child whose record was read.
+    /// At a child that is a node, after its `Get` and before its `Go`.
     Got,
-    /// At a child in which the pass has run.
+    /// At a child before its `Put`: after the `Go` of a node, or after the `Get` of a token.
     Gone,
-    /// At its end.
+    /// After `End`.
     Ended,
 }

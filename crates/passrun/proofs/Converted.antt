@@ -32,9 +32,9 @@ use Rattle.treefile.proofs.records.FirstFile.{first_body, unassigned_from_one}
 use Rattle.treefile.proofs.records.Fitting.{numbered}
 use Rattle.treefile.proofs.records.Texts.{texts_are_given}
 use Rattle.backreader.specs.BackState.{Progress}
-use Rattle.backreader.specs.Turning.{max_levels, max_records}
+use Rattle.backreader.specs.Turning.{max_reversed_levels, max_reversed_records}
 use Rattle.passrun.specs.Faults.{run_fault_of_frame}
-use Rattle.passrun.specs.Upgrading.{Converted, IsAt, IsOf, IsUnconverted, IsUpgradeFault, body_in, pending, old_file, text_list, upcoming}
+use Rattle.passrun.specs.Upgrading.{Converted, IsAt, IsOf, IsUnconverted, IsUpgradeFault, body_in, pending_items, old_file, text_list, upcoming}
 use Rattle.passrun.specs.declared.reading.old_record.OldRecord.{OldRecord}
 use Rattle.passrun.specs.declared.reading.old_record.OldRecord.TheVariants as old
 use Rattle.passrun.specs.declared.run_fault.RunFault.{RunFault}
@@ -60,14 +60,14 @@ before_both level [] ys others = refl
 before_both level (x ∷ xs) ys others = before_both level xs ys ((level, x) ∷ others)
 
 -- The children of the right one are read first.
-pub coming_both : (g : Grammar) (level : ℕ) (xs ys : List Item) (others : Pending) → pending g level (xs ++ ys) others ≡ pending g level ys (pending g level xs others)
+pub coming_both : (g : Grammar) (level : ℕ) (xs ys : List Item) (others : Pending) → pending_items g level (xs ++ ys) others ≡ pending_items g level ys (pending_items g level xs others)
 coming_both g level xs ys others =
     ap (λ zs. before_others RightToLeft level (children_with_copies version_one.has_copies g no_passes 0 zs []) others) (stored_both xs ys)
     ∙ ap (λ zs. before_others RightToLeft level zs others) (copies_of_both g (stored_items xs) (stored_items ys))
     ∙ before_both level (upcoming g xs) (upcoming g ys) others
 
 -- An item that is a child.
-pub coming_one : (g : Grammar) (level : ℕ) (x : Item) (others : Pending) → stored_items (x ∷ []) ≡ x ∷ [] → pending g level (x ∷ []) others ≡ (level, (x, None)) ∷ others
+pub coming_one : (g : Grammar) (level : ℕ) (x : Item) (others : Pending) → stored_items (x ∷ []) ≡ x ∷ [] → pending_items g level (x ∷ []) others ≡ (level, (x, None)) ∷ others
 coming_one g level x others progress = ap (λ zs. before_others RightToLeft level (children_with_copies version_one.has_copies g no_passes 0 zs []) others) progress
 
 -- ---- records
@@ -121,51 +121,51 @@ module _ (g : Grammar) (accepted : IsAccepted g) where
   -- Reading meets damage.
   pub breaks_at : (content : List ℕ) (progress : Progress) (todo : Pending) → IsAt g content progress todo → IsWithin (old_file g) todo progress.records → Breaks version_one g no_passes 0 todo (next_before version_one content progress.at) → IsUpgradeFault g content (fault.Damaged progress.at)
   breaks_at content progress todo is within so =
-      let damaged = broken (old_file g) decidable content progress.at is.readable (todo, is.way, subst (IsWithin (old_file g) todo) is.counted within, so) in
+      let damaged = broken (old_file g) decidable content progress.at is.readable (todo, is.arrival, subst (IsWithin (old_file g) todo) is.counted within, so) in
       (no_first content damaged.none, damaged.shown)
 
   -- Reading exceeds a limit.
-  pub goes_too_deep : (content : List ℕ) (progress : Progress) (level : ℕ) (x : Child) (todo : Pending) → IsAt g content progress ((level, x) ∷ todo) → max_levels < level → IsUpgradeFault g content fault.TooDeep
+  pub goes_too_deep : (content : List ℕ) (progress : Progress) (level : ℕ) (x : Child) (todo : Pending) → IsAt g content progress ((level, x) ∷ todo) → max_reversed_levels < level → IsUpgradeFault g content fault.TooDeep
   goes_too_deep content progress level x todo is deep =
-      let far = too_deep (old_file g) decidable content (record { readable = is.readable; at = progress.at; level = level; next = x; others = todo; way = is.way; deep = deep }) in
-      ((λ nodes. no_first_within max_levels nodes content (far.none nodes)), far.shown)
+      let far = too_deep (old_file g) decidable content (record { readable = is.readable; at = progress.at; level = level; next = x; others = todo; arrival = is.arrival; deep = deep }) in
+      ((λ nodes. no_first_within max_reversed_levels nodes content (far.none nodes)), far.shown)
 
-  pub goes_too_far : (content : List ℕ) (progress : Progress) (level : ℕ) (x : Child) (todo : Pending) → IsAt g content progress ((level, x) ∷ todo) → level ≤ max_levels → max_records ≤ progress.records → IsUpgradeFault g content fault.TooManyNodes
+  pub goes_too_far : (content : List ℕ) (progress : Progress) (level : ℕ) (x : Child) (todo : Pending) → IsAt g content progress ((level, x) ∷ todo) → level ≤ max_reversed_levels → max_reversed_records ≤ progress.records → IsUpgradeFault g content fault.TooManyNodes
   goes_too_far content progress level x todo is deep many =
-      let most = is.way.few in
+      let most = is.arrival.few in
       let counted = is.counted in
-      let far = too_many (old_file g) decidable content (record { readable = is.readable; at = progress.at; level = level; next = x; others = todo; way = is.way; within = deep; full = omega arith }) in
-      ((λ levels. no_first_within levels max_records content (far.none levels)), far.shown)
+      let far = too_many (old_file g) decidable content (record { readable = is.readable; at = progress.at; level = level; next = x; others = todo; arrival = is.arrival; within = deep; full = omega arith }) in
+      ((λ levels. no_first_within levels max_reversed_records content (far.none levels)), far.shown)
 
   -- One more record was read.
-  pub one_more : (content : List ℕ) (before now : Progress) (level : ℕ) (x : Item) (others : Pending) (r : OldRecord) (is : IsOf g x r) → level ≤ max_levels → before.records < max_records → next_before version_one content before.at ≡ Ok (Some (body_in r)) → now.at ≡ before_frame before.at (body_in r) → now.records ≡ before.records + 1
+  pub one_more : (content : List ℕ) (before now : Progress) (level : ℕ) (x : Item) (others : Pending) (r : OldRecord) (is : IsOf g x r) → level ≤ max_reversed_levels → before.records < max_reversed_records → next_before version_one content before.at ≡ Ok (Some (body_in r)) → now.at ≡ before_frame before.at (body_in r) → now.records ≡ before.records + 1
       → IsAt g content before ((level, (x, None)) ∷ others) → IsAt g content now (before_others RightToLeft (suc level) (children_in g x r is) others)
   one_more content before now level x others r is deep less found at records here =
-      let bodies = here.way.bodies ++ body_in r ∷ [] in
+      let bodies = here.arrival.bodies ++ body_in r ∷ [] in
       record {
         readable = here.readable;
-        way = record {
+        arrival = record {
           bodies = bodies;
-          read = subst (ReadsTo version_one content (length content) bodies) (sym at) (reads_on version_one content here.way.bodies (body_in r ∷ []) (length content) before.at (before_frame before.at (body_in r)) here.way.read (found, refl));
-          records = leaves_on (old_file g) RightToLeft here.way.bodies (body_in r) level (x, None) (children_in g x r is) (pending_root g) others here.way.records deep (is_record g x r is);
-          few = omega (arith, less, here.counted, length-append here.way.bodies (body_in r ∷ []));
+          read = subst (ReadsTo version_one content (length content) bodies) (sym at) (reads_on version_one content here.arrival.bodies (body_in r ∷ []) (length content) before.at (before_frame before.at (body_in r)) here.arrival.read (found, refl));
+          records = leaves_on (old_file g) RightToLeft here.arrival.bodies (body_in r) level (x, None) (children_in g x r is) (pending_root g) others here.arrival.records deep (is_record g x r is);
+          few = omega (arith, less, here.counted, length-append here.arrival.bodies (body_in r ∷ []));
         };
-        counted = omega (arith, records, here.counted, length-append here.way.bodies (body_in r ∷ []));
+        counted = omega (arith, records, here.counted, length-append here.arrival.bodies (body_in r ∷ []));
       }
 
   -- ---- an item whose record is to be read
 
   module _ (content : List ℕ) (x : Item) (level : ℕ) (progress : Progress) (stored : stored_items (x ∷ []) ≡ x ∷ []) where
-    here : (others : Pending) → IsAt g content progress (pending g level (x ∷ []) others) → IsAt g content progress ((level, (x, None)) ∷ others)
+    here : (others : Pending) → IsAt g content progress (pending_items g level (x ∷ []) others) → IsAt g content progress ((level, (x, None)) ∷ others)
     here others is = subst (IsAt g content progress) (coming_one g level x others stored) is
 
-    pub one_too_deep : max_levels < level → IsUnconverted g content (x ∷ []) level progress fault.TooDeep
+    pub one_too_deep : max_reversed_levels < level → IsUnconverted g content (x ∷ []) level progress fault.TooDeep
     one_too_deep deep others is = goes_too_deep content progress level (x, None) others (here others is) deep
 
-    pub one_too_many : level ≤ max_levels → max_records ≤ progress.records → IsUnconverted g content (x ∷ []) level progress fault.TooManyNodes
+    pub one_too_many : level ≤ max_reversed_levels → max_reversed_records ≤ progress.records → IsUnconverted g content (x ∷ []) level progress fault.TooManyNodes
     one_too_many deep many others is = goes_too_far content progress level (x, None) others (here others is) deep many
 
-  module _ (content : List ℕ) (x : Item) (level : ℕ) (progress : Progress) (stored : stored_items (x ∷ []) ≡ x ∷ []) (deep : level ≤ max_levels) (less : progress.records < max_records) where
+  module _ (content : List ℕ) (x : Item) (level : ℕ) (progress : Progress) (stored : stored_items (x ∷ []) ≡ x ∷ []) (deep : level ≤ max_reversed_levels) (less : progress.records < max_reversed_records) where
     -- The frame that ends there is damage, or none ends there.
     pub one_breaks : (at : ℕ) → at ≡ progress.at → ((others : Pending) → Breaks version_one g no_passes 0 ((level, (x, None)) ∷ others) (next_before version_one content progress.at)) → IsUnconverted g content (x ∷ []) level progress (fault.Damaged at)
     one_breaks at same so others is = subst (λ n. IsUpgradeFault g content (fault.Damaged n)) (sym same) (breaks_at content progress ((level, (x, None)) ∷ others) (here content x level progress stored others is) (deep, less) (so others))
@@ -239,8 +239,8 @@ module _ (g : Grammar) (accepted : IsAccepted g) (content : List ℕ) where
   -- Nothing was converted if no item is a child.
   pub none_converted : (leading xs : List Item) (level : ℕ) (progress : Progress) (honest : Bool) (out : List ℕ) → stored_items xs ≡ [] → Converted g content leading xs level progress progress honest out out []
   none_converted leading xs level progress honest out none =
-      let same : (others : Pending) → pending g level (leading ++ xs) others ≡ pending g level leading others =
-      λ others. coming_both g level leading xs others ∙ ap (λ zs. before_others RightToLeft level (children_with_copies version_one.has_copies g no_passes 0 zs []) (pending g level leading others)) none in
+      let same : (others : Pending) → pending_items g level (leading ++ xs) others ≡ pending_items g level leading others =
+      λ others. coming_both g level leading xs others ∙ ap (λ zs. before_others RightToLeft level (children_with_copies version_one.has_copies g no_passes 0 zs []) (pending_items g level leading others)) none in
       record {
         trees = tree.none;
         fits = subst (λ zs. FitsAll g zs tree.none) (sym none) tt;
@@ -267,10 +267,10 @@ module _ (g : Grammar) (accepted : IsAccepted g) (content : List ℕ) where
       record {
         trees = beside us ts;
         fits = subst (λ zs. FitsAll g zs (beside us ts)) (sym (stored_both xs ys)) (fits_both g (stored_items xs) (stored_items ys) us ts next.fits following.fits);
-        deep = deepest_both us ts (suc max_levels - level) next.deep following.deep;
+        deep = deepest_both us ts (suc max_reversed_levels - level) next.deep following.deep;
         read = subst (λ (read : List (List ℕ)). ReadsTo version_one content before.at read now.at) (sym (prefix_both version_one us ts)) (reads_on version_one content (prefix_all RightToLeft (first_bodies_all version_one ts)) (prefix_all RightToLeft (first_bodies_all version_one us)) before.at between.at now.at following.read next.read);
         nodes = omega (arith, next.nodes, following.nodes, counts_both us ts);
-        on = λ later is. next.on (pending g level leading later) (subst (IsAt g content between) (coming_both g level leading xs later) (following.on later (subst (λ zs. IsAt g content before (pending g level zs later)) (sym (append_assoc leading xs ys)) is)));
+        on = λ later is. next.on (pending_items g level leading later) (subst (IsAt g content between) (coming_both g level leading xs later) (following.on later (subst (λ zs. IsAt g content before (pending_items g level zs later)) (sym (append_assoc leading xs ys)) is)));
         written = λ h.
             next.written h ∙ ap (λ (bytes : List ℕ). bytes ++ flat_map frame (postfix_all RightToLeft (bodies us))) (following.written h)
             ∙ append_assoc out_old (flat_map frame (postfix_all RightToLeft (bodies ts))) (flat_map frame (postfix_all RightToLeft (bodies us)))
@@ -282,13 +282,13 @@ module _ (g : Grammar) (accepted : IsAccepted g) (content : List ℕ) where
 
   -- If a child fails, its parent does.
   pub child_refused : (x child : Item) (leading ys : List Item) (level : ℕ) (before first now : Progress) (r : OldRecord) (is : IsOf g x r) (honest : Bool) (out_old out_now : List ℕ) (texts : List Value) (f : RunFault)
-      → stored_items (x ∷ []) ≡ x ∷ [] → level ≤ max_levels → before.records < max_records → next_before version_one content before.at ≡ Ok (Some (body_in r)) → first.at ≡ before_frame before.at (body_in r) → first.records ≡ before.records + 1
+      → stored_items (x ∷ []) ≡ x ∷ [] → level ≤ max_reversed_levels → before.records < max_reversed_records → next_before version_one content before.at ≡ Ok (Some (body_in r)) → first.at ≡ before_frame before.at (body_in r) → first.records ≡ before.records + 1
       → children_in g x r is ≡ upcoming g ((leading ++ child ∷ []) ++ ys) → Converted g content (leading ++ child ∷ []) ys (suc level) first now honest out_old out_now texts
       → IsUnconverted g content (child ∷ []) (suc level) now f → IsUnconverted g content (x ∷ []) level before f
   child_refused x child leading ys level before first now r is honest out_old out_now texts f stored deep less found at records children converted refused others here =
       let one = one_more g accepted content before first level x others r is deep less found at records (subst (IsAt g content before) (coming_one g level x others stored) here) in
-      let all : IsAt g content first (pending g (suc level) ((leading ++ child ∷ []) ++ ys) others) = subst (λ zs. IsAt g content first (before_others RightToLeft (suc level) zs others)) children one in
-      refused (pending g (suc level) leading others) (subst (IsAt g content now) (coming_both g (suc level) leading (child ∷ []) others) (converted.on others all))
+      let all : IsAt g content first (pending_items g (suc level) ((leading ++ child ∷ []) ++ ys) others) = subst (λ zs. IsAt g content first (before_others RightToLeft (suc level) zs others)) children one in
+      refused (pending_items g (suc level) leading others) (subst (IsAt g content now) (coming_both g (suc level) leading (child ∷ []) others) (converted.on others all))
 
   -- One more item was converted, from right to left.
   pub next_converted : (items : List Item) (at level : ℕ) (d : Item) (before between now : Progress) (honest : Bool) (out_old out_between out_now : List ℕ) (texts text all : List Value) → 0 < at → at ≤ length items
@@ -306,7 +306,7 @@ module _ (g : Grammar) (accepted : IsAccepted g) (content : List ℕ) where
 
   -- If one more item fails, its parent does.
   pub next_refused : (x : Item) (p : ℕ) (items : List Item) (at level : ℕ) (d : Item) (before first now : Progress) (is : IsOf g x (old.Node p)) (honest : Bool) (out_old out_now : List ℕ) (texts : List Value) (f : RunFault)
-      → stored_items (x ∷ []) ≡ x ∷ [] → level ≤ max_levels → before.records < max_records → next_before version_one content before.at ≡ Ok (Some (body_of Node p [])) → first.at ≡ before_frame before.at (body_of Node p []) → first.records ≡ before.records + 1
+      → stored_items (x ∷ []) ≡ x ∷ [] → level ≤ max_reversed_levels → before.records < max_reversed_records → next_before version_one content before.at ≡ Ok (Some (body_of Node p [])) → first.at ≡ before_frame before.at (body_of Node p []) → first.records ≡ before.records + 1
       → ((q : Production) → IsProduction g p q → items ≡ q.items) → 0 < at → at ≤ length items → Converted g content (take at items) (drop at items) (suc level) first now honest out_old out_now texts
       → IsUnconverted g content (get_or items (at - 1) d ∷ []) (suc level) now f → IsUnconverted g content (x ∷ []) level before f
   next_refused x p items at level d before first now is honest out_old out_now texts f stored deep less found begins records all some within so_far refused =
@@ -319,7 +319,7 @@ module _ (g : Grammar) (accepted : IsAccepted g) (content : List ℕ) where
 
   -- A token was converted.
   pub token_converted : (x : Item) (level d : ℕ) (v : Value) (before now : Progress) (honest : Bool) (out_old out_now : List ℕ)
-      → stored_items (x ∷ []) ≡ x ∷ [] → IsOf g x (old.Token d v) → level ≤ max_levels → before.records < max_records → next_before version_one content before.at ≡ Ok (Some (body_in (old.Token d v))) → now.at ≡ before_frame before.at (body_in (old.Token d v)) → now.records ≡ before.records + 1
+      → stored_items (x ∷ []) ≡ x ∷ [] → IsOf g x (old.Token d v) → level ≤ max_reversed_levels → before.records < max_reversed_records → next_before version_one content before.at ≡ Ok (Some (body_in (old.Token d v))) → now.at ≡ before_frame before.at (body_in (old.Token d v)) → now.records ≡ before.records + 1
       → WhenHonest honest (out_now ≡ out_old ++ frame (body_in (old.Token d v))) → Converted g content [] (x ∷ []) level before now honest out_old out_now (v ∷ [])
   token_converted (item.Symbol s) level d v before now honest out_old out_now stored is deep less found at records put = elim is [ ]
   token_converted (item.Terminal (Literal l)) level d v before now honest out_old out_now stored is deep less found at records put = elim is [ ]
@@ -339,7 +339,7 @@ module _ (g : Grammar) (accepted : IsAccepted g) (content : List ℕ) where
 
   -- A node was converted after its children.
   pub node_converted : (x : Item) (level p : ℕ) (before first now : Progress) (honest : Bool) (out_old out_between out_now : List ℕ) (texts : List Value)
-      → stored_items (x ∷ []) ≡ x ∷ [] → (is : IsOf g x (old.Node p)) → level ≤ max_levels → before.records < max_records → next_before version_one content before.at ≡ Ok (Some (body_of Node p [])) → first.at ≡ before_frame before.at (body_of Node p []) → first.records ≡ before.records + 1
+      → stored_items (x ∷ []) ≡ x ∷ [] → (is : IsOf g x (old.Node p)) → level ≤ max_reversed_levels → before.records < max_reversed_records → next_before version_one content before.at ≡ Ok (Some (body_of Node p [])) → first.at ≡ before_frame before.at (body_of Node p []) → first.records ≡ before.records + 1
       → (items : List Item) → ((q : Production) → IsProduction g p q → items ≡ q.items) → Converted g content [] items (suc level) first now honest out_old out_between texts
       → WhenHonest honest (out_now ≡ out_between ++ frame (body_of Node p (reverse texts))) → Converted g content [] (x ∷ []) level before now honest out_old out_now []
   node_converted (item.Terminal (Class c)) level p before first now honest out_old out_between out_now texts stored is deep less found at records items all converted put = elim is [ ]
@@ -357,7 +357,7 @@ module _ (g : Grammar) (accepted : IsAccepted g) (content : List ℕ) where
         deep = omega arith;
         read = (found, subst (λ n. ReadsTo version_one content n (prefix_all RightToLeft (first_bodies_all version_one ts)) now.at) at converted.read);
         nodes = omega (arith, records, converted.nodes);
-        on = λ others here. converted.on others (subst (λ zs. IsAt g content first (pending g (suc level) zs others)) (sym same) (one_more g accepted content before first level (item.Symbol s) others (old.Node p) is deep less found at records here));
+        on = λ others here. converted.on others (subst (λ zs. IsAt g content first (pending_items g (suc level) zs others)) (sym same) (one_more g accepted content before first level (item.Symbol s) others (old.Node p) is deep less found at records here));
         written = λ h.
             put h ∙ ap (λ vs. out_between ++ frame (body_of Node p vs)) texts_back ∙ ap (λ (bytes : List ℕ). bytes ++ frame body) (converted.written h)
             ∙ append_assoc out_old (flat_map frame (postfix_all RightToLeft (first_bodies_all version_two ts))) (frame body)

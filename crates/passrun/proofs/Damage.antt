@@ -33,12 +33,12 @@ leaves_on s d (first ∷ bodies) body level x ys (y ∷ todo) left h le is = (h.
 -- The children still to be read after some bodies are those of reading up to that offset.
 continues_on : (s : Source) (content : List ℕ) (bodies : List (List ℕ)) (at count start : ℕ) (todo left : Pending) → IsNumbered s.grammar → ReadSoFar s.version s.grammar s.passes s.pass content at count todo → ReadsTo s.version content at bodies start
     → Leaves s (other (direction_of s.pass)) todo bodies left → ReadSoFar s.version s.grammar s.passes s.pass content start (count + length bodies) left
-continues_on s content [] at count start todo left few way read h =
+continues_on s content [] at count start todo left few arrival read h =
     let same : count ≡ count + length {A = List ℕ} [] = omega arith in
-    subst (λ (t : Pending). ReadSoFar s.version s.grammar s.passes s.pass content start (count + 0) t) h (subst (λ a. ReadSoFar s.version s.grammar s.passes s.pass content a (count + 0) todo) read (subst (λ n. ReadSoFar s.version s.grammar s.passes s.pass content at n todo) same way))
-continues_on s content (body ∷ bodies) at count start [] left few way read h = elim h [ ]
-continues_on s content (body ∷ bodies) at count start ((level, x) ∷ todo) left few way read h =
-    let on = reading_continues s.version s.grammar s.passes s.pass content body at count level x h.0 todo few way read.0 h.2 in
+    subst (λ (t : Pending). ReadSoFar s.version s.grammar s.passes s.pass content start (count + 0) t) h (subst (λ a. ReadSoFar s.version s.grammar s.passes s.pass content a (count + 0) todo) read (subst (λ n. ReadSoFar s.version s.grammar s.passes s.pass content at n todo) same arrival))
+continues_on s content (body ∷ bodies) at count start [] left few arrival read h = elim h [ ]
+continues_on s content (body ∷ bodies) at count start ((level, x) ∷ todo) left few arrival read h =
+    let on = reading_continues s.version s.grammar s.passes s.pass content body at count level x h.0 todo few arrival read.0 h.2 in
     let sum : suc count + length bodies ≡ count + suc (length bodies) = omega arith in
     subst (λ n. ReadSoFar s.version s.grammar s.passes s.pass content start n left) sum (continues_on s content bodies (before_frame at body) (suc count) start (before_others (other (direction_of s.pass)) (suc level) h.0 todo) left few on read.1 h.3)
 
@@ -148,7 +148,7 @@ module _ (s : Source) (sound : IsDecidable s) where
   -- The content is the file of no tree within the limits if one is exceeded.
   pub too_deep : (content : List ℕ) → ExceedsDepth s content → IsTooDeep s content
   too_deep content h = record {
-    none = λ nodes. reading_is_too_long s.version s.grammar s.passes s.pass content h.at (length h.way.bodies) h.level s.depth nodes h.next h.others (way_to content h.at ((h.level, h.next) ∷ h.others) h.way) (inl h.deep);
+    none = λ nodes. reading_is_too_long s.version s.grammar s.passes s.pass content h.at (length h.arrival.bodies) h.level s.depth nodes h.next h.others (way_to content h.at ((h.level, h.next) ∷ h.others) h.arrival) (inl h.deep);
     shown = h;
   }
 
@@ -156,7 +156,7 @@ module _ (s : Source) (sound : IsDecidable s) where
   too_many content h =
       let full = h.full in
       record {
-        none = λ depth. reading_is_too_long s.version s.grammar s.passes s.pass content h.at (length h.way.bodies) h.level depth s.nodes h.next h.others (way_to content h.at ((h.level, h.next) ∷ h.others) h.way) (inr (omega arith));
+        none = λ depth. reading_is_too_long s.version s.grammar s.passes s.pass content h.at (length h.arrival.bodies) h.level depth s.nodes h.next h.others (way_to content h.at ((h.level, h.next) ∷ h.others) h.arrival) (inr (omega arith));
         shown = h;
       }
 
@@ -194,7 +194,7 @@ module _ (s : Source) (sound : IsDecidable s) where
 
 -- The header of a content shows a fault, or reading stops for one.
 abbrev ShowsOnWay : Source → List ℕ → RunFault → Type 0
-ShowsOnWay s content f = IsReadable s content × ((todo : Pending) × (at : ℕ) × (way : ArrivesAt s content at todo) × Stops s content at (length way.bodies) todo f)
+ShowsOnWay s content f = IsReadable s content × ((todo : Pending) × (at : ℕ) × (arrival : ArrivesAt s content at todo) × Stops s content at (length arrival.bodies) todo f)
 
 abbrev ShowsSomewhere : Source → List ℕ → RunFault → Type 0
 ShowsSomewhere s content f = ((is_tree_file s.version content ≡ false) × (f ≡ fault.Damaged 0)) ⊎ (((is_tree_file s.version content ≡ true) × (pass_of content ≢ s.pass) × (f ≡ fault.Damaged 4)) ⊎ ShowsOnWay s content f)
@@ -203,8 +203,8 @@ somewhere : (s : Source) (content : List ℕ) (f : RunFault) → Shows s content
 somewhere s content (fault.Damaged at) (inl a) = inl (a.0, ap fault.Damaged a.1)
 somewhere s content (fault.Damaged at) (inr (inl a)) = inr (inl (a.0, a.1, ap fault.Damaged a.2))
 somewhere s content (fault.Damaged at) (inr (inr a)) = inr (inr (a.0, (a.1.0, at, a.1.1, (refl, a.1.2, a.1.3))))
-somewhere s content fault.TooDeep h = inr (inr (h.readable, ((h.level, h.next) ∷ h.others, h.at, h.way, h.deep)))
-somewhere s content fault.TooManyNodes h = let full = h.full in inr (inr (h.readable, ((h.level, h.next) ∷ h.others, h.at, h.way, (h.within, omega arith))))
+somewhere s content fault.TooDeep h = inr (inr (h.readable, ((h.level, h.next) ∷ h.others, h.at, h.arrival, h.deep)))
+somewhere s content fault.TooManyNodes h = let full = h.full in inr (inr (h.readable, ((h.level, h.next) ∷ h.others, h.at, h.arrival, (h.within, omega arith))))
 somewhere s content fault.Device h = absurd h
 somewhere s content fault.NoMemory h = absurd h
 

@@ -36,7 +36,7 @@ use Rattle.passrun.specs.passing.Running.{RunsFrom}
 use Rattle.passrun.proofs.course.Ahead.{disagreed, unfetched}
 use Rattle.passrun.proofs.Damage.{broken, decidable, unstarted}
 use Rattle.passrun.proofs.steps.Steps.{get_first}
-use Rattle.passrun.proofs.steps.Turning.{Answers, begins_so, got_place}
+use Rattle.passrun.proofs.steps.MachineSteps.{Answers, begins_so, got_place}
 
 -- A body was returned.
 pub some_lent : (found : Option (Bor (List ℕ))) → is_some found ≡ true → (body : List ℕ) × (option_map (λ (b : Bor (List ℕ)). b.now) found ≡ Some body)
@@ -67,7 +67,7 @@ module _ (c : Setting) (sound : IsSound c) where
   first_come honest content m x j row (to_honest, to, meter, r) at is w =
       let xs = reverse m.waiting.items in
       let i = got_place c sound honest content m x j row (to_honest, to, meter, r) at is in
-      let first = get_first c sound m.root x xs m.values.items r.running.tapes (meter - m.begun) r.running.todo j i.production row.item at i.there i.occurs r.running.passing in
+      let first = get_first c sound m.root x xs m.values.items r.running.transcript (meter - m.begun) r.running.todo j i.production row.item at i.there i.occurs r.running.invariant in
       let l = length-reverse m.waiting.items in
       let level : suc (suc (length xs)) ≡ suc (length m.waiting.items + 1) = omega arith in
       record {
@@ -75,9 +75,9 @@ module _ (c : Setting) (sound : IsSound c) where
         left = first.1;
         readable = r.running.readable w;
         here = record {
-          bodies = r.running.tapes.read;
+          bodies = r.running.transcript.read;
           read = r.running.read w;
-          records = subst (AreRecords (source c) r.running.tapes.read) (first.2 ∙ ap (λ n. before_it n row.item (values_up_to c.read (copied_passes c row.item) first.0) first.1) level) r.running.ahead;
+          records = subst (AreRecords (source c) r.running.transcript.read) (first.2 ∙ ap (λ n. before_it n row.item (values_up_to c.read (copied_passes c row.item) first.0) first.1) level) r.running.ahead;
           few = r.running.few;
         };
         count = r.running.records;
@@ -130,7 +130,7 @@ module _ (c : Setting) (sound : IsSound c) where
 
   -- All records of a tree were read.
   pub end_come : (honest : Bool) (content : List ℕ) (to_honest : Bool) (to : List ℕ) (m : Machine) → RunsBetween c honest content to_honest to m None → WhenHonest honest (IsReadable (source c) content × ArrivesAt (source c) content m.back.progress.at [])
-  end_come honest content to_honest to m (meter, r) w = (r.running.readable w, record { bodies = r.running.tapes.read; read = r.running.read w; records = subst (AreRecords (source c) r.running.tapes.read) r.running.passing.nothing r.running.ahead; few = r.running.few })
+  end_come honest content to_honest to m (meter, r) w = (r.running.readable w, record { bodies = r.running.transcript.read; read = r.running.read w; records = subst (AreRecords (source c) r.running.transcript.read) r.running.invariant.nothing r.running.ahead; few = r.running.few })
 
   pub end_version : (honest : Bool) (content : List ℕ) (to_honest : Bool) (to : List ℕ) (m : Machine) → RunsBetween c honest content to_honest to m None → m.back.progress.version ≡ version_two
   end_version honest content to_honest to m (meter, r) = r.running.version

@@ -20,7 +20,7 @@ use Rattle.treefile.specs.devices.Device.{WhenHonest}
 use Rattle.treefile.specs.framing.Ending.{IsBody, IsBytes, ReadsAs, version_one_usable}
 use Rattle.treefile.specs.records.FirstFile.{IsFirstFile, first_bodies, first_bodies_all, first_file, no_passes}
 use Rattle.treefile.specs.records.Orders as orders
-use Rattle.treefile.specs.records.Orders.{AreRanked, IsRanked, postfix, prefix}
+use Rattle.treefile.specs.records.Orders.{AllMatchArity, MatchesArity, postfix, prefix}
 use Rattle.treefile.specs.records.Records.{FitsVersion, max_copied, max_copies, synthesized_count}
 use Rattle.treefile.specs.records.TreeFile.{file, frame, header, version_one, version_two}
 use Rattle.treefile.specs.declared.body.Kind.TheVariants.{Node}
@@ -33,8 +33,8 @@ use Rattle.treefile.proofs.records.OneTree.{one_file}
 use Rattle.treefile.proofs.records.Records.{bodies_fit}
 use Rattle.treefile.proofs.records.Texts.{texts_are_given}
 use Rattle.backreader.specs.BackState.{IsOver, BackState, Progress}
-use Rattle.backreader.specs.Ranks.{rank_of}
-use Rattle.backreader.specs.Turning.{IsFileOf, IsWithinLimits, TreeTurned, Reverses, max_records}
+use Rattle.backreader.specs.Arities.{arity_of}
+use Rattle.backreader.specs.Turning.{IsFileOf, IsWithinLimits, ReversesTree, Reverses, max_reversed_records}
 use Rattle.backreader.specs.declared.turning.TurnFault.{TurnFault}
 use Rattle.backreader.specs.declared.turning.TurnFault.TheVariants as turn_fault
 use Rattle.backreader.proofs.Mirror.{postfix-reverse}
@@ -67,7 +67,7 @@ module _ (g : Grammar) (accepted : IsAccepted g) where
   pub begins_at : (content : List ℕ) (pass : ℕ) (progress : Progress) → pass_in version_one content ≡ Ok pass → pass ≡ 0 → progress.at ≡ length content → progress.records ≡ 0 → IsAt g content progress ((1, (item.Symbol g.start, None)) ∷ [])
   begins_at content pass progress found first end fresh = record {
     readable = readable (old_file g) (decidable g accepted) content pass found first;
-    way = record { bodies = []; read = sym end; records = refl; few = omega arith };
+    arrival = record { bodies = []; read = sym end; records = refl; few = omega arith };
     counted = fresh;
   }
 
@@ -86,7 +86,7 @@ module _ (g : Grammar) (accepted : IsAccepted g) where
 
   -- The root's tree was converted, and nothing is left after it.
   pub whole_converted : (content : List ℕ) (before : Progress) (now : BackState) (honest : Bool) (out_old out : List ℕ) (texts : List Value) → IsAt g content before ((1, (item.Symbol g.start, None)) ∷ []) → before.at ≡ length content → before.records ≡ 0
-      → Converted g content [] (item.Symbol g.start ∷ []) 1 before now.progress honest out_old out texts → IsOver content now → now.progress.records ≤ max_records → next_before version_one content now.progress.at ≡ Ok None → WhenHonest honest (out_old ≡ header version_two 1)
+      → Converted g content [] (item.Symbol g.start ∷ []) 1 before now.progress honest out_old out texts → IsOver content now → now.progress.records ≤ max_reversed_records → next_before version_one content now.progress.at ≡ Ok None → WhenHonest honest (out_old ≡ header version_two 1)
       → IsConverted g content honest out
   whole_converted content before now honest out_old out texts here end fresh converted over few none begun = go converted.trees converted.fits converted.deep converted.read converted.nodes converted.written
     where
@@ -123,24 +123,24 @@ module _ (g : Grammar) (accepted : IsAccepted g) where
 
   -- The number of a record determines the number of children of its node.
   mutual
-    ranked : (x : Item) (t : Tree) → Fits g x t → IsRanked (rank_of (stored_count g)) (first_bodies version_two t)
-    ranked (item.Symbol s) (tree.leaf c x) fits = elim fits [ ]
-    ranked (item.Terminal (Literal l)) (tree.leaf c x) fits = elim fits [ ]
-    ranked (item.Terminal a) (tree.node p ts) fits = elim fits [ ]
-    ranked (item.Terminal (Class d)) (tree.leaf c x) fits = (refl, tt)
-    ranked (item.Symbol s) (tree.node p ts) (q, there, left, fits) =
+    arities : (x : Item) (t : Tree) → Fits g x t → MatchesArity (arity_of (stored_count g)) (first_bodies version_two t)
+    arities (item.Symbol s) (tree.leaf c x) fits = elim fits [ ]
+    arities (item.Terminal (Literal l)) (tree.leaf c x) fits = elim fits [ ]
+    arities (item.Terminal a) (tree.node p ts) fits = elim fits [ ]
+    arities (item.Terminal (Class d)) (tree.leaf c x) fits = (refl, tt)
+    arities (item.Symbol s) (tree.node p ts) (q, there, left, fits) =
         let within = slice_get_within g.productions p q there in
         let few = numbered g accepted in
         let many : length (stored_items q.items) ≡ orders.tree_count (first_bodies_all version_two ts) = tree_many (stored_items q.items) ts fits in
         let number = from_be_bytes-to_be_bytes_2 p (omega arith) in (
           ap (stored_count g Node) number ∙ ap (option_map (λ (q : Production). length (stored_items q.items))) there ∙ ap Some many,
-          all_ranked (stored_items q.items) ts fits,
+          all_arities (stored_items q.items) ts fits,
         )
 
-    all_ranked : (xs : List Item) (ts : Forest) → FitsAll g xs ts → AreRanked (rank_of (stored_count g)) (first_bodies_all version_two ts)
-    all_ranked xs tree.none fits = tt
-    all_ranked [] (tree.more t ts) fits = elim fits [ ]
-    all_ranked (x ∷ xs) (tree.more t ts) fits = (ranked x t fits.0, all_ranked xs ts fits.1)
+    all_arities : (xs : List Item) (ts : Forest) → FitsAll g xs ts → AllMatchArity (arity_of (stored_count g)) (first_bodies_all version_two ts)
+    all_arities xs tree.none fits = tt
+    all_arities [] (tree.more t ts) fits = elim fits [ ]
+    all_arities (x ∷ xs) (tree.more t ts) fits = (arities x t fits.0, all_arities xs ts fits.1)
 
     tree_many : (xs : List Item) (ts : Forest) → FitsAll g xs ts → length xs ≡ orders.tree_count (first_bodies_all version_two ts)
     tree_many [] tree.none fits = refl
@@ -161,20 +161,20 @@ module _ (g : Grammar) (accepted : IsAccepted g) where
   pub room : FitsVersion version_two g no_passes
   room = record { tokens = omega arith; nodes = λ p q is. let stored = accepted.limits.stored_count p q is in omega (arith, few_copies (stored_items q.items)) }
 
-  between : (t : Tree) (mid : List ℕ) → IsTreeOf g t → mid ≡ file version_two 1 (postfix RightToLeft (first_bodies version_two t)) → IsFileOf (rank_of (stored_count g)) RightToLeft (first_bodies version_two t) mid
+  between : (t : Tree) (mid : List ℕ) → IsTreeOf g t → mid ≡ file version_two 1 (postfix RightToLeft (first_bodies version_two t)) → IsFileOf (arity_of (stored_count g)) RightToLeft (first_bodies version_two t) mid
   between t mid fits is =
       let texts = texts_are_given g t in
       let first = is_first_file version_two g t (first_file version_two t) fits refl no_passes texts.0 unassigned_from_one texts.1 in
       record {
-        ranked = ranked (item.Symbol g.start) t fits;
+        arities = arities (item.Symbol g.start) t fits;
         bodies = subst (λ b. All (IsBody version_two) (postfix RightToLeft b)) (bodies_are version_two g no_passes unassigned_from_one t texts.0) (bodies_fit version_two g no_passes 0 RightToLeft room (item.Symbol g.start) t texts.0 fits first.texts first.well);
         pass = 1;
         occurs = is;
       }
 
   module _ (content mid : List ℕ) (honest : Bool) (turned : List ℕ) (is : IsConverted g content true mid) where
-    exact : (result : Result ℕ TurnFault) → Reverses (rank_of (stored_count g)) 0 mid honest turned result → TreeTurned 0 RightToLeft (first_bodies version_two is.tree) honest turned result
-    exact result so = tree_exact (rank_of (stored_count g)) 0 mid honest turned RightToLeft (first_bodies version_two is.tree) (between is.tree mid is.fits (is.to refl)) result so
+    exact : (result : Result ℕ TurnFault) → Reverses (arity_of (stored_count g)) 0 mid honest turned result → ReversesTree 0 RightToLeft (first_bodies version_two is.tree) honest turned result
+    exact result so = tree_exact (arity_of (stored_count g)) 0 mid honest turned RightToLeft (first_bodies version_two is.tree) (between is.tree mid is.fits (is.to refl)) result so
 
     within : IsWithinLimits (first_bodies version_two is.tree)
     within =
@@ -183,7 +183,7 @@ module _ (g : Grammar) (accepted : IsAccepted g) where
         record { deep = omega (arith, same_depth version_two is.tree); large = omega (arith, same_count version_two is.tree) }
 
     -- The intermediate file can be reversed, so that only D1 and NoMemory occur.
-    pub turned_fault : (f : TurnFault) → Reverses (rank_of (stored_count g)) 0 mid honest turned (Err f) → IsUpgradeFault g content (run_fault_of_turn f)
+    pub turned_fault : (f : TurnFault) → Reverses (arity_of (stored_count g)) 0 mid honest turned (Err f) → IsUpgradeFault g content (run_fault_of_turn f)
     turned_fault turn_fault.NotATreeFile so = absurd (exact (Err turn_fault.NotATreeFile) so)
     turned_fault (turn_fault.Damaged at) so = absurd (exact (Err (turn_fault.Damaged at)) so)
     turned_fault (turn_fault.NotATree at) so = absurd (exact (Err (turn_fault.NotATree at)) so)
@@ -192,7 +192,7 @@ module _ (g : Grammar) (accepted : IsAccepted g) where
     turned_fault turn_fault.NoMemory so = tt
 
     -- The reversed file is that of version 2.
-    pub turned_tree : (count : ℕ) → Reverses (rank_of (stored_count g)) 0 mid honest turned (Ok count) → IsUpgraded g content mid honest turned count
+    pub turned_tree : (count : ℕ) → Reverses (arity_of (stored_count g)) 0 mid honest turned (Ok count) → IsUpgraded g content mid honest turned count
     turned_tree count so =
         let it = exact (Ok count) so in
         record {

@@ -39,10 +39,10 @@ header_alone = inr (inr (record { begins = header_begins; number = refl }, (pend
 
 -- After the header the root exceeds a limit of 0 levels, and a limit of 0 nodes.
 pub root_deep : ExceedsDepth (fractions_within 0 1) (header version_two 0)
-root_deep = record { readable = record { begins = header_begins; number = refl }; at = 6; level = 1; next = (item.Symbol binary.start, None); others = []; way = record { bodies = []; read = refl; records = refl; few = omega arith }; deep = omega arith }
+root_deep = record { readable = record { begins = header_begins; number = refl }; at = 6; level = 1; next = (item.Symbol binary.start, None); others = []; arrival = record { bodies = []; read = refl; records = refl; few = omega arith }; deep = omega arith }
 
 pub root_many : ExceedsNodes (fractions_within 1 0) (header version_two 0)
-root_many = record { readable = record { begins = header_begins; number = refl }; at = 6; level = 1; next = (item.Symbol binary.start, None); others = []; way = record { bodies = []; read = refl; records = refl; few = omega arith }; within = omega arith; full = refl }
+root_many = record { readable = record { begins = header_begins; number = refl }; at = 6; level = 1; next = (item.Symbol binary.start, None); others = []; arrival = record { bodies = []; read = refl; records = refl; few = omega arith }; within = omega arith; full = refl }
 
 -- The record of Q is not a record of N.
 abbrev numbers : ℕ → Value

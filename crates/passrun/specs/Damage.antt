@@ -33,7 +33,7 @@ pub record IsReadable (s : Source) (content : List ℕ) : Type 0 where
   pub begins : is_tree_file s.version content ≡ true
   pub number : pass_of content ≡ s.pass
 
--- Reading bodies turns a list of children to be read into the list that remains: each body is a record of the
+-- Reading some bodies leaves `left` of the children `todo` that were to be read: each body is a record of the
 -- first child, whose level is within the limit, and its own children, in a direction, replace that child.
 abbrev pub Leaves : Source → Direction → Pending → List (List ℕ) → Pending → Type 0
 Leaves s d todo [] left = todo ≡ left
@@ -46,7 +46,7 @@ abbrev pub AreRecords : Source → List (List ℕ) → Pending → Type 0
 AreRecords s bodies todo = Leaves s (other (direction_of s.pass)) (pending_root s.grammar) bodies todo
 
 -- From the end of a content back to an offset there are only frames, no more than the limit of nodes, and
--- their bodies are such records.
+-- their bodies are such records. The children `todo` are still to be read.
 pub record ArrivesAt (s : Source) (content : List ℕ) (at : ℕ) (todo : Pending) : Type 0 where
   pub bodies : List (List ℕ)
   pub read : ReadsTo s.version content (length content) bodies at
@@ -63,7 +63,7 @@ IsWithin s (x ∷ xs) count = (x.0 ≤ s.depth) × (count < s.nodes)
 -- there; or one whose body is not a record of the first child to be read; or no child is to be read, and a
 -- frame is left; or the header ends there, and a child is still to be read.
 abbrev pub BreaksAt : Source → List ℕ → ℕ → Type 0
-BreaksAt s content at = (todo : Pending) × (way : ArrivesAt s content at todo) × IsWithin s todo (length way.bodies) × Breaks s.version s.grammar s.passes s.pass todo (next_before s.version content at)
+BreaksAt s content at = (todo : Pending) × (arrival : ArrivesAt s content at todo) × IsWithin s todo (length arrival.bodies) × Breaks s.version s.grammar s.passes s.pass todo (next_before s.version content at)
 
 -- The offset at which a content shows that it is the file of no tree: 0 if it does not begin as a tree file
 -- of the version, 4 if it is that of another pass, and otherwise the one at which reading meets damage.
@@ -78,7 +78,7 @@ pub record ExceedsDepth (s : Source) (content : List ℕ) : Type 0 where
   pub level : ℕ
   pub next : Child
   pub others : Pending
-  pub way : ArrivesAt s content at ((level, next) ∷ others)
+  pub arrival : ArrivesAt s content at ((level, next) ∷ others)
   pub deep : s.depth < level
 
 -- The limit of nodes is exceeded before damage is met: as many bodies were read as the limit allows, and a
@@ -89,9 +89,9 @@ pub record ExceedsNodes (s : Source) (content : List ℕ) : Type 0 where
   pub level : ℕ
   pub next : Child
   pub others : Pending
-  pub way : ArrivesAt s content at ((level, next) ∷ others)
+  pub arrival : ArrivesAt s content at ((level, next) ∷ others)
   pub within : level ≤ s.depth
-  pub full : length way.bodies ≡ s.nodes
+  pub full : length arrival.bodies ≡ s.nodes
 
 -- R1: the content is the file of no tree, and shows it at the offset.
 pub record IsDamaged (s : Source) (content : List ℕ) (at : ℕ) : Type 0 where

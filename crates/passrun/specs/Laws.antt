@@ -24,7 +24,7 @@ use Rattle.passrun.specs.layouts.Layouts.{IsLayout}
 use Rattle.passrun.specs.Passed.{IsPassed}
 use Rattle.passrun.specs.Rounds.{HasRunAll}
 
--- A pass of a plan of an accepted grammar can run, with a table that has the slots of each rule.
+-- A pass of a plan of an accepted grammar can run, in a context that has the layout of each production.
 abbrev pub PlansCanRun : Type 0
 PlansCanRun = (context : PassContext) (passes : ℕ) → IsAccepted context.grammar.now → IsPlan context.grammar.now context.plan.now.0 context.plan.now.1 → IsGreatest passes context.plan.now.0 → 1 ≤ context.pass → context.pass ≤ passes
     → IsLayout (setting_of context.grammar.now context.plan.now context.pass) context.rows.now → CanRun context
@@ -37,7 +37,7 @@ ShowsOnce = (s : Source) (content : List ℕ) (one another : RunFault) → IsAcc
 abbrev pub CountsPass : Grammar → Passes → ℕ → (from : List ℕ) → (count evals : ℕ) → Type 0
 CountsPass g m k from count evals = (t : Tree) (u : Valuation) → IsTreeOf g t → IsFileOfTree version_two g m k t u from → (count ≡ node_count t) × (evals ≡ rules_of_pass m (suc k) g t)
 
--- The result of a pass for some tree holds for every tree that has the file it read: there is only one.
+-- The result of a pass for some tree holds for every tree that has the file it read: there is only one such tree.
 abbrev pub PassesAreRecorded : Type 0
 PassesAreRecorded =
     (g : Grammar) (plan : List (List ℕ) × Lists) (k : ℕ) (from to : List ℕ) (count evals : ℕ) → IsAccepted g → IsLegal g (passes_of plan.0) → 1 ≤ k

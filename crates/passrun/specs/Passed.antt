@@ -18,7 +18,7 @@ use Rattle.backreader.specs.BackState.{IsOver, BackState}
 use Rattle.planchecker.specs.courses.Settings.{Setting}
 use Rattle.passrun.specs.declared.passing.open_node.OpenNode.{OpenNode}
 use Rattle.passrun.specs.Damage.{AreRecords, IsReadable, source}
-use Rattle.passrun.specs.passing.NodeInvariant.{NodeInvariant, Transcript}
+use Rattle.passrun.specs.passing.RunInvariant.{RunInvariant, Transcript}
 
 -- A pass ran from one content to another: there are a tree and values such that the one is the file of the
 -- previous pass and the other that of the pass, and the values satisfy each equation whose target is of the
@@ -35,21 +35,22 @@ pub record IsPassed (c : Setting) (content to : List ℕ) (count evals : ℕ) : 
   pub nodes : count ≡ node_count tree
   pub rules : evals ≡ rules_of_pass c.passes c.write c.grammar tree
 
--- A pass runs between two devices: its transcript agrees with the reader and the writer. The bodies that were
--- read are records of the grammar at their places, and the open nodes still have these children to read.
+-- A pass runs between two devices: its transcript agrees with the reader (`state`) and the writer (`out`). The
+-- bodies that were read are records of the grammar at their places, and the open nodes (`stack`, the innermost
+-- first) still have these children to read.
 pub record IsRunning (c : Setting) (root : ℕ) (honest : Bool) (content : List ℕ) (to_honest : Bool) (to : List ℕ) (state : BackState) (out : writing.Progress) (values : List Value) (stack : List OpenNode) (evals : ℕ) : Type 0 where
-  pub tapes : Transcript
+  pub transcript : Transcript
   pub todo : Pending
-  pub passing : NodeInvariant c root stack values tapes evals todo
+  pub invariant : RunInvariant c root stack values transcript evals todo
   pub over : WhenHonest honest (IsOver content state)
-  pub read : WhenHonest honest (ReadsTo version_two content (length content) tapes.read state.progress.at)
-  pub records : state.progress.records ≡ length tapes.read
-  pub few : length tapes.read ≤ max_nodes
-  pub put : WhenHonest to_honest (to ≡ header version_two c.write ++ flat_map frame tapes.put)
-  pub written : out.written ≡ length tapes.put
+  pub read : WhenHonest honest (ReadsTo version_two content (length content) transcript.read state.progress.at)
+  pub records : state.progress.records ≡ length transcript.read
+  pub few : length transcript.read ≤ max_nodes
+  pub put : WhenHonest to_honest (to ≡ header version_two c.write ++ flat_map frame transcript.put)
+  pub written : out.written ≡ length transcript.put
   pub version : state.progress.version ≡ version_two
   pub unbroken : state.progress.fault ≡ None
   pub whole : out.is_broken ≡ false
   pub well : All IsWell values
   pub readable : WhenHonest honest (IsReadable (source c) content)
-  pub ahead : AreRecords (source c) tapes.read todo
+  pub ahead : AreRecords (source c) transcript.read todo

@@ -74,17 +74,17 @@ pub record HasRunAll (g : Grammar) (m : Passes) (k last : ℕ) (start : List ℕ
   pub fresh : last ≡ k → last_content which a b ≡ start
   pub nothing : last ≡ k → (which ≡ A) × (evals ≡ 0) × (sum ≡ record { nodes = 0; read = 0; written = 0 })
 
--- The solution of a tree was computed: one content is the file of its last pass, and the other that of the
+-- The solution of a tree was computed: the content `last` is the file of its last pass, and `previous` that of the
 -- pass before it, with the only values that satisfy each equation at each node (Knuth 1968; Jazayeri and
 -- Walter 1975).
-pub record LeavesSolution (g : Grammar) (m : Passes) (passes : ℕ) (t : Tree) (v : Valuation) (now before : List ℕ) : Type 0 where
+pub record LeavesSolution (g : Grammar) (m : Passes) (passes : ℕ) (t : Tree) (v : Valuation) (last previous : List ℕ) : Type 0 where
   pub solution : IsTheSolution g m t v
-  pub file : IsFileOfTree version_two g m passes t v now
-  pub other : (k : ℕ) → passes ≡ suc k → IsFileOfTree version_two g m k t v before
+  pub file : IsFileOfTree version_two g m passes t v last
+  pub other : (k : ℕ) → passes ≡ suc k → IsFileOfTree version_two g m k t v previous
 
 -- The solution was computed for every tree that has the start as its file of pass 0.
-abbrev pub LeavesSolutions : Grammar → Passes → (passes : ℕ) → (start now before : List ℕ) → Type 0
-LeavesSolutions g m passes start now before = (t : Tree) (u : Valuation) → IsTreeOf g t → IsFileOfTree version_two g m 0 t u start → (v : Valuation) × LeavesSolution g m passes t v now before
+abbrev pub LeavesSolutions : Grammar → Passes → (passes : ℕ) → (start last previous : List ℕ) → Type 0
+LeavesSolutions g m passes start last previous = (t : Tree) (u : Valuation) → IsTreeOf g t → IsFileOfTree version_two g m 0 t u start → (v : Valuation) × LeavesSolution g m passes t v last previous
 
 -- The content of a device that a call may write to: the old content, or a prefix of a tree file of some pass.
 abbrev pub LeavesSomeFile : (old new : List ℕ) → Type 0
@@ -95,7 +95,7 @@ LeavesSomeFile old new = (pass : ℕ) × LeavesBeginning pass old new
 -- the next one read. The other device has its content from before that pass, or a prefix of the file of that
 -- pass. If at least one pass ran, a is the file of a tree within the limits. If none ran, the first device
 -- was read and is unchanged, whatever its content.
-pub record LeavesRound (g : Grammar) (m : Passes) (k : ℕ) (a b a_new b_new : List ℕ) : Type 0 where
+pub record LeavesAfterFailure (g : Grammar) (m : Passes) (k : ℕ) (a b a_new b_new : List ℕ) : Type 0 where
   pub done : ℕ
   pub which : Last
   pub before : List ℕ

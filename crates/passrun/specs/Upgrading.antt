@@ -20,7 +20,7 @@ use Rattle.treefile.specs.framing.Writing as writing
 use Rattle.treefile.specs.declared.body.Kind.{Kind}
 use Rattle.treefile.specs.declared.body.Kind.TheVariants.{Node, Token}
 use Rattle.backreader.specs.BackState.{IsOver, BackState, Progress}
-use Rattle.backreader.specs.Turning.{max_levels, max_records}
+use Rattle.backreader.specs.Turning.{max_reversed_levels, max_reversed_records}
 use Rattle.passrun.specs.Damage.{ArrivesAt, ExceedsDepth, ExceedsNodes, IsReadable, ShowsAt, Source}
 use Rattle.passrun.specs.declared.reading.old_record.OldRecord.{OldRecord}
 use Rattle.passrun.specs.declared.reading.old_record.OldRecord.TheVariants as old
@@ -29,7 +29,7 @@ use Rattle.passrun.specs.declared.run_fault.RunFault.TheVariants as fault
 
 -- How an old file is read: as the file of version 1 and pass 0 of a tree.
 abbrev pub old_file : Grammar → Source
-old_file g = record { version = version_one; grammar = g; passes = no_passes; pass = 0; depth = max_levels; nodes = max_records }
+old_file g = record { version = version_one; grammar = g; passes = no_passes; pass = 0; depth = max_reversed_levels; nodes = max_reversed_records }
 
 -- The old content is the file of version 1 and pass 0 of exactly one tree, which is within the limits and has
 -- this number of nodes. The new content, on an honest device, is the file of version 2 of the same tree. The
@@ -37,7 +37,7 @@ old_file g = record { version = version_one; grammar = g; passes = no_passes; pa
 pub record IsUpgraded (g : Grammar) (content between : List ℕ) (honest : Bool) (upgraded : List ℕ) (count : ℕ) : Type 0 where
   pub tree : Tree
   pub fits : IsTreeOf g tree
-  pub within : IsWithinLimits max_levels max_records tree
+  pub within : IsWithinLimits max_reversed_levels max_reversed_records tree
   pub from : IsFirstFile version_one g tree content
   pub only : (another : Tree) → IsTreeOf g another → IsFirstFile version_one g another content → another ≡ tree
   pub halfway : between ≡ file version_two 1 (postfix RightToLeft (first_bodies version_two tree))
@@ -50,8 +50,8 @@ pub record IsUpgraded (g : Grammar) (content between : List ℕ) (honest : Bool)
 -- NoMemory say nothing about the content.
 abbrev pub IsUpgradeFault : Grammar → List ℕ → RunFault → Type 0
 IsUpgradeFault g content (fault.Damaged at) = HasNoFirstTree version_one g content × ShowsAt (old_file g) content at
-IsUpgradeFault g content fault.TooDeep = ((nodes : ℕ) → HasNoFirstTreeWithin max_levels nodes version_one g content) × ExceedsDepth (old_file g) content
-IsUpgradeFault g content fault.TooManyNodes = ((levels : ℕ) → HasNoFirstTreeWithin levels max_records version_one g content) × ExceedsNodes (old_file g) content
+IsUpgradeFault g content fault.TooDeep = ((nodes : ℕ) → HasNoFirstTreeWithin max_reversed_levels nodes version_one g content) × ExceedsDepth (old_file g) content
+IsUpgradeFault g content fault.TooManyNodes = ((levels : ℕ) → HasNoFirstTreeWithin levels max_reversed_records version_one g content) × ExceedsNodes (old_file g) content
 IsUpgradeFault g content fault.Device = Unit {0}
 IsUpgradeFault g content fault.NoMemory = Unit {0}
 
@@ -61,60 +61,60 @@ IsOf g (item.Symbol s) (old.Node p) = (q : Production) × IsProduction g p q × 
 IsOf g (item.Terminal (Class c)) (old.Token d v) = (d ≡ c) × ((text : List ℕ) × IsTokenText text × (v ≡ Text text))
 IsOf g x r = ⊥
 
--- The body of a record.
+-- The body of a record of version 1.
 abbrev pub body_in : OldRecord → List ℕ
 body_in (old.Node p) = body_of Node p []
 body_in (old.Token d v) = body_of Token d (v ∷ [])
 
--- The children of a right side that are to be read.
+-- The children of a right side. Their records have no copies of values.
 abbrev pub upcoming : Grammar → List Item → List Child
 upcoming g xs = children_with_copies false g no_passes 0 (stored_items xs) []
 
--- The children of some items to be read at a level, from right to left, before others.
-abbrev pub pending : Grammar → ℕ → List Item → Pending → Pending
-pending g level xs others = before_others RightToLeft level (upcoming g xs) others
+-- The pending list of some items' children at a level, from right to left, followed by others.
+abbrev pub pending_items : Grammar → ℕ → List Item → Pending → Pending
+pending_items g level xs others = before_others RightToLeft level (upcoming g xs) others
 
 -- The progress of a reader in an old file: it returned records of the grammar at their places, and these
 -- children are still to be read.
 pub record IsAt (g : Grammar) (content : List ℕ) (progress : Progress) (todo : Pending) : Type 0 where
   pub readable : IsReadable (old_file g) content
-  pub way : ArrivesAt (old_file g) content progress.at todo
-  pub counted : progress.records ≡ length way.bodies
+  pub arrival : ArrivesAt (old_file g) content progress.at todo
+  pub counted : progress.records ≡ length arrival.bodies
 
 -- The reason why the trees of items at a level could not be converted, whatever is to be read after them.
 abbrev pub IsUnconverted : Grammar → List ℕ → List Item → (level : ℕ) → Progress → RunFault → Type 0
-IsUnconverted g content xs level progress f = (others : Pending) → IsAt g content progress (pending g level xs others) → IsUpgradeFault g content f
+IsUnconverted g content xs level progress f = (others : Pending) → IsAt g content progress (pending_items g level xs others) → IsUpgradeFault g content f
 
--- The reader is one of an old file, and has not failed for good. No more records were written than read, and
--- no more were read than the limit.
-pub record IsReady (honest : Bool) (content : List ℕ) (state : BackState) (out : writing.Progress) : Type 0 where
+-- The conversion can continue: the reader is one of an old file with this content, and neither it nor the writer
+-- (`out`) has failed. No more records were written than read, and no more were read than the limit.
+pub record IsUpgrading (honest : Bool) (content : List ℕ) (state : BackState) (out : writing.Progress) : Type 0 where
   pub over : WhenHonest honest (IsOver content state)
   pub version : state.progress.version ≡ version_one
   pub unbroken : state.progress.fault ≡ None
   pub whole : out.is_broken ≡ false
-  pub few : state.progress.records ≤ max_records
+  pub few : state.progress.records ≤ max_reversed_records
   pub written : out.written ≤ state.progress.records
 
--- A record of an item was read, whose tree is at a level.
-pub record HasTaken (g : Grammar) (x : Item) (level : ℕ) (honest : Bool) (content : List ℕ) (before now : BackState) (r : OldRecord) : Type 0 where
+-- The record of an item whose tree is at a level was read, which took the reader from `before` to `after`.
+pub record HasTaken (g : Grammar) (x : Item) (level : ℕ) (honest : Bool) (content : List ℕ) (before after : BackState) (r : OldRecord) : Type 0 where
   pub is : IsOf g x r
   pub found : WhenHonest honest (next_before version_one content before.progress.at ≡ Ok (Some (body_in r)))
-  pub over : WhenHonest honest (IsOver content now)
-  pub progress : now.progress ≡ record before.progress { at = before_frame before.progress.at (body_in r); records = before.progress.records + 1 }
-  pub deep : level ≤ max_levels
-  pub few : before.progress.records < max_records
+  pub over : WhenHonest honest (IsOver content after)
+  pub progress : after.progress ≡ record before.progress { at = before_frame before.progress.at (body_in r); records = before.progress.records + 1 }
+  pub deep : level ≤ max_reversed_levels
+  pub few : before.progress.records < max_reversed_records
 
--- Trees of the last items of a right side were converted, from right to left: their records were read, and
--- those of version 2 were written. Those of the items before them are still to be read. The texts are those
--- of the tokens, the last one first.
-pub record Converted (g : Grammar) (content : List ℕ) (prefix xs : List Item) (level : ℕ) (before now : Progress) (honest : Bool) (out_old out_now : List ℕ) (texts : List Value) : Type 0 where
+-- The trees of the last items `xs` of a right side were converted, from right to left: their records were read,
+-- and those of version 2 were written. Those of the items before them (`prefix`) are still to be read. The texts
+-- are those of the tokens among the last items, the last one first.
+pub record Converted (g : Grammar) (content : List ℕ) (prefix xs : List Item) (level : ℕ) (before after : Progress) (honest : Bool) (out_old out_new : List ℕ) (texts : List Value) : Type 0 where
   pub trees : Forest
   pub fits : FitsAll g (stored_items xs) trees
-  pub deep : deepest trees ≤ suc max_levels - level
-  pub read : ReadsTo version_one content before.at (prefix_all RightToLeft (first_bodies_all version_one trees)) now.at
-  pub nodes : now.records ≡ before.records + node_counts trees
-  pub on : (others : Pending) → IsAt g content before (pending g level (prefix ++ xs) others) → IsAt g content now (pending g level prefix others)
-  pub written : WhenHonest honest (out_now ≡ out_old ++ flat_map frame (postfix_all RightToLeft (first_bodies_all version_two trees)))
+  pub deep : deepest trees ≤ suc max_reversed_levels - level
+  pub read : ReadsTo version_one content before.at (prefix_all RightToLeft (first_bodies_all version_one trees)) after.at
+  pub nodes : after.records ≡ before.records + node_counts trees
+  pub on : (others : Pending) → IsAt g content before (pending_items g level (prefix ++ xs) others) → IsAt g content after (pending_items g level prefix others)
+  pub written : WhenHonest honest (out_new ≡ out_old ++ flat_map frame (postfix_all RightToLeft (first_bodies_all version_two trees)))
   pub texts_are : texts ≡ reverse (leaf_texts trees)
 
 -- The text of a token; none for a node.
@@ -127,7 +127,7 @@ text_list (Some v) = v ∷ []
 pub record IsConverted (g : Grammar) (content : List ℕ) (honest : Bool) (mid : List ℕ) : Type 0 where
   pub tree : Tree
   pub fits : IsTreeOf g tree
-  pub within : IsWithinLimits max_levels max_records tree
+  pub within : IsWithinLimits max_reversed_levels max_reversed_records tree
   pub from : IsFirstFile version_one g tree content
   pub to : WhenHonest honest (mid ≡ file version_two 1 (postfix RightToLeft (first_bodies version_two tree)))
 

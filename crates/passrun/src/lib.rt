@@ -3,6 +3,22 @@
 //! and Walter 1975). All passes run in sequence, alternating between two devices. The tree is never
 //! in memory as a whole: only the values of the nodes on the path from the root to the current node
 //! are, and those of their children read so far.
+//!
+//! Words of this crate, in pass k:
+//!
+//! - *Place*: 0 for the left side of a production, and 1, 2, .. for the children, which are the
+//!   symbols and classes of its right side (a literal has no record).
+//! - *Known*: the values that the file of pass k - 1 has, so those of attributes of passes before
+//!   k.
+//! - *Row* of a node: its own values, of attributes of passes up to k (synthesized ones first), and
+//!   then the *copies* of its children: the values of their synthesized attributes, or a token's
+//!   text.
+//! - *Slot*: the index of a value, counted from the beginning of a row.
+//! - *Layout* of a production: its instructions in pass k, and where the values of its rules are.
+//!   `ProductionRow` and `PlaceRow` are rows of this table, not rows of values.
+//! - *Open* node: one whose record was read, and whose instructions are not finished. The innermost
+//!   one is the current node; the others wait for one of their children.
+//! - *Level*: 1 for the root, and one more for each child.
 #![tactic(auto)]
 
 mod display;

@@ -5,7 +5,7 @@ ghost use Rattle.std.specs.Prelude.{OnErr, OnOk};
 ghost use Rattle.ag_grammar.specs.grammars.Tree.{max_nodes};
 ghost use Rattle.passassign.specs.Rows.{IsGreatest, passes_of};
 ghost use Rattle.passrun.specs.passing.Ahead.{IsRunFault};
-ghost use Rattle.passrun.specs.Rounds.{HasRunAll, IsPassedOn, LeavesRound, LeavesSolutions};
+ghost use Rattle.passrun.specs.Rounds.{HasRunAll, IsPassedOn, LeavesAfterFailure, LeavesSolutions};
 ghost use Rattle.passrun.specs.Rounds.{LeavesSomeFile, last_content, other_content, other_last};
 ghost use Rattle.passrun.specs.Rounds.{one_more as added};
 ghost use Rattle.planchecker.specs.Plans.{IsPlan};
@@ -153,7 +153,7 @@ pub fn run_all<D: Device>(
     // the input of the failed pass is kept; the other device is unchanged, or has a prefix of a
     // file
     ensures left { OnErr result (WhenHonest (D.is_honest a.new) (WhenHonest (D.is_honest b.new)
-        (LeavesRound grammar.now (passes_of plan.now.0) (first - 1) (D.content a.old)
+        (LeavesAfterFailure grammar.now (passes_of plan.now.0) (first - 1) (D.content a.old)
         (D.content b.old) (D.content a.new) (D.content b.new)))) }
     // each honest device has its old content, or a prefix of a tree file, for any other device
     ensures a_left { WhenHonest (D.is_honest a.new)

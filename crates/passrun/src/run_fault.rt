@@ -17,10 +17,10 @@ pub enum RunFault {
     /// another pass. Otherwise it is the end of the frame that shows the damage, or the offset at
     /// which a frame should end.
     Damaged(u64),
-    /// P2: the file encodes no tree of at most `MAX_DEPTH` levels (`MAX_TURNED_DEPTH` for
+    /// P2: the file encodes no tree of at most `MAX_DEPTH` levels (`MAX_REVERSED_DEPTH` for
     /// `upgrade`): the next record would be one level deeper.
     TooDeep,
-    /// P3: the file encodes no tree of at most `MAX_NODES` stored nodes (`MAX_TURNED_NODES` for
+    /// P3: the file encodes no tree of at most `MAX_NODES` stored nodes (`MAX_REVERSED_NODES` for
     /// `upgrade`): the next record would be one too many.
     TooManyNodes,
     /// D1: a call of one of the devices failed.

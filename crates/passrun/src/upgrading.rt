@@ -5,11 +5,11 @@ ghost use Rattle.std.specs.Prelude.{OnErr, OnOk, [], ◌∷◌, ◌++◌, ℕ};
 ghost use Rattle.ag_value.specs.Well.{IsWell};
 ghost use Rattle.ag_grammar.specs.grammars.Accepted.{IsAccepted};
 ghost use Rattle.ag_grammar.specs.grammars.AttributeGrammar.{stored_items};
-ghost use Rattle.backreader.specs.Turning.{max_records};
+ghost use Rattle.backreader.specs.Turning.{max_reversed_records};
 ghost use Rattle.passrun.specs.Faults.{run_fault_of_turn};
 ghost use Rattle.passrun.specs.passing.Ahead.{IsResourceFault};
 ghost use Rattle.passrun.specs.passing.Putting.{AddsFrames, HasPut, LeavesFrames};
-ghost use Rattle.passrun.specs.Upgrading.{Converted, HasTaken, IsConverted, IsReady, IsUnconverted};
+ghost use Rattle.passrun.specs.Upgrading.{Converted, HasTaken, IsConverted, IsUpgrading, IsUnconverted};
 ghost use Rattle.passrun.specs.Upgrading.{IsUpgradeFault, IsUpgraded, stored_count, text_list};
 ghost use Rattle.treefile.specs.records.TreeFile.{version_two};
 ghost use Rattle.treefile.specs.framing.Beginning.{LeavesBeginning};
@@ -21,7 +21,7 @@ use crate::reading::record::RecordFault;
 use crate::run_fault::RunFault;
 use ag_grammar::{Grammar, Item};
 use ag_value::{NoMemory, Value};
-use backreader::{Arity, Back, MAX_OLD_LEVELS, MAX_RECORDS, turn};
+use backreader::{Arity, Back, MAX_REVERSED_LEVELS, MAX_REVERSED_RECORDS, turn};
 use std::alloc::Global;
 use std::slice;
 use treefile::{Device, Kind, Writer};
@@ -41,10 +41,10 @@ struct Upgrading {
 
 impl Upgrading {
     /// Reads the record of an item whose subtree is at depth `level`: the record before the one
-    /// read last. Fails with P2 if the level exceeds `MAX_OLD_LEVELS`, with P3 if `MAX_RECORDS`
-    /// records were read already, and with R1 and the offset at which the record should end if a
-    /// record of the item does not end there. Fails with D1 if the device fails, and with
-    /// `NoMemory` if memory cannot be allocated.
+    /// read last. Fails with P2 if the level exceeds `MAX_REVERSED_LEVELS`, with P3 if
+    /// `MAX_REVERSED_RECORDS` records were read already, and with R1 and the offset at which the
+    /// record should end if a record of the item does not end there. Fails with D1 if the device
+    /// fails, and with `NoMemory` if memory cannot be allocated.
     fn record<D: Device>(
         &mut self,
         alloc: Global,
@@ -54,7 +54,7 @@ impl Upgrading {
         from: &mut D,
     ) -> Result<OldRecord, RunFault>
         requires accepted { IsAccepted grammar.now }
-        requires ready { IsReady (D.is_honest from.old) (D.content from.old)
+        requires ready { IsUpgrading (D.is_honest from.old) (D.content from.old)
             self.old.back self.old.writer }
         requires place { stored_items (item ∷ []) ≡ item ∷ [] }
         ensures taken { IfOk result (λ r. HasTaken grammar.now item level (D.is_honest from.new)
@@ -68,10 +68,10 @@ impl Upgrading {
         ensures persists { Persists (D.is_honest from.old) (D.is_honest from.new)
             (D.failures from.old) (D.failures from.new) (IsErrOf result RunFault.Device) }
     {
-        if MAX_OLD_LEVELS < level {
+        if MAX_REVERSED_LEVELS < level {
             return Err(RunFault::TooDeep);
         }
-        if self.back.records() >= MAX_RECORDS {
+        if self.back.records() >= MAX_REVERSED_RECORDS {
             return Err(RunFault::TooManyNodes);
         }
         let end = self.back.end();
@@ -98,7 +98,7 @@ impl Upgrading {
         to: &mut E,
     ) -> Result<Option<Value>, RunFault>
         requires accepted { IsAccepted grammar.now }
-        requires ready { IsReady (D.is_honest from.old) (D.content from.old)
+        requires ready { IsUpgrading (D.is_honest from.old) (D.content from.old)
             self.old.back self.old.writer }
         ensures converted { IfOk result (λ text. WhenHonest (D.is_honest from.new)
             (Converted grammar.now (D.content from.old) [] (item ∷ []) level
@@ -107,7 +107,7 @@ impl Upgrading {
         ensures refused { IfErr result (λ f. WhenHonest (D.is_honest from.new)
             (IsUnconverted grammar.now (D.content from.old) (item ∷ []) level
             self.old.back.progress f)) }
-        ensures ready { OnOk result (IsReady (D.is_honest from.new) (D.content from.old)
+        ensures ready { OnOk result (IsUpgrading (D.is_honest from.new) (D.content from.old)
             self.new.back self.new.writer) }
         ensures well { IfOk result (λ text. IfSome text IsWell) }
         // The number of records written is the number of records read
@@ -168,8 +168,9 @@ fn add_text(texts: &mut Vec<Value>, text: Option<Value>) -> Result<(), NoMemory>
     Ok(())
 }
 
-/// Reads the file of version 1 and pass 0 of a tree backward, and writes the tree's records of
-/// version 2 from right to left.
+/// Reads the file of version 1 and pass 0 of a tree backward, and writes a file with pass number 1
+/// of the tree's records of version 2, from right to left. Fails as `upgrade` does for the first
+/// device, and with D1 if the second one fails.
 fn convert<D: Device, E: Device>(
     alloc: Global,
     grammar: &Grammar,
@@ -223,7 +224,7 @@ impl Arity for Stored<'_> {
     }
 }
 
-/// Returns the number of items that are children.
+/// Returns the number of items that are children: symbols and classes, but not literals.
 fn stored_among(items: &[Item]) -> u32
     requires { length items.now < 2 ^ 32 }
     ensures { result ≡ length (stored_items items.now) }
@@ -241,17 +242,17 @@ fn stored_among(items: &[Item]) -> u32
 /// from the first device, and writes to the third one the file of version 2 and pass 0 of the same
 /// tree: the file that `parse` writes for a sentence with this tree. Writes the same records from
 /// right to left to the second device in between. Returns the number of stored nodes. The call
-/// recurses over at most `MAX_OLD_LEVELS` (256) levels. The first device always keeps its content.
-/// After a success the old content of the other two is lost.
+/// recurses over at most `MAX_REVERSED_LEVELS` (256) levels. The first device always keeps its
+/// content. After a success the old content of the other two is lost.
 ///
 /// Fails with R1 (`Damaged`) if the content is not the file of version 1 and pass 0 of a tree of
-/// the grammar; the offset is as for `run_pass`. Fails with P2 (`TooDeep`) if it encodes no tree
-/// of at most `MAX_OLD_LEVELS` (256) levels, and with P3 (`TooManyNodes`) if it encodes no tree of at
-/// most `MAX_RECORDS` (65,536) stored nodes. Fails with D1 (`Device`) if a call of a device
-/// failed, and with `NoMemory` if memory cannot be allocated. Fails with R1 and an offset in the
-/// content of the second device, or with P2, if that does not return the bytes written to it; an
-/// honest device does. After a failure the second and the third device have their old content, or a
-/// prefix of a file.
+/// the grammar; the offset is as for `run_pass`. Fails with P2 (`TooDeep`) if it encodes no tree of
+/// at most `MAX_REVERSED_LEVELS` (256) levels, and with P3 (`TooManyNodes`) if it encodes no tree
+/// of at most `MAX_REVERSED_RECORDS` (65,536) stored nodes. Fails with D1 (`Device`) if a call of a
+/// device failed, and with `NoMemory` if memory cannot be allocated. Fails with R1 and an offset in
+/// the content of the second device, or with P2, if that does not return the bytes written to it;
+/// an honest device does. After a failure the second and the third device have their old content,
+/// or a prefix of a file.
 ///
 /// Allocates memory for two buffers, for the texts of the tokens of each node on the path, and for
 /// a body at each level.

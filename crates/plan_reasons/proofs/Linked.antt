@@ -9,7 +9,7 @@ use Rattle.ag_grammar.specs.declared.grammar.Rule.{Rule}
 use Rattle.ag_grammar.specs.declared.grammar.Target.{Target}
 use Rattle.ag_grammar.specs.grammars.AttributeGrammar.{Grammar, item_at}
 use Rattle.passassign.proofs.slots.Lists.{get_push_cases}
-use Rattle.passassign.specs.Certificate.{Attributes, IsAhead, IsGoodWhere, IsOneOf, IsReasonWhere, IsStruckBy}
+use Rattle.passassign.specs.Certificate.{Attributes, IsSameOrLater, IsGoodWhere, IsOneOf, IsReasonWhere, IsStruckBy}
 use Rattle.passassign.specs.Chains.{first_only, IsChain, IsChainOf, Names}
 use Rattle.passassign.specs.declared.stuck.Strike.{Strike}
 use Rattle.plan_reasons.specs.Links.{AppendsLink, AreChainLinks, IsGeometry, IsLinkAt, IsLinkOf, IsLinkOrNone, NamesAttribute}
@@ -92,6 +92,6 @@ chain_names g d candidate (y ∷ ys) (is, good, more) (suc i) x e = chain_names 
 pub chain_links : (g : Grammar) (d : Direction) (candidate : Attributes) (s a : ℕ) (chain : List Strike) (links : List Link) → IsChainOf g d candidate s a chain → (Each (NamesAttribute g) chain → AreRelated (IsLinkOf g) chain links) → AreChainLinks g d candidate s a links
 chain_links g d candidate s a chain links is related = record { chain = chain; is_chain = is; are_links = related (chain_names g d candidate chain is.chain) }
 
--- an argument ahead that is at another child is at a later one
-pub later_ahead : (d : Direction) (j i : ℕ) → IsAhead d j i → (i ≡ j → ⊥) → IsGeometry d j i geometry.Later
+-- an argument at the same or a later child that is at another one is at a later one
+pub later_ahead : (d : Direction) (j i : ℕ) → IsSameOrLater d j i → (i ≡ j → ⊥) → IsGeometry d j i geometry.Later
 later_ahead d j i ahead other = (ahead, elim ahead.2 [ inl same ↦ absurd (other same) | inr before ↦ before ])

@@ -24,18 +24,18 @@ IsUnusedIn s a q = Each (IsUnusedBy q s a) q.rules
 abbrev pub IsUnused : Grammar → ℕ → ℕ → Type 0
 IsUnused g s a = Each (IsUnusedIn s a) g.productions
 
--- the expression of a rule is one occurrence
+-- a rule is a copy: its expression is one occurrence
 abbrev pub IsCopy : Rule → Type 0
 IsCopy u = (n : ℕ) × (u.expr.0 ≡ node.Occurrence n)
 
--- a rule, if it computes the attribute, is one occurrence
+-- a rule is a copy, if it computes the attribute
 abbrev pub IsCopiedBy : Production → ℕ → ℕ → Rule → Type 0
 IsCopiedBy q s a u = IsAttributeAt q u.target s a → IsCopy u
 
--- each rule of a production for the attribute is one occurrence
+-- each rule of a production for the attribute is a copy
 abbrev pub IsCopiedIn : ℕ → ℕ → Production → Type 0
 IsCopiedIn s a q = Each (IsCopiedBy q s a) q.rules
 
--- each rule of a grammar for the attribute is one occurrence
+-- each rule of a grammar for the attribute is a copy
 abbrev pub IsCopied : Grammar → ℕ → ℕ → Type 0
 IsCopied g s a = Each (IsCopiedIn s a) g.productions

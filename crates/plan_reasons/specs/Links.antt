@@ -1,4 +1,4 @@
--- Links of chains: a strike with the attribute that its argument is, and when a pass reaches both.
+-- Links of chains: a strike with the parts that it names, and which of its target and its argument a pass reaches first.
 use Rattle.std.specs.Prelude.{ℕ, ◌≡◌, List, [], ◌∷◌, ◌++◌, Option, Some, None}
 use Rattle.ag_grammar.specs.Lists.{AreRelated, Has}
 use Rattle.ag_grammar.specs.declared.direction.Direction.{Direction}
@@ -8,7 +8,7 @@ use Rattle.ag_grammar.specs.declared.grammar.Rule.{Rule}
 use Rattle.ag_grammar.specs.declared.grammar.Target.{Target}
 use Rattle.ag_grammar.specs.grammars.AttributeGrammar.{Grammar, item_at}
 use Rattle.ag_grammar.specs.grammars.Passes.{IsBefore}
-use Rattle.passassign.specs.Certificate.{Attributes, IsAhead}
+use Rattle.passassign.specs.Certificate.{Attributes, IsSameOrLater}
 use Rattle.passassign.specs.Chains.{IsChainOf, Names}
 use Rattle.passassign.specs.declared.stuck.Strike.{Strike}
 use Rattle.plan_reasons.specs.declared.links.Geometry.{Geometry}
@@ -34,17 +34,17 @@ pub record NamesAttribute (g : Grammar) (x : Strike) : Type 0 where
   pub named : Names g x production rule argument
   pub item : item_at production argument.place ≡ Some (item.Symbol symbol)
 
--- the link of a strike, none if it names no such argument
+-- the link of a strike; for None, the strike names no argument that is an attribute of a symbol
 abbrev pub IsLinkOrNone : Grammar → Strike → Option Link → Type 0
 IsLinkOrNone g x None = NamesAttribute g x → ⊥
 IsLinkOrNone g x (Some l) = IsLinkOf g x l
 
--- the same of an argument of a rule that a strike names
+-- the link of a strike by argument o of rule u; for None, the argument is no attribute of a symbol
 abbrev pub IsLinkAt : Production → Rule → Target → Strike → Option Link → Type 0
 IsLinkAt q u o x None = (s : ℕ) → item_at q o.place ≡ Some (item.Symbol s) → ⊥
 IsLinkAt q u o x (Some l) = (l.strike ≡ x) × (l.target ≡ u.target) × (l.argument ≡ o) × (item_at q o.place ≡ Some (item.Symbol l.used.0)) × (o.attr ≡ l.used.1)
 
--- the link of a strike is appended, if the strike names such an argument
+-- the link of a strike is appended, if the strike names an argument that is an attribute of a symbol
 abbrev pub AppendsLink : Grammar → Strike → (old new : List Link) → Type 0
 AppendsLink g x old new = NamesAttribute g x → (l : Link) × IsLinkOf g x l × (new ≡ old ++ l ∷ [])
 
@@ -57,14 +57,14 @@ pub record AreChainLinks (g : Grammar) (d : Direction) (candidate : Attributes) 
 -- The link of a strike that waits for no other in passes of a direction: its argument is at the target's child or at one that is
 -- visited later.
 abbrev pub IsObstacleOf : Grammar → Direction → Strike → Link → Type 0
-IsObstacleOf g d x l = IsLinkOf g x l × IsAhead d l.target.place l.argument.place
+IsObstacleOf g d x l = IsLinkOf g x l × IsSameOrLater d l.target.place l.argument.place
 
--- the same of one of some strikes
+-- the link of one of some strikes that waits for no other
 abbrev pub IsObstacle : Grammar → Direction → List Strike → Link → Type 0
 IsObstacle g d strikes l = (x : Strike) × Has strikes x × IsObstacleOf g d x l
 
--- where the argument at place i of a rule for place j is, as a pass of a direction comes by
+-- where an argument at place i is, for a rule with a target at place j and a pass of a direction
 abbrev pub IsGeometry : Direction → (j i : ℕ) → Geometry → Type 0
-IsGeometry d j i geometry.Within = IsAhead d j i × (i ≡ j)
-IsGeometry d j i geometry.Later = IsAhead d j i × IsBefore d j i
-IsGeometry d j i geometry.AtHand = IsAhead d j i → ⊥
+IsGeometry d j i geometry.Within = IsSameOrLater d j i × (i ≡ j)
+IsGeometry d j i geometry.Later = IsSameOrLater d j i × IsBefore d j i
+IsGeometry d j i geometry.AtHand = IsSameOrLater d j i → ⊥

@@ -13,10 +13,10 @@ use message_texts::display::{MAX_NAMED, PlainText};
 use std::alloc::{AllocError, Global};
 use std::fmt;
 
-/// The numbers of an attribute: its symbol's, and its own at the symbol.
+/// The numbers of an attribute, from 0: its symbol's, and its own at the symbol.
 pub type Attribute = (u16, u16);
 
-/// An attribute of a grammar, which prints by its names: `L.p`.
+/// An attribute of a grammar. It prints as its symbol's name and its own: `L.p`.
 #[derive(Clone, Copy)]
 pub(crate) struct AttributeName<'a> {
     pub grammar: &'a Grammar,
@@ -35,7 +35,7 @@ impl fmt::Display for AttributeName<'_> {
     }
 }
 
-/// An attribute at a place of a production, which prints as rules name it: `$1.p`.
+/// An attribute at a place of a production. It prints as rules name it: `$1.p`.
 #[derive(Clone, Copy)]
 pub(crate) struct OccurrenceName<'a> {
     pub grammar: &'a Grammar,
@@ -66,7 +66,8 @@ pub enum NameFault<'a> {
     NoAttribute(u16, &'a str),
 }
 
-/// Returns the attribute of a name such as `L.p`.
+/// Returns the attribute of a name such as `L.p`. Fails with the first fault, in the order of `NameFault`. Does
+/// not allocate.
 pub fn attribute_named<'a>(grammar: &Grammar, name: &'a str) -> Result<Attribute, NameFault<'a>>
     ensures { IfOk result (λ x. IsAttributeNamed grammar.now name.now x.0 x.1) }
 {
@@ -83,7 +84,7 @@ pub fn attribute_named<'a>(grammar: &Grammar, name: &'a str) -> Result<Attribute
     }
 }
 
-/// Returns the number of the symbol of this name.
+/// Returns the number of the first symbol of this name, if there is one.
 fn symbol_number(symbols: &[Symbol], name: &str) -> Option<u16>
     requires { length symbols.now ≤ max_symbols }
     ensures { IfSome result (λ s. IsSymbolNamed symbols.now s name.now) }
@@ -106,7 +107,7 @@ fn has_name(symbol: &Symbol, attr: u16, name: &str) -> bool
     }
 }
 
-/// Returns the number of the attribute of this name that a symbol has.
+/// Returns the number of a symbol's attribute of this name, if there is one.
 fn attribute_number(symbol: &Symbol, name: &str) -> Option<u16>
     ensures { IfSome result (λ a. slice_get (attribute_names symbol.now) a ≡ Some name.now) }
 {
@@ -124,13 +125,13 @@ pub(crate) fn attributes_of(alloc: Global, symbols: &[Symbol]) -> Result<Vec<Att
 {
     let mut attributes = Vec::new(alloc);
     for (number, symbol) in symbols.iter().enumerate() {
-        put_attributes(&mut attributes, number as u16, symbol)?;
+        append_attributes(&mut attributes, number as u16, symbol)?;
     }
     Ok(attributes)
 }
 
 /// Appends the attributes of a symbol.
-fn put_attributes(
+fn append_attributes(
     attributes: &mut Vec<Attribute>,
     number: u16,
     symbol: &Symbol,
@@ -144,7 +145,8 @@ fn put_attributes(
 }
 
 impl NameFault<'_> {
-    /// Describes the fault of a name: what is wrong, and which names there are.
+    /// Writes the fault of `name` into a message: what is wrong, and which names there are. Fails if memory is
+    /// refused.
     pub fn describe(
         &self,
         parts: &mut Parts,
@@ -172,7 +174,7 @@ impl NameFault<'_> {
     }
 }
 
-/// Writes the names of symbols with a space before each, at most the first twelve.
+/// Writes the names of the first `MAX_NAMED` symbols, with a space before each, and the number of the others.
 fn write_symbols(out: &mut String, symbols: &[Symbol]) -> Result<(), AllocError> {
     for symbol in symbols.iter().take(MAX_NAMED) {
         write!(out, " {}", PlainText(symbol.name.as_str()))?;

@@ -1,4 +1,4 @@
-//! The chains of an assignment's strikes and of a certificate's: which attribute a pass leaves to the next one, and the links
+//! The chains of an assignment's strikes and of a certificate's: the attribute that a pass leaves to a later one, and the links
 //! that show why.
 
 ghost use Rattle.std.specs.Prelude.{ℕ, ◌≡◌, ◌≤◌, ◌↔◌, IfOk, IfSome, IsTrue, None, Some, slice_get};
@@ -63,28 +63,29 @@ fn first_with_pass(strikes: &[Strike], assignment: &Assignment, pass: u16) -> Op
 }
 
 impl LeastPlan<'_> {
-    /// Returns the pass of an attribute, if it has one.
+    /// Returns the pass of an attribute, if it has one. Does not allocate.
     pub fn pass_of(&self, attribute: Attribute) -> Option<u16>
         ensures { result ≡ slice_get (passes_of self.now.assignment.now attribute.0) attribute.1 }
     {
         pass_in(self.assignment.rows(), attribute.0, attribute.1)
     }
 
-    /// Returns the attribute that a pass strikes first of those that have this later pass. None if it strikes
-    /// none of them.
+    /// Returns the attribute that pass `pass` strikes first of those that have pass `later`. None if it strikes
+    /// none of them. Does not allocate.
     pub fn first_struck(&self, pass: u16, later: u16) -> Option<Attribute>
         ensures found { IfSome result (λ x.
-            IsStruckBy (strikes_of self.now.strikes.now.passes pass) x.0 x.1
+            IsStruckBy (strikes_of self.now.strikes.now.lists pass) x.0 x.1
             × (slice_get (passes_of self.now.assignment.now x.0) x.1 ≡ Some later)) }
         ensures none { result ≡ None → (s a : ℕ)
-            → IsStruckBy (strikes_of self.now.strikes.now.passes pass) s a
+            → IsStruckBy (strikes_of self.now.strikes.now.lists pass) s a
             → slice_get (passes_of self.now.assignment.now s) a ≡ Some later → ⊥ }
     {
         first_with_pass(self.strikes.of_pass(pass), self.assignment, later)
     }
 
-    /// Returns the links that show why a pass can't compute an attribute of a later one: those of the chain of its
-    /// strike.
+    /// Returns the links that show why a pass can't compute an attribute that has a later one: those of the
+    /// chain that begins with the attribute's strike. Empty if the pass does not strike it. Fails if memory is
+    /// refused.
     pub fn links(
         &self,
         alloc: Global,
@@ -93,7 +94,7 @@ impl LeastPlan<'_> {
         attribute: Attribute,
     ) -> Result<Vec<Link>, NoMemory>
         ensures { IfOk result (λ links.
-            AreStrikesOf grammar.now self.now.assignment.now self.now.strikes.now.passes
+            AreStrikesOf grammar.now self.now.assignment.now self.now.strikes.now.lists
             → 1 ≤ pass → HasPassAfter (passes_of self.now.assignment.now) pass attribute.0 attribute.1
             → AreChainLinks grammar.now (direction_of pass)
             (HasPassFrom (passes_of self.now.assignment.now) pass) attribute.0 attribute.1 links.items) }
@@ -103,7 +104,8 @@ impl LeastPlan<'_> {
     }
 }
 
-/// Returns the links that show why no pass of a direction can compute an attribute of a certificate's set.
+/// Returns the links that show why no pass of a direction can compute an attribute of a certificate's set. Empty
+/// if the certificate does not strike it. Fails if memory is refused.
 pub fn stuck_links(
     alloc: Global,
     grammar: &Grammar,

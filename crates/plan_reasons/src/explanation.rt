@@ -1,4 +1,4 @@
-//! A grammar and its text, which an explanation is made of.
+//! The grammar and the text that an explanation is about.
 
 use crate::attributes::{Attribute, AttributeName};
 use crate::lines::Lines;
@@ -9,32 +9,33 @@ use message_texts::{Position, Source};
 use passassign::Strike;
 use std::alloc::Global;
 
-/// The greatest number of lines of a paragraph after its heading; then the number of the others.
+/// The greatest number of lines of a paragraph after its heading. The number of the others follows.
 pub(crate) const MAX_LINES: usize = 40;
 
-/// A grammar, and its text, which is read again for the positions of its rules.
+/// A grammar with its text. Has a call for each text that explains the grammar's passes.
 #[derive(Drop)]
 pub struct Explanation<'a> {
     /// The allocator of what is written.
     pub(crate) alloc: Global,
-    /// The text, and its file.
+    /// The text, with the name of its file.
     pub(crate) source: Source<'a>,
-    /// The grammar by its numbers.
+    /// The numbered grammar.
     pub(crate) grammar: &'a Grammar,
-    /// The grammar as it is written.
+    /// The grammar as the text has it, with the offsets of its rules.
     raw: RawGrammar,
-    /// The lines of the text.
+    /// The offsets of the text's lines.
     lines: Lines,
 }
 
 impl<'a> Explanation<'a> {
-    /// Reads the text of a grammar again, which it was made of. Fails if memory is refused.
+    /// Returns the explanation of a grammar and the text that it was read from. Reads the text again, for the
+    /// positions of the rules. Fails if memory is refused.
     pub fn new(
         alloc: Global,
         source: Source<'a>,
         grammar: &'a Grammar,
     ) -> Result<Explanation<'a>, NoMemory> {
-        // an accepted grammar's text reads as a grammar unless memory is refused
+        // the text of an accepted grammar can be read, so only memory can be the cause
         let Ok(raw) = read_grammar(alloc, source.bytes) else {
             return Err(NoMemory::NoMemory);
         };
@@ -47,13 +48,14 @@ impl<'a> Explanation<'a> {
         })
     }
 
-    /// Returns the position of the rule that a strike names: that of its target.
+    /// Returns the position of the rule that a strike names: that of its target. It is the beginning of the text
+    /// if the text has no such rule.
     pub(crate) fn position_of(&self, strike: Strike) -> Position {
         let at = self.offset_of(strike).unwrap_or(0);
         self.lines.position(self.source.text(), at)
     }
 
-    /// Returns the offset in bytes of the rule that a strike names.
+    /// Returns the offset in bytes of the rule that a strike names, if the text has it.
     fn offset_of(&self, strike: Strike) -> Option<usize> {
         let productions = self.raw.productions.as_slice();
         let production = productions.get(usize::from(strike.production))?;
@@ -61,7 +63,7 @@ impl<'a> Explanation<'a> {
         Some(rule.target.at)
     }
 
-    /// Returns an attribute, which prints by its names.
+    /// Returns an attribute as a value that prints as its name.
     pub(crate) fn name_of(&self, attribute: Attribute) -> AttributeName<'a> {
         AttributeName {
             grammar: self.grammar,

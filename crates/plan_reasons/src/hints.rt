@@ -1,4 +1,4 @@
-//! Attributes that a writer may do without: those that no rule uses, and those that are only copied.
+//! Attributes that the grammar may not need: those that no rule uses, and those that are only copied.
 
 ghost use Rattle.std.specs.Prelude.{ℕ, ◌⊎◌, IfOk, OnOk};
 ghost use Rattle.ag_grammar.specs.Lists.{Has};
@@ -11,7 +11,7 @@ use ag_grammar::Grammar;
 use ag_value::NoMemory;
 use std::alloc::Global;
 
-/// Returns whether an attribute is the start symbol's `out`, which the translation uses.
+/// Returns whether an attribute is the start symbol's `out`, whose value is the translation.
 fn is_translation(grammar: &Grammar, attribute: Attribute) -> bool {
     match grammar.symbols().get(usize::from(attribute.0)) {
         Some(symbol) => attribute.0 == grammar.start()
@@ -20,8 +20,8 @@ fn is_translation(grammar: &Grammar, attribute: Attribute) -> bool {
     }
 }
 
-/// Appends an attribute, if nothing uses it.
-fn put_unused(
+/// Appends an attribute, if no rule uses it and it is not the translation.
+fn append_unused(
     unused: &mut Vec<Attribute>,
     grammar: &Grammar,
     attribute: Attribute,
@@ -39,7 +39,7 @@ fn put_unused(
     Ok(())
 }
 
-/// Returns those of some attributes that nothing uses.
+/// Returns those of some attributes that no rule uses, without the translation.
 fn unused_among(
     alloc: Global,
     grammar: &Grammar,
@@ -49,13 +49,13 @@ fn unused_among(
 {
     let mut unused = Vec::new(alloc);
     for attribute in attributes {
-        put_unused(&mut unused, grammar, *attribute)?;
+        append_unused(&mut unused, grammar, *attribute)?;
     }
     Ok(unused)
 }
 
 /// Appends an attribute, if it has rules and each of them is one occurrence.
-fn put_copied(
+fn append_copied(
     copied: &mut Vec<Attribute>,
     grammar: &Grammar,
     attribute: Attribute,
@@ -83,7 +83,7 @@ fn copied_among(
 {
     let mut copied = Vec::new(alloc);
     for attribute in attributes {
-        put_copied(&mut copied, grammar, *attribute)?;
+        append_copied(&mut copied, grammar, *attribute)?;
     }
     Ok(copied)
 }

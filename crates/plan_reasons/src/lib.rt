@@ -1,9 +1,10 @@
 //! Why a plan has its passes: the texts that `aggen why` prints. An attribute that pass 3 computes has a
 //! chain of rules that shows why pass 2 can't, and another for pass 1. The chains are those of the strikes
-//! of `passassign`.
+//! of `passassign`. A strike names an attribute that a pass can't compute, a rule for it, and an argument of
+//! this rule that is the reason. A link is a strike with these parts looked up in the grammar.
 //!
 //! `links`, `chains` and `uses` find what is printed; the other modules print it. Each function that writes a
-//! text takes memory, and fails if it is refused. Characters that control a terminal are written by their
+//! text allocates, and fails if memory is refused. Characters that control a terminal are written by their
 //! numbers.
 #![tactic(auto)]
 

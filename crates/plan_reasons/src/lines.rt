@@ -11,7 +11,7 @@ pub(crate) struct Lines {
 }
 
 impl Lines {
-    /// Returns the lines of a text.
+    /// Returns the lines of a text. Fails if memory is refused.
     pub(crate) fn new(alloc: Global, text: &str) -> Result<Lines, NoMemory> {
         let mut starts = Vec::new(alloc);
         starts.push(0)?;
@@ -23,7 +23,8 @@ impl Lines {
         Ok(Lines { starts })
     }
 
-    /// Returns the position of an offset in bytes in the text.
+    /// Returns the position of an offset in bytes in the text: line and column from 1, the column in
+    /// characters.
     pub(crate) fn position(&self, text: &str, at: usize) -> Position {
         let mut line = 0usize;
         let mut begin = 0usize;

@@ -31,7 +31,7 @@ impl Explanation<'_> {
         )
     }
 
-    /// Writes the lines of links of which no pass of a direction can evaluate the rules.
+    /// Writes a line for each link whose rule no pass of a direction can evaluate, at most `MAX_LINES`.
     pub(crate) fn write_stuck_links(
         &self,
         out: &mut String,
@@ -48,7 +48,7 @@ impl Explanation<'_> {
 }
 
 impl Link {
-    /// Writes why a pass can't evaluate the rule, by the pass that computes what it uses.
+    /// Writes why pass `pass` can't evaluate the rule. Pass `computing` computes the argument.
     pub(crate) fn write_reason(
         &self,
         out: &mut String,

@@ -1,4 +1,5 @@
-//! Links of a chain: the rule and the argument that a strike names, and when a pass reaches both.
+//! Links of a chain: the rule and the argument that a strike names, and which of the two a pass reaches
+//! first.
 
 ghost use Rattle.std.specs.Prelude.{◌≡◌, ◌⊎◌, IfOk, OnOk};
 ghost use Rattle.ag_grammar.specs.Lists.{AreRelated, Each, Has};
@@ -10,42 +11,44 @@ ghost use Rattle.plan_reasons.specs.declared.links.Link.{Link as TheLink};
 use crate::attributes::Attribute;
 use ag_grammar::{Direction, Grammar, Item, Production, Rule, Target};
 use ag_value::NoMemory;
-use passassign::{Strike, is_ahead};
+use passassign::{Strike, is_same_or_later};
 use std::alloc::Global;
 
-/// Where what a rule uses is, as a pass comes by.
+/// Where an argument of a rule is, seen from the rule's target, for a pass of some direction.
 #[derive(Clone, Copy)]
 pub enum Geometry {
-    /// At the child that the rule's target is at.
+    /// At the same child as the target.
     Within,
     /// At a child that the pass visits after the target's.
     Later,
-    /// Where the rule can use it, once it is computed.
+    /// Elsewhere: at the left side, at a child that the pass visits before the target's, or the target is
+    /// at the left side. The rule can use the argument if the pass or an earlier one computes it.
     AtHand,
 }
 
-/// A rule that a pass can't evaluate, with one of its arguments that is an attribute of a symbol.
+/// A strike, with the parts of the grammar that it names: a rule that a pass can't evaluate, and one of its
+/// arguments that is an attribute of a symbol. `Target` is an attribute at a place of the production.
 #[derive(Clone, Copy)]
 pub struct Link {
-    /// The strike that names the rule and the argument.
+    /// The strike.
     pub strike: Strike,
-    /// What the rule computes.
+    /// The attribute at a place that the rule computes.
     pub target: Target,
-    /// What it uses.
+    /// The attribute at a place that the argument refers to.
     pub argument: Target,
-    /// The attribute that the argument is.
+    /// The same as an attribute of a symbol.
     pub used: Attribute,
 }
 
 impl Link {
-    /// Returns the attribute that the rule computes.
+    /// Returns the attribute of a symbol that the rule computes. Does not allocate.
     pub fn computed(&self) -> Attribute
         ensures { result ≡ (self.now.strike.symbol, self.now.strike.attr) }
     {
         (self.strike.symbol, self.strike.attr)
     }
 
-    /// Returns where the argument is, for a pass of a direction.
+    /// Returns where the argument is, for a pass of a direction. Does not allocate.
     pub fn geometry(&self, direction: Direction) -> Geometry
         ensures { IsGeometry direction self.now.target.place self.now.argument.place result }
     {
@@ -53,11 +56,12 @@ impl Link {
     }
 }
 
-/// Returns where the argument at a second place of a rule for a first one is, for a pass of a direction.
+/// Returns where an argument at place `second` is, for a rule with a target at place `first` and a pass of a
+/// direction.
 fn geometry_of(direction: Direction, first: u16, second: u16) -> Geometry
     ensures { IsGeometry direction first second result }
 {
-    if !is_ahead(direction, first, second) {
+    if !is_same_or_later(direction, first, second) {
         return Geometry::AtHand;
     }
     if second == first {
@@ -66,8 +70,8 @@ fn geometry_of(direction: Direction, first: u16, second: u16) -> Geometry
     Geometry::Later
 }
 
-/// Returns the link of a strike by the production, rule and argument that it names. None if the argument is
-/// no attribute of a symbol.
+/// Returns the link of a strike, from the production, rule and argument that it names. None if the argument
+/// is no attribute of a symbol.
 fn link_at(production: &Production, rule: &Rule, argument: Target, strike: Strike) -> Option<Link>
     ensures { IsLinkAt production.now rule.now argument strike result }
 {
@@ -100,7 +104,7 @@ fn link_of(grammar: &Grammar, strike: Strike) -> Option<Link>
 }
 
 /// Appends the link of a strike, if it has one.
-fn put_link(links: &mut Vec<Link>, grammar: &Grammar, strike: Strike) -> Result<(), NoMemory>
+fn append_link(links: &mut Vec<Link>, grammar: &Grammar, strike: Strike) -> Result<(), NoMemory>
     ensures { OnOk result (AppendsLink grammar.now strike links.old.items links.new.items) }
 {
     let Some(link) = link_of(grammar, strike) else {
@@ -110,20 +114,21 @@ fn put_link(links: &mut Vec<Link>, grammar: &Grammar, strike: Strike) -> Result<
     Ok(())
 }
 
-/// Returns the links of strikes, in their order.
+/// Returns the links of strikes, in their order, without those of strikes that have none. Fails if memory is
+/// refused.
 pub fn links_of(alloc: Global, grammar: &Grammar, strikes: &[Strike]) -> Result<Vec<Link>, NoMemory>
     ensures { IfOk result (λ links. Each (NamesAttribute grammar.now) strikes.now
         → AreRelated (IsLinkOf grammar.now) strikes.now links.items) }
 {
     let mut links = Vec::new(alloc);
     for strike in strikes {
-        put_link(&mut links, grammar, *strike)?;
+        append_link(&mut links, grammar, *strike)?;
     }
     Ok(links)
 }
 
-/// Appends the link of a strike, if it waits for no other in passes of a direction.
-fn put_obstacle(
+/// Appends the link of a strike, if the strike waits for no other in passes of a direction.
+fn append_obstacle(
     obstacles: &mut Vec<Link>,
     grammar: &Grammar,
     direction: Direction,
@@ -135,14 +140,15 @@ fn put_obstacle(
     let Some(link) = link_of(grammar, strike) else {
         return Ok(());
     };
-    if !is_ahead(direction, link.target.place, link.argument.place) {
+    if !is_same_or_later(direction, link.target.place, link.argument.place) {
         return Ok(());
     }
     obstacles.push(link)?;
     Ok(())
 }
 
-/// Returns the links of the strikes that wait for no other in passes of a direction.
+/// Returns the obstacles among strikes, in their order: the links of those that wait for no other in passes
+/// of a direction. Fails if memory is refused.
 pub fn obstacles_of(
     alloc: Global,
     grammar: &Grammar,
@@ -154,7 +160,7 @@ pub fn obstacles_of(
 {
     let mut obstacles = Vec::new(alloc);
     for strike in strikes {
-        put_obstacle(&mut obstacles, grammar, direction, *strike)?;
+        append_obstacle(&mut obstacles, grammar, direction, *strike)?;
     }
     Ok(obstacles)
 }

@@ -7,11 +7,11 @@ use ag_grammar::Direction;
 use ag_value::NoMemory;
 
 /// The greatest number of passes that are explained for one attribute.
-const MAX_PASSES: u16 = 20;
+const MAX_EXPLAINED_PASSES: u16 = 20;
 
 impl Explanation<'_> {
-    /// Writes the number of passes, and for each pass above 1 that computes something why the pass before
-    /// can't compute an attribute of it; then hints.
+    /// Writes the number of passes. For each pass after pass 1 that computes an attribute, writes why the pass
+    /// before it can't compute one of them. Then writes hints. Fails if memory is refused.
     pub fn write_plan(&self, out: &mut String, plan: &LeastPlan<'_>) -> Result<(), NoMemory> {
         let passes = plan.assignment.passes();
         let noun = if passes == 1 { "pass" } else { "passes" };
@@ -31,8 +31,8 @@ impl Explanation<'_> {
         self.write_hints(out)
     }
 
-    /// Writes the pass of an attribute, and why no earlier pass can compute it, from the latest of these on;
-    /// at most twenty of them.
+    /// Writes the pass of an attribute, and why each earlier pass can't compute it, the latest one first. Explains
+    /// at most twenty passes. Fails if memory is refused.
     pub fn write_attribute(
         &self,
         out: &mut String,
@@ -47,13 +47,13 @@ impl Explanation<'_> {
         }
         writeln!(out, "pass {own} computes {name}")?;
         let earlier = own.saturating_sub(1);
-        for back in 0..earlier.min(MAX_PASSES) {
+        for back in 0..earlier.min(MAX_EXPLAINED_PASSES) {
             let pass = earlier.saturating_sub(back);
             let direction = Direction::of_pass(pass).name();
             writeln!(out, "\npass {pass} ({direction}) can't compute {name}:")?;
             self.write_chain(out, plan, pass, attribute)?;
         }
-        match earlier.saturating_sub(MAX_PASSES) {
+        match earlier.saturating_sub(MAX_EXPLAINED_PASSES) {
             0 => Ok(()),
             1 => Ok(writeln!(out, "\npass 1 can't compute it either")?),
             others => Ok(writeln!(out, "\npasses {others} to 1 can't compute it either")?),

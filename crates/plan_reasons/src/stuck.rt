@@ -8,12 +8,12 @@ use ag_grammar::Direction;
 use ag_value::NoMemory;
 use passassign::Stuck;
 
-/// The directions of passes, the first one first.
+/// The directions of passes: that of pass 1, then that of pass 2.
 const DIRECTIONS: [Direction; 2] = [Direction::RightToLeft, Direction::LeftToRight];
 
 impl Explanation<'_> {
-    /// Writes the rules that the attributes without a pass wait for, in the direction in which these are
-    /// fewer, or in the first one; then hints.
+    /// Writes the rules that the attributes without a pass wait for, in the direction in which there are fewer
+    /// of them, or in that of pass 1 if there are as many. Then writes hints. Fails if memory is refused.
     pub fn write_stuck(&self, out: &mut String, stuck: &Stuck) -> Result<(), NoMemory> {
         let (alloc, grammar) = (self.alloc, self.grammar);
         let odd = obstacles_of(alloc, grammar, Direction::RightToLeft, stuck.odd.as_slice())?;
@@ -51,7 +51,8 @@ impl Explanation<'_> {
         self.write_stuck_links(out, direction, links)
     }
 
-    /// Writes why no pass of either direction computes an attribute.
+    /// Writes why no pass of either direction computes an attribute, or that it is not one of the certificate's
+    /// set. Fails if memory is refused.
     pub fn write_stuck_attribute(
         &self,
         out: &mut String,

@@ -20,7 +20,8 @@ fn is_symbol_at(production: &Production, place: u16, symbol: u16) -> bool
     }
 }
 
-/// Returns whether what is at a place of a production is this attribute.
+/// Returns whether a target of a production is this attribute: the symbol is at its place, and the number is
+/// its own.
 fn is_attribute_at(production: &Production, target: Target, attribute: Attribute) -> bool
     ensures { IsTrue result ↔ IsAttributeAt production.now target attribute.0 attribute.1 }
 {
@@ -51,7 +52,7 @@ fn is_unused_in(production: &Production, attribute: Attribute) -> bool
     true
 }
 
-/// Returns whether no rule of a grammar uses an attribute. Looks at all rules.
+/// Returns whether no rule of a grammar uses an attribute. Reads at most all rules. Does not allocate.
 pub fn is_unused(grammar: &Grammar, attribute: Attribute) -> bool
     ensures { IsTrue result ↔ IsUnused grammar.now attribute.0 attribute.1 }
 {
@@ -63,7 +64,7 @@ pub fn is_unused(grammar: &Grammar, attribute: Attribute) -> bool
     true
 }
 
-/// Returns whether the expression of a rule is one occurrence.
+/// Returns whether a rule is a copy: its expression is one occurrence, such as `$1.p`.
 fn is_copy(rule: &Rule) -> bool
     ensures { IsTrue result ↔ IsCopy rule.now }
 {
@@ -73,14 +74,14 @@ fn is_copy(rule: &Rule) -> bool
     }
 }
 
-/// Returns whether a rule, if it computes an attribute, is one occurrence.
+/// Returns whether a rule is a copy, if it computes this attribute.
 fn is_copied_by(production: &Production, rule: &Rule, attribute: Attribute) -> bool
     ensures { IsTrue result ↔ IsCopiedBy production.now attribute.0 attribute.1 rule.now }
 {
     !is_attribute_at(production, rule.target, attribute) || is_copy(rule)
 }
 
-/// Returns whether each rule of a production for an attribute is one occurrence.
+/// Returns whether each rule of a production for an attribute is a copy.
 fn is_copied_in(production: &Production, attribute: Attribute) -> bool
     ensures { IsTrue result ↔ IsCopiedIn attribute.0 attribute.1 production.now }
 {
@@ -92,7 +93,8 @@ fn is_copied_in(production: &Production, attribute: Attribute) -> bool
     true
 }
 
-/// Returns whether each rule of a grammar for an attribute is one occurrence. Looks at all rules.
+/// Returns whether each rule of a grammar for an attribute is a copy. Reads at most all rules. Does not
+/// allocate.
 pub fn is_copied(grammar: &Grammar, attribute: Attribute) -> bool
     ensures { IsTrue result ↔ IsCopied grammar.now attribute.0 attribute.1 }
 {

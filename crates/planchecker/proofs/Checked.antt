@@ -13,11 +13,11 @@ use Rattle.ag_grammar.specs.grammars.Passes.{Passes, IsLegal}
 use Rattle.ag_grammar.specs.grammars.Accepted.{max_passes}
 use Rattle.passassign.specs.Rows.{passes_of, IsGreatest}
 use Rattle.passcode.specs.declared.instr.Instr.{Instr}
-use Rattle.passcode.specs.Agreement.{Agrees, IsListFor}
+use Rattle.passcode.specs.Agreement.{Agrees, ListAgrees}
 use Rattle.passcode.specs.Rows.{Lists, lists_of, row_of, rows_of}
 use Rattle.passcode.specs.Shape.{HasNumbers, HasShape}
 use Rattle.passcode.proofs.lists.Shaped.{greatest_most}
-use Rattle.planchecker.specs.Agreeing.{AreListsFor, IsFirstDisagreement, IsFirstList}
+use Rattle.planchecker.specs.Agreeing.{ListsAgree, IsFirstDisagreement, IsFirstList}
 use Rattle.planchecker.specs.First.{EachAt}
 use Rattle.planchecker.specs.Legality.{AreAllowed}
 use Rattle.planchecker.specs.Shapes.{AreLists, AreRows, IsRow}
@@ -35,29 +35,29 @@ legal_of g rows numbers h = record {
 pub allowed_of : (g : Grammar) (m : Passes) → IsLegal g m → EachAt (λ i. AreAllowed m) g.productions
 allowed_of g m legal i q is r u at o k arg has = legal.allowed i q is u o k (r, at) arg has
 
-pub agrees_of : (g : Grammar) (m : Passes) (code : Lists) → EachAt (λ i q. AreListsFor m q (lists_of code i)) g.productions
+pub agrees_of : (g : Grammar) (m : Passes) (code : Lists) → EachAt (λ i q. ListsAgree m q (lists_of code i)) g.productions
     → Agrees g m code
 agrees_of g m code h p k q xs is list = let one = list.0 in let same : k - 1 + 1 ≡ k = omega arith in
-    subst (λ n. IsListFor m q n xs) same (h p q is (k - 1) xs list.1)
+    subst (λ n. ListAgrees m q n xs) same (h p q is (k - 1) xs list.1)
 
 pub shape_of : (g : Grammar) (rows : List (List ℕ)) (code : Lists) (n : ℕ) → IsGreatest n rows → AreRows g.symbols rows
     → AreLists (length g.productions) n code → HasShape g rows code
 shape_of g rows code n greatest numbers lists = record {
   numbers = record {
     whole = λ s. (numbers.each s).len;
-    positive = λ s i k e. ((numbers.each s).passes i k e).0;
+    positive = λ s i k e. ((numbers.each s).in_range i k e).0;
     most =
-        λ s i k e. ((numbers.each s).passes i k e).1;
+        λ s i k e. ((numbers.each s).in_range i k e).1;
     few = numbers.few;
   };
-  lists = record { passes = n; greatest = greatest; productions = lists.productions_are; lists = lists.lists };
+  lists = record { pass_count = n; greatest = greatest; productions = lists.productions_are; lists = lists.lists };
 }
 
 pub rows_in_shape : (g : Grammar) (rows : List (List ℕ)) (code : Lists) → HasShape g rows code → AreRows g.symbols rows
 rows_in_shape g rows code shape = record {
   few = shape.numbers.few;
   each = λ s. record
-      { len = shape.numbers.whole s; passes = λ i k e. (shape.numbers.positive s i k e, shape.numbers.most s i k e) };
+      { len = shape.numbers.whole s; in_range = λ i k e. (shape.numbers.positive s i k e, shape.numbers.most s i k e) };
 }
 
 same_greatest : (rows : List (List ℕ)) (a b : ℕ) → IsGreatest a rows → IsGreatest b rows → a ≡ b
@@ -66,7 +66,7 @@ same_greatest rows a b h g = let u = greatest_most rows a b h g in let w = great
 pub lists_in_shape : (g : Grammar) (rows : List (List ℕ)) (code : Lists) (n : ℕ) → IsGreatest n rows → HasShape g rows code
     → AreLists (length g.productions) n code
 lists_in_shape g rows code n greatest shape =
-    let same = same_greatest rows shape.lists.passes n shape.lists.greatest greatest in
+    let same = same_greatest rows shape.lists.pass_count n shape.lists.greatest greatest in
     record { productions_are = shape.lists.productions; lists = λ i row e. shape.lists.lists i row e ∙ same }
 
 -- a pass number in an assignment of the right shape
@@ -102,7 +102,7 @@ pub few_lists : (g : Grammar) (rows : List (List ℕ)) (code : Lists) (i : ℕ) 
 few_lists g rows code i xs shape same = elim (cases_lt i (length code)) [
   | inl lt ↦ (
       let len = shape.lists.lists i (lists_of code i) (slice_get-get_or code i [] lt) in
-      let most : shape.lists.passes ≤ max_passes = most_of g rows shape.numbers shape.lists.passes shape.lists.greatest in
+      let most : shape.lists.pass_count ≤ max_passes = most_of g rows shape.numbers shape.lists.pass_count shape.lists.greatest in
       let rows_len = length-map xs (λ (w : Vec Instr). w.items) in
       let both : length (row_of xs) ≡ length (lists_of code i) = ap length same in
       omega arith)
@@ -122,7 +122,7 @@ rows_past symbols rows s a b =
     (subst (IsRow 0) (sym empty)
     (record {
       len = refl;
-      passes = λ i k e. absurd
+      in_range = λ i k e. absurd
           (let is : slice_get {X = ℕ} [] i ≡ Some k = e in let bad : ⊥ = cc in bad);
     }))
 
@@ -140,7 +140,7 @@ pub rows_len : (rows : List (Vec (Vec Instr))) → length (rows_of rows) ≡ len
 rows_len rows = length-map rows (λ (w : Vec (Vec Instr)). row_of w.items)
 
 pub first_production_of : (m : Passes) (productions : List Production) (code : Lists) (p : ℕ) (q : Production) (k n : ℕ)
-    → slice_get productions p ≡ Some q → Prefix (λ i q. AreListsFor m q (lists_of code i)) productions p
+    → slice_get productions p ≡ Some q → Prefix (λ i q. ListsAgree m q (lists_of code i)) productions p
     → IsFirstList m q (lists_of code p) k n
     → IsFirstDisagreement m productions code p k n
 first_production_of m productions code p q k n is before list = record {

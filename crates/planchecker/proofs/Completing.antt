@@ -7,15 +7,15 @@ use Rattle.ag_grammar.specs.declared.grammar.Production.{Production}
 use Rattle.ag_grammar.specs.grammars.Passes.{Passes}
 use Rattle.passcode.specs.declared.instr.Instr.{Instr}
 use Rattle.passcode.specs.declared.instr.Instr.TheVariants as instr
-use Rattle.passcode.specs.Agreement.{IsListFor}
+use Rattle.passcode.specs.Agreement.{ListAgrees}
 use Rattle.passcode.specs.declared.phase.Phase.{Phase}
 use Rattle.passcode.specs.declared.phase.Phase.TheVariants.{Ended}
 use Rattle.passcode.specs.Course.{State, MayRun, Runs, after, arity, read_count, start, state_at}
 use Rattle.passcode.specs.Limits.{IsPlanned}
-use Rattle.passcode.specs.Listing.{left_in}
+use Rattle.passcode.specs.Listing.{remaining_in}
 use Rattle.passcode.proofs.Agreeing.{agrees}
 use Rattle.passcode.proofs.Following.{follows}
-use Rattle.passcode.proofs.Leaving.{IsReached, left_runs, reached, starts}
+use Rattle.passcode.proofs.Leaving.{IsReached, remaining_runs, reached, starts}
 use Rattle.passcode.proofs.States.{MayRunTo, index_runs, kept, runs_by_index, state_next}
 use Rattle.passcode.proofs.Marks.{read_in, read_within}
 use Rattle.std.proofs.lemmas.Bool.{cases_eq}
@@ -117,12 +117,12 @@ module _ (m : Passes) (q : Production) (k : ℕ) (xs : List Instr) (n : ℕ) (ma
 
 -- a node in the state before its index meets its invariant
 pub on_way : (node : NodeState) → node.phase ≡ (state_of node).phase → node.turn ≡ (state_of node).turn
-    → node.index ≤ length node.list.now → node.children ≡ arity node.course.production.now → (m : Passes)
-    → IsPlanned m node.course.production.now → (k : ℕ) → MayRunTo m node.course.production.now k start node.list.now node.index
+    → node.index ≤ length node.list.now → node.children ≡ arity node.context.production.now → (m : Passes)
+    → IsPlanned m node.context.production.now → (k : ℕ) → MayRunTo m node.context.production.now k start node.list.now node.index
     → IsOnPath node
 on_way node phase turn within children m planned k may =
     let most = planned.places in
-    let read = few_read m node.course.production.now k node.list.now node.index may node.phase node.turn phase turn in
+    let read = few_read m node.context.production.now k node.list.now node.index may node.phase node.turn phase turn in
     record {
       phase = phase;
       turn = turn;
@@ -142,8 +142,8 @@ module _ (m : Passes) (q : Production) (planned : IsPlanned m q) (k : ℕ) (one 
       let here : IsReached m q k (state_at q start xs n) =
       kept m q k xs n may (IsReached m q k) (reached m q k one) 0 n (omega arith) (omega arith) (starts m q k one) in
       let s = state_at q start xs n in
-      let rest = left_in m q k s.phase s.turn s.done in
-      let runs = prefix_runs m q k start xs rest n most may (left_runs m q k one planned.single planned.allowed s here) in
+      let rest = remaining_in m q k s.phase s.turn s.done in
+      let runs = prefix_runs m q k start xs rest n most may (remaining_runs m q k one planned.single planned.allowed s here) in
       (take n xs ++ rest, agrees m q k (take n xs ++ rest) one runs, begins_as xs rest n)
 
   -- and none continues with an instruction that may not come next
@@ -159,7 +159,7 @@ module _ (m : Passes) (q : Production) (planned : IsPlanned m q) (k : ℕ) (one 
   wrong_at x at bad = record { right = begins; wrong = inl (slice_get_within xs n x at, goes_wrong x at bad) }
 
   -- at its end a list agrees if the node is at its end, and else ends too early
-  pub whole : n ≡ length xs → (state_at q start xs n).phase ≡ Ended → IsListFor m q k xs
+  pub whole : n ≡ length xs → (state_at q start xs n).phase ≡ Ended → ListAgrees m q k xs
   whole same over = agrees m q k xs one
       (index_runs m q k start xs (subst (MayRunTo m q k start xs) same may)
       (subst (λ n. (state_at q start xs n).phase ≡ Ended) same over))

@@ -7,7 +7,7 @@ use Rattle.std.specs.Global.{Vec}
 use Rattle.ag_grammar.specs.declared.grammar.Production.{Production}
 use Rattle.ag_grammar.specs.grammars.Passes.{Passes}
 use Rattle.passcode.specs.declared.instr.Instr.{Instr}
-use Rattle.passcode.specs.Agreement.{IsListFor}
+use Rattle.passcode.specs.Agreement.{ListAgrees}
 use Rattle.passcode.specs.Rows.{row_of}
 use Rattle.planchecker.specs.Agreeing.{CanBegin, IsFirstList, IsFirstWrong}
 use Rattle.planchecker.specs.First.{IsFirstNot}
@@ -26,15 +26,15 @@ pub row_len : (row : List (Vec Instr)) → length (row_of row) ≡ length row
 row_len row = length-map row (λ (w : Vec Instr). w.items)
 
 -- a list with a first wrong index does not agree
-pub not_list : (m : Passes) (q : Production) (k : ℕ) (xs : List Instr) (n : ℕ) → IsFirstWrong m q k xs n → IsListFor m q k xs → ⊥
+pub not_list : (m : Passes) (q : Production) (k : ℕ) (xs : List Instr) (n : ℕ) → IsFirstWrong m q k xs n → ListAgrees m q k xs → ⊥
 not_list m q k xs n wrong list = go wrong.wrong
   where
-    go : ((n < length xs) × (CanBegin m q k xs (n + 1) → ⊥)) ⊎ ((n ≡ length xs) × (IsListFor m q k xs → ⊥)) → ⊥
+    go : ((n < length xs) × (CanBegin m q k xs (n + 1) → ⊥)) ⊎ ((n ≡ length xs) × (ListAgrees m q k xs → ⊥)) → ⊥
     go (inl h) = h.1 (xs, list, λ i x lt e. e)
     go (inr h) = h.1 list
 
 pub first_list_of : (m : Passes) (q : Production) (lists : List (List Instr)) (i : ℕ) (xs : List Instr) (n : ℕ)
-    → slice_get lists i ≡ Some xs → Prefix (λ i. IsListFor m q (i + 1)) lists i → IsFirstWrong m q (i + 1) xs n
+    → slice_get lists i ≡ Some xs → Prefix (λ i. ListAgrees m q (i + 1)) lists i → IsFirstWrong m q (i + 1) xs n
     → IsFirstList m q lists (i + 1) n
 first_list_of m q lists i xs n is before wrong =
     let same : i ≡ i + 1 - 1 = omega arith in
@@ -42,7 +42,7 @@ first_list_of m q lists i xs n is before wrong =
       list = xs;
       positive = omega arith;
       occurs = subst (λ j. slice_get lists j ≡ Some xs) same is;
-      first = subst (IsFirstNot (λ i. IsListFor m q (i + 1)) lists) same
+      first = subst (IsFirstNot (λ i. ListAgrees m q (i + 1)) lists) same
           (record { member = xs; occurs = is; not_so = not_list m q (i + 1) xs n wrong; before = before });
       wrong = wrong;
     }

@@ -3,7 +3,7 @@ use Rattle.std.specs.Prelude.{ℕ, ◌≤◌, List, length}
 use Rattle.ag_grammar.specs.grammars.Accepted.{IsAccepted}
 use Rattle.ag_grammar.specs.grammars.AttributeGrammar.{Grammar}
 use Rattle.ag_grammar.specs.grammars.Passes.{IsLegal}
-use Rattle.passassign.specs.Rows.{passes_of, AreFew, IsGreatest}
+use Rattle.passassign.specs.Rows.{passes_of, AreWithinMaxPasses, IsGreatest}
 use Rattle.passcode.specs.Agreement.{Agrees}
 use Rattle.passcode.specs.Rows.{Lists}
 use Rattle.passcode.specs.Shape.{HasLists}
@@ -12,14 +12,14 @@ use Rattle.planchecker.specs.Plans.{IsPlan, IsPlanFault}
 use Rattle.planchecker.specs.courses.Settings.{setting_of}
 use Rattle.planchecker.specs.courses.Sound.{IsSound}
 
--- No fault of `check_plan` is justified for an assignment that `assign` makes with the code that `generate`
--- makes for it.
-abbrev pub MadeIsTaken : Type 0
-MadeIsTaken = (g : Grammar) (rows : List (List ℕ)) (code : Lists) → IsLegal g (passes_of rows) → AreFew rows
+-- No fault of `check_plan` is true of a legal assignment and code that agrees with it, if no pass is above 8,192, there are at
+-- most as many rows as symbols, and there is a list for each production and pass. `assign` and `generate` return such ones.
+abbrev pub MadeIsAccepted : Type 0
+MadeIsAccepted = (g : Grammar) (rows : List (List ℕ)) (code : Lists) → IsLegal g (passes_of rows) → AreWithinMaxPasses rows
     → length rows ≤ length g.symbols → Agrees g (passes_of rows) code → HasLists g rows code → (f : PlanFault)
     → IsPlanFault g rows code f → ⊥
 
--- A pass of a plan meets the conditions on its grammar, its assignment and its code.
+-- Each pass of a plan for an accepted grammar is sound.
 abbrev pub PlansAreSound : Type 0
 PlansAreSound = (g : Grammar) (rows : List (List ℕ)) (code : Lists) (passes k : ℕ) → IsAccepted g → IsPlan g rows code
     → IsGreatest passes rows → 1 ≤ k → k ≤ passes → IsSound (setting_of g (rows, code) k)

@@ -1,3 +1,3 @@
--- The setting of a pass, and the conditions of a pass on it.
+-- The setting of a pass, and the conditions on it.
 pub mod Settings
 pub mod Sound

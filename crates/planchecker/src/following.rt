@@ -1,4 +1,5 @@
-//! The first instruction of a list that can't come next.
+//! Runs a list of instructions as the automaton of `passcode` does, and finds the first instruction
+//! that may not come next.
 
 ghost use Rattle.std.specs.Prelude.{ℕ, ◌≡◌, ◌<◌, ◌≤◌, ◌↔◌, IsTrue, Some, length, slice_get};
 ghost use Rattle.ag_grammar.specs.Lists.{Has};
@@ -7,7 +8,7 @@ ghost use Rattle.ag_grammar.specs.grammars.Accepted.{max_passes, max_rules};
 ghost use Rattle.ag_grammar.specs.grammars.Passes.{HasPass};
 ghost use Rattle.passassign.specs.Rows.{passes_of};
 ghost use Rattle.passcode.specs.Agreement.{IsRuleAt};
-ghost use Rattle.passcode.specs.Course.{AreGiven, IsAvailable, IsTurnOf, IsVisited, MayGive};
+ghost use Rattle.passcode.specs.Course.{AreDone, IsAvailable, IsTurnOf, IsVisited, MayCompute};
 ghost use Rattle.passcode.specs.Course.{MayRun, after, arity, place_of, run_count};
 ghost use Rattle.passcode.specs.Limits.{IsPlanned};
 ghost use Rattle.passcode.specs.Rows.{row_of};
@@ -17,16 +18,22 @@ ghost use Rattle.planchecker.specs.Following.{IsOnPath, RunsRule, state_of};
 
 use ag_grammar::{Direction, Item, Production, Target};
 use passassign::Assignment;
-use passcode::{Course, Instr, Phase, arity, is_same};
+use passcode::{Instr, ListContext, Phase, arity, is_same};
 
-/// The state of a node in a list of instructions, of which it has run those before an index.
+/// The state of a node that has run the instructions of a list before an index.
 #[derive(Clone, Copy)]
 pub(crate) struct NodeState<'a> {
-    pub course: Course<'a>,
+    /// The assignment, the production and the pass of the list.
+    pub context: ListContext<'a>,
+    /// The number of children of the production's node.
     pub children: usize,
+    /// The list.
     pub list: &'a [Instr],
+    /// The index of the next instruction, from 0.
     pub index: usize,
+    /// The phase before this instruction.
     pub phase: Phase,
+    /// The number of complete children before it.
     pub turn: usize,
 }
 
@@ -49,19 +56,19 @@ fn runs_rule(one: Instr, number: u16) -> bool
 }
 
 impl NodeState<'_> {
-    /// Returns the place of the child that the pass visits after `turn` others.
+    /// Returns the place, from 1, of the child that the pass visits after `turn` others.
     fn place(&self, turn: usize) -> u16
-        requires way { IsOnPath self.now }
+        requires state { IsOnPath self.now }
         requires within { turn < self.now.children }
-        ensures { result ≡ place_of self.now.course.production.now self.now.course.pass turn }
+        ensures { result ≡ place_of self.now.context.production.now self.now.context.pass turn }
     {
-        1 + Direction::of_pass(self.course.pass).nth(self.children, turn) as u16
+        1 + Direction::of_pass(self.context.pass).nth(self.children, turn) as u16
     }
 
     /// Returns whether the node is in a phase, and this is the place of the child whose turn it is.
     fn is_turn_of(&self, phase: Phase, place: u16) -> bool
         requires { IsOnPath self.now }
-        ensures { IsTrue result ↔ IsTurnOf self.now.course.production.now self.now.course.pass
+        ensures { IsTrue result ↔ IsTurnOf self.now.context.production.now self.now.context.pass
             (state_of self.now) phase place }
     {
         self.phase == phase && self.turn < self.children && place == self.place(self.turn)
@@ -97,7 +104,7 @@ impl NodeState<'_> {
     /// Returns whether the pass has run in the child at a place.
     fn is_visited(&self, place: u16) -> bool
         requires { IsOnPath self.now }
-        ensures { IsTrue result ↔ IsVisited self.now.course.production.now self.now.course.pass
+        ensures { IsTrue result ↔ IsVisited self.now.context.production.now self.now.context.pass
             (run_count self.now.phase self.now.turn) place }
     {
         for turn in 0..self.run_count() {
@@ -110,71 +117,72 @@ impl NodeState<'_> {
 
     /// Returns whether an attribute at a place is available: it is of an earlier pass, or of this
     /// one at the left side or at a child in which the pass has run.
-    fn is_at_hand(&self, target: Target) -> bool
+    fn is_available(&self, target: Target) -> bool
         requires { IsOnPath self.now }
-        ensures { IsTrue result ↔ IsAvailable (passes_of self.now.course.assignment.now)
-            self.now.course.production.now self.now.course.pass (state_of self.now) target }
+        ensures { IsTrue result ↔ IsAvailable (passes_of self.now.context.assignment.now)
+            self.now.context.production.now self.now.context.pass (state_of self.now) target }
     {
-        let Some(pass) = self.course.pass_of(target) else {
+        let Some(pass) = self.context.pass_of(target) else {
             return false;
         };
-        if pass < self.course.pass {
+        if pass < self.context.pass {
             return true;
         }
-        pass == self.course.pass && (target.place == 0 || self.is_visited(target.place))
+        pass == self.context.pass && (target.place == 0 || self.is_visited(target.place))
     }
 
     /// Returns whether all arguments of a rule are available.
-    fn are_at_hand(&self, arguments: &[Target]) -> bool
+    fn are_available(&self, arguments: &[Target]) -> bool
         requires { IsOnPath self.now }
         ensures { IsTrue result ↔ ((o : TheTarget) → Has arguments.now o → IsAvailable
-            (passes_of self.now.course.assignment.now) self.now.course.production.now
-            self.now.course.pass (state_of self.now) o) }
+            (passes_of self.now.context.assignment.now) self.now.context.production.now
+            self.now.context.pass (state_of self.now) o) }
     {
         for argument in arguments {
-            if !self.is_at_hand(*argument) {
+            if !self.is_available(*argument) {
                 return false;
             }
         }
         true
     }
 
-    /// Returns whether the rule with a number may compute an attribute at a place.
-    fn may_give(&self, target: Target, number: u16) -> bool
+    /// Returns whether the rule with a number may compute an attribute at a place now: it is a rule for
+    /// this attribute, which has the pass, its arguments are available, and it was not run.
+    fn may_compute(&self, target: Target, number: u16) -> bool
         requires { IsOnPath self.now }
-        ensures { IsTrue result ↔ MayGive (passes_of self.now.course.assignment.now)
-            self.now.course.production.now self.now.course.pass (state_of self.now)
+        ensures { IsTrue result ↔ MayCompute (passes_of self.now.context.assignment.now)
+            self.now.context.production.now self.now.context.pass (state_of self.now)
             target.place target.attr number }
     {
-        let rules = self.course.production.rules.as_slice();
+        let rules = self.context.production.rules.as_slice();
         if number as usize >= rules.len() || self.was_run(number) {
             return false;
         }
         let rule = &rules[number as usize];
-        if !is_same(rule.target, target) || !self.course.has_pass(rule.target) {
+        if !is_same(rule.target, target) || !self.context.has_pass(rule.target) {
             return false;
         }
-        self.are_at_hand(rule.args.as_slice())
+        self.are_available(rule.args.as_slice())
     }
 
-    /// Returns whether a rule was run, or its target is not of the pass.
-    fn is_given(&self, number: u16, target: Target) -> bool
+    /// Returns whether the rule with a number and a target was run, if its target has the pass.
+    fn is_done(&self, number: u16, target: Target) -> bool
         requires { IsOnPath self.now }
-        ensures { IsTrue result ↔ (HasPass (passes_of self.now.course.assignment.now)
-            self.now.course.production.now target self.now.course.pass
+        ensures { IsTrue result ↔ (HasPass (passes_of self.now.context.assignment.now)
+            self.now.context.production.now target self.now.context.pass
             → Has (state_of self.now).done number) }
     {
-        !self.course.has_pass(target) || self.was_run(number)
+        !self.context.has_pass(target) || self.was_run(number)
     }
 
     /// Returns whether each rule of the pass with a target at a place was run.
-    fn are_given(&self, place: u16) -> bool
+    fn are_done(&self, place: u16) -> bool
         requires { IsOnPath self.now }
-        ensures { IsTrue result ↔ AreGiven (passes_of self.now.course.assignment.now)
-            self.now.course.production.now self.now.course.pass (state_of self.now) place }
+        ensures { IsTrue result ↔ AreDone (passes_of self.now.context.assignment.now)
+            self.now.context.production.now self.now.context.pass (state_of self.now) place }
     {
-        for (number, rule) in self.course.production.rules.as_slice().iter().enumerate() {
-            if rule.target.place == place && !self.is_given(number as u16, rule.target) {
+        for (number, rule) in self.context.production.rules.as_slice().iter().enumerate() {
+            if rule.target.place == place && !self.is_done(number as u16, rule.target) {
                 return false;
             }
         }
@@ -182,13 +190,13 @@ impl NodeState<'_> {
     }
 
     /// Returns whether each rule of the pass was run.
-    fn are_all_given(&self) -> bool
+    fn are_all_done(&self) -> bool
         requires { IsOnPath self.now }
-        ensures { IsTrue result ↔ ((j : ℕ) → AreGiven (passes_of self.now.course.assignment.now)
-            self.now.course.production.now self.now.course.pass (state_of self.now) j) }
+        ensures { IsTrue result ↔ ((j : ℕ) → AreDone (passes_of self.now.context.assignment.now)
+            self.now.context.production.now self.now.context.pass (state_of self.now) j) }
     {
-        for (number, rule) in self.course.production.rules.as_slice().iter().enumerate() {
-            if !self.is_given(number as u16, rule.target) {
+        for (number, rule) in self.context.production.rules.as_slice().iter().enumerate() {
+            if !self.is_done(number as u16, rule.target) {
                 return false;
             }
         }
@@ -198,11 +206,11 @@ impl NodeState<'_> {
     /// Returns whether `End` may come next.
     fn may_end(&self) -> bool
         requires { IsOnPath self.now }
-        ensures { IsTrue result ↔ MayRun (passes_of self.now.course.assignment.now)
-            self.now.course.production.now self.now.course.pass (state_of self.now) instr.End }
+        ensures { IsTrue result ↔ MayRun (passes_of self.now.context.assignment.now)
+            self.now.context.production.now self.now.context.pass (state_of self.now) instr.End }
     {
         match self.phase {
-            Phase::Between => self.turn == self.children && self.are_all_given(),
+            Phase::Between => self.turn == self.children && self.are_all_done(),
             Phase::Got => false,
             Phase::Gone => false,
             Phase::Ended => false,
@@ -212,30 +220,30 @@ impl NodeState<'_> {
     /// Returns whether an instruction may come next.
     fn may_run(&self, one: Instr) -> bool
         requires { IsOnPath self.now }
-        ensures { IsTrue result ↔ MayRun (passes_of self.now.course.assignment.now)
-            self.now.course.production.now self.now.course.pass (state_of self.now) one }
+        ensures { IsTrue result ↔ MayRun (passes_of self.now.context.assignment.now)
+            self.now.context.production.now self.now.context.pass (state_of self.now) one }
     {
         match one {
             Instr::Get(place) => self.is_turn_of(Phase::Between, place),
             Instr::Set { place, attr, rule } => {
-                self.is_turn_of(Phase::Got, place) && self.may_give(Target { place, attr }, rule)
+                self.is_turn_of(Phase::Got, place) && self.may_compute(Target { place, attr }, rule)
             }
-            Instr::Go(place) => self.is_turn_of(Phase::Got, place) && self.are_given(place),
+            Instr::Go(place) => self.is_turn_of(Phase::Got, place) && self.are_done(place),
             Instr::Put(place) => self.is_turn_of(Phase::Gone, place),
             Instr::Def { attr, rule } => {
-                self.phase != Phase::Ended && self.may_give(Target { place: 0, attr }, rule)
+                self.phase != Phase::Ended && self.may_compute(Target { place: 0, attr }, rule)
             }
             Instr::End => self.may_end(),
         }
     }
 
-    /// Returns the phase after an instruction.
+    /// Returns the phase after an instruction that may come next.
     fn phase_after(&self, one: Instr) -> Phase
         requires { IsOnPath self.now }
-        ensures { result ≡ (after self.now.course.production.now (state_of self.now) one).phase }
+        ensures { result ≡ (after self.now.context.production.now (state_of self.now) one).phase }
     {
         match one {
-            Instr::Get(place) => match self.course.production.item_at(place) {
+            Instr::Get(place) => match self.context.production.item_at(place) {
                 Some(Item::Symbol(_)) => Phase::Got,
                 Some(Item::Terminal(_)) => Phase::Gone,
                 None => Phase::Gone,
@@ -252,10 +260,10 @@ impl NodeState<'_> {
         }
     }
 
-    /// Returns the number of complete children after an instruction.
+    /// Returns the number of complete children after an instruction that may come next.
     fn turn_after(&self, one: Instr) -> usize
         requires { IsOnPath self.now }
-        ensures { result ≡ (after self.now.course.production.now (state_of self.now) one).turn }
+        ensures { result ≡ (after self.now.context.production.now (state_of self.now) one).turn }
     {
         match one {
             Instr::Put(_) => self.turn + 1,
@@ -272,19 +280,21 @@ impl NodeState<'_> {
     }
 }
 
-/// Returns the first index at which no list that agrees continues as this one does.
-fn first_wrong(course: &Course, list: &[Instr]) -> Option<usize>
-    requires planned { IsPlanned (passes_of course.now.assignment.now) course.now.production.now }
-    requires pass { 1 ≤ course.now.pass }
-    ensures { IsWrongOrNone (passes_of course.now.assignment.now) course.now.production.now
-        course.now.pass list.now result }
+/// Returns the index of the first instruction such that no list that agrees begins with the
+/// instructions up to it. It is the length of the list if the list ends too early, and `None` if the
+/// list agrees.
+fn first_wrong_index(context: &ListContext, list: &[Instr]) -> Option<usize>
+    requires planned { IsPlanned (passes_of context.now.assignment.now) context.now.production.now }
+    requires pass { 1 ≤ context.now.pass }
+    ensures { IsWrongOrNone (passes_of context.now.assignment.now) context.now.production.now
+        context.now.pass list.now result }
 {
-    let children = arity(course.production);
+    let children = arity(context.production);
     let mut phase = Phase::Between;
     let mut turn = 0;
     for index in 0..list.len() {
         let node = NodeState {
-            course: *course,
+            context: *context,
             children,
             list,
             index,
@@ -303,9 +313,9 @@ fn first_wrong(course: &Course, list: &[Instr]) -> Option<usize>
     }
 }
 
-/// Returns the pass of the first list of a production that does not agree, and the first index at
-/// which no list that agrees continues as it does.
-pub(crate) fn first_list(
+/// Returns the pass of the first list of a production that does not agree, and its first wrong index.
+/// `lists` are those of the production, the first for pass 1.
+pub(crate) fn first_wrong_list(
     assignment: &Assignment,
     production: &Production,
     lists: &[Vec<Instr>],
@@ -316,12 +326,12 @@ pub(crate) fn first_list(
 {
     for (index, list) in lists.iter().enumerate() {
         let pass = index as u16 + 1;
-        let course = Course {
+        let context = ListContext {
             assignment,
             production,
             pass,
         };
-        if let Some(at) = first_wrong(&course, list.as_slice()) {
+        if let Some(at) = first_wrong_index(&context, list.as_slice()) {
             return Some((pass, at));
         }
     }

@@ -1,5 +1,6 @@
-//! Checks of a plan, which is an assignment of passes and code for them, and of certificates that a
-//! grammar has none.
+//! Checks of plans and of certificates. A plan is a legal assignment of passes and code that agrees
+//! with it. One kind of certificate shows that an assignment is the least one, the other that a
+//! grammar has no legal assignment.
 #![tactic(auto)]
 
 mod certificate;

@@ -1,4 +1,4 @@
-//! Marks of attributes, in a table of fixed size, which takes no memory of the heap.
+//! Marks of attributes, in a table of fixed size on the stack.
 
 ghost use Rattle.std.specs.Prelude.{ℕ, ◌≡◌, ◌<◌, ◌⊎◌, ◌↔◌, IsTrue, length};
 ghost use Rattle.ag_grammar.specs.grammars.Accepted.{max_attributes, max_symbols};
@@ -10,7 +10,7 @@ use ag_grammar::limits::{MAX_ATTRIBUTES, MAX_SYMBOLS};
 /// The number of attributes that a grammar may have.
 const MAX_SLOTS: usize = MAX_SYMBOLS * MAX_ATTRIBUTES;
 
-/// Marks of attributes, by the numbers of their symbols and their own.
+/// Marks of attributes, by the numbers of their symbols and their own, from 0: one byte for each.
 #[derive(Drop)]
 pub(crate) struct Marks {
     pub slots: [bool; MAX_SLOTS],

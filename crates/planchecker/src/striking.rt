@@ -1,5 +1,4 @@
-//! The check that strikes are good in a pass, one after the other: shared by both kinds of
-//! certificate.
+//! The check that strikes are good in a pass, one after the other. Both kinds of certificate use it.
 
 ghost use Rattle.std.specs.Prelude.{ℕ, ◌≡◌, ◌↔◌, IfSome, IsSome, IsTrue, Some, slice_get, take};
 ghost use Rattle.ag_grammar.specs.declared.grammar.Item.TheVariants as item;
@@ -11,14 +10,15 @@ ghost use Rattle.planchecker.specs.Striking.{IsNext, IsNextWhere};
 
 use crate::marks::Marks;
 use ag_grammar::{Direction, Grammar, Item, Production, Target};
-use passassign::{Strike, is_ahead};
+use passassign::{Strike, is_same_or_later};
 
-/// The attributes that are candidates for a pass, and those of them that the pass has to strike.
+/// The attributes that are candidates for a pass, and the later ones among them: those that the pass
+/// has to strike, since they have a later pass or none.
 pub(crate) trait Candidates {
     /// The candidates, by their symbols' numbers and their own.
     ghost candidates: { Self → ℕ → ℕ → Type 0 };
 
-    /// Those of them that the pass has to strike.
+    /// Those of the candidates that the pass has to strike.
     ghost later: { Self → ℕ → ℕ → Type 0 };
 
     /// Returns whether an attribute is a candidate.
@@ -32,7 +32,7 @@ pub(crate) trait Candidates {
     ghost within: { (x : Self) (s a : ℕ) → later x s a → candidates x s a };
 }
 
-/// Returns whether an attribute of the item at a place is struck.
+/// Returns whether an attribute of an item is struck. False if there is no item, or it is a terminal.
 fn is_item_struck(struck: &Marks, item: Option<Item>, attr: u16) -> bool
     ensures { IsTrue result ↔ IsOneOf (IsMarked struck.now) item attr }
 {
@@ -43,7 +43,8 @@ fn is_item_struck(struck: &Marks, item: Option<Item>, attr: u16) -> bool
     }
 }
 
-/// Returns whether an attribute of the item at a place is a candidate.
+/// Returns whether an attribute of an item is a candidate. False if there is no item, or it is a
+/// terminal.
 fn is_item_candidate<C: Candidates>(candidates: &C, item: Option<Item>, attr: u16) -> bool
     ensures { IsTrue result ↔ IsOneOf (C.candidates candidates.now) item attr }
 {
@@ -54,8 +55,8 @@ fn is_item_candidate<C: Candidates>(candidates: &C, item: Option<Item>, attr: u1
     }
 }
 
-/// Returns whether an argument of a rule is a reason to strike the rule's target at a place from a
-/// pass.
+/// Returns whether an argument of a rule is a reason why a pass can't compute the rule's target, which
+/// is at place `place`.
 fn is_reason<C: Candidates>(
     direction: Direction,
     candidates: &C,
@@ -71,7 +72,8 @@ fn is_reason<C: Candidates>(
     if is_item_struck(struck, item, argument.attr) {
         return true;
     }
-    is_ahead(direction, place, argument.place) && is_item_candidate(candidates, item, argument.attr)
+    is_same_or_later(direction, place, argument.place)
+        && is_item_candidate(candidates, item, argument.attr)
 }
 
 /// Returns whether a declared symbol is at a place of a production.
@@ -85,8 +87,8 @@ fn is_symbol(production: &Production, place: u16, symbol: u16) -> bool
     }
 }
 
-/// Returns whether a strike is good after others: its production, rule and argument exist, and the
-/// argument is a reason.
+/// Returns whether a strike is good if these attributes are struck: its production, rule and argument
+/// exist, the rule is one for its attribute, and the argument is a reason.
 fn is_good<C: Candidates>(
     grammar: &Grammar,
     direction: Direction,
@@ -120,7 +122,8 @@ fn is_good<C: Candidates>(
     )
 }
 
-/// Returns whether a strike may come next after others.
+/// Returns whether a strike may come next if these attributes are struck: it is of another attribute
+/// that the pass has to strike, and it is good.
 fn is_next<C: Candidates>(
     grammar: &Grammar,
     direction: Direction,
@@ -136,8 +139,8 @@ fn is_next<C: Candidates>(
         && is_good(grammar, direction, candidates, struck, strike)
 }
 
-/// Returns the marks of the attributes that a list strikes, or `None` if a strike may not come
-/// after those before it.
+/// Returns marks of the attributes that a list strikes, or `None` if a strike may not come after those
+/// before it. Does not allocate.
 pub(crate) fn marks_of<C: Candidates>(
     grammar: &Grammar,
     direction: Direction,
@@ -150,6 +153,7 @@ pub(crate) fn marks_of<C: Candidates>(
     ensures marks { IfSome result
         (λ m. (s a : ℕ) → IsMarked m s a ↔ IsStruckBy strikes.now s a) }
 {
+    // for its contract alone: the grammar is accepted, so its numbers are within the limits
     let _productions = grammar.productions();
     let mut struck = Marks::new();
     for strike in strikes {

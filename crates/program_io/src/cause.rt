@@ -7,20 +7,21 @@ use std::alloc::Global;
 use treefile::Device;
 use value_reasons::ErrorTranslation;
 
-/// A translator with the text of its grammar, and the sentence, if there is one.
+/// Finds the cause of a translation that is an error: the translator with the text of its grammar, and the
+/// sentence, if there is one.
 #[derive(Clone, Copy)]
-pub struct Translated<'a> {
+pub struct CauseFinder<'a> {
     /// The translator.
     pub translator: &'a Translator,
     /// The grammar's text.
     pub grammar: Source<'a>,
-    /// The sentence; a tree may come from a file.
+    /// The sentence. `None` if the tree came from a file.
     pub sentence: Option<Source<'a>>,
 }
 
-impl Translated<'_> {
+impl CauseFinder<'_> {
     /// Returns what a message says of the cause of a fault, if the fault is a translation that is an error.
-    /// `a` and `b` have the last two tree files. Returns `None` if the cause can't be found.
+    /// `a` and `b` contain the last two tree files. Returns `None` for other faults, and if the cause can't be found.
     pub fn cause_of<D: Device>(
         self,
         alloc: Global,
@@ -47,7 +48,7 @@ impl Translated<'_> {
     }
 }
 
-/// Returns a report with what is said of the cause, or as it is if memory for that is refused.
+/// Returns a report with what is said of the cause, if there is one; without its parts if memory for that is refused.
 pub fn with_cause(mut report: FaultReport, cause: Option<String>) -> FaultReport {
     let Some(cause) = cause else {
         return report;

@@ -7,8 +7,8 @@ use messages::{FaultReport, Source};
 use std::alloc::Global;
 use std::rt::Files;
 
-/// Returns the bytes of an input. Fails with F1 if a file can't be opened or read, and with J2 if standard
-/// input can't be read.
+/// Returns the bytes of an input. Fails with F1 if a file can't be opened or read, with J2 if standard input can't
+/// be read, and if memory is refused.
 pub fn read_input<R: Files + Input>(
     rt: &R,
     alloc: Global,
@@ -24,7 +24,7 @@ pub fn read_input<R: Files + Input>(
     }
 }
 
-/// Returns the report of a fault of reading an input.
+/// Returns the report of a fault of reading an input: for standard input, J2 instead of F1.
 pub fn report_of_input(alloc: Global, fault: Fault, input: InputPath<'_>) -> FaultReport {
     match (fault, input) {
         (Fault::File, InputPath::Standard) => FaultReport::new(alloc, Fault::Job(JobFault::Read)),
@@ -33,7 +33,7 @@ pub fn report_of_input(alloc: Global, fault: Fault, input: InputPath<'_>) -> Fau
     }
 }
 
-/// Returns the translator of a grammar.
+/// Reads a grammar, and returns its translator. Fails if the grammar can't be read, or is refused.
 pub fn read_translator<R: Files + Input>(
     rt: &R,
     alloc: Global,
@@ -43,7 +43,7 @@ pub fn read_translator<R: Files + Input>(
     build_translator(alloc, Source::new(grammar.name(), bytes.as_slice()))
 }
 
-/// Returns the translator of the grammar in a text.
+/// Returns the translator of the grammar in a text. Fails if the grammar is refused.
 pub fn build_translator(alloc: Global, grammar: Source<'_>) -> Result<Translator, FaultReport> {
     match Translator::build(alloc, grammar.bytes) {
         Ok(translator) => Ok(translator),

@@ -10,7 +10,7 @@ mod paths;
 mod same_file;
 mod system_faults;
 
-pub use cause::{Translated, with_cause};
+pub use cause::{CauseFinder, with_cause};
 pub use files::{
     build_translator, read_input, read_translator, report_of_input, report_of_sentence,
 };

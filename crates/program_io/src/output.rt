@@ -36,7 +36,7 @@ pub fn write_file<R: Files + Print>(
     }
 }
 
-/// Writes bytes to the file at `path`.
+/// Writes bytes to the file at `path`, as `write_file` does.
 fn put<R: Files + Print>(rt: &R, alloc: Global, path: &str, bytes: &[u8]) -> Result<(), Fault> {
     let standard = FileId::of_standard_output(rt)?;
     match fs::metadata(rt, path) {
@@ -89,7 +89,7 @@ fn replace<R: Files>(
         Err(fault) => Err(fault),
     };
     if renamed.is_err() {
-        // the file is not the output; nothing more can be done if it stays
+        // the new file is incomplete; nothing more can be done if it can't be removed
         let _ = fs::remove_file(rt, new.as_str());
     }
     renamed
@@ -117,7 +117,7 @@ fn target_of<R: Files>(rt: &R, alloc: Global, path: &str) -> Result<String, Faul
             Ok(_) => return Ok(target),
             Err(error) => match fault_or(&error, Fault::File) {
                 Fault::NoMemory => return Err(Fault::NoMemory),
-                // that the file can be written shows only when it is created
+                // a missing file is created later, and only that shows whether it can be
                 _ => return Ok(target),
             },
         }

@@ -4,22 +4,22 @@ use crate::paths::{folder_of, path_in};
 use crate::same_file::FileId;
 use ag_value::NoMemory;
 use aggen::Fault;
-use command_line::{InputPath, name_of};
+use command_line::{InputPath, file_name_of};
 use messages::FaultReport;
 use std::alloc::Global;
 use std::rt::Files;
 
-/// The names of the work files in their folder.
+/// The names of the work files, the tree files of `--work`, in their folder.
 pub const WORK_FILES: [&str; 2] = ["a.agt", "b.agt"];
 
-/// What is said of a tree file that is a work file.
+/// The message about a tree file that is a work file.
 const TREE_IS_WRITTEN: &str =
     "the tree file would be written by the passes, name another folder for these";
 
-/// What is said of an output that is an input.
+/// The message about an output that is an input.
 const OUTPUT_IS_READ: &str = "the output is one of the inputs, write it to another file";
 
-/// What is said of an output that is a work file.
+/// The message about an output that is a work file.
 const OUTPUT_IS_TREE: &str = "the output is a tree file of `--work`, write it to another file";
 
 /// Fails if the tree file is one of the work files in `folder`, through links too, and if memory is refused.
@@ -74,8 +74,8 @@ pub fn check_outputs<R: Files>(
     Ok(())
 }
 
-/// Fails with a text about the file at `path` if it is both read and written, and if memory to find that was
-/// refused.
+/// Fails with the message `text` about the file at `path` if it is both read and written, and if memory to find that
+/// out was refused.
 fn fail_if(
     alloc: Global,
     is_overlap: Result<bool, NoMemory>,
@@ -131,7 +131,7 @@ fn is_work_file<R: Files>(
     let id = FileId::at(rt, path)?;
     let is_in_folder = FileId::of_folder(rt, folder_of(path))? == FileId::of_folder(rt, folder)?;
     for name in WORK_FILES {
-        if is_in_folder && name_of(path) == name {
+        if is_in_folder && file_name_of(path) == name {
             return Ok(true);
         }
         let work = path_in(alloc, folder, name)?;
@@ -142,7 +142,7 @@ fn is_work_file<R: Files>(
     Ok(false)
 }
 
-/// Returns whether a path leads to one of the files with these identities, which are in order.
+/// Returns whether a path leads to one of the files with these identities, which are sorted.
 fn is_among<R: Files>(rt: &R, path: &str, ids: &[FileId]) -> Result<bool, NoMemory> {
     match FileId::at(rt, path)? {
         Some(id) => Ok(ids.binary_search(&id).is_ok()),
@@ -150,7 +150,7 @@ fn is_among<R: Files>(rt: &R, path: &str, ids: &[FileId]) -> Result<bool, NoMemo
     }
 }
 
-/// Returns the identities of the regular files among these, in their order. Fails if memory is refused.
+/// Returns the identities of the regular files among these, sorted. Fails if memory is refused.
 fn ids_of<R: Files>(rt: &R, alloc: Global, paths: &[&str]) -> Result<Vec<FileId>, NoMemory> {
     let mut ids = Vec::new(alloc);
     for path in paths {

@@ -14,15 +14,17 @@ const STANDARD_INPUT: &str = "/dev/stdin";
 /// The path of standard output.
 const STANDARD_OUTPUT: &str = "/dev/stdout";
 
-/// The device and the number of a file, which no other file has.
+/// The identity of a file, which no other file has.
 #[derive(Clone, Copy, PartialEq, Eq, PartialOrd, Ord)]
 pub struct FileId {
+    /// The number of the device that the file is on.
     device: u64,
+    /// The number of the file's inode there.
     number: u64,
 }
 
 impl FileId {
-    /// Returns the identity of the file that a call has described.
+    /// Returns the identity of the file with this metadata.
     pub fn of(metadata: &Metadata) -> FileId {
         FileId {
             device: metadata.dev(),

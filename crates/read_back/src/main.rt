@@ -1,5 +1,5 @@
-//! `read_back [--old] PATH` reads a tree file from its end and prints the number of its records; with `--old` it is a
-//! tree file of version 1. `benches/run` measures the program, and `tests/refused-memory` runs it with each of its requests
+//! `read_back [--old] PATH` reads a tree file from its end and prints the number of its records; with `--old` the file is
+//! one of version 1. `benches/run` measures the program, and `tests/refused-memory` runs it with each of its requests
 //! for memory refused. A call for which memory was refused is named on standard error and made a second time.
 #![tactic(auto)]
 
@@ -30,7 +30,7 @@ fn main(rt: HostRuntime) -> ExitCode {
     }
 }
 
-/// Returns the status that the program ends with after a refusal.
+/// Returns the exit status after a fault.
 fn status(fault: FrameFault) -> u8 {
     match fault {
         FrameFault::NotATreeFile | FrameFault::Damaged(_) => 5,
@@ -39,7 +39,8 @@ fn status(fault: FrameFault) -> u8 {
     }
 }
 
-/// Returns the number of records of the file that the command line names. Fails with D1 Device if there is no such file.
+/// Returns the number of records of the file that the command line names. Fails with D1 Device if the command line names
+/// none, or the file can't be opened.
 fn run<R: Env + Eprint + Files + AllocGlobal>(rt: &R, alloc: Global) -> Result<u64, FrameFault> {
     let words = match std::env::args(rt) {
         Ok(words) => words,

@@ -1,4 +1,6 @@
--- The translation in the last file, which is the value of the root's `out`. All of this is this project's.
+-- The translation in the file of the last pass: the value of the root's `out`. In these definitions g is a grammar, `assignment`
+-- has a list for each symbol with the passes of its attributes, x is a value, t a tree, and v the values of its attributes. All
+-- of this is this project's.
 use Rattle.std.specs.Prelude.{ℕ, ◌≡◌, ◌≢◌, List, Result, Ok, Err, length}
 use Rattle.ag_value.specs.Well.{IsWell}
 use Rattle.ag_value.specs.declared.value.Value.{Value, Text}
@@ -19,38 +21,38 @@ use Rattle.roottext.specs.declared.fault.OutFault.TheVariants as out_fault
 
 -- A body is the root's record in a file of the last pass, and has this value for `out`: it is the record of a node of the start
 -- symbol with well values.
-pub record IsRootRecord (g : Grammar) (rows : List (List ℕ)) (body : List ℕ) (x : Value) : Type 0 where
+pub record IsRootRecord (g : Grammar) (assignment : List (List ℕ)) (body : List ℕ) (x : Value) : Type 0 where
   pub last : ℕ
-  pub greatest : IsGreatest last rows
+  pub greatest : IsGreatest last assignment
   pub number : ℕ
   pub production : Production
   pub values : ℕ → Value
-  pub node : IsNodeRecord version_two g (passes_of rows) last g.start body number production values
+  pub node : IsNodeRecord version_two g (passes_of assignment) last g.start body number production values
   pub attribute : ℕ
   pub out : IsOut g attribute
   pub value : values attribute ≡ x
 
 -- the last body of a content is the root's record, and has this value for `out`
-pub record EndsWithRoot (g : Grammar) (rows : List (List ℕ)) (content : List ℕ) (x : Value) : Type 0 where
+pub record EndsWithRoot (g : Grammar) (assignment : List (List ℕ)) (content : List ℕ) (x : Value) : Type 0 where
   pub body : List ℕ
   pub last : last_body_of version_two content ≡ Ok body
-  pub root : IsRootRecord g rows body x
+  pub root : IsRootRecord g assignment body x
 
 -- A content that begins as a tree file has no root's record at its end, which is the offset of the fault.
-pub record EndsWithNoRoot (g : Grammar) (rows : List (List ℕ)) (content : List ℕ) (at : ℕ) : Type 0 where
+pub record EndsWithNoRoot (g : Grammar) (assignment : List (List ℕ)) (content : List ℕ) (at : ℕ) : Type 0 where
   pub end : at ≡ length content
   pub begins : last_body_of version_two content ≢ Err frame_fault.NotATreeFile
-  pub none : (x : Value) → EndsWithRoot g rows content x → ⊥
+  pub none : (x : Value) → EndsWithRoot g assignment content x → ⊥
 
 -- The meaning of the value found at the end of a content: the value of the root's `out`; B1 if the content
 -- does not begin as a tree file, and B2 if it does but has no root's record there. A device failure and
 -- NoMemory have no meaning.
 abbrev pub FindsValue : Grammar → List (List ℕ) → List ℕ → Result Value FrameFault → Type 0
-FindsValue g rows content (Ok x) = EndsWithRoot g rows content x
-FindsValue g rows content (Err frame_fault.NotATreeFile) = last_body_of version_two content ≡ Err frame_fault.NotATreeFile
-FindsValue g rows content (Err (frame_fault.Damaged at)) = EndsWithNoRoot g rows content at
-FindsValue g rows content (Err frame_fault.Device) = Unit {0}
-FindsValue g rows content (Err frame_fault.NoMemory) = Unit {0}
+FindsValue g assignment content (Ok x) = EndsWithRoot g assignment content x
+FindsValue g assignment content (Err frame_fault.NotATreeFile) = last_body_of version_two content ≡ Err frame_fault.NotATreeFile
+FindsValue g assignment content (Err (frame_fault.Damaged at)) = EndsWithNoRoot g assignment content at
+FindsValue g assignment content (Err frame_fault.Device) = Unit {0}
+FindsValue g assignment content (Err frame_fault.NoMemory) = Unit {0}
 
 -- a text is a well value: it is UTF-8, and has at most 1,048,571 bytes
 abbrev pub IsWellText : List ℕ → Type 0
@@ -60,14 +62,14 @@ IsWellText text = IsWell (Text text)
 abbrev pub IsNoText : Value → Type 0
 IsNoText x = (text : List ℕ) → x ≢ Text text
 
--- The same for the returned text: O1 has the value that is not a text.
+-- The meaning of the returned text or fault: O1 has the value, which is not a text; the others are those of `FindsValue`.
 abbrev pub FindsText : Grammar → List (List ℕ) → List ℕ → Result (List ℕ) OutFault → Type 0
-FindsText g rows content (Ok text) = FindsValue g rows content (Ok (Text text))
-FindsText g rows content (Err (out_fault.NoText x)) = FindsValue g rows content (Ok x) × IsNoText x
-FindsText g rows content (Err out_fault.NotATreeFile) = FindsValue g rows content (Err frame_fault.NotATreeFile)
-FindsText g rows content (Err (out_fault.Damaged at)) = FindsValue g rows content (Err (frame_fault.Damaged at))
-FindsText g rows content (Err out_fault.Device) = Unit {0}
-FindsText g rows content (Err out_fault.NoMemory) = Unit {0}
+FindsText g assignment content (Ok text) = FindsValue g assignment content (Ok (Text text))
+FindsText g assignment content (Err (out_fault.NoText x)) = FindsValue g assignment content (Ok x) × IsNoText x
+FindsText g assignment content (Err out_fault.NotATreeFile) = FindsValue g assignment content (Err frame_fault.NotATreeFile)
+FindsText g assignment content (Err (out_fault.Damaged at)) = FindsValue g assignment content (Err (frame_fault.Damaged at))
+FindsText g assignment content (Err out_fault.Device) = Unit {0}
+FindsText g assignment content (Err out_fault.NoMemory) = Unit {0}
 
 -- The result for a tree with its values: the translation if that is a text, else O1 with it; the file is not
 -- damaged. A device failure and NoMemory have no meaning.
@@ -79,6 +81,6 @@ IsRootText g v (Err (out_fault.Damaged at)) = ⊥
 IsRootText g v (Err out_fault.Device) = Unit {0}
 IsRootText g v (Err out_fault.NoMemory) = Unit {0}
 
--- this holds for each tree and values whose file of the last pass the content is
+-- The result is right for each tree and values whose file of the last pass the content is.
 abbrev pub MatchesRoot : Grammar → List (List ℕ) → List ℕ → Result (List ℕ) OutFault → Type 0
-MatchesRoot g rows content result = (last : ℕ) → IsGreatest last rows → (t : Tree) (v : Valuation) → IsTreeOf g t → IsFileOfTree version_two g (passes_of rows) last t v content → IsRootText g v result
+MatchesRoot g assignment content result = (last : ℕ) → IsGreatest last assignment → (t : Tree) (v : Valuation) → IsTreeOf g t → IsFileOfTree version_two g (passes_of assignment) last t v content → IsRootText g v result

@@ -1,4 +1,4 @@
-//! The reasons why the last file has no text.
+//! The reasons why no text can be read from the file of the last pass.
 
 ghost use Rattle.std.specs.Prelude.{◌≡◌};
 ghost use Rattle.roottext.specs.Faults.{out_fault_of};
@@ -6,7 +6,7 @@ ghost use Rattle.roottext.specs.Faults.{out_fault_of};
 use ag_value::Value;
 use treefile::FrameFault;
 
-/// The reasons why the last file has no text.
+/// The reasons why no text can be read from the file of the last pass.
 #[derive(Debug, Drop)]
 pub enum OutFault {
     /// O1: the translation is this value, which is not a text.

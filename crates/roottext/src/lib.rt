@@ -1,4 +1,4 @@
-//! Reading the translation from the last file.
+//! Reading the translation from the tree file of the last pass.
 #![tactic(auto)]
 
 mod fault;

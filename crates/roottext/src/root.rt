@@ -1,4 +1,5 @@
-//! Reading the translation from the last file.
+//! Reading the translation from the tree file of the last pass: it is the value of the root's `out`, and
+//! the root's record is the last one.
 
 ghost use Rattle.std.specs.Prelude.{◌≡◌, IfOk, IfSome, IsErrOf, None, Some, slice_get};
 ghost use Rattle.ag_value.specs.Well.{IsWell};
@@ -32,7 +33,8 @@ fn out_among(names: &[Text]) -> Option<usize>
     None
 }
 
-/// Returns the number of the start symbol's `out`.
+/// Returns the number of the attribute `out` of the start symbol, which each accepted grammar has (otherwise
+/// it is refused with N3).
 fn out_number(grammar: &Grammar) -> usize
     ensures out { IsOut grammar.now result }
     ensures accepted { IsAccepted grammar.now }
@@ -44,8 +46,10 @@ fn out_number(grammar: &Grammar) -> usize
     }
 }
 
-/// Reads the value of `out`, by its number, in the body of the root's record in a file of the last
-/// pass.
+/// Reads the value of the attribute number `out` in `body`, the root's record in the file of the last
+/// pass. `read_node` is called as by the pass that would follow it, which reads that file.
+///
+/// Fails with `Damaged` if the body is not such a record, and with `NoMemory` if memory is refused.
 fn read_out(
     alloc: Global,
     grammar: &Grammar,
@@ -60,13 +64,13 @@ fn read_out(
         (x : TheValue) → IsRootRecord grammar.now plan.now.0 body.now x → ⊥ }
     ensures well { IfOk result (λ v. IsWell v) }
 {
-    let following = plan.assignment().passes() + 1;
+    let next_pass = plan.assignment().passes() + 1;
     let mut values = Vec::new(alloc);
     read_node(
         alloc,
         grammar,
         plan,
-        following,
+        next_pass,
         grammar.start(),
         body,
         &mut values,
@@ -74,7 +78,7 @@ fn read_out(
     Ok(values.swap_remove(out))
 }
 
-/// Returns the value that `read_out` reads.
+/// Returns the value that `read_out` reads, with one owner. Fails as `read_out` does.
 fn out_value(
     alloc: Global,
     grammar: &Grammar,
@@ -97,7 +101,8 @@ fn out_value(
     Ok(value)
 }
 
-/// Returns the value of the root's `out`, by its number, in the last file.
+/// Returns the value of the root's attribute number `out` in the file of the last pass. Fails as
+/// `root_text` does, except with O1.
 fn last_value<D: Device>(
     alloc: Global,
     grammar: &Grammar,

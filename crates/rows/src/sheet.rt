@@ -1,13 +1,14 @@
-//! Running rows one after the other, with the current texts and the last answer until it is compared.
+//! Runs rows one after the other. Keeps the current texts, and the last answer until it is compared.
 
+use crate::current_texts::CurrentTexts;
 use crate::words::{Mistake, first_word};
-use crate::written::Written;
 use std::alloc::{AllocError, Global};
 use std::io;
 
 /// Answers the questions of rows.
 pub trait Questions {
-    /// Runs the line if its verb changes state of these questions. Returns whether it does.
+    /// Runs the line if its verb changes the state of these questions, such as a current value. Returns whether it
+    /// does.
     fn follow(&mut self, _alloc: Global, _verb: &str, _rest: &str) -> Result<bool, Mistake> {
         Ok(false)
     }
@@ -16,7 +17,7 @@ pub trait Questions {
     fn answer(
         &self,
         alloc: Global,
-        written: &Written,
+        texts: &CurrentTexts,
         verb: &str,
         rest: &str,
     ) -> Result<String, Mistake>;
@@ -33,7 +34,7 @@ pub fn try_rows<R: Input + Print, Q: Questions>(
     println!(rt; "{} answers are right", sheet.right)
 }
 
-/// Runs the lines on standard input. Prints each wrong line with its number.
+/// Runs the lines on standard input. Prints each wrong line with its number, from 1.
 fn take_lines<R: Input + Print, Q: Questions>(
     rt: &R,
     alloc: Global,
@@ -46,7 +47,7 @@ fn take_lines<R: Input + Print, Q: Questions>(
         number = number.wrapping_add(1);
         print_wrong(rt, number, &sheet.take(alloc, questions, line.as_str())?)?;
     }
-    print_wrong(rt, number, &sheet.left(alloc)?)
+    print_wrong(rt, number, &sheet.uncompared(alloc)?)
 }
 
 /// Prints what is wrong with a line, unless it is `None`.
@@ -60,7 +61,7 @@ fn print_wrong<R: Print>(rt: &R, number: u64, wrong: &Option<String>) -> io::Res
 /// The current texts, and the lines of the last answer that were not compared yet.
 #[derive(Drop)]
 struct Sheet {
-    written: Written,
+    texts: CurrentTexts,
     answer: Option<String>,
     right: u64,
 }
@@ -69,7 +70,7 @@ impl Sheet {
     /// Returns a sheet with empty texts and no answer.
     fn new(alloc: Global) -> Sheet {
         Sheet {
-            written: Written::new(alloc),
+            texts: CurrentTexts::new(alloc),
             answer: None,
             right: 0,
         }
@@ -87,13 +88,13 @@ impl Sheet {
             return Ok(None);
         }
         match line.strip_prefix("= ") {
-            Some(wanted) => self.compare(alloc, wanted),
+            Some(expected) => self.compare(alloc, expected),
             None => self.ask(alloc, questions, line),
         }
     }
 
     /// Returns a message if lines of the last answer were not compared.
-    fn left(&mut self, alloc: Global) -> Result<Option<String>, AllocError> {
+    fn uncompared(&mut self, alloc: Global) -> Result<Option<String>, AllocError> {
         match self.answer.take() {
             Some(answer) => Ok(Some(format!(in alloc; "no line has the answer {answer}")?)),
             None => Ok(None),
@@ -101,10 +102,10 @@ impl Sheet {
     }
 
     /// Compares the next line of the last answer with the expected line.
-    fn compare(&mut self, alloc: Global, wanted: &str) -> Result<Option<String>, AllocError> {
+    fn compare(&mut self, alloc: Global, expected: &str) -> Result<Option<String>, AllocError> {
         match self.answer.take() {
-            Some(answer) => self.compare_line(alloc, answer.as_str(), wanted),
-            None => Ok(Some(format!(in alloc; "expected {wanted}, found no answer")?)),
+            Some(answer) => self.compare_line(alloc, answer.as_str(), expected),
+            None => Ok(Some(format!(in alloc; "expected {expected}, found no answer")?)),
         }
     }
 
@@ -113,7 +114,7 @@ impl Sheet {
         &mut self,
         alloc: Global,
         answer: &str,
-        wanted: &str,
+        expected: &str,
     ) -> Result<Option<String>, AllocError> {
         let line = match answer.split_once('\n') {
             Some((line, rest)) => {
@@ -122,24 +123,24 @@ impl Sheet {
             }
             None => answer,
         };
-        if line != wanted {
-            return Ok(Some(format!(in alloc; "expected {wanted}, found {line}")?));
+        if line != expected {
+            return Ok(Some(format!(in alloc; "expected {expected}, found {line}")?));
         }
         self.right = self.right.wrapping_add(1);
         Ok(None)
     }
 
-    /// Runs a line that isn't an answer. Returns what is wrong with it, or that lines of the last answer were
-    /// not compared.
+    /// Runs a line that isn't an answer. Returns what is wrong with it or, if nothing is, whether lines of the last
+    /// answer were not compared.
     fn ask<Q: Questions>(
         &mut self,
         alloc: Global,
         questions: &mut Q,
         line: &str,
     ) -> Result<Option<String>, AllocError> {
-        let left = self.left(alloc)?;
+        let uncompared = self.uncompared(alloc)?;
         match self.follow(alloc, questions, line) {
-            Ok(()) => Ok(left),
+            Ok(()) => Ok(uncompared),
             Err(mistake) => Ok(Some(format!(in alloc; "{mistake:?}: {line}")?)),
         }
     }
@@ -152,10 +153,10 @@ impl Sheet {
         line: &str,
     ) -> Result<(), Mistake> {
         let (verb, rest) = first_word(line);
-        if self.written.follow(alloc, verb, rest)? || questions.follow(alloc, verb, rest)? {
+        if self.texts.follow(alloc, verb, rest)? || questions.follow(alloc, verb, rest)? {
             return Ok(());
         }
-        self.answer = Some(questions.answer(alloc, &self.written, verb, rest)?);
+        self.answer = Some(questions.answer(alloc, &self.texts, verb, rest)?);
         Ok(())
     }
 }

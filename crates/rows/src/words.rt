@@ -10,7 +10,7 @@ use std::fmt::Debug;
 pub enum Mistake {
     /// A word of the row is unknown or missing.
     Misspelt,
-    /// The row exceeds what its grammar, its expression or its value allows.
+    /// A text is not what the row's verb needs, such as an accepted grammar, or a call did not end as the row assumes.
     Unfit,
     /// A request for memory was refused.
     NoMemory,
@@ -33,8 +33,8 @@ pub fn first_word(text: &str) -> (&str, &str) {
 }
 
 /// Returns the texts before and after a separator. Fails with `Misspelt` if it is missing.
-pub fn halves<'a>(text: &'a str, mark: &str) -> Result<(&'a str, &'a str), Mistake> {
-    text.split_once(mark).ok_or(Mistake::Misspelt)
+pub fn halves<'a>(text: &'a str, separator: &str) -> Result<(&'a str, &'a str), Mistake> {
+    text.split_once(separator).ok_or(Mistake::Misspelt)
 }
 
 /// Returns the number that a word spells. Fails with `Misspelt` if it isn't a `u32`.
@@ -48,14 +48,18 @@ pub fn short_number(word: &str) -> Result<u16, Mistake> {
 }
 
 /// Returns the parts of a text between separators; `-` alone is none.
-pub fn parts<'a>(alloc: Global, text: &'a str, mark: &str) -> Result<Vec<&'a str>, AllocError> {
+pub fn parts<'a>(
+    alloc: Global,
+    text: &'a str,
+    separator: &str,
+) -> Result<Vec<&'a str>, AllocError> {
     let mut found = Vec::new(alloc);
     if text == "-" {
         return Ok(found);
     }
     let mut rest = text;
     for _ in 0..text.len() {
-        let Some((part, following)) = rest.split_once(mark) else {
+        let Some((part, following)) = rest.split_once(separator) else {
             break;
         };
         found.push(part)?;
@@ -87,6 +91,7 @@ pub fn bytes_of(alloc: Global, text: &str) -> Result<Vec<u8>, Mistake> {
     Ok(bytes)
 }
 
+/// Returns the bytes that a word spells, with two hexadecimal digits each.
 fn bytes_of_word(alloc: Global, word: &str) -> Result<Vec<u8>, Mistake> {
     match decode(alloc, word.as_bytes()) {
         Ok(bytes) => Ok(bytes),
@@ -95,12 +100,13 @@ fn bytes_of_word(alloc: Global, word: &str) -> Result<Vec<u8>, Mistake> {
     }
 }
 
-/// The maximal number of bytes that are printed one by one.
-const PRINTED: usize = 128;
+/// The greatest number of bytes that are printed one by one.
+const MAX_PRINTED: usize = 128;
 
-/// Returns two hexadecimal digits for each byte, or only the number of bytes if there are more than `PRINTED`.
+/// Returns two hexadecimal digits for each byte, or only the number of bytes if there are more than
+/// `MAX_PRINTED`.
 pub fn shown_bytes(alloc: Global, bytes: &[u8]) -> Result<String, AllocError> {
-    if bytes.len() > PRINTED {
+    if bytes.len() > MAX_PRINTED {
         return format!(in alloc; "{} bytes", bytes.len());
     }
     encode(alloc, bytes)

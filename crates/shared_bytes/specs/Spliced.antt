@@ -1,4 +1,5 @@
--- Own bytes with shared ones between them. All of this is this project's.
+-- Own bytes with splices, which are the encodings of shared values, between them. In this file g is a splice.
+-- All of this is this project's.
 use Rattle.std.specs.Prelude.{◌≡◌, ℕ, zero, suc, ◌+◌, ◌-◌, ◌≤◌, List, [], ◌∷◌, ◌++◌, take, drop, length, get_or, ◌<◌}
 use Rattle.shared_bytes.specs.declared.splice.Splice.{Splice}
 
@@ -13,7 +14,7 @@ abbrev pub AreSplices : ℕ → ℕ → ℕ → ℕ → List Splice → Type 0
 AreSplices base at end total [] = (base ≤ end) × (total ≡ at + (end - base))
 AreSplices base at end total (g ∷ gs) = (base ≤ g.own) × (g.own ≤ end) × (g.at ≡ at + (g.own - base)) × AreSplices g.own (g.at + length g.bytes) end total gs
 
--- Bytes may be cut before own byte number `o`, which is at offset `pos` after `k` splices: no other splice comes before it.
+-- Bytes may be split before own byte number `o`, which is at offset `pos`: exactly the first `k` splices come before it.
 abbrev pub CutAt : ℕ → ℕ → List Splice → ℕ → ℕ → ℕ → Type 0
 CutAt base at [] zero o pos = (base ≤ o) × (pos ≡ at + (o - base))
 CutAt base at (g ∷ gs) zero o pos = (base ≤ o) × (pos ≡ at + (o - base)) × (o ≤ g.own)

@@ -1,4 +1,4 @@
-//! Lent parts of such bytes.
+//! Borrowed parts of a list of own and shared bytes.
 
 ghost use Rattle.std.specs.Prelude.{◌≡◌, ◌++◌, ◌+◌, ◌-◌, ◌≤◌, ℕ, List, drop, length, take};
 ghost use Rattle.std.specs.Prelude.{slice_range, IfOk, IfSome, IsTrue, OnOk};
@@ -13,14 +13,19 @@ use ag_value::{NoMemory, ValueFault};
 use std::alloc::{AllocError, Global};
 use std::marker::Model;
 
-/// A lent part of bytes: own ones, and between them the encodings of shared values. Contracts see the
-/// list of its bytes.
+/// A borrowed part of a `SharedBytes`: own bytes, and between them the encodings of shared values.
+/// Contracts see the list of its bytes.
 #[derive(Drop)]
 pub struct Body<'a> {
+    /// The own bytes of this part.
     own: &'a [u8],
+    /// The splices of this part. Their numbers and offsets count from the beginning of the whole list.
     splices: &'a [Splice],
+    /// The number of own bytes of the whole list before this part.
     base: usize,
+    /// The offset in the whole list at which this part begins.
     at: u64,
+    /// The offset in the whole list at which this part ends.
     end: u64,
 }
 
@@ -36,8 +41,8 @@ impl<'a> Model for Body<'a> {
         × (b.base + length b.own.now < 2 ^ 64) };
 }
 
-/// Returns the number of the own byte at `offset`, if own bytes `from` to `end` are at `start` and the
-/// following offsets. Returns `None` if none of these is there.
+/// Returns the number of the own byte at `offset`, if own bytes `from` to `end` begin at offset `start`
+/// with no splice between them. Returns `None` if none of these is at `offset`.
 fn own_from(from: usize, start: u64, end: usize, offset: u64) -> Option<usize>
     ensures following { IfSome result (λ own. from ≤ own) }
     ensures at { IfSome result (λ own. offset ≡ start + (own - from)) }
@@ -99,8 +104,7 @@ fn next_own(
     Some(own)
 }
 
-/// Returns the number of the own byte at `offset`, if `count` splices come before it. Returns `None` if
-/// it is otherwise.
+/// Returns the number of the own byte at `offset`, if `count` splices come before it, else `None`.
 fn own_at(
     splices: &[Splice],
     base: usize,
@@ -123,7 +127,7 @@ fn own_at(
 }
 
 impl<'a> Body<'a> {
-    /// Returns bytes that are all own ones as a body. Takes no memory.
+    /// Returns a body whose bytes are all own ones. Takes no memory.
     pub fn from_slice(own: &'a [u8]) -> Body<'a>
         ensures { result ≡ own.entry.now }
     {
@@ -137,7 +141,7 @@ impl<'a> Body<'a> {
         }
     }
 
-    /// Returns all bytes, of which the last one ends at an offset.
+    /// Returns a body of all bytes of a list; `end` is their number.
     pub(crate) fn whole(own: &'a [u8], splices: &'a [Splice], end: u64) -> Body<'a>
         requires { AreSplices 0 0 (length own.now) end splices.now }
         ensures { result ≡ spliced 0 own.entry.now splices.entry.now }
@@ -176,7 +180,8 @@ impl<'a> Body<'a> {
     }
 
     /// Splits the body at an offset from its first byte, after `count` of its shared values. Returns
-    /// `None` if the offset is inside a shared value, or if the number of those before it is another.
+    /// `None` if the offset is inside a shared value, or if the number of shared values before it is not
+    /// `count`.
     /// Takes no memory.
     pub fn cut(self, offset: u64, count: usize) -> Option<(Body<'a>, Body<'a>)>
         ensures parts { IfSome result (λ p. self.entry ≡ p.0 ++ p.1) }
@@ -191,7 +196,7 @@ impl<'a> Body<'a> {
         } = self;
         let place = at.checked_add(offset)?;
         let middle = own_at(splices, base, at, base + own.len(), place, count)?;
-        let (own, own_behind) = own.split_at(middle - base);
+        let (own, own_after) = own.split_at(middle - base);
         let (splices, splices_after) = splices.split_at(count);
         let prefix = Body {
             own,
@@ -201,7 +206,7 @@ impl<'a> Body<'a> {
             end: place,
         };
         let rest = Body {
-            own: own_behind,
+            own: own_after,
             splices: splices_after,
             base: middle,
             at: place,
@@ -230,7 +235,7 @@ impl<'a> Body<'a> {
         }
     }
 
-    /// Returns the same body once more.
+    /// Returns a second borrow of the same bytes.
     pub fn again(&self) -> Body<'a>
         ensures { result ≡ self.now }
     {
@@ -243,7 +248,7 @@ impl<'a> Body<'a> {
         }
     }
 
-    /// Copies the bytes from an offset on into a slice, as many as it has. Takes no memory.
+    /// Fills `out` with the bytes from an offset on. Takes no memory.
     pub fn read_at(&self, offset: u64, out: &mut [u8])
         requires { offset + length out.old ≤ length self.now }
         ensures { out.new ≡ slice_range self.now offset (offset + length out.old) }
@@ -254,8 +259,8 @@ impl<'a> Body<'a> {
         }
     }
 
-    /// Lends the bytes from the last shared value on that begins before an offset, and the offset at which
-    /// it begins. Returns `None` if there is no such value.
+    /// Returns the offset of the last shared value that begins before an offset, and the bytes from there
+    /// on. Returns `None` if no shared value begins before it.
     fn from_last_shared(&self, offset: u64) -> Option<(u64, Body<'a>)>
         ensures before { IfSome result (λ p. p.0 ≤ offset) }
         ensures rest { IfSome result (λ p. p.1 ≡ drop p.0 self.now) }
@@ -269,8 +274,7 @@ impl<'a> Body<'a> {
         Some((start, rest))
     }
 
-    /// Copies the bytes from an offset on into a slice, as many as it has. Looks at all shared values from
-    /// the first one on.
+    /// Fills `out` with the bytes from an offset on. Visits the shared values from the first one on.
     fn copy_from(&self, offset: u64, out: &mut [u8])
         requires { offset + length out.old ≤ length self.now }
         ensures { out.new ≡ slice_range self.now offset (offset + length out.old) }
@@ -293,7 +297,8 @@ impl<'a> Body<'a> {
         copy_own(&own[from..], place, offset, done, out);
     }
 
-    /// Appends a copy of all bytes to a vector. Without memory some of them may be there.
+    /// Appends a copy of all bytes to a vector. Fails with AllocError if memory runs out; some of them
+    /// may then be appended.
     pub fn append_to(&self, out: &mut Vec<u8>) -> Result<(), AllocError>
         ensures { OnOk result (out.new.items ≡ out.old.items ++ self.now) }
     {
@@ -303,7 +308,7 @@ impl<'a> Body<'a> {
     /// Takes the value whose encoding is a prefix of the body: a shared one in one step, and one of own
     /// bytes as `Carried::read` does. Returns the value and the rest of the body, or `None` if the body
     /// begins with no value that is either shared or of own bytes alone: then only a copy of all bytes
-    /// (`append_to`) shows whether it begins with a value.
+    /// (`append_to`) shows whether it begins with a value. Fails with NoMemory.
     pub fn take(&self, alloc: Global) -> Result<Option<(Carried, Body<'a>)>, NoMemory>
         ensures well { IfOk result (λ found. IfSome found (λ p. IsWell p.0)) }
         ensures encoded { IfOk result
@@ -315,7 +320,7 @@ impl<'a> Body<'a> {
         }
     }
 
-    /// Takes the value with this encoding, with which the body begins.
+    /// Takes the shared value with which the body begins; `bytes` is its encoding.
     fn take_shared(&self, bytes: &Encoded) -> Result<Option<(Carried, Body<'a>)>, NoMemory>
         requires { take (length bytes.now) self.now ≡ bytes.now }
         ensures well { IfOk result (λ found. IfSome found (λ p. IsWell p.0)) }
@@ -347,6 +352,7 @@ impl<'a> Body<'a> {
 }
 
 /// Appends a copy of own bytes, the first of which has number `base`, and of the encodings between them.
+/// Fails with AllocError if memory runs out.
 fn append_all(
     own: &[u8],
     base: usize,

@@ -6,9 +6,10 @@ ghost use Rattle.shared_bytes.specs.Reads.{HasRead};
 
 use ag_carried::Encoded;
 
-/// A slice of `size` bytes is filled from offset `at` on, and has `done` of them. Returns which part of
-/// the `len` bytes at offset `place` comes next, by its index and length, or `None` if none of them does.
-fn shortfall(place: u64, len: usize, at: u64, done: usize, size: usize) -> Option<(usize, usize)>
+/// Returns the part of a piece that comes next, as its index in the piece and its length, or `None` if
+/// no byte of the piece comes next. The piece has the `len` bytes from offset `place` on. They go to a
+/// slice of `size` bytes that is to hold those from offset `at` on, and has the first `done` of them.
+fn next_part(place: u64, len: usize, at: u64, done: usize, size: usize) -> Option<(usize, usize)>
     requires within { done ≤ size }
     requires room { at + size < 2 ^ 64 }
     ensures here { IfSome result (λ part. at + done ≡ place + part.0) }
@@ -28,8 +29,8 @@ fn shortfall(place: u64, len: usize, at: u64, done: usize, size: usize) -> Optio
     Some((skip, (len - skip).min(size - done)))
 }
 
-/// Copies the next bytes of a slice that is filled from offset `at` on, and has `done` of them, out of a
-/// piece at offset `place`. Returns how many it then has.
+/// Copies bytes of a piece, which begins at offset `place`, into `out`, which is to hold the bytes from
+/// offset `at` on and has the first `done` of them. Returns the number of bytes that it then has.
 pub(crate) fn copy_own(piece: &[u8], place: u64, at: u64, done: usize, out: &mut [u8]) -> usize
     requires within { done ≤ length out.old }
     requires room { at + length out.old < 2 ^ 64 }
@@ -38,14 +39,14 @@ pub(crate) fn copy_own(piece: &[u8], place: u64, at: u64, done: usize, out: &mut
         → HasRead place at done content out.old
         → HasRead (place + length piece.now) at result content out.new }
 {
-    let Some((skip, count)) = shortfall(place, piece.len(), at, done, out.len()) else {
+    let Some((skip, count)) = next_part(place, piece.len(), at, done, out.len()) else {
         return done;
     };
     out[done..done + count].copy_from_slice(&piece[skip..skip + count]);
     done + count
 }
 
-/// Copies them out of an encoding, as `copy_own` does.
+/// Copies bytes of an encoding into `out`, as `copy_own` does those of a piece of own bytes.
 pub(crate) fn copy_shared(
     piece: &Encoded,
     place: u64,
@@ -60,7 +61,7 @@ pub(crate) fn copy_shared(
         → HasRead place at done content out.old
         → HasRead (place + length piece.now) at result content out.new }
 {
-    let Some((skip, count)) = shortfall(place, piece.len(), at, done, out.len()) else {
+    let Some((skip, count)) = next_part(place, piece.len(), at, done, out.len()) else {
         return done;
     };
     piece.copy_part(skip, &mut out[done..done + count]);

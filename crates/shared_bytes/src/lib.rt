@@ -1,4 +1,5 @@
-//! Bytes that grow at their end, of which large values are shared: a list of bytes in each contract.
+//! A growing list of bytes in which the encodings of large values are shared. Contracts see a plain
+//! list of bytes.
 #![tactic(auto)]
 
 mod body;

@@ -1,4 +1,4 @@
-//! Bytes that grow at their end, of which some are shared.
+//! A growing list of bytes, of which some are shared.
 
 ghost use Rattle.std.specs.Prelude.{◌≡◌, ◌++◌, ◌+◌, ◌<◌, ◌≤◌, ◌^◌, ℕ, [], length, map, slice_range};
 ghost use Rattle.std.specs.Prelude.{slice_index, IfOk, IfSome, IsTrue, OnErr, OnOk};
@@ -11,7 +11,7 @@ use ag_value::NoMemory;
 use std::alloc::{AllocError, Global};
 use std::marker::Model;
 
-/// Bytes that grow at their end: own ones in one vector, and between them the encodings of large values,
+/// A growing list of bytes: own ones in one vector, and between them the encodings of large values,
 /// which are shared and not copied. Contracts see the list of all bytes.
 #[derive(Drop)]
 pub struct SharedBytes {
@@ -38,7 +38,7 @@ impl Model for SharedBytes {
 }
 
 impl SharedBytes {
-    /// Returns an empty list of bytes, which grows by the allocator. Takes no memory.
+    /// Returns an empty list of bytes, which will use this allocator. Takes no memory.
     pub fn new(alloc: Global) -> SharedBytes
         ensures { result ≡ [] }
     {
@@ -58,14 +58,14 @@ impl SharedBytes {
         self.len
     }
 
-    /// Returns whether `count` bytes more can be counted.
+    /// Returns whether the number of bytes fits in 64 bits after `count` more.
     fn has_room(&self, count: u64) -> bool
         ensures { IsTrue result → length self.now + count < 2 ^ 64 }
     {
         self.len().checked_add(count).is_some()
     }
 
-    /// Appends a copy of bytes. Without memory nothing changes.
+    /// Appends a copy of bytes. Fails with NoMemory; then nothing changes.
     #[inline(always)]
     pub fn append(&mut self, bytes: &[u8]) -> Result<(), NoMemory>
         ensures ok { OnOk result (self.new ≡ self.old ++ bytes.now) }
@@ -78,7 +78,8 @@ impl SharedBytes {
         Ok(())
     }
 
-    /// Appends a copy of bytes that can be counted.
+    /// Appends a copy of bytes whose number still fits in 64 bits. Fails with AllocError; then nothing
+    /// changes.
     #[inline(always)]
     fn append_own(&mut self, bytes: &[u8]) -> Result<(), AllocError>
         requires { length self.old + length bytes.now < 2 ^ 64 }
@@ -90,7 +91,8 @@ impl SharedBytes {
         Ok(())
     }
 
-    /// Appends the encoding of a large value, as one more owner. Without memory nothing changes.
+    /// Appends the encoding of a large value, as one more owner. Fails with NoMemory; then nothing
+    /// changes.
     pub fn append_encoded(&mut self, bytes: &Encoded) -> Result<(), NoMemory>
         ensures ok { OnOk result (self.new ≡ self.old ++ bytes.now) }
         ensures err { OnErr result (self.new ≡ self.old) }
@@ -102,7 +104,8 @@ impl SharedBytes {
         Ok(())
     }
 
-    /// Appends an encoding that can be counted, as one more owner. Without memory nothing changes.
+    /// Appends an encoding whose bytes still fit in the count, as one more owner. Fails with AllocError;
+    /// then nothing changes.
     fn append_shared(&mut self, bytes: &Encoded) -> Result<(), AllocError>
         requires { length self.old + length bytes.now < 2 ^ 64 }
         ensures ok { OnOk result (self.new ≡ self.old ++ bytes.now) }
@@ -130,7 +133,7 @@ impl SharedBytes {
     }
 
     /// Appends all bytes of `other`: a copy of its own ones, and its shared values as one more owner.
-    /// Without memory nothing changes.
+    /// Fails with NoMemory; then nothing changes.
     pub fn append_all(&mut self, other: &SharedBytes) -> Result<(), NoMemory>
         ensures ok { OnOk result (self.new ≡ self.old ++ other.now) }
         ensures err { OnErr result (self.new ≡ self.old) }
@@ -138,12 +141,13 @@ impl SharedBytes {
         if !self.has_room(other.len()) {
             return Err(NoMemory::NoMemory);
         }
-        self.append_memory(other)?;
+        self.append_counted(other)?;
         Ok(())
     }
 
-    /// Appends all bytes of `other`, which can be counted.
-    fn append_memory(&mut self, other: &SharedBytes) -> Result<(), AllocError>
+    /// Appends all bytes of `other`, whose number still fits in the count. Fails with AllocError; then
+    /// nothing changes.
+    fn append_counted(&mut self, other: &SharedBytes) -> Result<(), AllocError>
         requires { length self.old + length other.now < 2 ^ 64 }
         ensures ok { OnOk result (self.new ≡ self.old ++ other.now) }
         ensures err { OnErr result (self.new ≡ self.old) }
@@ -159,7 +163,7 @@ impl SharedBytes {
         Ok(())
     }
 
-    /// Copies the bytes from an offset on into a slice, as many as it has. Takes no memory.
+    /// Fills `out` with the bytes from offset `at` on. Takes no memory.
     pub fn read_at(&self, at: u64, out: &mut [u8])
         requires { at + length out.old ≤ length self.now }
         ensures { out.new ≡ slice_range self.now at (at + length out.old) }
@@ -186,7 +190,8 @@ impl SharedBytes {
         Body::whole(self.own.as_slice(), self.splices.as_slice(), self.len)
     }
 
-    /// Appends a copy of all bytes to a vector. Without memory some of them may be there.
+    /// Appends a copy of all bytes to a vector. Fails with AllocError if memory runs out; some of them
+    /// may then be appended.
     pub fn append_to(&self, out: &mut Vec<u8>) -> Result<(), AllocError>
         ensures { OnOk result (out.new.items ≡ out.old.items ++ self.now) }
     {
@@ -194,7 +199,8 @@ impl SharedBytes {
     }
 }
 
-/// Returns the encodings as they are after `own` more own bytes, and `at` more bytes in all.
+/// Returns the splices as they are after `own` more own bytes, and `at` more bytes in all. Fails with
+/// AllocError.
 fn shifted(
     alloc: Global,
     splices: &[Splice],

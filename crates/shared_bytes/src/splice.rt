@@ -6,17 +6,20 @@ ghost use Rattle.shared_bytes.specs.Spliced.{shift};
 use ag_carried::Encoded;
 use std::alloc::AllocError;
 
-/// The encoding of a shared value in a list of bytes: the number of own bytes before it, its offset in
-/// the whole list, and its bytes.
+/// The encoding of a shared value in a list of bytes.
 #[derive(Drop)]
 pub struct Splice {
+    /// The number of own bytes before it.
     pub own: usize,
+    /// Its offset in the whole list, in bytes.
     pub at: u64,
+    /// Its bytes.
     pub bytes: Encoded,
 }
 
 impl Splice {
-    /// Returns the same encoding after `own` more own bytes, and `at` more bytes in all.
+    /// Returns the same encoding after `own` more own bytes, and `at` more bytes in all. Fails with
+    /// AllocError if a sum does not fit, or if the value has 2^64 - 1 owners.
     pub fn shifted(&self, own: usize, at: u64) -> Result<Splice, AllocError>
         ensures { IfOk result (λ splice. splice ≡ shift own at self.now) }
     {

@@ -1,6 +1,6 @@
 //! Tests of properties that no clause states: the number of reads with which a reader reads a file
 //! in blocks, and that it lends large bodies. A test writes a line for each file, and compares the
-//! lines.
+//! lines with the expected ones.
 
 ghost use Rattle.std.specs.Prelude.{[], false};
 
@@ -44,7 +44,7 @@ impl Device for CountingDevice {
     }
 }
 
-/// Makes a device that has these bytes, with 0 reads.
+/// Returns a device with these bytes, and 0 reads.
 fn device_of(bytes: Vec<u8>) -> CountingDevice {
     CountingDevice {
         memory: MemDevice::from_bytes(bytes),
@@ -126,8 +126,8 @@ fn lent_at_last(
     }
 }
 
-/// Writes the lengths of the bodies that a reader of a version lends, and its next result.
-fn tell(
+/// Writes a line with the lengths of the bodies that a reader of a file lends, and its next result.
+fn write_bodies_of_file(
     alloc: Global,
     version: FileVersion,
     bytes: Vec<u8>,
@@ -195,7 +195,7 @@ fn names_of_many_letters(rt: HostRuntime) -> Result<(), Fail> {
     let mut lines = String::new(alloc);
     for letters in [4, 4084, 4085, 65_535] {
         let bytes = file_of_name(alloc, letters)?;
-        tell(alloc, FileVersion::Two, bytes, &mut lines)?;
+        write_bodies_of_file(alloc, FileVersion::Two, bytes, &mut lines)?;
     }
     assert_eq!(rt;
         lines.as_str(),
@@ -205,12 +205,12 @@ fn names_of_many_letters(rt: HostRuntime) -> Result<(), Fail> {
 }
 
 #[test]
-fn frames_at_the_prefix_of_the_buffer(rt: HostRuntime) -> Result<(), Fail> {
+fn frames_at_the_start_of_the_buffer(rt: HostRuntime) -> Result<(), Fail> {
     let alloc = rt.alloc();
     let mut lines = String::new(alloc);
     for length in [2087, 2088, 2091, 2092, 2093, 2096, 2097] {
         let bytes = file_of_lengths(alloc, FileVersion::Two, &[10, length, 1996])?;
-        tell(alloc, FileVersion::Two, bytes, &mut lines)?;
+        write_bodies_of_file(alloc, FileVersion::Two, bytes, &mut lines)?;
     }
     assert_eq!(rt;
         lines.as_str(),
@@ -234,7 +234,7 @@ fn bodies_of_many_lengths(rt: HostRuntime) -> Result<(), Fail> {
     ];
     for lengths in rows {
         let bytes = file_of_lengths(alloc, FileVersion::Two, lengths)?;
-        tell(alloc, FileVersion::Two, bytes, &mut lines)?;
+        write_bodies_of_file(alloc, FileVersion::Two, bytes, &mut lines)?;
     }
     assert_eq!(rt;
         lines.as_str(),
@@ -252,7 +252,7 @@ fn files_of_version_1(rt: HostRuntime) -> Result<(), Fail> {
     let mut lines = String::new(alloc);
     for lengths in [[3, 4092, 4093, 16_777_219].as_slice(), &[3, 16_777_220]] {
         let bytes = file_of_lengths(alloc, FileVersion::One, lengths)?;
-        tell(alloc, FileVersion::One, bytes, &mut lines)?;
+        write_bodies_of_file(alloc, FileVersion::One, bytes, &mut lines)?;
     }
     assert_eq!(rt;
         lines.as_str(),

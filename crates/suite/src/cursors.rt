@@ -27,7 +27,7 @@ fn tokens_one_by_one(rt: HostRuntime) -> Result<(), Fail> {
 
 /// Checks that `bump` does not move a cursor where no token begins.
 #[test]
-fn leading_no_token(rt: HostRuntime) -> Result<(), Fail> {
+fn bump_where_no_token_begins(rt: HostRuntime) -> Result<(), Fail> {
     let mut cursor = Cursor::new("a @ b");
     cursor.bump();
     cursor.bump();

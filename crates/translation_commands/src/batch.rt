@@ -1,9 +1,9 @@
 //! The command that translates several sentences: `run` with a folder for the translations.
 
 use crate::screen::Screen;
-use crate::translations::Translating;
+use crate::translations::TranslationRun;
 use aggen::{Fault, status};
-use command_line::{BatchPaths, InputPath, name_of};
+use command_line::{BatchPaths, InputPath, file_name_of};
 use messages::{FaultReport, Source};
 use program_io::{build_translator, check_outputs, fault_or, path_in, read_input};
 use std::alloc::{AllocError, Global};
@@ -12,10 +12,10 @@ use std::process::ExitCode;
 use std::rt::{Clock, Files};
 
 /// Translates each sentence, and writes its translation to a file of its own. Prints the message of each
-/// refused sentence, and goes on; returns the status of the first of these. The grammar is read first.
+/// sentence that fails, and goes on; returns the status of the first of these, or 0. The grammar is read first.
 ///
-/// Fails before a sentence is read if the grammar is refused, if the folder for the translations is missing
-/// (F1), or if a translation's file is one of the inputs.
+/// Fails before a sentence is read if the grammar can't be read or is refused, if the folder for the translations is
+/// missing (F1), if a translation's file is one of the inputs, or if memory is refused.
 pub fn run_sentences<'a, R: Files + Input + Print + Eprint + Clock>(
     rt: &'a R,
     alloc: Global,
@@ -31,7 +31,7 @@ pub fn run_sentences<'a, R: Files + Input + Print + Eprint + Clock>(
     let text = read_input(rt, alloc, paths.grammar)?;
     let grammar = Source::new(paths.grammar.name(), text.as_slice());
     let translator = build_translator(alloc, grammar)?;
-    let translating = Translating {
+    let translating = TranslationRun {
         rt,
         alloc,
         translator: &translator,
@@ -45,7 +45,7 @@ pub fn run_sentences<'a, R: Files + Input + Print + Eprint + Clock>(
         if let Err(report) = translate(&translating, sentence, output.as_str()) {
             screen.print(rt, alloc, &report);
             if is_first {
-                first = ExitCode::from(status(&report.number));
+                first = ExitCode::from(status(&report.fault));
                 is_first = false;
             }
         }
@@ -57,7 +57,7 @@ pub fn run_sentences<'a, R: Files + Input + Print + Eprint + Clock>(
 fn output_paths(alloc: Global, paths: &BatchPaths<'_>) -> Result<Vec<String>, AllocError> {
     let mut outputs = Vec::new(alloc);
     for sentence in paths.sentences.iter() {
-        let name = format!(in alloc; "{}.out", name_of(sentence))?;
+        let name = format!(in alloc; "{}.out", file_name_of(sentence))?;
         outputs.push(path_in(alloc, paths.folder, name.as_str())?)?;
     }
     Ok(outputs)
@@ -87,10 +87,10 @@ fn check_folder<R: Files>(rt: &R, alloc: Global, path: &str) -> Result<(), Fault
     Err(FaultReport::of_file(alloc, fault, path))
 }
 
-/// Reads a sentence, translates it, and writes the translation to the file at `output`. A report names the
+/// Reads the sentence at `path`, translates it, and writes the translation to the file at `output`. A report names the
 /// sentence.
 fn translate<R: Files + Input + Print + Eprint + Clock>(
-    translating: &Translating<'_, R>,
+    translating: &TranslationRun<'_, R>,
     path: &str,
     output: &str,
 ) -> Result<(), FaultReport> {
@@ -103,15 +103,16 @@ fn translate<R: Files + Input + Print + Eprint + Clock>(
     }
 }
 
-/// Returns a report with the name of the sentence that it is about. That of refused memory names no file.
+/// Returns a report with the path of the sentence that it is about: as its file or, if it names another one, among
+/// its parts. The report of refused memory names no file.
 fn with_sentence(alloc: Global, mut report: FaultReport, path: &str) -> FaultReport {
-    if matches!(report.number, Fault::NoMemory) {
+    if matches!(report.fault, Fault::NoMemory) {
         return report;
     }
     if report.file.is_none() {
         return report.with_file(alloc, path);
     }
-    if matches!(report.number, Fault::File | Fault::Device | Fault::Write) {
+    if matches!(report.fault, Fault::File | Fault::Device | Fault::Write) {
         let named = FaultReport::new(alloc, Fault::File).with_file(alloc, path);
         if let Some(name) = &named.file {
             let written = write!(report.parts.found, "for the sentence {}", name.as_str());

@@ -2,15 +2,15 @@
 
 use crate::progress::{Progress, ShownDevice};
 use crate::screen::Screen;
-use crate::translations::{finish, of_buffer, write_translation};
-use ag_job::{ReadFault, read_front};
+use crate::translations::{finish, without_write_fault, write_translation};
+use ag_job::{ReadFault, read_prefix};
 use aggen::{Fault, Translator};
 use aggen_files::{WorkFiles, evaluate_file};
 use command_line::{EvalPaths, InputPath};
 use messages::{FaultReport, Source};
 use noted_file::CallRecord;
 use program_io::{
-    Translated, build_translator, check_output, check_tree, read_input, report_of_input,
+    CauseFinder, build_translator, check_output, check_tree, read_input, report_of_input,
     with_cause, write_file,
 };
 use std::alloc::Global;
@@ -35,7 +35,7 @@ pub fn evaluate<R: Files + Input + Print + Eprint + Clock>(
     let text = read_input(rt, alloc, paths.grammar)?;
     let grammar = Source::new(paths.grammar.name(), text.as_slice());
     let translator = build_translator(alloc, grammar)?;
-    let evaluating = Evaluating {
+    let evaluating = EvaluationRun {
         rt,
         alloc,
         translator: &translator,
@@ -49,23 +49,23 @@ pub fn evaluate<R: Files + Input + Print + Eprint + Clock>(
     }
 }
 
-/// A translator, the tree file that it translates, where it keeps its own trees, and whether its progress is
-/// shown.
+/// A translator, and the paths of the tree file that it translates and of its own tree files.
 #[derive(Drop)]
-struct Evaluating<'a, R> {
+struct EvaluationRun<'a, R> {
     rt: &'a R,
     alloc: Global,
     translator: &'a Translator,
     grammar: Source<'a>,
     paths: &'a EvalPaths<'a>,
+    /// Whether the progress is shown.
     screen: Screen,
 }
 
-impl<R: Files + Input + Print + Eprint + Clock> Evaluating<'_, R> {
+impl<R: Files + Input + Print + Eprint + Clock> EvaluationRun<'_, R> {
     /// Translates the tree, and writes the translation to the file at `path`.
     fn write(&self, path: &str) -> Result<(), FaultReport> {
         let mut text = Vec::new(self.alloc);
-        self.run(&mut text).map_err(of_buffer)?;
+        self.run(&mut text).map_err(without_write_fault)?;
         write_file(self.rt, self.alloc, path, text.as_slice())
     }
 
@@ -78,7 +78,7 @@ impl<R: Files + Input + Print + Eprint + Clock> Evaluating<'_, R> {
                     Err(fault) => Err(FaultReport::of_file(self.alloc, Fault::from(fault), path)),
                 }
             }
-            InputPath::Standard => match read_front(self.alloc, self.rt.reader(), u64::MAX) {
+            InputPath::Standard => match read_prefix(self.alloc, self.rt.reader(), u64::MAX) {
                 Ok(bytes) => self.run_device(&mut MemDevice::from_bytes(bytes), out),
                 Err(ReadFault::NoMemory) => Err(FaultReport::new(self.alloc, Fault::NoMemory)),
                 Err(ReadFault::Read) => {
@@ -124,7 +124,7 @@ impl<R: Files + Input + Print + Eprint + Clock> Evaluating<'_, R> {
         }
     }
 
-    /// Translates the tree on a device without showing how far that is, and writes the translation.
+    /// Translates the tree on a device without showing the progress, and writes the translation.
     fn run_unseen<T: Device, W: Write>(&self, tree: &mut T, out: &mut W) -> Result<(), Fault> {
         let Some(folder) = self.paths.work else {
             let mut a = SharedDevice::new(self.alloc);
@@ -137,7 +137,7 @@ impl<R: Files + Input + Print + Eprint + Clock> Evaluating<'_, R> {
         Ok(())
     }
 
-    /// Translates the tree on a device to a text, and shows how far that is.
+    /// Translates the tree on a device to a text in memory, and shows the progress.
     fn run_shown<T: Device>(
         &self,
         tree: &mut T,
@@ -157,7 +157,7 @@ impl<R: Files + Input + Print + Eprint + Clock> Evaluating<'_, R> {
         evaluated
     }
 
-    /// Opens the tree files in a folder.
+    /// Opens the tree files a.agt and b.agt in a folder.
     fn open_work(&self, folder: &str) -> Result<WorkFiles<R::File>, Fault> {
         WorkFiles::open(
             self.rt,
@@ -168,7 +168,8 @@ impl<R: Files + Input + Print + Eprint + Clock> Evaluating<'_, R> {
         )
     }
 
-    /// Returns the report of a fault. It names the folder if a tree file there can't be opened, read or written.
+    /// Returns the report of a fault. It names the folder of `--work` if a tree file there can't be opened, read or
+    /// written: if the fault is F1, or D1 and the device of the translated tree does not fail.
     fn report_of<T: Device>(&self, fault: Fault, tree: &mut T) -> FaultReport {
         let is_of_folder = match fault {
             Fault::File => true,
@@ -184,8 +185,8 @@ impl<R: Files + Input + Print + Eprint + Clock> Evaluating<'_, R> {
         with_cause(report, cause)
     }
 
-    /// Returns what the message says of the cause, if the translation is an error. The tree is translated
-    /// once more, to memory.
+    /// Returns what the message says of the cause, if the translation is an error. Translates the tree once more, with
+    /// the tree files in memory, since the cause is found in the last two.
     fn cause_of<T: Device>(&self, fault: &Fault, tree: &mut T) -> Option<String> {
         if !matches!(fault, Fault::NoText(_)) {
             return None;
@@ -199,11 +200,11 @@ impl<R: Files + Input + Print + Eprint + Clock> Evaluating<'_, R> {
         let Err(fault) = again else {
             return None;
         };
-        let translated = Translated {
+        let finder = CauseFinder {
             translator: self.translator,
             grammar: self.grammar,
             sentence: None,
         };
-        translated.cause_of(self.alloc, &fault, &mut a, &mut b)
+        finder.cause_of(self.alloc, &fault, &mut a, &mut b)
     }
 }

@@ -15,7 +15,7 @@ const DELAY: u64 = 2_000;
 /// How long a line is shown before the next one, in milliseconds.
 const INTERVAL: u64 = 200;
 
-/// The number of appended records after which the clock is read.
+/// The number of appended records after which the clock is read, while a sentence is parsed.
 const APPENDS: u32 = 256;
 
 /// How far a translation is: the pass, and how far the tree file that it reads has been read. A line on
@@ -23,11 +23,17 @@ const APPENDS: u32 = 256;
 #[derive(Drop)]
 pub struct Progress<'a, R> {
     rt: &'a R,
+    /// The number of passes.
     passes: u16,
+    /// The time of the clock from which the next line may be shown.
     next: Cell<Duration>,
+    /// Whether a line is shown.
     is_shown: Cell<bool>,
+    /// The pass of the first tree file that is written.
     first: u16,
+    /// The number of tree files that were begun.
     written: Cell<u16>,
+    /// The number of records that were appended since the clock was last read for them.
     appends: Cell<u32>,
 }
 
@@ -51,14 +57,14 @@ impl<'a, R: Clock + Eprint> Progress<'a, R> {
         self.written.set(self.written.get().saturating_add(1));
     }
 
-    /// Returns the pass whose tree file is written: 0 while the sentence is parsed.
+    /// Returns the pass whose tree file is written; 0 while the sentence is parsed.
     fn pass(&self) -> u16 {
         self.first
             .saturating_add(self.written.get())
             .saturating_sub(1)
     }
 
-    /// Notes that a record was appended.
+    /// Notes that a record is appended. While the sentence is parsed, shows a line if one is due.
     fn note_append(&self) {
         let appends = self.appends.get().saturating_add(1);
         if appends < APPENDS {
@@ -71,7 +77,8 @@ impl<'a, R: Clock + Eprint> Progress<'a, R> {
         }
     }
 
-    /// Notes that a tree file of `length` bytes has been read from its end down to an offset.
+    /// Notes that a tree file of `length` bytes has been read from its end down to the offset `at`. Shows a line if one
+    /// is due.
     fn note_read(&self, at: u64, length: u64) {
         if self.is_due() {
             let line = ProgressLine::Reading {
@@ -83,7 +90,7 @@ impl<'a, R: Clock + Eprint> Progress<'a, R> {
         }
     }
 
-    /// Returns whether a line is shown now. The next one is not before some time has passed.
+    /// Returns whether a line is due, and notes that it is shown now: the next one is due after `INTERVAL`.
     fn is_due(&self) -> bool {
         let Ok(now) = self.rt.monotonic() else {
             return false;
@@ -105,7 +112,7 @@ impl<'a, R: Clock + Eprint> Progress<'a, R> {
     }
 }
 
-/// Returns how many hundredths of a whole a part is.
+/// Returns a part in hundredths of the whole, rounded down; 100 if the whole is 0.
 fn percent_of(part: u64, whole: u64) -> u64 {
     part.saturating_mul(100).checked_div(whole).unwrap_or(100)
 }
@@ -115,6 +122,7 @@ fn percent_of(part: u64, whole: u64) -> u64 {
 #[derive(Drop)]
 pub struct ShownDevice<'a, D, R> {
     inner: D,
+    /// The length in bytes that the last call of `len` returned, 0 before.
     length: u64,
     progress: &'a Progress<'a, R>,
 }
@@ -131,7 +139,7 @@ impl<'a, D, R> ShownDevice<'a, D, R> {
         }
     }
 
-    /// Returns the device that got the calls.
+    /// Returns the device that the calls were forwarded to.
     pub fn into_inner(self) -> D
         ensures { result ≡ self.entry.inner }
     {

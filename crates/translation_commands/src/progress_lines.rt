@@ -2,7 +2,7 @@
 
 use std::fmt;
 
-/// Erases the line that a terminal shows.
+/// The control characters that erase the line of a terminal.
 const ERASE: &str = "\r\u{1b}[K";
 
 /// What a terminal shows of a translation.

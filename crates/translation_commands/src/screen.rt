@@ -8,25 +8,28 @@ use messages::{FaultReport, Position};
 use std::alloc::Global;
 use std::rt::{Clock, Env};
 
-/// Begins the text that is bold and red.
+/// The control characters before the fault's number: what follows is bold and red.
 const NUMBER: &str = "\u{1b}[1;31m";
 
-/// Begins the text that is bold.
+/// The control characters before the place: what follows is bold.
 const PLACE: &str = "\u{1b}[1m";
 
-/// Ends what is marked.
+/// The control characters after a marked part.
 const END: &str = "\u{1b}[0m";
 
 /// How messages are printed, and whether the progress of a translation is shown.
 #[derive(Clone, Copy)]
 pub struct Screen {
+    /// Whether no message of a refusal is printed.
     is_quiet: bool,
+    /// Whether the fault's number and the place are marked with colour.
     is_marked: bool,
+    /// Whether the progress of translations is shown.
     shows_progress: bool,
 }
 
 impl Screen {
-    /// Returns how messages are printed if no command line says it.
+    /// Returns how messages are printed before a command line was parsed: without colour, and without progress.
     pub fn plain() -> Screen {
         Screen {
             is_quiet: false,
@@ -72,10 +75,10 @@ impl Screen {
         Some(Progress::new(rt, began, passes, first))
     }
 
-    /// Prints a message on standard error, in one line. That of a refusal is not printed if messages are off.
-    /// Whether it could be printed is not said: the status shows which kind of failure it was.
+    /// Prints a message on standard error, in one line; nothing if messages are off, unless the command line is
+    /// misused. A message that can't be printed is ignored: the status shows which kind of failure it was.
     pub fn print<R: Eprint>(self, rt: &R, alloc: Global, report: &FaultReport) {
-        if self.is_quiet && !matches!(report.number, Fault::Usage) {
+        if self.is_quiet && !matches!(report.fault, Fault::Usage) {
             return;
         }
         let marked = if self.is_marked {
@@ -106,10 +109,10 @@ fn is_dumb<R: Env + AllocGlobal>(rt: &R) -> bool {
     }
 }
 
-/// Returns the line of a report with its number and its place marked. None if memory is refused.
+/// Returns the line of a report with the fault's number and the place marked. None if memory is refused.
 fn marked_line(alloc: Global, report: &FaultReport) -> Option<String> {
     let line = report.to_string(alloc).ok()?;
-    let fault = report.number.to_string(alloc).ok()?;
+    let fault = report.fault.to_string(alloc).ok()?;
     let (fault, rest) = parts_at(line.as_str(), fault.len());
     let (number, offset) = parts_at(fault, number_len(fault));
     let (before, place) = parts_at(rest, place_start(report, rest));

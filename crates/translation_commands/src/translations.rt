@@ -13,7 +13,7 @@ use command_line::RunPaths;
 use messages::{FaultReport, Source};
 use noted_file::CallRecord;
 use program_io::{
-    Translated, build_translator, check_output, read_input, report_of_sentence, with_cause,
+    CauseFinder, build_translator, check_output, read_input, report_of_sentence, with_cause,
     write_file,
 };
 use std::alloc::Global;
@@ -23,7 +23,8 @@ use std::rt::{Clock, Files};
 use treefile::{Device, FileDevice, SharedDevice};
 
 /// Translates a sentence, and prints the translation or writes it to a file. The grammar is read first, then
-/// the sentence; only then are tree files created, and the translation's file after these.
+/// the sentence; only then are tree files created, and the translation's file after these. Fails before the grammar is
+/// read if the translation's file is one of the inputs or a tree file.
 pub fn run_sentence<R: Files + Input + Print + Eprint + Clock>(
     rt: &R,
     alloc: Global,
@@ -42,7 +43,7 @@ pub fn run_sentence<R: Files + Input + Print + Eprint + Clock>(
     let text = read_input(rt, alloc, paths.grammar)?;
     let grammar = Source::new(paths.grammar.name(), text.as_slice());
     let translator = build_translator(alloc, grammar)?;
-    let translating = Translating {
+    let translating = TranslationRun {
         rt,
         alloc,
         translator: &translator,
@@ -79,14 +80,14 @@ fn translate_job<R: Files + Print + Eprint + Clock>(
 ) -> Result<(), FaultReport> {
     let (grammar, sentence) = Source::of_job(job.grammar(), job.sentence());
     let translator = build_translator(alloc, grammar)?;
-    let translating = Translating::in_memory(&*rt, alloc, &translator, grammar, screen);
+    let translating = TranslationRun::in_memory(&*rt, alloc, &translator, grammar, screen);
     translating.run(sentence, &mut io::writer(rt))
 }
 
-/// A translator, where it keeps its trees, and whether its progress is shown.
+/// A translator, the folder of its tree files, and whether its progress is shown.
 #[derive(Drop)]
-pub struct Translating<'a, R> {
-    /// The system.
+pub struct TranslationRun<'a, R> {
+    /// The runtime.
     pub rt: &'a R,
     /// The allocator.
     pub alloc: Global,
@@ -96,11 +97,11 @@ pub struct Translating<'a, R> {
     pub grammar: Source<'a>,
     /// The folder for the tree files. If there is none, they are kept in memory.
     pub work: Option<&'a str>,
-    /// What is shown on the way.
+    /// Whether the progress is shown.
     pub screen: Screen,
 }
 
-impl<'a, R> Translating<'a, R> {
+impl<'a, R> TranslationRun<'a, R> {
     /// Returns a translator that keeps its trees in memory.
     fn in_memory(
         rt: &'a R,
@@ -108,8 +109,8 @@ impl<'a, R> Translating<'a, R> {
         translator: &'a Translator,
         grammar: Source<'a>,
         screen: Screen,
-    ) -> Translating<'a, R> {
-        Translating {
+    ) -> TranslationRun<'a, R> {
+        TranslationRun {
             rt,
             alloc,
             translator,
@@ -120,11 +121,11 @@ impl<'a, R> Translating<'a, R> {
     }
 }
 
-impl<R: Files + Print + Eprint + Clock> Translating<'_, R> {
+impl<R: Files + Print + Eprint + Clock> TranslationRun<'_, R> {
     /// Translates a sentence, and writes the translation to the file at `path`.
     pub fn write(&self, sentence: Source<'_>, path: &str) -> Result<(), FaultReport> {
         let mut text = Vec::new(self.alloc);
-        self.run(sentence, &mut text).map_err(of_buffer)?;
+        self.run(sentence, &mut text).map_err(without_write_fault)?;
         write_file(self.rt, self.alloc, path, text.as_slice())
     }
 
@@ -147,8 +148,8 @@ impl<R: Files + Print + Eprint + Clock> Translating<'_, R> {
         }
     }
 
-    /// Returns what the message says of the cause, if the translation is an error. The devices have the last
-    /// two tree files.
+    /// Returns what the message says of the cause, if the translation is an error. The devices contain the last two
+    /// tree files.
     fn cause_of<D: Device>(
         &self,
         translated: &Result<aggen::Report, Fault>,
@@ -159,15 +160,16 @@ impl<R: Files + Print + Eprint + Clock> Translating<'_, R> {
         let Err(fault) = translated else {
             return None;
         };
-        let translated = Translated {
+        let finder = CauseFinder {
             translator: self.translator,
             grammar: self.grammar,
             sentence: Some(sentence),
         };
-        translated.cause_of(self.alloc, fault, a, b)
+        finder.cause_of(self.alloc, fault, a, b)
     }
 
-    /// Translates a sentence without showing how far that is.
+    /// Translates a sentence without showing the progress, and writes the translation. Sets `cause` to what the message
+    /// says of the cause, if the translation is an error.
     fn run_unseen<W: Write>(
         &self,
         sentence: Source<'_>,
@@ -195,8 +197,8 @@ impl<R: Files + Print + Eprint + Clock> Translating<'_, R> {
         Ok(())
     }
 
-    /// Translates a sentence and shows how far that is. The translation is written after the last line of
-    /// progress has been erased.
+    /// Translates a sentence, and shows the progress. The translation is written after the last line of progress has
+    /// been erased. Sets `cause` as `run_unseen` does.
     fn run_shown<W: Write>(
         &self,
         sentence: Source<'_>,
@@ -227,8 +229,8 @@ impl<R: Files + Print + Eprint + Clock> Translating<'_, R> {
         write_translation(translated, text.as_slice(), out)
     }
 
-    /// Translates a sentence by way of the files of a folder, and shows how far that is. Returns what the
-    /// message says of the cause too, if the translation is an error.
+    /// Translates a sentence with the tree files in a folder, and shows the progress. Returns what the message says of
+    /// the cause too, if the translation is an error.
     fn run_shown_in(
         &self,
         folder: &str,
@@ -252,7 +254,7 @@ impl<R: Files + Print + Eprint + Clock> Translating<'_, R> {
         }
     }
 
-    /// Opens the tree files in a folder.
+    /// Opens the tree files a.agt and b.agt in a folder.
     fn open_work(&self, folder: &str) -> Result<WorkFiles<R::File>, Fault> {
         WorkFiles::open(
             self.rt,
@@ -264,7 +266,8 @@ impl<R: Files + Print + Eprint + Clock> Translating<'_, R> {
     }
 }
 
-/// Writes to both files what their devices have gathered, to the second one also if the first one fails.
+/// Writes to both files what their devices have buffered; to the second one also if the first one fails. Fails with
+/// D1 if a write fails.
 pub fn finish<F: io::Read + Write + io::Seek + OpenFile + Drop>(
     mut a: FileDevice<F>,
     mut b: FileDevice<F>,
@@ -298,12 +301,13 @@ pub fn write_translation<W: Write>(
     }
 }
 
-/// Returns the report of a translation into memory, where a write fails only if memory is refused.
-pub fn of_buffer(mut report: FaultReport) -> FaultReport
-    ensures { result.number ≢ Fault.Write }
+/// Returns the report of a failed translation into memory: with NoMemory instead of O2, since a write to a buffer in
+/// memory fails only if memory is refused.
+pub fn without_write_fault(mut report: FaultReport) -> FaultReport
+    ensures { result.fault ≢ Fault.Write }
 {
-    if matches!(report.number, Fault::Write) {
-        report.number = Fault::NoMemory;
+    if matches!(report.fault, Fault::Write) {
+        report.fault = Fault::NoMemory;
     }
     report
 }

@@ -11,8 +11,8 @@ use std::io;
 use std::rt::Files;
 use treefile::FileDevice;
 
-/// Writes the tree file of a sentence, and prints the number of its nodes. The grammar is
-/// read first, then the sentence, and only then is the tree file created.
+/// Writes the tree file of a sentence, and prints the number of its nodes. The grammar is read first, then the
+/// sentence, and only then is the tree file created.
 pub fn parse_file<R: Files + Input + Print>(
     rt: &R,
     alloc: Global,
@@ -57,8 +57,8 @@ fn write_tree<R: Files + Print>(
     }
 }
 
-/// Converts a tree file of version 1 to version 2, and prints the number of its nodes. The grammar is
-/// read first, then the old file is opened, and only then is the other one created.
+/// Converts a tree file of version 1 to version 2, and prints the number of its nodes. The grammar is read first,
+/// then the old file is opened, and only then is the new one created.
 pub fn convert_file<R: Files + Input + Print>(
     rt: &R,
     alloc: Global,

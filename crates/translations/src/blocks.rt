@@ -102,11 +102,15 @@ fn list(alloc: Global, children: &[u16], has_rule: bool) -> Result<Vec<Instr>, A
     Ok(list)
 }
 
-/// Returns the lists of a production for three passes: children in the orders `left`, `right`, `left`. The last pass
-/// has the rule.
-fn lists(alloc: Global, left: &[u16], right: &[u16]) -> Result<Vec<Vec<Instr>>, AllocError> {
+/// Returns the lists of a production for three passes: children in the orders `leftward`, `rightward`, `leftward`. The
+/// last pass has the rule.
+fn lists(
+    alloc: Global,
+    leftward: &[u16],
+    rightward: &[u16],
+) -> Result<Vec<Vec<Instr>>, AllocError> {
     let mut lists = Vec::new(alloc);
-    for (children, has_rule) in [(left, false), (right, false), (left, true)] {
+    for (children, has_rule) in [(leftward, false), (rightward, false), (leftward, true)] {
         lists.push(list(alloc, children, has_rule)?)?;
     }
     Ok(lists)
@@ -116,7 +120,7 @@ fn lists(alloc: Global, left: &[u16], right: &[u16]) -> Result<Vec<Vec<Instr>>, 
 /// right, and from right to left.
 fn code(alloc: Global) -> Result<Code, AllocError> {
     let mut rows = Vec::new(alloc);
-    for (left, right) in [
+    for (leftward, rightward) in [
         ([2, 1].as_slice(), [1, 2].as_slice()),
         (&[], &[]),
         (&[2, 1], &[1, 2]),
@@ -124,7 +128,7 @@ fn code(alloc: Global) -> Result<Code, AllocError> {
         (&[1], &[1]),
         (&[], &[]),
     ] {
-        rows.push(lists(alloc, left, right)?)?;
+        rows.push(lists(alloc, leftward, rightward)?)?;
     }
     Ok(Code::of_rows(rows))
 }

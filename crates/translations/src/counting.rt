@@ -12,7 +12,7 @@ struct Reading {
     /// The number of reads after the header.
     reads: u64,
     /// The number of appends before the last read.
-    put: u64,
+    puts: u64,
     /// The number of appends between the last two reads.
     last_gap: u64,
     /// The least number of appends between two successive reads, without the last two reads.
@@ -24,21 +24,21 @@ impl Reading {
     fn begun() -> Reading {
         Reading {
             reads: 0,
-            put: 0,
+            puts: 0,
             last_gap: u64::MAX,
             least_gap: u64::MAX,
         }
     }
 
-    /// Counts a read after `put` appends.
-    fn with_read(self, put: u64) -> Reading {
+    /// Counts a read after `puts` appends.
+    fn with_read(self, puts: u64) -> Reading {
         Reading {
             reads: self.reads.saturating_add(1),
-            put,
+            puts,
             last_gap: if self.reads == 0 {
                 u64::MAX
             } else {
-                put.saturating_sub(self.put)
+                puts.saturating_sub(self.puts)
             },
             least_gap: self.least_gap.min(self.last_gap),
         }

@@ -35,12 +35,12 @@ pub fn status_answer(alloc: Global, text: &str) -> Result<String, Mistake> {
     Ok(status(&fault(text)?).to_string(alloc)?)
 }
 
-/// Returns a fault's message.
+/// Returns a fault as it prints.
 pub fn message(alloc: Global, fault: &Fault) -> Result<String, Mistake> {
     Ok(fault.to_string(alloc)?)
 }
 
-/// Returns the message of the fault that a text names.
+/// Returns the fault that a text names, as it prints.
 pub fn message_answer(alloc: Global, text: &str) -> Result<String, Mistake> {
     message(alloc, &fault(text)?)
 }

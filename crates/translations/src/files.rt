@@ -1,23 +1,23 @@
-//! Answers questions about the file of a value, and about reading a file.
+//! Answers questions about the tree file of a value, and about reading a source to its end.
 
 use aggen::{bytes_of, show_value};
 use rows::words::{Mistake, shown_bytes};
 use std::alloc::{AllocError, Global};
 use treefile::MemDevice;
 
-/// Returns a file, and the text that was printed.
-fn shown(alloc: Global, file: &MemDevice, out: &[u8]) -> Result<String, AllocError> {
+/// Returns the bytes of a file, and the text that was printed.
+fn file_text(alloc: Global, file: &MemDevice, out: &[u8]) -> Result<String, AllocError> {
     let file = shown_bytes(alloc, file.bytes())?;
     format!(in alloc; "{file} {:?}", str::from_utf8(out))
 }
 
 /// Returns the file of the value of an expression, and the line that `show_value` prints. Fails with `Unfit` if
 /// `show_value` fails.
-pub fn file_exact(alloc: Global, text: &str) -> Result<String, Mistake> {
+pub fn file_answer(alloc: Global, text: &str) -> Result<String, Mistake> {
     let mut device = MemDevice::new(alloc);
     let mut out = Vec::new(alloc);
     match show_value(alloc, text, &mut device, &mut out) {
-        Ok(()) => Ok(shown(alloc, &device, out.as_slice())?),
+        Ok(()) => Ok(file_text(alloc, &device, out.as_slice())?),
         Err(_) => Err(Mistake::Unfit),
     }
 }

@@ -2,12 +2,12 @@
 
 use crate::blocks::{blocks_of_passes_answer, blocks_of_translate_answer};
 use crate::faults::{message_answer, status_answer};
-use crate::files::{file_exact, source_answer};
+use crate::files::{file_answer, source_answer};
 use crate::reports::{evaluate_answer, job_answer, translate_answer};
 use crate::translators::{grammar_of_answer, parse_tree_answer};
+use rows::current_texts::CurrentTexts;
 use rows::sheet::Questions;
 use rows::words::Mistake;
-use rows::written::Written;
 use std::alloc::Global;
 
 /// Answers questions about the translator of the current grammar.
@@ -18,11 +18,11 @@ impl Questions for Translations {
     fn answer(
         &self,
         alloc: Global,
-        written: &Written,
+        texts: &CurrentTexts,
         verb: &str,
         rest: &str,
     ) -> Result<String, Mistake> {
-        let (grammar, text) = (written.grammar.as_str(), written.text_or(rest));
+        let (grammar, text) = (texts.grammar.as_str(), texts.text_or(rest));
         match verb {
             "grammar-of" => grammar_of_answer(alloc, grammar),
             "parse-tree" => parse_tree_answer(alloc, grammar, text),
@@ -31,7 +31,7 @@ impl Questions for Translations {
             "job" => job_answer(alloc, text),
             "blocks-of-translate" => blocks_of_translate_answer(alloc),
             "blocks-of-passes" => blocks_of_passes_answer(alloc),
-            "file" => file_exact(alloc, text),
+            "file" => file_answer(alloc, text),
             "source" => source_answer(alloc, text),
             "status" => status_answer(alloc, rest),
             "message" => message_answer(alloc, rest),

@@ -27,8 +27,8 @@ fn report_answer(alloc: Global, report: &Report, out: &[u8]) -> Result<String, M
     )?)
 }
 
-/// Returns a root value that is not a text.
-fn value_exact(alloc: Global, value: &Value) -> Result<String, Mistake> {
+/// Returns an answer that the root's value is not a text, with the value.
+fn value_answer(alloc: Global, value: &Value) -> Result<String, Mistake> {
     let shown = show(alloc, value)?;
     Ok(format!(in alloc; "no text: {shown}")?)
 }
@@ -41,12 +41,12 @@ fn ending_answer(
 ) -> Result<String, Mistake> {
     match ended {
         Ok(report) => report_answer(alloc, report, out),
-        Err(Fault::NoText(value)) => value_exact(alloc, value),
+        Err(Fault::NoText(value)) => value_answer(alloc, value),
         Err(fault) => printed(alloc, fault),
     }
 }
 
-/// Translates a sentence.
+/// Translates a sentence by the grammar of a text.
 pub fn translate_answer(alloc: Global, text: &str, sentence: &str) -> Result<String, Mistake> {
     let translator = translator(alloc, text)?;
     let mut a = MemDevice::new(alloc);
@@ -65,7 +65,7 @@ pub fn job_answer(alloc: Global, text: &str) -> Result<String, Mistake> {
     ending_answer(alloc, &ended, out.as_slice())
 }
 
-/// Translates the tree whose file is the given content.
+/// Translates the tree in a tree file with this content, by the grammar of a text.
 pub fn evaluate_answer(alloc: Global, text: &str, content: &str) -> Result<String, Mistake> {
     let mut tree = MemDevice::from_bytes(bytes_of(alloc, content)?);
     let translator = translator(alloc, text)?;

@@ -22,16 +22,16 @@ pub fn translator(alloc: Global, text: &str) -> Result<Translator, Mistake> {
     }
 }
 
-/// Returns the number of stored nodes and the tree's file of a sentence, or the fault's message.
+/// Returns the number of stored nodes and the tree's file of a sentence, or the fault as it prints.
 pub fn parse_tree_answer(alloc: Global, text: &str, sentence: &str) -> Result<String, Mistake> {
     match Translator::build(alloc, text.as_bytes()) {
-        Ok(translator) => parsed(alloc, &translator, sentence),
+        Ok(translator) => tree_answer(alloc, &translator, sentence),
         Err(fault) => message(alloc, &Fault::from(fault)),
     }
 }
 
-/// Returns the number of stored nodes and the tree's file of a sentence, or the fault's message.
-fn parsed(alloc: Global, translator: &Translator, sentence: &str) -> Result<String, Mistake> {
+/// Returns the number of stored nodes and the tree's file of a sentence, or the fault as it prints.
+fn tree_answer(alloc: Global, translator: &Translator, sentence: &str) -> Result<String, Mistake> {
     let mut device = MemDevice::new(alloc);
     match translator.parse_tree(sentence.as_bytes(), &mut device) {
         Ok(count) => shown_tree_file(alloc, count, device.bytes()),

@@ -1,7 +1,7 @@
 //! The command that explains values in a tree file: `explain`.
 
 use crate::indexed::{
-    describe_last_pass, no_attribute, no_memory, no_node, places_of, read_index, report_of_tree,
+    no_attribute, no_memory, no_node, not_last_pass, places_of, read_index, report_of_tree,
 };
 use crate::sentence_places::TreeSentence;
 use crate::work_folder::TreePath;
@@ -18,14 +18,17 @@ use std::rt::Files;
 use tree_index::{FileFormat, TreeIndex};
 use tree_text::ShowFault;
 use treefile::{Device, FileDevice};
-use value_reasons::{ExplainedTree, Question, write_errors};
+use value_reasons::{ExplainedTree, NodeRequest, write_errors};
 
-/// The greatest number of characters of a value.
+/// The greatest number of characters of a value that are printed.
 const WIDTH: usize = 60;
 
 /// Prints the values of a node of a tree file with the rules that computed them, or the rules in which errors
 /// arise. The grammar is read first, then the sentence, if there is one, then the whole tree file; only then is
 /// anything printed.
+///
+/// Fails if an input can't be read or is refused, if a record of the tree file is damaged, if the tree does not
+/// have the node, if the node does not have one of the attributes, if the output fails (O2), and if memory is refused.
 pub fn explain_tree<R: Files + Input + Print>(
     rt: &R,
     alloc: Global,
@@ -41,7 +44,7 @@ pub fn explain_tree<R: Files + Input + Print>(
     };
     match FileDevice::existing(rt, alloc, path.as_str(), CallRecord::new()) {
         Ok(mut tree) => {
-            let explaining = Explaining {
+            let explaining = ExplanationRun {
                 translator: &translator,
                 source,
                 sentence: sentence.as_slice(),
@@ -66,7 +69,8 @@ fn read_sentence<R: Files + Input>(
     }
 }
 
-/// Returns the places of the path of the node; none if the node is named otherwise, or not at all.
+/// Returns the places of the path that names the node; none if the node is named otherwise, or not at all. Fails
+/// if the text is not a path.
 fn places_of_path(alloc: Global, node: NodeWords<'_>) -> Result<Vec<u16>, FaultReport> {
     match node {
         NodeWords::Path(path) => places_of(alloc, Some(path)),
@@ -74,18 +78,19 @@ fn places_of_path(alloc: Global, node: NodeWords<'_>) -> Result<Vec<u16>, FaultR
     }
 }
 
-/// A tree file that is explained: its grammar with its text, its sentence, if there is one, and its path.
+/// A tree file that is explained: its translator with the text of the grammar, its sentence, and its path.
 #[derive(Clone, Copy)]
-struct Explaining<'a> {
+struct ExplanationRun<'a> {
     translator: &'a Translator,
     source: Source<'a>,
+    /// The bytes of the sentence; none if no place in it names the node.
     sentence: &'a [u8],
     path: &'a str,
-    /// Whether the tree file was chosen in a folder.
+    /// Whether the tree file was chosen in a folder, so that its path has to be printed.
     is_chosen: bool,
 }
 
-impl Explaining<'_> {
+impl ExplanationRun<'_> {
     /// Prints the explanation of a node of the tree file on a device, or the rules in which errors arise.
     fn run<R: Print, D: Device>(
         self,
@@ -109,12 +114,12 @@ impl Explaining<'_> {
         let printed = if words.errors {
             self.print_errors(rt, alloc, &index, device)
         } else {
-            let question = Question {
+            let request = NodeRequest {
                 places: places.as_slice(),
                 names: words.attributes.as_slice(),
                 width: WIDTH,
             };
-            self.print_node(rt, alloc, &index, &question, device)
+            self.print_node(rt, alloc, &index, &request, device)
         };
         match printed {
             Ok(()) => Ok(()),
@@ -122,7 +127,8 @@ impl Explaining<'_> {
         }
     }
 
-    /// Returns the places that lead from the root to the node at a place in the sentence.
+    /// Returns the places that lead from the root to the node at a place in the sentence. Fails as
+    /// `TreeSentence::node_at` does.
     fn places_at<D: Device>(
         self,
         alloc: Global,
@@ -143,8 +149,8 @@ impl Explaining<'_> {
         tree.node_at(alloc, position, device)
     }
 
-    /// Fails if a node does not have the attributes that are asked for, or if the rules in which errors arise
-    /// are asked for and the file is not of the last pass.
+    /// Fails if a node does not have the attributes that the words name, or if the words ask for the rules in which
+    /// errors arise and the file is not of the last pass.
     fn check(
         self,
         alloc: Global,
@@ -155,7 +161,7 @@ impl Explaining<'_> {
         let (grammar, plan) = (self.translator.grammar(), self.translator.plan());
         let last = plan.assignment().passes();
         if words.errors && index.pass() != last {
-            return Err(describe_last_pass(alloc, index.pass(), last));
+            return Err(not_last_pass(alloc, index.pass(), last));
         }
         let format = self.format(index);
         let Some(item) = index.item(grammar, node) else {
@@ -200,14 +206,14 @@ impl Explaining<'_> {
         rt: &R,
         alloc: Global,
         index: &TreeIndex,
-        question: &Question<'_>,
+        request: &NodeRequest<'_>,
         device: &mut D,
     ) -> Result<(), ShowFault> {
         let tree = ExplainedTree::new(alloc, self.source, self.format(index), index)?;
         let mut out = io::writer(rt);
         let mut text = String::new(alloc);
         self.write_path(&mut text, index.pass())?;
-        tree.write_node(&mut text, question, device)?;
+        tree.write_node(&mut text, request, device)?;
         write_text(&mut out, text.as_str()).map_err(|_| ShowFault::Write)
     }
 

@@ -15,7 +15,8 @@ use treefile::Device;
 /// What to do about a tree file that is damaged.
 const AGAIN: &str = "make the file again by `aggen parse` or `aggen run --work` with this grammar";
 
-/// Reads the tree file of this name as a pass reads it, and makes its index.
+/// Reads the tree file at `path` as a pass reads it, and makes its index. Fails with R1, P2 or P3 if the file is
+/// damaged or exceeds a limit, with D1 if a call of the device fails, and if memory is refused.
 pub fn read_index<D: Device>(
     alloc: Global,
     translator: &Translator,
@@ -28,15 +29,15 @@ pub fn read_index<D: Device>(
     }
 }
 
-/// Returns the report of a fault of reading the tree file of this name, or of printing.
+/// Returns the report of a fault of reading the tree file at `path`, or of printing.
 pub fn report_of_tree(alloc: Global, fault: ShowFault, path: &str) -> FaultReport {
-    let number = match fault {
+    let fault = match fault {
         ShowFault::Tree(fault) => fault_of(fault),
         ShowFault::Write => Fault::Write,
         ShowFault::NoMemory => Fault::NoMemory,
     };
-    let is_damaged = matches!(number, Fault::Run(_));
-    let mut report = FaultReport::of_file(alloc, number, path);
+    let is_damaged = matches!(fault, Fault::Run(_));
+    let mut report = FaultReport::of_file(alloc, fault, path);
     if is_damaged {
         let written = report.parts.help.push_str(AGAIN);
         return report.or_bare(written);
@@ -49,7 +50,8 @@ pub fn no_memory(alloc: Global) -> FaultReport {
     FaultReport::new(alloc, Fault::NoMemory)
 }
 
-/// Returns the places of a path, none if there is no path. Fails if the text is not a path.
+/// Returns the places of a path; those of the root, which are none, if `path` is `None`. Fails if the text is not a
+/// path.
 pub fn places_of(alloc: Global, path: Option<&str>) -> Result<Vec<u16>, FaultReport> {
     let Some(text) = path else {
         return Ok(Vec::new(alloc));
@@ -72,14 +74,14 @@ fn not_a_path(alloc: Global, text: &str) -> FaultReport {
     report.or_bare(written)
 }
 
-/// Returns the report of a path at whose end there is no node: how far it goes, and the children there.
+/// Returns the report of a path that leads to no node: how far it goes, and the number of children there.
 pub fn no_node(alloc: Global, grammar: &Grammar, index: &TreeIndex, places: &[u16]) -> FaultReport {
     let mut report = FaultReport::new(alloc, Fault::Usage);
     let written = describe_missing(alloc, &mut report.parts.found, grammar, index, places);
     report.or_bare(written)
 }
 
-/// Writes how far a path goes in a tree, and which children there are at its end.
+/// Writes how far a path goes in a tree, and the number of children of its last node.
 fn describe_missing(
     alloc: Global,
     out: &mut String,
@@ -109,8 +111,8 @@ fn describe_missing(
     }
 }
 
-/// Returns the report of a file that is not of the last pass.
-pub fn describe_last_pass(alloc: Global, pass: u16, last: u16) -> FaultReport {
+/// Returns the report of a file of `pass`, for `--errors`, which needs a file of the pass `last`.
+pub fn not_last_pass(alloc: Global, pass: u16, last: u16) -> FaultReport {
     let mut report = FaultReport::new(alloc, Fault::Usage);
     let written = write!(
         report.parts.found,

@@ -18,7 +18,7 @@ use treefile::Device;
 /// What to do about a tree that is not that of the sentence.
 const OTHER_SENTENCE: &str = "name the sentence that the tree was made from";
 
-/// A tree file with its index, and the sentence that it is said to be of.
+/// A tree file with its index, and the sentence that the command line names as the tree's.
 #[derive(Clone, Copy)]
 pub struct TreeSentence<'a> {
     /// The translator.
@@ -43,8 +43,8 @@ impl TreeSentence<'_> {
     /// between two tokens, to the innermost node that has both; before the first and after the last one, to
     /// the root.
     ///
-    /// Fails if the sentence can't be cut into tokens, if these are not the tree's, if the sentence does not
-    /// have the position, if a record is damaged or can't be read, and if memory is refused.
+    /// Fails if the sentence can't be cut into tokens, if it does not have the position, if its tokens are not the
+    /// tree's, if a record is damaged or can't be read, and if memory is refused.
     pub fn node_at<D: Device>(
         self,
         alloc: Global,
@@ -61,7 +61,7 @@ impl TreeSentence<'_> {
         }
     }
 
-    /// Returns the same of a sentence that was cut into tokens.
+    /// Returns the same for a sentence that was cut into tokens.
     fn node_in<D: Device>(
         self,
         alloc: Global,
@@ -115,7 +115,7 @@ impl TreeSentence<'_> {
             if !is_same(of_sentence, &of_tree) {
                 return Err(self.other_token(alloc, of_sentence, &of_tree));
             }
-            take(&mut tokens);
+            skip_token(&mut tokens);
         }
         Ok(())
     }
@@ -134,7 +134,7 @@ impl TreeSentence<'_> {
         }
     }
 
-    /// Returns the literal of a number.
+    /// Returns the literal of a number as a token.
     fn literal(self, alloc: Global, number: u16) -> Result<TokenText, NoMemory> {
         let literals = self.translator.grammar().literals();
         let text = match literals.get(usize::from(number)) {
@@ -147,7 +147,7 @@ impl TreeSentence<'_> {
         })
     }
 
-    /// Reads the record of a token of a class.
+    /// Reads the record of a token of a class, and returns the token.
     fn word<D: Device>(
         self,
         alloc: Global,
@@ -266,7 +266,7 @@ fn column_of_end(text: &str, line: usize) -> usize {
     column
 }
 
-/// Returns the offset in bytes of a position in a text, or at its end.
+/// Returns the offset in bytes of a position in a text, or at its end. `None` if the text does not have the position.
 fn offset_of(text: &str, position: Position) -> Option<usize> {
     let mut line = 1usize;
     let mut column = 1usize;
@@ -288,8 +288,8 @@ fn offset_of(text: &str, position: Position) -> Option<usize> {
     }
 }
 
-/// Returns the number of the token at an offset of a sentence, or those of both tokens around it. Returns
-/// `None` before the first token and after the last one.
+/// Returns the number, from 0, of the token at an offset of a sentence in bytes, or those of both tokens around it.
+/// Returns `None` before the first token and after the last one.
 fn range_at(mut tokens: Tokens<'_>, at: usize) -> Option<TokenRange> {
     for number in 0..=MAX_TEXT_BYTES as u32 {
         let token = tokens.ahead()?;
@@ -306,7 +306,7 @@ fn range_at(mut tokens: Tokens<'_>, at: usize) -> Option<TokenRange> {
                 last: number,
             });
         }
-        take(&mut tokens);
+        skip_token(&mut tokens);
     }
     None
 }
@@ -320,9 +320,9 @@ fn length_of(token: Token<'_>) -> usize {
     }
 }
 
-/// Takes a token, if there is one.
+/// Goes to the next token, if there is one to skip.
 #[tactic(auto, using(std::proofs::lemmas::Option::slice_get_within))]
-fn take(tokens: &mut Tokens<'_>) {
+fn skip_token(tokens: &mut Tokens<'_>) {
     if let Some(_token) = tokens.ahead() {
         tokens.advance();
     }

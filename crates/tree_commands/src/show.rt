@@ -11,11 +11,14 @@ use std::alloc::Global;
 use std::io;
 use std::rt::Files;
 use tree_index::{FileFormat, SentenceWalk};
-use tree_text::{Selected, TreeText, selected_in, write_tree};
+use tree_text::{SelectedAttribute, TreeText, selected_attribute, write_tree};
 use treefile::{Device, FileDevice};
 
 /// Prints the nodes of a tree file. The grammar is read first, then the whole tree file; only then is
 /// anything printed.
+///
+/// Fails if an input can't be read or is refused, if a record of the tree file is damaged, if the tree does not
+/// have the node, if the grammar does not have one of the attributes, if the output fails (O2), and if memory is refused.
 pub fn show_tree<R: Files + Input + Print>(
     rt: &R,
     alloc: Global,
@@ -65,15 +68,15 @@ fn show_device<R: Print, D: Device>(
     }
 }
 
-/// Returns the attributes of these names. Fails if the grammar has no such attribute.
+/// Returns the attributes of these names. Fails if the grammar does not have one of them, and if memory is refused.
 fn selection_of(
     alloc: Global,
     grammar: &Grammar,
     names: &[&str],
-) -> Result<Vec<Selected>, FaultReport> {
+) -> Result<Vec<SelectedAttribute>, FaultReport> {
     let mut selection = Vec::new(alloc);
     for name in names {
-        match selected_in(grammar, name) {
+        match selected_attribute(grammar, name) {
             Ok(selected) => selection.push(selected).map_err(|_| no_memory(alloc))?,
             Err(fault) => {
                 let mut report = FaultReport::new(alloc, Fault::Usage);

@@ -11,22 +11,22 @@ use treefile::FileDevice;
 /// The path of a tree file.
 #[derive(Drop)]
 pub enum TreePath<'a> {
-    /// It was given.
+    /// The command line named it.
     Given(&'a str),
-    /// It was chosen in the folder that was given.
+    /// It was chosen in the folder that the command line named.
     Chosen(String),
 }
 
 impl<'a> TreePath<'a> {
-    /// Returns a path, or if it is that of a folder, the path of the tree file of the greater pass there: of
-    /// a.agt and b.agt. Fails if memory is refused.
+    /// Returns `path`, or if that is a folder, the path of the tree file of the greater pass there, of a.agt and b.agt.
+    /// Fails if memory is refused.
     pub fn find<R: Files>(rt: &R, alloc: Global, path: &'a str) -> Result<TreePath<'a>, NoMemory> {
         if FileId::of_folder(rt, path)?.is_none() {
             return Ok(TreePath::Given(path));
         }
         let [a, b] = WORK_FILES;
         let (a, b) = (path_in(alloc, path, a)?, path_in(alloc, path, b)?);
-        if passes_at(rt, alloc, a.as_str())? < passes_at(rt, alloc, b.as_str())? {
+        if pass_rank(rt, alloc, a.as_str())? < pass_rank(rt, alloc, b.as_str())? {
             Ok(TreePath::Chosen(b))
         } else {
             Ok(TreePath::Chosen(a))
@@ -48,7 +48,7 @@ impl<'a> TreePath<'a> {
 }
 
 /// Returns one more than the pass of the tree file at `path`; 0 if there is none. Fails if memory is refused.
-fn passes_at<R: Files>(rt: &R, alloc: Global, path: &str) -> Result<u32, NoMemory> {
+fn pass_rank<R: Files>(rt: &R, alloc: Global, path: &str) -> Result<u32, NoMemory> {
     let Ok(mut tree) = FileDevice::existing(rt, alloc, path, CallRecord::new()) else {
         return Ok(0);
     };

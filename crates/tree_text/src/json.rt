@@ -9,7 +9,7 @@ use ag_value::{ErrorCode, NoMemory, Text, Value};
 use std::alloc::Global;
 use tree_index::NodePath;
 
-/// The greatest number that each reader of JSON keeps exactly; -MAX_EXACT is the least.
+/// The greatest number that each reader of JSON keeps exactly, 2^53 - 1; `-MAX_EXACT` is the least.
 const MAX_EXACT: i64 = 9_007_199_254_740_991;
 
 impl TreeText<'_> {
@@ -38,7 +38,7 @@ impl TreeText<'_> {
         Ok(out.push_str("}}\n")?)
     }
 
-    /// Writes the production of a node, or the class of a token.
+    /// Writes the members with the symbol and the production of a node, or with the class of a token.
     fn write_kind_fields(
         &self,
         alloc: Global,
@@ -73,8 +73,8 @@ impl TreeText<'_> {
         }
     }
 
-    /// Writes an attribute with its value, if it is selected and the file has its value. Returns whether it
-    /// did.
+    /// Writes a member with the value of an attribute, if the attribute is selected and the file has its value.
+    /// Returns whether it wrote one.
     fn write_member(
         &self,
         out: &mut String,
@@ -176,7 +176,7 @@ fn write_key(out: &mut String, key: &str) -> Result<(), NoMemory> {
     Ok(out.push_str(", ")?)
 }
 
-/// Writes a number.
+/// Writes a number or, if a reader may not keep it exactly, an object with its text.
 fn write_number(out: &mut String, number: i64) -> Result<(), NoMemory> {
     if -MAX_EXACT <= number && number <= MAX_EXACT {
         return Ok(write!(out, "{number}")?);

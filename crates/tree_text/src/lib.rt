@@ -1,7 +1,7 @@
 //! A tree file as text: a line for each node, indented, in the order of the sentence; or a JSON object for
 //! each. What `aggen show` prints.
 //!
-//! Characters that control a terminal are written by their numbers.
+//! Characters that control a terminal are written as escapes, such as `\u{1b}`.
 #![tactic(auto)]
 
 mod fault;
@@ -15,5 +15,5 @@ mod shown;
 pub use fault::ShowFault;
 pub use names::{ItemName, ProductionText};
 pub use printing::{TreeText, write_tree};
-pub use selection::{Selected, selected_in};
+pub use selection::{SelectedAttribute, selected_attribute};
 pub use shown::write_value;

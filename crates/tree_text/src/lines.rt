@@ -72,7 +72,7 @@ impl TreeText<'_> {
         write_value(alloc, out, value, self.width)
     }
 
-    /// Writes the number of nodes below a node that are left out, if there are any.
+    /// Writes the number of nodes below a node of the last level that is printed, if there are any: they are left out.
     fn write_left_out(&self, out: &mut String, shown: &ShownNode) -> Result<(), NoMemory> {
         if shown.level < self.depth {
             return Ok(());

@@ -1,11 +1,11 @@
-//! The names of items and productions.
+//! Items and productions as they are written in a grammar.
 
 use ag_grammar::{Grammar, Item, Production, Terminal};
 use message_texts::display::PlainText;
 use message_texts::terminals::class_name;
 use std::fmt;
 
-/// An item of a right side, which prints as in the grammar.
+/// An item of a right side, which prints as in the grammar: a symbol or class by its name, a literal in quotes.
 #[derive(Clone, Copy)]
 pub struct ItemName<'a> {
     pub grammar: &'a Grammar,

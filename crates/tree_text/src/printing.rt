@@ -4,7 +4,7 @@ ghost use Rattle.std.specs.Prelude.{IsErrOf};
 ghost use Rattle.treefile.specs.devices.Device.{LeavesContent, Persists};
 
 use crate::fault::ShowFault;
-use crate::selection::Selected;
+use crate::selection::SelectedAttribute;
 use ag_grammar::Item;
 use ag_grammar::limits::{MAX_ATTRIBUTES, MAX_NODES};
 use ag_value::NoMemory;
@@ -24,7 +24,7 @@ pub(crate) struct ShownNode {
     pub(crate) record: NodeRecord,
 }
 
-/// The number of bytes of text from which on it is written to the output.
+/// The number of buffered bytes at which the buffer is written to the output.
 const BUFFER_BYTES: usize = 65_536;
 
 /// What is printed of a tree file.
@@ -35,7 +35,7 @@ pub struct TreeText<'a> {
     /// Its index.
     pub index: &'a TreeIndex,
     /// The attributes that are printed; all if there are none.
-    pub only: &'a [Selected],
+    pub only: &'a [SelectedAttribute],
     /// The greatest level that is printed; that of the first node is 0.
     pub depth: u32,
     /// The greatest number of characters of a value; 0 for whole values.
@@ -54,7 +54,7 @@ impl TreeText<'_> {
                 .any(|it| it.item == item && it.attr == attr)
     }
 
-    /// Returns whether a node is printed: if attributes are selected, only one that has such an attribute.
+    /// Returns whether a node of this item is printed: if attributes are selected, only one that has such an attribute.
     fn is_printed(&self, item: Item) -> bool {
         for attr in 0..MAX_ATTRIBUTES as u16 {
             if self.is_selected(item, attr) && self.format.attribute_name(item, attr).is_some() {
@@ -64,7 +64,8 @@ impl TreeText<'_> {
         self.only.is_empty()
     }
 
-    /// Reads the record of a node that is visited; `None` if the node is not printed.
+    /// Reads the record of a node that is visited; `None` if the node is not printed. Fails with R1 if the record is
+    /// damaged, with D1 if a call of the device fails, and if memory is refused.
     fn read_node<D: Device>(
         &self,
         alloc: Global,
@@ -96,7 +97,7 @@ impl TreeText<'_> {
         }))
     }
 
-    /// Writes a node.
+    /// Writes a node as a line, or as an object.
     fn write_node(
         &self,
         alloc: Global,
@@ -140,7 +141,7 @@ pub fn write_tree<D: Device, W: Write>(
     flush(&mut buffer, out)
 }
 
-/// Writes a text to the output, and empties it.
+/// Writes a text to the output, and empties it. Fails with O2 alone.
 fn flush<W: Write>(buffer: &mut String, out: &mut W) -> Result<(), ShowFault> {
     let Ok(()) = write_text(out, buffer.as_str()) else {
         return Err(ShowFault::Write);

@@ -5,27 +5,30 @@ use ag_grammar::{Grammar, Item, Terminal};
 use message_texts::terminals::class_name;
 use plan_reasons::{NameFault, attribute_named};
 
-/// An attribute that is printed: that of this number of a symbol, or the text of the tokens of a class.
+/// An attribute that is printed: one of a symbol, or the text of the tokens of a class.
 #[derive(Clone, Copy, Debug, PartialEq, Eq)]
-pub struct Selected {
+pub struct SelectedAttribute {
     /// The symbol or the class.
     pub item: Item,
-    /// The attribute's number.
+    /// The attribute's number at the symbol; 0 for a class.
     pub attr: u16,
 }
 
-/// Returns the attribute of a name, such as `L.sum` or `NUMBER.lex`.
-pub fn selected_in<'a>(grammar: &Grammar, name: &'a str) -> Result<Selected, NameFault<'a>> {
+/// Returns the attribute of a name, such as `L.sum` or `NUMBER.lex`. Fails if the grammar has no such attribute.
+pub fn selected_attribute<'a>(
+    grammar: &Grammar,
+    name: &'a str,
+) -> Result<SelectedAttribute, NameFault<'a>> {
     for class in [NAME, NUMBER, TEXT] {
         if name.strip_prefix(class_name(class)) == Some(".lex") {
-            return Ok(Selected {
+            return Ok(SelectedAttribute {
                 item: Item::Terminal(Terminal::Class(class)),
                 attr: 0,
             });
         }
     }
     match attribute_named(grammar, name) {
-        Ok((symbol, attr)) => Ok(Selected {
+        Ok((symbol, attr)) => Ok(SelectedAttribute {
             item: Item::Symbol(symbol),
             attr,
         }),

@@ -26,7 +26,8 @@ pub fn write_value(
     }
 }
 
-/// Writes the first characters of a value that is a text. Only as much of a long one as is needed is shown.
+/// Writes the first characters of a value that is a text. Of a long text, only a prefix is shown
+/// first, one character longer than what is written.
 fn write_text(alloc: Global, out: &mut String, text: &str, width: usize) -> Result<(), NoMemory> {
     let needed = if width == 0 {
         text.len()
@@ -38,7 +39,7 @@ fn write_text(alloc: Global, out: &mut String, text: &str, width: usize) -> Resu
     write_first(out, shown.as_str(), width)
 }
 
-/// Returns the first characters of a text.
+/// Returns the first `count` characters of a text.
 fn first_characters(text: &str, count: usize) -> &str {
     match text.char_indices().nth(count) {
         Some((end, _)) => text.get(..end).unwrap_or(text),

@@ -4,11 +4,11 @@ use Rattle.ag_grammar.specs.declared.grammar.Item.TheVariants as item
 use Rattle.ag_grammar.specs.grammars.Solution.{Same}
 use Rattle.ag_grammar.proofs.grammars.EachNode.{same_weaker}
 use Rattle.ag_grammar.proofs.grammars.Running.{run_begins, run_goes_on}
-use Rattle.treefile.specs.Laws.{GoesOnRun, RefusalGoesBack, RefusalWithinGoesBack, StartsRun}
+use Rattle.treefile.specs.Laws.{RunContinues, RefusalGoesBack, RefusalWithinGoesBack, RunBegins}
 use Rattle.treefile.specs.records.Records.{IsFileOfTree}
 use Rattle.treefile.proofs.SameFile.{same_file}
 
-pub starts_run : StartsRun
+pub starts_run : RunBegins
 starts_run version g m k start before t u tree is = record {
   values = u;
   ran = run_begins g m t u (suc k) is.texts;
@@ -16,7 +16,7 @@ starts_run version g m k start before t u tree is = record {
   other = λ n from e. absurd (omega arith);
 }
 
-pub goes_on_run : GoesOnRun
+pub goes_on_run : RunContinues
 goes_on_run version g m k last start now before next legal le runs pass t u tree is =
     let run = runs t u tree is in
     let one = pass t run.values tree run.file in

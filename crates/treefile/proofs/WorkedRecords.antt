@@ -18,7 +18,7 @@ use Rattle.ag_grammar.proofs.grammars.Running.{sample_ran}
 use Rattle.ag_grammar.proofs.grammars.samples.TokenSample.{fits as token_fits, text as token_text}
 use Rattle.ag_grammar.proofs.values.Wells.{formed, well_text}
 use Rattle.treefile.specs.framing.Ending.{last_body_of, version_one_usable}
-use Rattle.treefile.specs.records.Listed.{AreSpelled, BeginsNoValue, HasRead, IsListedRecord}
+use Rattle.treefile.specs.records.Listed.{AreSpelled, BeginsNoValue, HasReadValues, IsListedRecord}
 use Rattle.treefile.specs.records.OneTree.{IsNumbered, IsRecorded}
 use Rattle.treefile.specs.records.Records.{FitsVersion, IsFileOfTree, node_body}
 use Rattle.treefile.specs.Runs.{HasRun, RanPass, RunsPass, RunsPasses}
@@ -168,7 +168,7 @@ t_listed = record { production = refl; left = refl; count = refl; well = number_
 pub number_spelled : AreSpelled 1 spelled_number
 number_spelled = (number, refl, number_well, simp spellings)
 
-pub number_read : HasRead (spelled_number ++ 9 ∷ []) (Num (pos 65536) ∷ []) (9 ∷ [])
+pub number_read : HasReadValues (spelled_number ++ 9 ∷ []) (Num (pos 65536) ∷ []) (9 ∷ [])
 number_read = record { well = number_well; split = simp spellings }
 
 -- 9 is the first byte of no spelling

@@ -1,4 +1,5 @@
--- The statements of the laws on the files of trees.
+-- The statements of the laws on the files of trees. The letters are mostly those of `records/Records.antt`; u and w are values
+-- too, and d is a direction.
 use Rattle.std.specs.Prelude.{ℕ, suc, ◌≡◌, ◌^◌, ◌<◌, ◌≤◌, ◌++◌, ◌↔◌, List, [], ◌∷◌, Some, None, Ok, slice_get, drop, length, true}
 use Rattle.ag_value.specs.declared.value.Value.{Value}
 use Rattle.ag_grammar.specs.Lists.{Each}
@@ -14,7 +15,7 @@ use Rattle.ag_grammar.specs.grammars.Tree.{Forest, Tree, IsTreeOf, node}
 use Rattle.treefile.specs.framing.ExpectedRecords.{AreThere, Expects, Breaks, Child, HasNoTree, HasNoTreeWithin, IsNodeRecord, ReadSoFar, IsRecordOf, IsTooLarge, Pending, before_others, pending_root, children_with_copies, remaining_of}
 use Rattle.treefile.specs.framing.Backward.{before_frame, next_before, pass_of}
 use Rattle.treefile.specs.framing.Ending.{IsUsable, is_tree_file, last_body_of}
-use Rattle.treefile.specs.records.Listed.{AreSpelled, BeginsNoValue, HasRead, IsListedRecord, count_up_to}
+use Rattle.treefile.specs.records.Listed.{AreSpelled, BeginsNoValue, HasReadValues, IsListedRecord, count_up_to}
 use Rattle.treefile.specs.records.OneTree.{IsNumbered, IsRecorded}
 use Rattle.treefile.specs.records.Orders.{postfix, prefix}
 use Rattle.treefile.specs.records.Records.{FitsVersion, IsFileOfTree, bodies_of, copies_of, node_body, values_up_to}
@@ -51,20 +52,20 @@ abbrev pub FitsAccepted : Version → Type 0
 FitsAccepted version = (g : Grammar) (m : Passes) → IsAccepted g → IsLegal g m → IsNumbered g × FitsVersion version g m
 
 -- No pass was run: the content and the values are unchanged.
-abbrev pub StartsRun : Type 0
-StartsRun = (version : Version) (g : Grammar) (m : Passes) (k : ℕ) (start before : List ℕ) → RunsPasses version g m k k start start before
+abbrev pub RunBegins : Type 0
+RunBegins = (version : Version) (g : Grammar) (m : Passes) (k : ℕ) (start previous : List ℕ) → RunsPasses version g m k k start start previous
 
 -- One more pass was run, from the file of the last one to another content.
-abbrev pub GoesOnRun : Type 0
-GoesOnRun = (version : Version) (g : Grammar) (m : Passes) (k last : ℕ) (start now before next : List ℕ) → IsLegal g m → k ≤ last → RunsPasses version g m k last start now before → RunsPass version g m last now next → RunsPasses version g m k (suc last) start next now
+abbrev pub RunContinues : Type 0
+RunContinues = (version : Version) (g : Grammar) (m : Passes) (k last : ℕ) (start newest previous next : List ℕ) → IsLegal g m → k ≤ last → RunsPasses version g m k last start newest previous → RunsPass version g m last newest next → RunsPasses version g m k (suc last) start next newest
 
 -- If the file after some passes is of no tree, so was the file before them,
 abbrev pub RefusalGoesBack : Type 0
-RefusalGoesBack = (version : Version) (g : Grammar) (m : Passes) (k last : ℕ) (start now before : List ℕ) → RunsPasses version g m k last start now before → HasNoTree version g m last now → HasNoTree version g m k start
+RefusalGoesBack = (version : Version) (g : Grammar) (m : Passes) (k last : ℕ) (start newest previous : List ℕ) → RunsPasses version g m k last start newest previous → HasNoTree version g m last newest → HasNoTree version g m k start
 
 -- also within limits.
 abbrev pub RefusalWithinGoesBack : Type 0
-RefusalWithinGoesBack = (depth nodes : ℕ) (version : Version) (g : Grammar) (m : Passes) (k last : ℕ) (start now before : List ℕ) → RunsPasses version g m k last start now before → HasNoTreeWithin depth nodes version g m last now → HasNoTreeWithin depth nodes version g m k start
+RefusalWithinGoesBack = (depth nodes : ℕ) (version : Version) (g : Grammar) (m : Passes) (k last : ℕ) (start newest previous : List ℕ) → RunsPasses version g m k last start newest previous → HasNoTreeWithin depth nodes version g m last newest → HasNoTreeWithin depth nodes version g m k start
 
 -- A body is the record of a child with at most one list of its own children.
 abbrev pub OneRecord : Type 0
@@ -78,11 +79,11 @@ ListedRecord = (version : Version) (g : Grammar) (m : Passes) (k s : ℕ) (body 
 -- If fewer values were read from some bytes than there should be, and no other value begins after them, the
 -- bytes don't spell that number of values;
 abbrev pub ValueIsMissing : Type 0
-ValueIsMissing = (bytes : List ℕ) (vs : List Value) (rest : List ℕ) (n : ℕ) → HasRead bytes vs rest → length vs < n → BeginsNoValue rest → AreSpelled n bytes → ⊥
+ValueIsMissing = (bytes : List ℕ) (vs : List Value) (rest : List ℕ) (n : ℕ) → HasReadValues bytes vs rest → length vs < n → BeginsNoValue rest → AreSpelled n bytes → ⊥
 
 -- nor do they if all were read and bytes are left over.
 abbrev pub BytesAreLeft : Type 0
-BytesAreLeft = (bytes : List ℕ) (vs : List Value) (rest : List ℕ) (n : ℕ) → HasRead bytes vs rest → length vs ≡ n → 0 < length rest → AreSpelled n bytes → ⊥
+BytesAreLeft = (bytes : List ℕ) (vs : List Value) (rest : List ℕ) (n : ℕ) → HasReadValues bytes vs rest → length vs ≡ n → 0 < length rest → AreSpelled n bytes → ⊥
 
 -- At the end of a content the root is expected,
 abbrev pub ReadingBegins : Type 0
@@ -105,12 +106,12 @@ abbrev pub ExpectedAreThere : Type 0
 ExpectedAreThere = (version : Version) (g : Grammar) (m : Passes) (k deepest : ℕ) (d : Direction) (todo : Pending) (bodies : List (List ℕ)) → Expects version g m k d deepest todo bodies ↔ AreThere version g m k d deepest todo bodies
 
 -- If nothing is expected and the content is the file of a tree, everything was read: the header ends there.
-abbrev pub WayEnds : Type 0
-WayEnds = (version : Version) (g : Grammar) (m : Passes) (k : ℕ) (content : List ℕ) (at count : ℕ) (t : Tree) (v : Valuation) → ReadSoFar version g m k content at count [] → IsTreeOf g t → IsFileOfTree version g m k t v content → next_before version content at ≡ Ok None
+abbrev pub ReadingEnds : Type 0
+ReadingEnds = (version : Version) (g : Grammar) (m : Passes) (k : ℕ) (content : List ℕ) (at count : ℕ) (t : Tree) (v : Valuation) → ReadSoFar version g m k content at count [] → IsTreeOf g t → IsFileOfTree version g m k t v content → next_before version content at ≡ Ok None
 
 -- If the body found before an offset is not the expected one, the content is the file of no tree;
-abbrev pub WayBreaks : Type 0
-WayBreaks = (version : Version) (g : Grammar) (m : Passes) (k : ℕ) (content : List ℕ) (at count : ℕ) (todo : Pending) → ReadSoFar version g m k content at count todo → Breaks version g m k todo (next_before version content at) → HasNoTree version g m k content
+abbrev pub ReadingBreaks : Type 0
+ReadingBreaks = (version : Version) (g : Grammar) (m : Passes) (k : ℕ) (content : List ℕ) (at count : ℕ) (todo : Pending) → ReadSoFar version g m k content at count todo → Breaks version g m k todo (next_before version content at) → HasNoTree version g m k content
 
 -- if a tree at too deep a level, or one record too many, is expected, it is the file of no tree within the
 -- limits;

@@ -1,5 +1,5 @@
 -- Passes over files one after the other: each reads the file of the previous pass and leaves its own, of the
--- same tree (after Jazayeri and Walter 1975).
+-- same tree (after Jazayeri and Walter 1975). The letters are those of `records/Records.antt`; u are values too.
 use Rattle.std.specs.Prelude.{ℕ, suc, ◌≡◌, ◌<◌, ◌≤◌, List}
 use Rattle.ag_grammar.specs.grammars.AttributeGrammar.{Grammar}
 use Rattle.ag_grammar.specs.grammars.Passes.{Passes}
@@ -23,15 +23,15 @@ pub record RanPass (version : Version) (g : Grammar) (m : Passes) (k : ℕ) (t :
 abbrev pub RunsPass : Version → Grammar → Passes → ℕ → (from to : List ℕ) → Type 0
 RunsPass version g m k from to = (t : Tree) (u : Valuation) → IsTreeOf g t → IsFileOfTree version g m k t u from → RanPass version g m k t u to
 
--- Passes from `first` to `last` ran through a tree that had the values u. `now` is the file of the last pass;
--- and if a pass ran, `before` is that of the pass before the last, with the same values (this project's).
-pub record HasRun (version : Version) (g : Grammar) (m : Passes) (t : Tree) (u : Valuation) (first last : ℕ) (now before : List ℕ) : Type 0 where
+-- Passes from `first` to `last` ran through a tree that had the values u. `newest` is the file of the last pass. If a pass ran,
+-- `previous` is the file of the pass before the last, with the same values (this project's).
+pub record HasRun (version : Version) (g : Grammar) (m : Passes) (t : Tree) (u : Valuation) (first last : ℕ) (newest previous : List ℕ) : Type 0 where
   pub values : Valuation
   pub ran : RanThrough g m t u first (suc last) values
-  pub file : IsFileOfTree version g m last t values now
-  pub other : (k : ℕ) → first ≤ last → last ≡ suc k → IsFileOfTree version g m k t values before
+  pub file : IsFileOfTree version g m last t values newest
+  pub other : (k : ℕ) → first ≤ last → last ≡ suc k → IsFileOfTree version g m k t values previous
 
 -- The passes after pass k ran, up to the last: for every tree and values whose file of pass k the start is,
 -- they ran through it and left these two contents (this project's).
-abbrev pub RunsPasses : Version → Grammar → Passes → (k last : ℕ) → (start now before : List ℕ) → Type 0
-RunsPasses version g m k last start now before = (t : Tree) (u : Valuation) → IsTreeOf g t → IsFileOfTree version g m k t u start → HasRun version g m t u (suc k) last now before
+abbrev pub RunsPasses : Version → Grammar → Passes → (k last : ℕ) → (start newest previous : List ℕ) → Type 0
+RunsPasses version g m k last start newest previous = (t : Tree) (u : Valuation) → IsTreeOf g t → IsFileOfTree version g m k t u start → HasRun version g m t u (suc k) last newest previous

@@ -105,7 +105,7 @@ file_of_iffy =
     ++ (1 ∷ 0 ∷ 0 ∷ 1 ∷ 0 ∷ 0 ∷ 0 ∷ 4 ∷ 105 ∷ 102 ∷ 102 ∷ 121 ∷ 0 ∷ 0 ∷ 0 ∷ 12 ∷ [])
     ++ (0 ∷ 0 ∷ 0 ∷ 0 ∷ 0 ∷ 0 ∷ 3 ∷ [])
 
--- the file of pass 0 of `1` in version 2: no child has copies yet
+-- the file of pass 0 of `1` in version 2: no child has a value to copy yet
 abbrev pub copies_0_of_one : List ℕ
 copies_0_of_one =
     (65 ∷ 71 ∷ 84 ∷ 50 ∷ 0 ∷ 0 ∷ [])
@@ -115,8 +115,8 @@ copies_0_of_one =
     ++ (0 ∷ 0 ∷ 1 ∷ 0 ∷ 0 ∷ 0 ∷ 3 ∷ [])
     ++ (0 ∷ 0 ∷ 0 ∷ 0 ∷ 0 ∷ 0 ∷ 3 ∷ [])
 
--- the files of passes 1 and 2 of `1` in version 2: L's record has copies of `bit` of B and of `p` of T, and of `v` of T in pass 2; and
--- N's has one of `p` of L, and those of `v` of L and of Q in pass 2
+-- the files of passes 1 and 2 of `1` in version 2: L's record has copies of `bit` of B and of `p` of T, and of `v` of T in pass 2;
+-- and N's has one of `p` of L, and those of `v` of L and of Q in pass 2
 abbrev pub copies_1_of_one : List ℕ
 copies_1_of_one =
     (65 ∷ 71 ∷ 84 ∷ 50 ∷ 0 ∷ 1 ∷ [])
@@ -142,7 +142,7 @@ copies_of_iffy =
     ++ (1 ∷ 0 ∷ 0 ∷ 1 ∷ 0 ∷ 0 ∷ 0 ∷ 4 ∷ 105 ∷ 102 ∷ 102 ∷ 121 ∷ 0 ∷ 0 ∷ 0 ∷ 12 ∷ [])
     ++ (0 ∷ 0 ∷ 0 ∷ 1 ∷ 0 ∷ 0 ∷ 0 ∷ 4 ∷ 105 ∷ 102 ∷ 102 ∷ 121 ∷ 0 ∷ 0 ∷ 0 ∷ 12 ∷ [])
 
--- all attributes of that grammar are of the first pass
+-- all attributes of the sample grammar with a token are of pass 1
 abbrev pub iffy_passes : Passes
 iffy_passes s = 1 ∷ []
 

@@ -8,9 +8,9 @@ ghost use Rattle.treefile.specs.declared.body.Kind.{Kind};
 /// The kind of a record of a tree file.
 #[derive(Clone, Copy, Debug, PartialEq, Eq)]
 pub enum Kind {
-    /// A node of a tree; its number is that of its production.
+    /// A node of a tree; the record's number is that of its production, from 0.
     Node,
-    /// A leaf of a tree; its number is that of its class.
+    /// A leaf of a tree; the record's number is that of its class of tokens, from 0.
     Token,
 }
 

@@ -17,7 +17,7 @@ use std::marker::Model;
 use std::rt::Files;
 
 /// The greatest number of bytes that are buffered before they are written to the file.
-const GATHERED_BYTES: usize = 65_536;
+const MAX_BUFFERED_BYTES: usize = 65_536;
 
 /// The reason why a device over a file can't be made.
 #[derive(Clone, Copy, Debug, PartialEq, Eq)]
@@ -26,7 +26,7 @@ pub enum FileFault {
     File,
 }
 
-/// The access that a device has to its file.
+/// The access that a device has to its file; contracts name it.
 #[derive(Clone, Copy, Debug, PartialEq, Eq)]
 pub enum Access {
     /// The file is only read.
@@ -48,22 +48,22 @@ pub enum Access {
 #[derive(Drop)]
 pub struct FileDevice<F> {
     file: NotedFile<F>,
-    gathered: Vec<u8>,
+    buffered: Vec<u8>,
     access: Access,
     failed: u64,
 }
 
 impl<F> Model for FileDevice<F> {
-    ghost use Rattle.treefile.specs.devices.Files.{Gathering};
+    ghost use Rattle.treefile.specs.devices.Files.{FileDeviceState};
 
-    ghost Value = { Gathering F };
+    ghost Value = { FileDeviceState F };
 
     ghost view = { λ d. record {
       file = d.file.file;
       events = d.file.events;
       access = d.access;
       failures = d.failed;
-      gathered = d.gathered.items;
+      buffered = d.buffered.items;
     } };
 }
 
@@ -73,12 +73,12 @@ impl<F> FileDevice<F> {
         ensures file { result.file ≡ file.file }
         ensures events { result.events ≡ file.events }
         ensures access { result.access ≡ access }
-        ensures gathered { result.gathered ≡ [] }
+        ensures buffered { result.buffered ≡ [] }
         ensures failures { result.failures ≡ 0 }
     {
         FileDevice {
             file,
-            gathered: Vec::new(alloc),
+            buffered: Vec::new(alloc),
             access,
             failed: 0,
         }
@@ -98,8 +98,8 @@ impl<F> FileDevice<F> {
 }
 
 impl<F: Read + Write + Seek + OpenFile> FileDevice<F> {
-    /// Returns the result of a write to the file. A failed write is counted and breaks the device:
-    /// every later call fails.
+    /// Converts the result of a write to the file. Fails with `Failed` if the write failed; that is counted,
+    /// and breaks the device: every later call fails.
     fn check_write(&mut self, written: io::Result<()>) -> Result<(), DeviceFault>
         ensures ok { OnOk written ((result ≡ Ok tt) × (self.new ≡ self.old)) }
         ensures err { OnErr written (IsErrOf result DeviceFault.Failed) }
@@ -121,7 +121,7 @@ impl<F: Read + Write + Seek + OpenFile> FileDevice<F> {
     pub fn finish(&mut self) -> Result<(), DeviceFault>
         ensures taken { OnOk result
             (Keeps (taken F.contents self.old) (taken F.contents self.new)) }
-        ensures gathered { OnOk result (self.new.gathered ≡ []) }
+        ensures buffered { OnOk result (self.new.buffered ≡ []) }
         ensures access { OnOk result (self.new.access ≡ self.old.access) }
         ensures breaks { OnErr result (self.new.access ≡ Access.Broken) }
         ensures broken { StaysBroken self.old self.new (IsErrOf result DeviceFault.Failed) }
@@ -133,29 +133,31 @@ impl<F: Read + Write + Seek + OpenFile> FileDevice<F> {
         if self.access == Access::Broken {
             return Err(self.fail());
         }
-        if self.gathered.is_empty() {
+        if self.buffered.is_empty() {
             return Ok(());
         }
-        let written = self.file.append(self.gathered.as_slice());
+        let written = self.file.append(self.buffered.as_slice());
         self.check_write(written)?;
-        self.gathered.clear();
+        self.buffered.clear();
         Ok(())
     }
 
-    /// Buffers bytes, for which the buffer has room. Takes memory for them. Fails with NoMemory.
-    fn gather(&mut self, bytes: &[u8]) -> Result<(), DeviceFault>
+    /// Appends bytes to the buffer, without regard to its limit. Takes memory for them. Fails with NoMemory
+    /// if it is refused; nothing has changed then.
+    fn buffer_bytes(&mut self, bytes: &[u8]) -> Result<(), DeviceFault>
         ensures ok { OnOk result (self.new
-            ≡ record self.old { gathered = self.old.gathered ++ bytes.now }) }
+            ≡ record self.old { buffered = self.old.buffered ++ bytes.now }) }
         ensures err { OnErr result (self.new ≡ self.old) }
         ensures memory { IfErr result (λ e. e ≡ DeviceFault.NoMemory) }
     {
-        match self.gathered.extend_from_slice(bytes) {
+        match self.buffered.extend_from_slice(bytes) {
             Ok(()) => Ok(()),
             Err(_) => Err(DeviceFault::NoMemory),
         }
     }
 
-    /// Appends bytes, also if the buffer has no room for them.
+    /// Appends bytes as `append` does, also if they do not fit in the buffer: writes the buffered bytes to
+    /// the file first, and bytes that fill a buffer directly.
     #[cold]
     #[inline(never)]
     fn append_slowly(&mut self, bytes: &[u8]) -> Result<(), DeviceFault>
@@ -167,21 +169,22 @@ impl<F: Read + Write + Seek + OpenFile> FileDevice<F> {
         if self.access != Access::Writing {
             return Err(self.fail());
         }
-        if GATHERED_BYTES.saturating_sub(self.gathered.len()) < bytes.len() {
+        if MAX_BUFFERED_BYTES.saturating_sub(self.buffered.len()) < bytes.len() {
             self.finish()?;
         }
-        if GATHERED_BYTES <= bytes.len() {
+        if MAX_BUFFERED_BYTES <= bytes.len() {
             let written = self.file.append(bytes);
             return self.check_write(written);
         }
-        self.gather(bytes)
+        self.buffer_bytes(bytes)
     }
 }
 
 impl<F: Read + Write + Seek + OpenFile> FileDevice<F> {
     /// Opens the file at `path` for reading and appending, and creates it if there is none. An
-    /// existing content stays until `clear`. `before` is the record that the device continues:
-    /// `CallRecord::new()`. Fails with F1 if the file can't be opened. Takes no memory.
+    /// existing content stays until `clear`. `before` is the record of calls that the device
+    /// continues: `CallRecord::new()` for a new one. Fails with F1 if the file can't be opened. Takes no
+    /// memory.
     pub fn create<Rt: Files<File = F>>(
         rt: &Rt,
         alloc: Global,
@@ -199,8 +202,8 @@ impl<F: Read + Write + Seek + OpenFile> FileDevice<F> {
     }
 
     /// Opens the file at `path` for reading only: `append` and `clear` fail. `before` is the record
-    /// that the device continues: `CallRecord::new()`. Fails with F1 if the file can't be opened. Takes
-    /// no memory.
+    /// of calls that the device continues: `CallRecord::new()` for a new one. Fails with F1 if the file
+    /// can't be opened. Takes no memory.
     pub fn existing<Rt: Files<File = F>>(
         rt: &Rt,
         alloc: Global,
@@ -234,10 +237,10 @@ impl<F: Read + Write + Seek + OpenFile> Device for FileDevice<F> {
         ensures memory { TakesNoMemory result }
         ensures taken { OnOk result
             (Keeps (taken F.contents self.old) (taken F.contents self.new)) }
-        ensures gathered { OnOk result (self.new.gathered ≡ []) }
+        ensures buffered { OnOk result (self.new.buffered ≡ []) }
         ensures access { OnOk result (self.new.access ≡ self.old.access) }
         ensures breaks { OnErr result
-            ((self.new.gathered ≡ []) ⊎ (self.new.access ≡ Access.Broken)) }
+            ((self.new.buffered ≡ []) ⊎ (self.new.access ≡ Access.Broken)) }
         ensures broken { StaysBroken self.old self.new (IsErrOf result DeviceFault.Failed) }
     {
         self.finish()?;
@@ -253,11 +256,11 @@ impl<F: Read + Write + Seek + OpenFile> Device for FileDevice<F> {
         ensures persists { FilePersists self.old self.new (IsErrOf result DeviceFault.Failed) }
         ensures file { AppendsToFile F.contents bytes.now self.old self.new result }
     {
-        let room = GATHERED_BYTES.saturating_sub(self.gathered.len());
+        let room = MAX_BUFFERED_BYTES.saturating_sub(self.buffered.len());
         if self.access != Access::Writing || room <= bytes.len() {
             return self.append_slowly(bytes);
         }
-        self.gather(bytes)
+        self.buffer_bytes(bytes)
     }
 
     fn read_at(&mut self, at: u64, out: &mut [u8]) -> Result<(), DeviceFault>
@@ -268,10 +271,10 @@ impl<F: Read + Write + Seek + OpenFile> Device for FileDevice<F> {
             (content_of self.new) }
         ensures persists { FilePersists self.old self.new (IsErrOf result DeviceFault.Failed) }
         ensures memory { TakesNoMemory result }
-        ensures gathered { OnOk result (self.new.gathered ≡ []) }
+        ensures buffered { OnOk result (self.new.buffered ≡ []) }
         ensures access { OnOk result (self.new.access ≡ self.old.access) }
         ensures breaks { OnErr result
-            ((self.new.gathered ≡ []) ⊎ (self.new.access ≡ Access.Broken)) }
+            ((self.new.buffered ≡ []) ⊎ (self.new.access ≡ Access.Broken)) }
         ensures broken { StaysBroken self.old self.new (IsErrOf result DeviceFault.Failed) }
     {
         self.finish()?;
@@ -286,8 +289,8 @@ impl<F: Read + Write + Seek + OpenFile> Device for FileDevice<F> {
             (Clears (content_of self.old) (content_of self.new) result) }
         ensures persists { FilePersists self.old self.new (IsErrOf result DeviceFault.Failed) }
         ensures memory { TakesNoMemory result }
-        ensures gathered { OnOk result (self.new.gathered ≡ []) }
-        ensures kept { OnErr result (self.new.gathered ≡ self.old.gathered) }
+        ensures buffered { OnOk result (self.new.buffered ≡ []) }
+        ensures kept { OnErr result (self.new.buffered ≡ self.old.buffered) }
         ensures reading { self.old.access ≡ Access.Reading → IsErrOf result DeviceFault.Failed }
         ensures access { OnOk result (self.new.access ≡ self.old.access) }
         ensures broken { StaysBroken self.old self.new (IsErrOf result DeviceFault.Failed) }
@@ -298,7 +301,7 @@ impl<F: Read + Write + Seek + OpenFile> Device for FileDevice<F> {
         if self.file.truncate().is_err() {
             return Err(self.fail());
         }
-        self.gathered.clear();
+        self.buffered.clear();
         Ok(())
     }
 }

@@ -9,8 +9,9 @@ ghost use Rattle.treefile.specs.devices.Fuse.{FuseEffect, Fuse, FusePersists, fa
 use crate::device::{Device, DeviceFault};
 use std::marker::Model;
 
-/// A device that forwards its calls to another one, except one of them: that call fails and does
-/// nothing. It is honest if the other device is.
+/// A device that forwards its calls to another one, `inner`, except one of them: that call fails and
+/// does nothing. It is honest if `inner` is. `left` is the number of calls up to the failing one (1: the
+/// next; 0: none fails), and `failed` the number of failed calls that were not forwarded.
 #[derive(Drop)]
 pub struct FuseDevice<D> {
     inner: D,
@@ -49,21 +50,21 @@ impl<D: Device> FuseDevice<D> {
         &self.inner
     }
 
-    /// Counts a call, and returns whether it is the one that fails.
+    /// Counts a call, and returns whether it is the one that fails; if so, counts the failure.
     fn count_call(&mut self) -> bool
         ensures inner { self.new.inner ≡ self.old.inner }
         ensures left { self.new.left ≡ self.old.left - 1 }
-        ensures count_call { IsTrue result ↔ (self.old.left ≡ 1) }
+        ensures failing { IsTrue result ↔ (self.old.left ≡ 1) }
         ensures kept { IsFalse result → self.new.failed ≡ self.old.failed }
         ensures counts { self.old.failed ≤ self.new.failed }
         ensures risen { IsTrue result → HasRisen self.old.failed self.new.failed }
     {
-        let count_call = self.left == 1;
+        let is_failing = self.left == 1;
         self.left = self.left.saturating_sub(1);
-        if count_call {
+        if is_failing {
             self.failed = self.failed.saturating_add(1);
         }
-        count_call
+        is_failing
     }
 }
 

@@ -1,4 +1,5 @@
-//! Laws about the definitions of tree files, in every version.
+//! Laws about the definitions of tree files, in every version. Each is the contract of a function with an empty
+//! body.
 
 ghost use Rattle.std.specs.Prelude.{◌≡◌, ◌≤◌, ◌<◌, ◌^◌, ◌++◌, ◌∷◌, ◌↔◌, ℕ, List, [], All};
 ghost use Rattle.std.specs.Prelude.{Ok, Err, length, reverse, take, true};

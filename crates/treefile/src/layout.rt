@@ -4,7 +4,7 @@ ghost use Rattle.std.specs.Prelude.{◌≡◌};
 ghost use Rattle.treefile.specs.framing.Ending.{greatest_body};
 ghost use Rattle.treefile.specs.records.TreeFile.{header, version_of, version_two};
 
-use ag_grammar::limits::{MAX_ATTRIBUTES, MAX_STORED};
+use ag_grammar::limits::{MAX_ATTRIBUTES, MAX_CHILDREN};
 use ag_value::MAX_WEIGHT;
 
 /// The number of bytes of a header: four of the magic, and two of the pass number.
@@ -18,7 +18,7 @@ pub const LEAST_BODY: u64 = 3;
 
 /// The greatest number of values of a record: those of all attributes of its symbol, and as many
 /// for each child.
-pub const MAX_VALUES: usize = MAX_ATTRIBUTES + MAX_STORED * MAX_ATTRIBUTES;
+pub const MAX_VALUES: usize = MAX_ATTRIBUTES + MAX_CHILDREN * MAX_ATTRIBUTES;
 
 /// The greatest number of bytes of a body of version 1: the least body, and the greatest values of
 /// all attributes of a symbol.

@@ -1,5 +1,5 @@
-//! Tree files: devices that keep bytes, the frames of a file, writing records, and reading the last
-//! one.
+//! Tree files: devices that store bytes, the frames of a file, writing records, and reading the last
+//! one. A *body* is the bytes of one node's record, and a *frame* is a body followed by its length.
 #![tactic(auto)]
 
 mod body;
@@ -26,9 +26,9 @@ pub use memory::MemDevice;
 pub use reading::{FrameFault, fits_before, last_body, pass_in, read_body};
 pub use shared::SharedDevice;
 pub use tree_laws::{
-    files_have_one_tree, first_files_are_one, lists_determine_trees, orders_turn_round,
-    passes_follow_files, reading_is_followed, records_are_read, records_determine_trees,
-    refusals_are_true, root_is_last, trees_are_read_back, worked_files, worked_reading,
+    files_have_one_tree, first_files_are_one, lists_determine_trees, passes_follow_files,
+    reading_is_followed, records_are_read, records_determine_trees, refusals_are_true,
+    reversed_postfix_is_prefix, root_is_last, trees_are_read_back, worked_files, worked_reading,
     worked_records,
 };
 pub use writing::Writer;

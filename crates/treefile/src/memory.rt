@@ -6,7 +6,7 @@ use crate::device::{Device, DeviceFault};
 use std::alloc::Global;
 use std::marker::Model;
 
-/// A device in memory. Contracts see its bytes. It is honest, and never fails.
+/// A device in memory. Contracts see its bytes. It is honest, and never fails with `Failed`.
 #[derive(Drop)]
 pub struct MemDevice {
     bytes: Vec<u8>,
@@ -21,7 +21,7 @@ impl Model for MemDevice {
 }
 
 impl MemDevice {
-    /// Makes an empty device, which grows by the allocator. Takes no memory.
+    /// Makes an empty device, which takes memory from `alloc` when it grows. Takes no memory itself.
     pub fn new(alloc: Global) -> MemDevice
         ensures { result ≡ [] }
     {

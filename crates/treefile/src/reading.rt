@@ -81,7 +81,7 @@ pub fn pass_in<D: Device>(version: FileVersion, device: &mut D, end: u64) -> Res
     Ok(u16::from_be_bytes([high, low]))
 }
 
-/// Returns whether bytes begin with the magic of a version.
+/// Returns whether bytes begin with the magic (the first four bytes) of a version.
 fn has_magic(version: FileVersion, bytes: &[u8]) -> bool
     ensures found { result ≡ starts_with nat_eq bytes.now (version_of version).magic }
     ensures bytes { IsBytes bytes.now }
@@ -122,7 +122,7 @@ pub fn fits_before(version: FileVersion, at: u64, length: u64) -> bool
 }
 
 /// Fills a vector with `count` bytes of a device from offset `at` on. The old content of the vector
-/// is dropped.
+/// is dropped. Fails with D1 if the device fails, and with NoMemory if memory is refused.
 #[tactic(auto, using(std::proofs::lemmas::List::take_at))]
 fn fill_from<D: Device>(
     device: &mut D,

@@ -12,8 +12,8 @@ use shared_bytes::{Body, SharedBytes};
 use std::alloc::Global;
 use std::marker::Model;
 
-/// A device in memory that shares large values with their other owners. Contracts see the bytes. It is
-/// honest, and never fails.
+/// A device in memory that does not copy a shared value which is appended or lent, but becomes one more
+/// owner of it. Contracts see the bytes. It is honest, and never fails with `Failed`.
 #[derive(Drop)]
 pub struct SharedDevice {
     bytes: SharedBytes,
@@ -28,7 +28,7 @@ impl Model for SharedDevice {
 }
 
 impl SharedDevice {
-    /// Returns an empty device, which grows by the allocator. Takes no memory.
+    /// Makes an empty device, which takes memory from `alloc` when it grows. Takes no memory itself.
     pub fn new(alloc: Global) -> SharedDevice
         ensures { result ≡ [] }
     {
@@ -38,7 +38,7 @@ impl SharedDevice {
     }
 }
 
-/// Returns whether there are `count` bytes from an offset on.
+/// Returns whether there are `count` bytes from offset `at` on.
 fn has_part(bytes: &SharedBytes, at: u64, count: usize) -> bool
     ensures { IsTrue result ↔ (at + count ≤ length bytes.now) }
 {
@@ -108,7 +108,7 @@ fn body_between(bytes: &SharedBytes, at: u64) -> Option<Body<'_>>
     ensures bytes { IfSome result
         (λ body. IsBytes (drop (at - length_bytes - length body) bytes.now)) }
 {
-    // for the prover: the parts of `bytes` are bytes
+    // unused at run time: its contract shows the prover that each item of `bytes` is below 256
     let _count = bytes.len();
     if at < HEADER_BYTES + LENGTH_BYTES {
         return None;

@@ -1,4 +1,5 @@
-//! Laws about the definitions of trees of bodies and of their files.
+//! Laws about the definitions of trees of bodies and of their files. Each is the contract of a function with an
+//! empty body. `binary` is the grammar of binary fractions in `specs/Worked.antt`.
 
 ghost use Rattle.std.specs.Prelude.{◌≡◌, ◌≤◌, ◌++◌, ◌∷◌, ℕ, List, [], Option, None, All, Ok, length, pos};
 ghost use Rattle.std.specs.Prelude.{reverse};
@@ -19,14 +20,14 @@ ghost use Rattle.treefile.specs.framing.Backward.{ReadsBack};
 ghost use Rattle.treefile.specs.framing.Ending.{IsBody, IsUsable, last_body_of};
 ghost use Rattle.treefile.specs.records.FirstFile.{IsFirstFile, first_file};
 ghost use Rattle.treefile.specs.Laws.{AllPending, ExpectedAreThere, BytesAreLeft, FitsAccepted};
-ghost use Rattle.treefile.specs.Laws.{GoesOnRun, ListedRecord, NextPending, NoFileHasNoTree, OneNode};
+ghost use Rattle.treefile.specs.Laws.{RunContinues, ListedRecord, NextPending, NoFileHasNoTree, OneNode};
 ghost use Rattle.treefile.specs.Laws.{OneReading, OneRecord, OneTreeAtEnd, OneTreeBefore};
 ghost use Rattle.treefile.specs.Laws.{RefusalGoesBack, RefusalWithinGoesBack, RootIsLast, SameFile};
-ghost use Rattle.treefile.specs.Laws.{StartsRun, ValueIsMissing, ValuesAreWhole, ReadingBegins};
-ghost use Rattle.treefile.specs.Laws.{WayBreaks, WayEnds, ReadingContinues, ReadingIsTooLong};
-ghost use Rattle.treefile.specs.records.Listed.{AreSpelled, BeginsNoValue, HasRead, IsListedRecord};
+ghost use Rattle.treefile.specs.Laws.{RunBegins, ValueIsMissing, ValuesAreWhole, ReadingBegins};
+ghost use Rattle.treefile.specs.Laws.{ReadingBreaks, ReadingEnds, ReadingContinues, ReadingIsTooLong};
+ghost use Rattle.treefile.specs.records.Listed.{AreSpelled, BeginsNoValue, HasReadValues, IsListedRecord};
 ghost use Rattle.treefile.specs.records.OneTree.{IsNumbered, IsRecorded};
-ghost use Rattle.treefile.specs.records.Orders.{BodyTree, IsRanked, postfix, prefix};
+ghost use Rattle.treefile.specs.records.Orders.{BodyTree, MatchesArity, postfix, prefix};
 ghost use Rattle.treefile.specs.records.Records.{FitsVersion, IsFileOfTree, bodies_of, file_of_tree};
 ghost use Rattle.treefile.specs.Runs.{RunsPass, RunsPasses};
 ghost use Rattle.treefile.specs.records.TreeFile.{Version, file, header, version_one, version_two};
@@ -37,7 +38,7 @@ ghost use Rattle.treefile.specs.Worked.{pass_2_of_one, production_of, record_of_
 ghost use Rattle.treefile.specs.Worked.{record_of_t, spelled_number, tree_of_one, values_of_one};
 
 /// The reverse of the postfix list of a direction is the prefix list of the other direction.
-pub fn orders_turn_round()
+pub fn reversed_postfix_is_prefix()
     ensures { (direction : Direction) (tree : BodyTree) →
         reverse (postfix direction tree) ≡ prefix (other direction) tree }
 {}
@@ -46,12 +47,12 @@ pub fn orders_turn_round()
 /// of at most one tree, and ends with the postfix list of at most one. So no prefix list is a
 /// proper prefix of another, and a list is that of at most one tree.
 pub fn lists_determine_trees()
-    ensures begins { (rank : List ℕ → Option ℕ) (direction : Direction) (tree another : BodyTree)
-        (rest others : List (List ℕ)) → IsRanked rank tree → IsRanked rank another →
+    ensures begins { (arity : List ℕ → Option ℕ) (direction : Direction) (tree another : BodyTree)
+        (rest others : List (List ℕ)) → MatchesArity arity tree → MatchesArity arity another →
         prefix direction tree ++ rest ≡ prefix direction another ++ others →
         (tree ≡ another) × (rest ≡ others) }
-    ensures ends { (rank : List ℕ → Option ℕ) (direction : Direction) (tree another : BodyTree)
-        (leading others : List (List ℕ)) → IsRanked rank tree → IsRanked rank another →
+    ensures ends { (arity : List ℕ → Option ℕ) (direction : Direction) (tree another : BodyTree)
+        (leading others : List (List ℕ)) → MatchesArity arity tree → MatchesArity arity another →
         leading ++ postfix direction tree ≡ others ++ postfix direction another →
         (tree ≡ another) × (leading ≡ others) }
 {}
@@ -110,21 +111,21 @@ pub fn files_have_one_tree()
     ensures two { FitsAccepted version_two }
 {}
 
-/// Passes over files, one after the other. Before the first pass the file is unchanged, and each
-/// further pass reads the file that the previous one left. If that file is of no tree of the
-/// grammar, neither was the first one, also within limits: what a later pass refuses is refused of
-/// the first file.
+/// Passes over files run one after the other. Before the first pass the file is unchanged, and each
+/// further pass reads the file that the previous one left. If that file encodes no tree of the grammar,
+/// neither does the first one, also within limits: so a fault that a later pass finds is a fault of the
+/// first file.
 pub fn passes_follow_files()
-    ensures begins { StartsRun }
-    ensures goes { GoesOnRun }
+    ensures begins { RunBegins }
+    ensures goes { RunContinues }
     ensures refused { RefusalGoesBack }
     ensures within { RefusalWithinGoesBack }
 {}
 
-/// Reading a content from its end to its header: the root is expected first, and after a record its
-/// children, which the record determines, one by one in the direction of the next pass. The
-/// expected bodies are the records of their trees. If nothing more is expected of the file of a
-/// tree, all of it was read.
+/// When a content is read from its end to its header, the root is expected first. After a record its
+/// children are expected, which the record determines, one by one in the direction of the next pass.
+/// The expected bodies are the records of the trees of these children. If nothing more is expected and
+/// the content is the file of a tree, all of it was read.
 pub fn reading_is_followed()
     ensures one { OneRecord }
     ensures begins { ReadingBegins }
@@ -132,14 +133,14 @@ pub fn reading_is_followed()
     ensures next { NextPending }
     ensures all { AllPending }
     ensures there { ExpectedAreThere }
-    ensures ends { WayEnds }
+    ensures ends { ReadingEnds }
 {}
 
 /// If a content does not begin as a tree file of the pass, or a body found in reading is not the
 /// expected one, it is the file of no tree. If too much is expected, it is the file of no tree within
 /// the limits of levels and nodes.
 pub fn refusals_are_true()
-    ensures breaks { WayBreaks }
+    ensures breaks { ReadingBreaks }
     ensures long { ReadingIsTooLong }
     ensures header { NoFileHasNoTree }
 {}
@@ -181,7 +182,7 @@ pub fn worked_records()
     ensures listed { IsListedRecord version_one binary binary_passes 1 3 record_of_t 4 (production_of 3 [])
         (Num (pos 65536) ∷ []) }
     ensures spelled { AreSpelled 1 spelled_number }
-    ensures read { HasRead (spelled_number ++ 9 ∷ []) (Num (pos 65536) ∷ []) (9 ∷ []) }
+    ensures read { HasReadValues (spelled_number ++ 9 ∷ []) (Num (pos 65536) ∷ []) (9 ∷ []) }
     ensures nothing { BeginsNoValue (9 ∷ []) }
     ensures missing { AreSpelled 2 (spelled_number ++ 9 ∷ []) → ⊥ }
 {}

@@ -1,4 +1,6 @@
-//! Writing a tree file: its header, and then the frames of its records.
+//! Writing a tree file: its header, and then the frames of its records. The private functions that fill a
+//! buffer or parts fail only if memory is refused; these then have arbitrary bytes. Records with one, two or
+//! three numbers have functions of their own, which need no buffer.
 
 ghost use Rattle.std.specs.Prelude.{◌≡◌, ◌++◌, ◌∷◌, ◌+◌, ◌-◌, ◌<◌, ◌≤◌, ◌^◌, ◌⊎◌, [], length};
 ghost use Rattle.std.specs.Prelude.{true, false, All, IfOk, IfSome, IsErrOf, Ok, OnOk};
@@ -8,7 +10,7 @@ ghost use Rattle.ag_value.specs.Well.{IsWell};
 ghost use Rattle.treefile.specs.devices.Device.{Appends, AppendsPrefix, LeavesContent, Persists};
 ghost use Rattle.treefile.specs.devices.Device.{WhenHonest};
 ghost use Rattle.treefile.specs.framing.Ending.{IsBody};
-ghost use Rattle.treefile.specs.framing.Puts.{SettlesPut};
+ghost use Rattle.treefile.specs.framing.Puts.{PutEffect};
 ghost use Rattle.treefile.specs.records.TreeFile.{body_of, frame, header, version_two};
 
 use crate::body::Kind;
@@ -140,7 +142,7 @@ impl Writer {
     }
 
     /// Appends the frame of a record of carried values, as `put` does with values. If some of them
-    /// are shared, the device may share them too (`Device::append_parts`).
+    /// are shared, the device may share them too (`Device::append_parts`). Fails as `put` does.
     #[inline(always)]
     pub fn put_carried<D: Device>(
         &mut self,
@@ -196,14 +198,14 @@ impl Writer {
             let answer = device.append(&frame);
             return self.finish_call(answer);
         }
-        let answer = self.append_row(device, kind, number, values);
+        let answer = self.append_record(device, kind, number, values);
         self.finish_call(answer)
     }
 
     /// Appends the frame of a record of carried values by one call of the device: `append_parts` if
-    /// some of the values are shared, else `append`.
+    /// some of the values are shared, else `append`. Does not count it. Fails as the device does.
     #[inline(always)]
-    fn append_row<D: Device>(
+    fn append_record<D: Device>(
         &mut self,
         device: &mut D,
         kind: Kind,
@@ -237,7 +239,7 @@ impl Writer {
         requires room { self.old.written < 2 ^ 64 - 1 }
         ensures frame { OnOk result (WhenHonest (D.is_honest device.new)
             (D.content device.new ≡ D.content device.old ++ frame body.now)) }
-        ensures writer { SettlesPut device.old device.new self.old self.new result }
+        ensures writer { PutEffect device.old device.new self.old self.new result }
 
         // D1: a prefix of the frame
         ensures device { IsErrOf result DeviceFault.Failed → WhenHonest (D.is_honest device.new)
@@ -260,8 +262,8 @@ impl Writer {
         self.finish_call(answer)
     }
 
-    /// Records the result of appending a frame: counts the frame, or marks the writer as broken
-    /// after `Failed`. Returns the result.
+    /// Updates the writer for the result of appending a frame: counts the frame, or marks the writer as
+    /// broken after `Failed`. Returns the result.
     #[inline(always)]
     fn finish_call(&mut self, answer: Result<(), DeviceFault>) -> Result<(), DeviceFault>
         requires { self.old.written < 2 ^ 64 - 1 }
@@ -365,7 +367,7 @@ fn frame_of_triple(kind: Kind, number: u16, first: i64, second: i64, third: i64)
     ]
 }
 
-/// Returns the spelling of a number.
+/// Returns the spelling of a number: the tag 0, and the number in 8 bytes, big-endian.
 #[tactic(auto, using(ag_value::proofs::Layers::spellings))]
 fn number_spelling(n: i64) -> [u8; 9]
     ensures { result ≡ spelling_of (Value.Num n) }
@@ -390,7 +392,7 @@ fn fill_frame(
     Ok(())
 }
 
-/// Completes the body in the buffer to its frame, by its length.
+/// Completes the body in the buffer to its frame: appends its length.
 fn close_frame(buffer: &mut Vec<u8>) -> Result<(), AllocError>
     requires { IsBody version_two buffer.old.items }
     ensures { OnOk result (buffer.new.items ≡ frame buffer.old.items) }
@@ -427,7 +429,7 @@ fn append_values(buffer: &mut Vec<u8>, values: &[Value]) -> Result<(), NoMemory>
     Ok(())
 }
 
-/// Appends the spelling of a value; a number's in one step.
+/// Appends the spelling of a value.
 fn append_value(buffer: &mut Vec<u8>, value: &Value) -> Result<(), NoMemory>
     requires { IsWell value.now }
     ensures { OnOk result (buffer.new.items ≡ buffer.old.items ++ spelling_of value.now) }
@@ -521,7 +523,7 @@ fn append_carried_values(buffer: &mut Vec<u8>, values: &[Carried]) -> Result<(),
     Ok(())
 }
 
-/// Appends the spelling of a carried value; a number's in one step.
+/// Appends the spelling of a carried value.
 #[inline(always)]
 fn append_carried(buffer: &mut Vec<u8>, value: &Carried) -> Result<(), NoMemory>
     requires { IsWell value.now }
@@ -534,8 +536,8 @@ fn append_carried(buffer: &mut Vec<u8>, value: &Carried) -> Result<(), NoMemory>
     Ok(())
 }
 
-/// Fills `parts` with the frame of a record of carried values, and shares those that are shared.
-/// `buffer` is used for the others.
+/// Fills `parts` with the frame of a record of carried values. Shared values are not copied: `parts`
+/// becomes one more owner. `buffer` is used to spell the others.
 fn fill_parts(
     parts: &mut SharedBytes,
     buffer: &mut Vec<u8>,
@@ -551,7 +553,7 @@ fn fill_parts(
     close_parts(parts)
 }
 
-/// Completes the body in `parts` to its frame, by its length.
+/// Completes the body in `parts` to its frame: appends its length.
 fn close_parts(parts: &mut SharedBytes) -> Result<(), NoMemory>
     requires { IsBody version_two parts.old }
     ensures { OnOk result (parts.new ≡ frame parts.old) }

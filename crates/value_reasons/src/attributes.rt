@@ -13,12 +13,12 @@ use causes::{Cause, ChainStart, find_cause, rule_for};
 use message_texts::display::PlainText;
 use std::alloc::Global;
 use tree_index::{NodeKind, NodePath, NodeRecord, TreeFault};
-use tree_text::{ItemName, ProductionText, Selected, write_value};
+use tree_text::{ItemName, ProductionText, SelectedAttribute, write_value};
 use treefile::Device;
 
-/// The attributes of a node that are explained.
+/// Which node is explained, and which of its attributes.
 #[derive(Clone, Copy)]
-pub struct Question<'a> {
+pub struct NodeRequest<'a> {
     /// The places from the root to the node.
     pub places: &'a [u16],
     /// The names of the attributes; all if there are none.
@@ -41,7 +41,7 @@ impl<'a> ExplainedTree<'a> {
     pub fn write_node<D: Device>(
         &self,
         out: &mut String,
-        question: &Question<'_>,
+        request: &NodeRequest<'_>,
         device: &mut D,
     ) -> Result<(), TreeFault>
         ensures content { LeavesContent (D.is_honest device.new)
@@ -50,7 +50,7 @@ impl<'a> ExplainedTree<'a> {
             (D.failures device.old) (D.failures device.new) (IsErrOf result TreeFault.Device) }
     {
         let grammar = self.format.grammar;
-        let Some(node) = self.index.find(grammar, question.places) else {
+        let Some(node) = self.index.find(grammar, request.places) else {
             return Ok(());
         };
         let Some(item) = self.index.item(grammar, node) else {
@@ -59,22 +59,22 @@ impl<'a> ExplainedTree<'a> {
         let Some(record) = self.read_node(node, device)? else {
             return Ok(());
         };
-        self.write_heading(out, question.places, item, &record)?;
+        self.write_heading(out, request.places, item, &record)?;
         for attr in 0..MAX_ATTRIBUTES as u16 {
-            let selected = Selected { item, attr };
-            if self.is_selected(selected, question.names) {
-                self.write_value_line(out, selected, &record, question.width)?;
-                self.write_reason(out, question, selected, device)?;
+            let selected = SelectedAttribute { item, attr };
+            if self.is_selected(selected, request.names) {
+                self.write_value_line(out, selected, &record, request.width)?;
+                self.write_reason(out, request, selected, device)?;
                 if self.is_explained_error(&record, selected) {
-                    self.write_cause_of(out, question.places, selected, device)?;
+                    self.write_cause_of(out, request.places, selected, device)?;
                 }
             }
         }
         Ok(())
     }
 
-    /// Returns whether an item has an attribute, and it is explained: its name is given, or no name is.
-    fn is_selected(&self, selected: Selected, names: &[&str]) -> bool {
+    /// Returns whether an item has an attribute that is explained: its name is among `names`, or `names` is empty.
+    fn is_selected(&self, selected: SelectedAttribute, names: &[&str]) -> bool {
         match self.format.attribute_name(selected.item, selected.attr) {
             Some(name) => names.is_empty() || names.iter().any(|given| *given == name),
             None => false,
@@ -111,11 +111,11 @@ impl<'a> ExplainedTree<'a> {
     fn write_value_line(
         &self,
         out: &mut String,
-        selected: Selected,
+        selected: SelectedAttribute,
         record: &NodeRecord,
         width: usize,
     ) -> Result<(), NoMemory> {
-        let Selected { item, attr } = selected;
+        let SelectedAttribute { item, attr } = selected;
         let name = self.format.attribute_name(item, attr).unwrap_or("");
         write!(out, "{}", PlainText(name))?;
         match (
@@ -138,12 +138,13 @@ impl<'a> ExplainedTree<'a> {
         Ok(out.push('\n')?)
     }
 
-    /// Writes the rule for an attribute of a node, if there is one, with the values of its arguments.
+    /// Writes the rule for an attribute of a node, if there is one, with the values of its arguments. Fails with R1
+    /// if a record is damaged, with D1 if a call of the device fails, and if memory is refused.
     fn write_reason<D: Device>(
         &self,
         out: &mut String,
-        question: &Question<'_>,
-        selected: Selected,
+        request: &NodeRequest<'_>,
+        selected: SelectedAttribute,
         device: &mut D,
     ) -> Result<(), TreeFault>
         ensures content { LeavesContent (D.is_honest device.new)
@@ -151,7 +152,7 @@ impl<'a> ExplainedTree<'a> {
         ensures persists { Persists (D.is_honest device.old) (D.is_honest device.new)
             (D.failures device.old) (D.failures device.new) (IsErrOf result TreeFault.Device) }
     {
-        let Some(place) = self.rule_place(question.places, selected) else {
+        let Some(place) = self.rule_place(request.places, selected) else {
             return Ok(());
         };
         let Some(found) = self.find_rule(place, device)? else {
@@ -159,7 +160,7 @@ impl<'a> ExplainedTree<'a> {
         };
         let path = NodePath::of_places(self.alloc, place.places)?;
         self.write_rule_line(out, &found, &path, place.target)?;
-        Ok(self.write_arguments(out, &found, path, question.width)?)
+        Ok(self.write_arguments(out, &found, path, request.width)?)
     }
 
     /// Writes a line with a rule, and with the path of its node if its target is at a child.
@@ -181,8 +182,12 @@ impl<'a> ExplainedTree<'a> {
 
     /// Returns the place of the rule for an attribute of the node at the end of a path: the node's own rule
     /// for a synthesized attribute, its parent's for an inherited one. A token's text has none.
-    fn rule_place<'p>(&self, places: &'p [u16], selected: Selected) -> Option<RulePlace<'p>> {
-        let Selected { item, attr } = selected;
+    fn rule_place<'p>(
+        &self,
+        places: &'p [u16],
+        selected: SelectedAttribute,
+    ) -> Option<RulePlace<'p>> {
+        let SelectedAttribute { item, attr } = selected;
         let Item::Symbol(number) = item else {
             return None;
         };
@@ -200,7 +205,7 @@ impl<'a> ExplainedTree<'a> {
         })
     }
 
-    /// Reads the record of the node of a rule, if there is such a rule.
+    /// Reads the record of the node of a rule, and returns it with the rule. None if there is no such rule.
     fn find_rule<D: Device>(
         &self,
         place: RulePlace<'_>,
@@ -255,9 +260,9 @@ impl<'a> ExplainedTree<'a> {
         Ok(())
     }
 
-    /// Returns whether the value of an attribute is an error, and the file is of the last pass, so that it has
-    /// the cause.
-    fn is_explained_error(&self, record: &NodeRecord, selected: Selected) -> bool {
+    /// Returns whether the value of an attribute is an error whose cause can be found: only the file of the last pass
+    /// has the values of all rules.
+    fn is_explained_error(&self, record: &NodeRecord, selected: SelectedAttribute) -> bool {
         let is_whole = self.format.pass == self.format.plan.assignment().passes();
         is_whole && is_error(self.format.own_value(record, selected.item, selected.attr))
     }
@@ -267,7 +272,7 @@ impl<'a> ExplainedTree<'a> {
         &self,
         out: &mut String,
         places: &[u16],
-        selected: Selected,
+        selected: SelectedAttribute,
         device: &mut D,
     ) -> Result<(), TreeFault>
         ensures content { LeavesContent (D.is_honest device.new)
@@ -300,7 +305,7 @@ fn is_error(value: Option<&Carried>) -> bool {
     }
 }
 
-/// Writes how a line about a cause begins, and returns where its node is.
+/// Writes how a line about a cause begins, and returns the text that says where its node is.
 fn write_beginning(alloc: Global, out: &mut String, cause: &Cause) -> Result<String, NoMemory> {
     out.push_str("  the error ")?;
     let path = NodePath::of_places(alloc, cause.places.as_slice())?;

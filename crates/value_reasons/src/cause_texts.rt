@@ -14,7 +14,7 @@ use std::alloc::Global;
 use tree_index::{FileFormat, NodePath, TokenCounts, TreeFault, TreeIndex};
 use treefile::Device;
 
-/// A translation that is an error.
+/// A translation that is an error, with what a message about it is made of.
 #[derive(Clone, Copy)]
 pub struct ErrorTranslation<'a> {
     /// The grammar.
@@ -80,7 +80,7 @@ impl<'a> ErrorTranslation<'a> {
         }
     }
 
-    /// Returns where the node of a cause is: in the sentence or, if there is none, in the tree.
+    /// Returns a text that says where the node of a cause is: in the sentence or, if there is none, in the tree.
     fn place_of<D: Device>(
         &self,
         tree: &ExplainedTree<'_>,
@@ -100,8 +100,8 @@ impl<'a> ErrorTranslation<'a> {
         Ok(place_in_tree(tree.alloc, cause, tokens.as_str())?)
     }
 
-    /// Returns the place in a sentence of the first token of a cause's node; of a node without tokens that of
-    /// the next token.
+    /// Returns a text with the place in a sentence of the first token of a cause's node; for a node without tokens
+    /// that of the next token. It is empty if the place can't be found.
     fn place_in_sentence(
         &self,
         tree: &ExplainedTree<'_>,
@@ -135,7 +135,7 @@ fn number_of_out(names: &[Text]) -> u16 {
     0
 }
 
-/// Returns the place of a cause's node in its tree: its path, and its first tokens.
+/// Returns a text with the place of a cause's node in its tree: its path, and its first tokens.
 fn place_in_tree(alloc: Global, cause: &Cause, tokens: &str) -> Result<String, NoMemory> {
     let path = NodePath::of_places(alloc, cause.places.as_slice())?;
     if tokens.is_empty() {

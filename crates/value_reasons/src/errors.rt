@@ -16,11 +16,11 @@ use tree_index::{NodePath, SentenceWalk, TreeFault, body_before};
 use tree_text::ShowFault;
 use treefile::Device;
 
-/// The number of bytes of text from which on it is written to the output.
+/// The number of buffered bytes at which the buffer is written to the output.
 const BUFFER_BYTES: usize = 65_536;
 
 impl<'a> ExplainedTree<'a> {
-    /// Reads the body of the record that ends at an offset.
+    /// Reads the body of the record that ends at the offset `end` in bytes.
     fn read_body<D: Device>(&self, end: u64, device: &mut D) -> Result<Vec<u8>, TreeFault>
         ensures content { LeavesContent (D.is_honest device.new)
             (D.content device.old) (D.content device.new) }
@@ -85,8 +85,8 @@ impl<'a> ExplainedTree<'a> {
         self.write_errors_in(out, path, number, &row)
     }
 
-    /// Writes a line for each rule of a production in which an error arises with the values of a row. Returns
-    /// the number of such rules.
+    /// Writes a line for each rule of a production in which an error arises with the values of the row, those of the
+    /// node's record. Returns the number of such rules.
     fn write_errors_in(
         &self,
         out: &mut String,

@@ -1,4 +1,4 @@
-//! A tree file with its grammar, which explanations are made of.
+//! A tree file with its grammar: what explanations are made of.
 
 use ag_grammar::RawGrammar;
 use ag_text::read_grammar;
@@ -23,7 +23,7 @@ pub struct ExplainedTree<'a> {
 }
 
 impl<'a> ExplainedTree<'a> {
-    /// Reads the text of a grammar again, for explanations of a file of it. Fails if memory is refused.
+    /// Reads the text of a grammar again, and returns it with a tree file of that grammar. Fails if memory is refused.
     pub fn new(
         alloc: Global,
         source: Source<'a>,

@@ -17,15 +17,17 @@ const MAX_TOKENS: usize = 3;
 /// The greatest number of characters of a token.
 const MAX_CHARACTERS: usize = 24;
 
-/// A node whose tokens are written: the next item of its production, and the number of children before it.
+/// A node of which some tokens were written.
 #[derive(Clone, Copy)]
 struct OpenNode {
     node: u32,
+    /// The index of the next item of its production.
     item: usize,
+    /// The number of children before that item.
     children: u16,
 }
 
-/// What follows in the order of the sentence.
+/// What the next item of a node is.
 #[derive(Clone, Copy)]
 enum NextToken {
     /// The literal of this number.
@@ -54,6 +56,7 @@ impl<'a> ExplainedTree<'a> {
         let mut nodes = Vec::new(self.alloc);
         push(&mut nodes, node)?;
         let mut count = 0usize;
+        // more than a tree within the limits takes: one turn for each node, one for its end, and three for literals
         for _turn in 0..16 * MAX_NODES {
             if MAX_TOKENS <= count {
                 return Ok(());
@@ -91,7 +94,8 @@ impl<'a> ExplainedTree<'a> {
         }
     }
 
-    /// Writes a token, with a space before it if it is not the first one. Returns whether it is one.
+    /// Writes the next item if it is a token, with a space before it if `before` other tokens were written. Returns
+    /// whether it is a token.
     fn write_token<D: Device>(
         &self,
         out: &mut String,
@@ -164,7 +168,7 @@ fn push_next(nodes: &mut Vec<OpenNode>, open: OpenNode, next: NextToken) -> Resu
     }
 }
 
-/// Writes the first characters of a token, with a space before it if it is not the first one.
+/// Writes the first characters of a token, with a space before it if `before` is not 0.
 fn write_shortened(out: &mut String, text: &str, before: usize) -> Result<(), NoMemory> {
     if before != 0 {
         out.push_str(" ")?;

@@ -1,7 +1,7 @@
 //! Where the values in a tree file come from: what `aggen explain` prints, and what the message of O1 says
 //! of an error.
 //!
-//! Characters that control a terminal are written by their numbers.
+//! Characters that control a terminal are written as escapes, such as `\u{1b}`.
 #![tactic(auto)]
 
 mod attributes;
@@ -13,7 +13,7 @@ mod rule_at_node;
 mod rules;
 mod tokens;
 
-pub use attributes::Question;
+pub use attributes::NodeRequest;
 pub use cause_texts::ErrorTranslation;
 pub use errors::write_errors;
 pub use explained::ExplainedTree;

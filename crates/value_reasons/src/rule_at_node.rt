@@ -14,18 +14,21 @@ use treefile::Device;
 /// The greatest number of characters of an argument's value in a message.
 const MAX_ARGUMENT: usize = 40;
 
-/// A rule at a node: its production and its number there, and the record of the node.
+/// A rule at a node, with the record of the node.
 #[derive(Drop)]
 pub(crate) struct RuleAtNode<'a> {
+    /// The number of the node's production.
     pub(crate) number: u16,
     pub(crate) production: &'a Production,
     pub(crate) rule: &'a Rule,
+    /// The number of the rule in its production.
     pub(crate) index: u16,
     pub(crate) record: NodeRecord,
 }
 
 impl<'a> ExplainedTree<'a> {
-    /// Reads the record of a node, for the rule of a number. Returns `None` if the node does not have that rule.
+    /// Reads the record of a node, and returns it with the rule of number `index` of the node's production. Returns
+    /// `None` if that production does not have the rule.
     pub(crate) fn rule_at<D: Device>(
         &self,
         node: u32,
@@ -80,8 +83,8 @@ impl<'a> ExplainedTree<'a> {
         Ok(Some(record))
     }
 
-    /// Writes the rule in which an error arises, after a value: its target and position, `place`, the values
-    /// of its arguments, and the number of rules that passed the error on.
+    /// Writes where an error arises: the target of the rule and its position, the text `place`, the values of the
+    /// rule's arguments, and the number of rules that passed the error on.
     pub fn write_cause<D: Device>(
         &self,
         out: &mut String,

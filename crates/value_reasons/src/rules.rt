@@ -22,7 +22,7 @@ impl fmt::Display for OccurrenceText<'_> {
 }
 
 impl<'a> ExplainedTree<'a> {
-    /// Returns the name of a target of a rule of a production.
+    /// Returns an attribute at a place of a production, as it is written in a rule. None if it does not exist.
     pub(crate) fn occurrence(
         &self,
         production: &Production,
@@ -35,8 +35,8 @@ impl<'a> ExplainedTree<'a> {
         })
     }
 
-    /// Returns the value that a target has in the record of a node of a production: its own, or the copy of
-    /// a child's.
+    /// Returns the value of an attribute at a place of a production, from the record of a node: the node's own value,
+    /// or the copy of a child's. None if the record does not have it.
     pub(crate) fn value_of<'r>(
         &self,
         record: &'r NodeRecord,

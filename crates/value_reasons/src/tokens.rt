@@ -25,8 +25,8 @@ impl fmt::Display for TokenPosition<'_> {
     }
 }
 
-/// Returns where the token after `before` other tokens of a sentence is. Returns `None` if the sentence does
-/// not have as many, or memory is refused.
+/// Returns where the token is that follows the first `before` tokens of a sentence. Returns `None` if the sentence
+/// has fewer tokens than `before`, or memory is refused.
 pub fn position_of_token<'a>(
     alloc: Global,
     grammar: &Grammar,

@@ -31,6 +31,7 @@ pub fn length(value: &Value) -> Value
     }
 }
 
+/// Returns a length as a number.
 fn count(length: usize) -> Value
     requires { length ≤ max_weight }
     ensures value { result ≡ value.Num (pos length) }
@@ -63,7 +64,7 @@ fn extended(
     requires left { IsWell (value.List items) }
     requires right { IsWell (value.List more) }
     requires weighed { weight ≡ weight_of (value.List items) + weight_of (value.List more) }
-    requires sounded { depth ≡ max (depth_of (value.List items)) (depth_of (value.List more)) }
+    requires depth_exact { depth ≡ max (depth_of (value.List items)) (depth_of (value.List more)) }
     ensures { IfOk result (λ m. m ≡ fit (value.List (items ++ more))) }
 {
     let mut items = items.into_vec();
@@ -90,7 +91,7 @@ fn pushed(items: Items<Value>, item: Value, weight: u64, depth: u32) -> Result<M
     requires item { IsWell item }
     requires no_fault { fault_of item ≡ None }
     requires weighed { weight ≡ weight_of (value.List items) + weight_of item }
-    requires sounded { depth ≡ max (depth_of (value.List items)) (1 + depth_of item) }
+    requires depth_exact { depth ≡ max (depth_of (value.List items)) (1 + depth_of item) }
     ensures { IfOk result (λ m. m ≡ fit (value.List (items ++ item ∷ []))) }
 {
     let mut items = items.into_vec();
@@ -98,7 +99,8 @@ fn pushed(items: Items<Value>, item: Value, weight: u64, depth: u32) -> Result<M
     Ok(Measured::fit(Value::List(Items::from_vec(items)), weight, depth))
 }
 
-/// Computes `nth(l, i)`: the item, lent.
+/// Computes `nth(l, i)`: the item with the index i, from 0, lent; the error `index` if there is
+/// none.
 pub fn nth<'a>(list: &'a Value, index: &Value) -> Held<'a>
     requires { IsWell list.now }
     ensures { held_value result ≡ nth_of list.now index.now }
@@ -106,7 +108,7 @@ pub fn nth<'a>(list: &'a Value, index: &Value) -> Held<'a>
     match (list, index) {
         (Value::List(items), Value::Num(index)) => {
             match item_at(items.as_slice(), *index) {
-                Some(item) => Held::part(item),
+                Some(item) => Held::from_lent(item),
                 None => Held::fault(ErrorCode::Index),
             }
         }
@@ -114,6 +116,7 @@ pub fn nth<'a>(list: &'a Value, index: &Value) -> Held<'a>
     }
 }
 
+/// Returns the item with an index from 0, if there is one.
 fn item_at(items: &[Value], index: i64) -> Option<&Value>
     ensures { option_copied result ≡ item_at items.now index }
 {

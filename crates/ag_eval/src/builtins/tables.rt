@@ -4,13 +4,13 @@ ghost use Rattle.std.specs.Prelude.{◌≡◌, ◌<◌, ◌≤◌, ℕ, List, le
 ghost use Rattle.std.specs.Prelude.{slice_get, slice_set, true, None, Some};
 ghost use Rattle.std.specs.Prelude.{IfOk};
 ghost use Rattle.ag_value.specs.Measure.{depth_of, max_weight, weight_of};
-ghost use Rattle.ag_value.specs.Well.{IsWell, is_item, is_rising, key_of};
+ghost use Rattle.ag_value.specs.Well.{IsWell, is_item, is_ascending, key_of};
 ghost use Rattle.ag_value.specs.declared.value.Value.TheVariants as value;
 ghost use Rattle.ag_eval.specs.Operands.{held_value};
 ghost use Rattle.ag_grammar.specs.values.Arguments.{fault_of};
 ghost use Rattle.ag_grammar.specs.values.Fitting.{fit};
-ghost use Rattle.ag_grammar.specs.values.Tables.{IsIndex, got_from, had_by, has_key, keys_of};
-ghost use Rattle.ag_grammar.specs.values.Tables.{pair_with, put_in, with_pair};
+ghost use Rattle.ag_grammar.specs.values.Tables.{IsIndex, get_result, has_result, has_key, keys_of};
+ghost use Rattle.ag_grammar.specs.values.Tables.{pair_with, put_result, with_pair};
 
 use crate::builtins::comparing::truth;
 use crate::measured::Measured;
@@ -20,7 +20,7 @@ use std::alloc::Global;
 
 /// Returns the number of keys before a key, which is its index in a table.
 fn index_of(pairs: &[(Text, Value)], key: &str) -> usize
-    requires { is_rising (map key_of pairs.now) ≡ true }
+    requires { is_ascending (map key_of pairs.now) ≡ true }
     ensures within { result ≤ length pairs.now }
     ensures index { IsIndex key.now pairs.now result }
 {
@@ -29,7 +29,7 @@ fn index_of(pairs: &[(Text, Value)], key: &str) -> usize
 
 /// Returns the pair with a key, if there is one.
 fn pair_with<'a>(pairs: &'a [(Text, Value)], key: &str) -> Option<&'a (Text, Value)>
-    requires { is_rising (map key_of pairs.now) ≡ true }
+    requires { is_ascending (map key_of pairs.now) ≡ true }
     ensures { option_copied result ≡ pair_with key.now pairs.now }
 {
     let index = index_of(pairs, key);
@@ -42,12 +42,12 @@ fn pair_with<'a>(pairs: &'a [(Text, Value)], key: &str) -> Option<&'a (Text, Val
 /// Computes `get(t, k)`: the key's value, lent.
 pub fn get<'a>(table: &'a Value, key: &Value) -> Held<'a>
     requires { IsWell table.now }
-    ensures { held_value result ≡ got_from table.now key.now }
+    ensures { held_value result ≡ get_result table.now key.now }
 {
     match (table, key) {
         (Value::Table(pairs), Value::Text(key)) => {
             match pair_with(pairs.as_slice(), key.as_str()) {
-                Some(pair) => Held::part(&pair.1),
+                Some(pair) => Held::from_lent(&pair.1),
                 None => Held::fault(ErrorCode::Key),
             }
         }
@@ -58,7 +58,7 @@ pub fn get<'a>(table: &'a Value, key: &Value) -> Held<'a>
 /// Computes `has(t, k)`.
 pub fn has(table: &Value, key: &Value) -> Value
     requires { IsWell table.now }
-    ensures value { result ≡ had_by table.now key.now }
+    ensures value { result ≡ has_result table.now key.now }
     ensures well { IsWell result }
 {
     match (table, key) {
@@ -83,7 +83,7 @@ pub fn put(
 ) -> Result<Measured, NoMemory>
     requires key { IsWell key.now }
     requires no_fault { fault_of value ≡ None }
-    ensures { IfOk result (λ m. m ≡ put_in table key.now value) }
+    ensures { IfOk result (λ m. m ≡ put_result table key.now value) }
 {
     let weight = table.weight();
     let depth = table.depth();
@@ -119,7 +119,7 @@ fn put_pair(
     requires short { length key.now ≤ max_weight }
     requires no_fault { fault_of item ≡ None }
     requires weighed { weight ≡ weight_of (value.Table pairs) }
-    requires sounded { depth ≡ depth_of (value.Table pairs) }
+    requires depth_exact { depth ≡ depth_of (value.Table pairs) }
     ensures { IfOk result (λ m. m ≡ fit (value.Table (with_pair key.now item pairs))) }
 {
     let index = index_of(pairs.as_slice(), key);
@@ -183,6 +183,7 @@ pub fn keys(alloc: Global, table: &Value) -> Result<Value, NoMemory>
     }
 }
 
+/// Returns the keys of pairs as texts.
 fn key_texts(alloc: Global, pairs: &[(Text, Value)]) -> Result<Items<Value>, NoMemory>
     ensures { IfOk result (λ keys. keys ≡ map (λ p. value.Text p.0) pairs.now) }
 {

@@ -5,7 +5,7 @@ ghost use Rattle.std.specs.List.{flat_map, join_by, list_all};
 ghost use Rattle.ag_value.specs.Well.{IsWell};
 ghost use Rattle.ag_grammar.specs.values.Fitting.{fit};
 ghost use Rattle.ag_grammar.specs.values.Lists.{concatenation};
-ghost use Rattle.ag_grammar.specs.values.Texts.{bytes_of, is_text, joined_by, joined_texts};
+ghost use Rattle.ag_grammar.specs.values.Texts.{bytes_of, is_text, join_result, joined_texts};
 ghost use Rattle.ag_value.specs.declared.value.Value.TheVariants as value;
 
 use crate::measured::Measured;
@@ -14,7 +14,7 @@ use std::alloc::Global;
 
 /// Computes `join(l, s)`. Takes memory for the text, if it is within the limits.
 pub fn join(alloc: Global, list: &Value, separator: &Value) -> Result<Measured, NoMemory>
-    ensures { IfOk result (λ m. m ≡ joined_by list.now separator.now) }
+    ensures { IfOk result (λ m. m ≡ join_result list.now separator.now) }
 {
     match (list, separator) {
         (Value::List(items), Value::Text(separator)) => {
@@ -24,6 +24,8 @@ pub fn join(alloc: Global, list: &Value, separator: &Value) -> Result<Measured, 
     }
 }
 
+/// Concatenates items that are texts, with the separator between neighbours; the error `kind` if an
+/// item is not a text, and `big` if the result is beyond the limits.
 #[tactic(auto, using(ag_value::proofs::Layers::items, ag_value::proofs::Utf8::utf8))]
 fn join_items(alloc: Global, items: &[Value], separator: &str) -> Result<Measured, NoMemory>
     ensures { IfOk result (λ m. m ≡ joined_texts items.now separator.now) }

@@ -15,9 +15,9 @@ use Rattle.ag_tokens.specs.Ending.{Ending}
 use Rattle.ag_tokens.specs.Ending as ending
 use Rattle.ag_expr.specs.language.Names.{Names}
 use Rattle.ag_tokens.specs.PlacedToken.{PlacedToken, Input, tokens}
-use Rattle.ag_tokens.specs.Words as syntax
-use Rattle.ag_tokens.specs.Words.{gives, one, ◌or◌, further}
-use Rattle.ag_expr.specs.language.Syntax.{spelled, operator_of, binary_operator, precedences, closer, takes_one, same_precedence, of_precedence, chain_of, new_name, call_in, operand_of, IsOther, IsChain, IsRanked, AreNone, IsTable, IsParenthesized, IsNext, AreSome, IsList, AreArguments, IsCall, IsLet, IsIf, IsAtom, IsWhole, IsExpr, IsExprIn}
+use Rattle.ag_tokens.specs.Languages as syntax
+use Rattle.ag_tokens.specs.Languages.{gives, one, ◌or◌, further}
+use Rattle.ag_expr.specs.language.Syntax.{one_sign, operator_of, binary_operator, precedences, closer, takes_one, same_precedence, of_precedence, chain_of, new_name, call_in, operand_of, IsOther, IsChain, IsRanked, AreNone, IsTable, IsParenthesized, IsNext, AreSome, IsList, AreArguments, IsCall, IsLet, IsIf, IsAtom, IsWhole, IsExpr, IsExprIn}
 use Rattle.ag_tokens.specs.Parsing as reading
 use Rattle.ag_tokens.specs.Parsing.{pure, is_end, is_sign}
 use Rattle.ag_expr.specs.language.Reading.{expect, expr_of, refusal, Parser, is_call, is_operand, is_operator_of, begins, begins_atom, other_from, chain_from, ranked_from, none_from, table_from, parenthesized_from, next_from, items_from, some_from, list_from, unary_from, binary_from, put_from, arguments_from, call_from, let_from, if_from, atom_from, whole_from, expr_from, expr_in}
@@ -106,7 +106,7 @@ module _ (listed : List Occ) (inner : Names → List GrammarToken → Node → T
 
   -- an expression and the closing parenthesis of its form
   closed : {R : List GrammarToken → Node → Type 0} {r : Parser Node} (f : Node → Node) → Exact operators R r
-      → Exact nowhere (syntax.◌>>=◌ R (λ e. syntax.◌>>◌ (spelled (mark punctuation.Close)) (gives (f e)))) (reading.◌>>=◌ r (λ e. reading.◌>>◌ (expect (mark punctuation.Close)) (pure (f e))))
+      → Exact nowhere (syntax.◌>>=◌ R (λ e. syntax.◌>>◌ (one_sign (mark punctuation.Close)) (gives (f e)))) (reading.◌>>=◌ r (λ e. reading.◌>>◌ (expect (mark punctuation.Close)) (pure (f e))))
   closed f y = start_then y (λ e. ends_exact (λ u. f e) (sign_exact (mark punctuation.Close))) (λ e. starts_with (mark punctuation.Close)) (sign_apart (mark punctuation.Close) operators refl)
 
   parenthesized_exact : Exact nowhere (IsParenthesized inner scope) (parenthesized_from read scope)

@@ -11,10 +11,10 @@ use Rattle.ag_grammar.specs.declared.syntax.node.Node.TheVariants as node
 use Rattle.ag_grammar.specs.declared.syntax.node.Node.TheOpen.{Node-F}
 use Rattle.ag_grammar.specs.declared.syntax.occurrence.Occ.{Occ}
 use Rattle.ag_expr.specs.declared.parser.Precedence.{Precedence}
-use Rattle.ag_expr.specs.language.Names.{Names, last_from, number_in, is_reserved}
+use Rattle.ag_expr.specs.language.Names.{Names, last_from, binding_in, is_reserved}
 use Rattle.ag_expr.specs.language.Occurrences.{is_of, position_of}
-use Rattle.ag_tokens.specs.Words as syntax
-use Rattle.ag_tokens.specs.Words.{Many, none, more, further, gives, one, ◌or◌}
+use Rattle.ag_tokens.specs.Languages as syntax
+use Rattle.ag_tokens.specs.Languages.{Many, none, more, further, gives, one, ◌or◌}
 use Rattle.ag_expr.specs.language.Syntax.{precedences, chain_of, operand_of, takes_one, IsOther, IsRanked, IsNext, IsList, AreArguments, IsLet, IsIf, IsAtom, IsWhole, IsExpr, IsExprIn}
 use Rattle.ag_tokens.specs.GrammarToken.{GrammarToken}
 use Rattle.ag_tokens.specs.GrammarToken as token
@@ -94,7 +94,7 @@ module _ (listed : List Occ) where
       operand : (t : GrammarToken) → IfSome (operand_of listed scope t) (Within n (length scope))
       operand (token.Number z) = literal_within n (length scope) _
       operand (token.Text bytes) = literal_within n (length scope) _
-      operand (token.Name x) = name (is_reserved x) (number_in scope x) (subst (λ m. IfSome (number_in scope x) (λ k. k < m)) (omega arith) (last_below (λ y. bytes_eq y x) 0 None scope tt))
+      operand (token.Name x) = name (is_reserved x) (binding_in scope x) (subst (λ m. IfSome (binding_in scope x) (λ k. k < m)) (omega arith) (last_below (λ y. bytes_eq y x) 0 None scope tt))
       operand (token.Occurrence place attr) = occurrence (position_of listed place attr) (within (is_of place attr) listed)
       operand (token.Punctuation m) = tt
 

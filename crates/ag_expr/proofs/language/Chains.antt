@@ -1,6 +1,6 @@
 -- A chain of operators, parsed as its first atom and the rest after it.
 use Rattle.std.proofs.Common.{◌≡◌, Bool, true, false, ◌||◌, not, List, [], ◌∷◌, Option, Some, None, Ok, Err, refl, ap, ◌∙◌, arith, is_some}
-use Rattle.ag_tokens.specs.Parsing.{and_then, front_is, prefix, sees}
+use Rattle.ag_tokens.specs.Parsing.{and_then, next_satisfies, next_token, sees}
 use Rattle.ag_tokens.specs.PlacedToken.{Input}
 use Rattle.ag_tokens.specs.GrammarToken.{GrammarToken}
 use Rattle.ag_expr.proofs.reading.Turns.{none_further}
@@ -57,7 +57,7 @@ unfolding ranked_from ranked_after chain_from chain_after
 by_atom atom [] i = same_outcome (atom i)
 by_atom atom (k ∷ ks) i = ap (λ o. and_then o (chain_after k (ranked_from atom ks))) (by_atom atom ks i) ∙ in_turn (atom i) (ranked_after atom ks) (chain_after k (ranked_from atom ks))
 
-neither : (a b : GrammarToken → Bool) (o : Option GrammarToken) → front_is (λ t. a t || b t) o ≡ false → (front_is a o ≡ false) × (front_is b o ≡ false)
+neither : (a b : GrammarToken → Bool) (o : Option GrammarToken) → next_satisfies (λ t. a t || b t) o ≡ false → (next_satisfies a o ≡ false) × (next_satisfies b o ≡ false)
 neither a b None none = (refl, refl)
 neither a b (Some t) none = grind arith
 
@@ -66,7 +66,7 @@ only_atom : (atom : Parser Node) (ks : List Precedence) (first : Node) (j : Inpu
 unfolding ranked_after chain_after
 only_atom atom [] first j none = refl
 only_atom atom (k ∷ ks) first j none =
-    let parts = neither (is_operator_of k) (is_operator_among ks) (prefix j) none in
+    let parts = neither (is_operator_of k) (is_operator_among ks) (next_token j) none in
     rw (only_atom atom ks first j parts.1, none_further (takes_one k) (is_operator_of k) (other_from k (ranked_from atom ks)) [] j parts.0) refl
 
 pub atom_alone : (atom : Parser Node) (ks : List Precedence) (i j : Input) (first : Node) → atom i ≡ Ok (first, j) → sees (is_operator_among ks) j ≡ false → ranked_from atom ks i ≡ Ok (first, j)

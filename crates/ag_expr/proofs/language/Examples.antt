@@ -9,7 +9,7 @@ use Rattle.ag_tokens.specs.PlacedToken.{PlacedToken, tokens}
 use Rattle.ag_tokens.specs.GrammarToken.{GrammarToken}
 use Rattle.ag_tokens.specs.GrammarToken as token
 use Rattle.ag_tokens.specs.Tokens.{AreTokens}
-use Rattle.ag_tokens.specs.Left.{cut}
+use Rattle.ag_tokens.specs.Remaining.{cut}
 use Rattle.ag_tokens.specs.Lexing.{token_from}
 use Rattle.ag_tokens.specs.Parsing.{many_from}
 use Rattle.ag_expr.specs.language.Reading.{expr_of, expr_in, whole_from, let_from, ranked_from, chain_from, other_from, atom_from}

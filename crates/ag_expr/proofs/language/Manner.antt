@@ -8,8 +8,8 @@ use Rattle.ag_tokens.specs.declared.token.Punctuation.{Punctuation}
 use Rattle.ag_tokens.specs.PlacedToken.{PlacedToken}
 use Rattle.ag_tokens.specs.Parsing.{is_sign, same_mark, choose}
 use Rattle.ag_tokens.specs.GrammarToken.{GrammarToken, Sign, mark, word, sign_token}
-use Rattle.ag_tokens.specs.Words as words
-use Rattle.ag_tokens.specs.Words.{one, ◌or◌}
+use Rattle.ag_tokens.specs.Languages as languages
+use Rattle.ag_tokens.specs.Languages.{one, ◌or◌}
 use Rattle.ag_expr.proofs.reading.Exact as theory
 use Rattle.ag_expr.proofs.reading.Exact.{Manner, Apart, nowhere, one_exact, one_starts, then_starts, or_starts, or_exact}
 use Rattle.ag_expr.proofs.reading.Steady as steady
@@ -18,7 +18,7 @@ use Rattle.ag_expr.specs.declared.fault.ExprFault.{ExprFault}
 use Rattle.ag_expr.specs.declared.fault.ExprFault.TheVariants as fault
 use Rattle.ag_expr.specs.language.Expression.{begins_expression}
 use Rattle.ag_expr.specs.language.Reading.{Parser, as_sign, expect, refusal, token_as}
-use Rattle.ag_expr.specs.language.Syntax.{spelled}
+use Rattle.ag_expr.specs.language.Syntax.{one_sign}
 
 -- the fault states of this token, which can begin an expression, that it is too deep
 abbrev is_deep : ExprFault → PlacedToken → Bool
@@ -73,18 +73,18 @@ sign_same (word name) = (bytes_eq-Decides name name).1 refl
 means_sign : (s : Sign) → as_sign s (sign_token s) ≡ Some tt
 means_sign s = rw (sign_same s) refl
 
-spelled_is : (s : Sign) (ts : List GrammarToken) (a : Unit {0}) → one (as_sign s) ts a → spelled s ts a
+spelled_is : (s : Sign) (ts : List GrammarToken) (a : Unit {0}) → one (as_sign s) ts a → one_sign s ts a
 spelled_is s ts a (t, e, means) = let is = sign_is s t in grind arith
 
-pub sign_exact : {stops : GrammarToken → Bool} (s : Sign) → Exact stops (spelled s) (expect s)
+pub sign_exact : {stops : GrammarToken → Bool} (s : Sign) → Exact stops (one_sign s) (expect s)
 sign_exact {stops} s =
     let x = token_exact {stops = stops} (as_sign s) in
     record { sound = λ i j a h. let found = x.sound i j a h in (found.0, found.1, spelled_is s _ a found.2); complete = λ us j a is h. x.complete us j a (sign_token s, is, means_sign s) h }
 
-pub starts_with : {B : Type 0} {S : Unit {0} → List GrammarToken → B → Type 0} (s : Sign) → Starts (is_sign s) (words.◌>>=◌ (spelled s) S)
+pub starts_with : {B : Type 0} {S : Unit {0} → List GrammarToken → B → Type 0} (s : Sign) → Starts (is_sign s) (languages.◌>>=◌ (one_sign s) S)
 starts_with s = then_starts (record { leads = λ us a e. (one_starts {m = manner} (as_sign s) (λ p b h. grind arith)).leads us tt (sign_token s, e, means_sign s) })
 
-pub sign_steady : (s : Sign) → Steady (spelled s) (expect s) (expect s)
+pub sign_steady : (s : Sign) → Steady (one_sign s) (expect s) (expect s)
 sign_steady s = wider_steady (spelled_is s) (token_steady (as_sign s) (sign_token s) tt (means_sign s))
 
 -- ---- a form by its first token
@@ -93,7 +93,7 @@ pub record First {A : Type 0} (test stops : GrammarToken → Bool) (L : List Gra
   pub starts : Starts test L
   pub exact : Exact stops L r
 
-pub sign_first : {B : Type 0} {stops : GrammarToken → Bool} {S : Unit {0} → List GrammarToken → B → Type 0} {r : Parser B} (s : Sign) → Exact stops (words.◌>>=◌ (spelled s) S) r → First (is_sign s) stops (words.◌>>=◌ (spelled s) S) r
+pub sign_first : {B : Type 0} {stops : GrammarToken → Bool} {S : Unit {0} → List GrammarToken → B → Type 0} {r : Parser B} (s : Sign) → Exact stops (languages.◌>>=◌ (one_sign s) S) r → First (is_sign s) stops (languages.◌>>=◌ (one_sign s) S) r
 sign_first s x = record { starts = starts_with s; exact = x }
 
 pub or_first : {A : Type 0} {test those stops : GrammarToken → Bool} {L M : List GrammarToken → A → Type 0} {l n : Parser A} → First test stops L l → First those stops M n → Apart test those → First (λ t. test t || those t) stops (L or M) (choose test l n)

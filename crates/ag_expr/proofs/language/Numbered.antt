@@ -11,7 +11,7 @@ use Rattle.std.specs.List.{list_any, position_from, position_or_len}
 use Rattle.ag_grammar.specs.declared.syntax.occurrence.Occ.{Occ}
 use Rattle.ag_grammar.specs.expressions.Occurrences.{AreApart, AreDifferent}
 use Rattle.ag_expr.specs.language.Occurrences.{is_of, position_of, listed_with, listed_with_all}
-use Rattle.ag_expr.specs.language.Numbers.{Key, same_key, Follows}
+use Rattle.ag_expr.specs.language.Indexes.{Key, same_key, AreIndexesOf}
 use Rattle.ag_expr.proofs.language.Listing.{listed_alike}
 
 -- a member is found if and only if one satisfies the test
@@ -56,9 +56,9 @@ is_own place attr at = rw (eq-eqb place place refl, (bytes_eq-Decides attr attr)
 -- the index of a new occurrence
 pub number_pushed : (listed kept pushed : List Occ) (place number at : ℕ) (attr name : List ℕ) → position_of listed place attr ≡ None → kept ≡ listed → number ≡ length kept
     → pushed ≡ kept ++ record { place = place; attr = name; at = at } ∷ [] → name ≡ attr → position_of pushed place attr ≡ Some number
-number_pushed listed kept pushed place number at attr name none same count more called =
+number_pushed listed kept pushed place number at attr name none same count more call_name =
     let one : Occ = record { place = place; attr = attr; at = at } in
-    let pushed_is : pushed ≡ listed ++ one ∷ [] = rw (same, called) at more in
+    let pushed_is : pushed ≡ listed ++ one ∷ [] = rw (same, call_name) at more in
     let count_is : number ≡ length listed = count ∙ ap length same in
     ap (λ xs. position_of xs place attr) pushed_is ∙ new_at (is_of place attr) listed one (is_own place attr at) (unlisted_where listed place attr none) ∙ ap Some (sym count_is)
 
@@ -83,8 +83,8 @@ abbrev at_key : Key → ℕ → Occ
 at_key key at = record { place = key.0; attr = key.1.now; at = at }
 
 -- the map with the index of one more occurrence follows the list with that occurrence
-follows_on : {S : Type 0} (numbers new : HashMap Key ℕ S) (listed : List Occ) (key : Key) (at : ℕ) → list_any (is_of key.0 key.1.now) listed ≡ false → Follows numbers listed
-    → Updates same_key numbers new key (Some (length listed)) → Follows new (listed ++ at_key key at ∷ [])
+follows_on : {S : Type 0} (numbers new : HashMap Key ℕ S) (listed : List Occ) (key : Key) (at : ℕ) → list_any (is_of key.0 key.1.now) listed ≡ false → AreIndexesOf numbers listed
+    → Updates same_key numbers new key (Some (length listed)) → AreIndexesOf new (listed ++ at_key key at ∷ [])
 follows_on numbers new listed key at none follows updates q =
     let is = updates.0 q in
     let so_far = follows q in
@@ -94,8 +94,8 @@ follows_on numbers new listed key at none follows updates q =
     grind (arith, alike, one_more, as_before)
 
 -- the same for the values of the code
-pub follows_pushed : {S : Type 0} (numbers new : HashMap Key ℕ S) (listed kept pushed : List Occ) (key : Key) (number at : ℕ) (attr : List ℕ) → list_any (is_of key.0 key.1.now) listed ≡ false → Follows numbers listed → kept ≡ listed → number ≡ length kept
-    → Updates same_key numbers new key (Some number) → pushed ≡ kept ++ record { place = key.0; attr = attr; at = at } ∷ [] → attr ≡ key.1.now → Follows new pushed
+pub follows_pushed : {S : Type 0} (numbers new : HashMap Key ℕ S) (listed kept pushed : List Occ) (key : Key) (number at : ℕ) (attr : List ℕ) → list_any (is_of key.0 key.1.now) listed ≡ false → AreIndexesOf numbers listed → kept ≡ listed → number ≡ length kept
+    → Updates same_key numbers new key (Some number) → pushed ≡ kept ++ record { place = key.0; attr = attr; at = at } ∷ [] → attr ≡ key.1.now → AreIndexesOf new pushed
 follows_pushed numbers new listed kept pushed key number at attr none follows same count updates more name =
     rw (more, same, name) (follows_on numbers new listed key at none follows (rw (count, same) at updates))
 

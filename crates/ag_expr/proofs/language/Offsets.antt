@@ -22,11 +22,11 @@ use Rattle.ag_expr.specs.language.Names.{Names}
 use Rattle.ag_tokens.specs.PlacedToken.{PlacedToken, Input, tokens}
 use Rattle.ag_expr.specs.language.Offsets.{NoneGoesOn, IsReportedFirst}
 use Rattle.ag_tokens.specs.Parsing as reading
-use Rattle.ag_tokens.specs.Parsing.{prefix, front_of, front_is, sees, is_end, is_sign, choose}
-use Rattle.ag_expr.specs.language.Reading.{token_as, Outcome, Parser, refusal, refusal_of, at_end, expect, is_operator_of, begins, begins_atom, other_from, chain_from, ranked_from, none_from, table_from, parenthesized_from, next_from, items_from, some_from, list_from, unary_from, binary_from, put_from, arguments_from, call_from, let_from, if_from, atom_from, whole_from, no_level_of, expr_from, expr_in, expr_of}
-use Rattle.ag_tokens.specs.Words as syntax
-use Rattle.ag_tokens.specs.Words.{gives, one, ◌or◌, none, further, IsFew}
-use Rattle.ag_expr.specs.language.Syntax.{spelled, operator_of, precedences, takes_one, chain_of, new_name, call_in, operand_of, IsOther, IsChain, IsRanked, AreNone, IsTable, IsParenthesized, IsNext, AreSome, IsList, AreArguments, IsCall, IsLet, IsIf, IsAtom, IsWhole, IsExpr, IsExprIn}
+use Rattle.ag_tokens.specs.Parsing.{next_token, first_token, next_satisfies, sees, is_end, is_sign, choose}
+use Rattle.ag_expr.specs.language.Reading.{token_as, Outcome, Parser, refusal, refusal_of, at_end, expect, is_operator_of, begins, begins_atom, other_from, chain_from, ranked_from, none_from, table_from, parenthesized_from, next_from, items_from, some_from, list_from, unary_from, binary_from, put_from, arguments_from, call_from, let_from, if_from, atom_from, whole_from, level_fault_of, expr_from, expr_in, expr_of}
+use Rattle.ag_tokens.specs.Languages as syntax
+use Rattle.ag_tokens.specs.Languages.{gives, one, ◌or◌, none, further, IsFew}
+use Rattle.ag_expr.specs.language.Syntax.{one_sign, operator_of, precedences, takes_one, chain_of, new_name, call_in, operand_of, IsOther, IsChain, IsRanked, AreNone, IsTable, IsParenthesized, IsNext, AreSome, IsList, AreArguments, IsCall, IsLet, IsIf, IsAtom, IsWhole, IsExpr, IsExprIn}
 use Rattle.ag_tokens.specs.GrammarToken.{GrammarToken, Sign, mark, word, sign_token}
 use Rattle.ag_tokens.specs.GrammarToken as token
 use Rattle.std.proofs.lemmas.List.{map-append}
@@ -72,7 +72,7 @@ module _ (listed : List Occ)
     (y : (scope : Names) → First (begins listed scope) operators (inner scope) (r scope)) (z : (scope : Names) → First (begins listed scope) operators (outer scope) (q scope))
     (x : (scope : Names) → Steady (outer scope) (r scope) (q scope)) (scope : Names) where
   closed : {R : List GrammarToken → Node → Type 0} {s t : Parser Node} (m : Sign) (f : Node → Node) → Steady R s t
-      → Steady (syntax.◌>>=◌ R (λ e. syntax.◌>>◌ (spelled m) (gives (f e)))) (reading.◌>>=◌ s (λ e. reading.◌>>◌ (expect m) (reading.pure (f e)))) (reading.◌>>=◌ t (λ e. reading.◌>>◌ (expect m) (reading.pure (f e))))
+      → Steady (syntax.◌>>=◌ R (λ e. syntax.◌>>◌ (one_sign m) (gives (f e)))) (reading.◌>>=◌ s (λ e. reading.◌>>◌ (expect m) (reading.pure (f e)))) (reading.◌>>=◌ t (λ e. reading.◌>>◌ (expect m) (reading.pure (f e))))
   closed m f s = then_steady s (λ e. ends_steady (λ u. f e) (sign_steady m))
 
   parenthesized_steady : Steady (IsParenthesized outer scope) (parenthesized_from r scope) (parenthesized_from q scope)
@@ -135,7 +135,7 @@ pub record Covers {A : Type 0} (test : GrammarToken → Bool) (L : List GrammarT
 gives_word : {A : Type 0} (a : A) → Word (gives a)
 gives_word a = record { ts = []; a = a; is = (refl, refl) }
 
-sign_word : (s : Sign) → Word (spelled s)
+sign_word : (s : Sign) → Word (one_sign s)
 sign_word s = record { ts = sign_token s ∷ []; a = tt; is = refl }
 
 then_word : {A B : Type 0} {R : List GrammarToken → A → Type 0} {S : A → List GrammarToken → B → Type 0} → Word R → ((a : A) → Word (S a)) → Word (syntax.◌>>=◌ R S)
@@ -145,7 +145,7 @@ further_word : {A : Type 0} (one : Bool) (found : List A) (L : List GrammarToken
 further_word true found L = record { ts = []; a = found ++ []; is = ([], none, omega arith, refl) }
 further_word false found L = record { ts = []; a = found ++ []; is = ([], none, tt, refl) }
 
-sign_covers : (s : Sign) → Covers (is_sign s) (spelled s)
+sign_covers : (s : Sign) → Covers (is_sign s) (one_sign s)
 sign_covers s = record { from = λ t h. ([], tt, ap (λ u. u ∷ []) (sign_is s t h)) }
 
 token_covers : {A : Type 0} (meaning : GrammarToken → Option A) → Covers (λ t. is_some (meaning t)) (one meaning)
@@ -173,7 +173,7 @@ module _ (listed : List Occ) (inner : Names → List GrammarToken → Node → T
   next_word : Word (IsNext inner scope)
   next_word = then_word (sign_word (mark punctuation.Comma)) (λ u. w scope)
 
-  closed_word : {R : List GrammarToken → Node → Type 0} (f : Node → Node) → Word R → Word (syntax.◌>>=◌ R (λ e. syntax.◌>>◌ (spelled (mark punctuation.Close)) (gives (f e))))
+  closed_word : {R : List GrammarToken → Node → Type 0} (f : Node → Node) → Word R → Word (syntax.◌>>=◌ R (λ e. syntax.◌>>◌ (one_sign (mark punctuation.Close)) (gives (f e))))
   closed_word f v = then_word v (λ e. then_word (sign_word (mark punctuation.Close)) (λ u. gives_word (f e)))
 
   arguments_word : (c : Call) → Word (AreArguments inner scope c)
@@ -255,7 +255,7 @@ above-sum d (suc n) = let e = above-sum d n in omega arith
 
 expr_steady : (listed : List Occ) (d n : ℕ) (scope : Names) → Steady (IsExprIn listed (above d n) scope) (expr_in listed n scope) (expr_in listed (above d n) scope)
 unfolding expr_in IsExprIn
-expr_steady listed d zero scope = record { at = λ i. record { ok = λ j a h. (let bad : ⊥ = cc in absurd bad); err = λ f reported h. (let same : f ≡ no_level_of listed scope i.ending i.left = cc in go i.left i.ending f same) }; word = (number.ts, number.a, number.is) }
+expr_steady listed d zero scope = record { at = λ i. record { ok = λ j a h. (let bad : ⊥ = cc in absurd bad); err = λ f reported h. (let same : f ≡ level_fault_of listed scope i.ending i.left = cc in go i.left i.ending f same) }; word = (number.ts, number.a, number.is) }
   where
     number : Word (IsExprIn listed (above d 0) scope)
     number = a_number listed (suc d) scope
@@ -263,14 +263,14 @@ expr_steady listed d zero scope = record { at = λ i. record { ok = λ j a h. (l
     stuck : (i : Input) (f : ExprFault) → f ≡ refusal i → sees (begins listed scope) i ≡ false → steady.Refused manner (IsExprIn listed (above d 0) scope) (expr_in listed 0 scope) (expr_in listed (above d 0) scope) i f
     stuck i f same unlike = record { us = []; j = i; cut = refl; rest = number.ts; a = number.a; begins = number.is; how = inl (same, λ k fr. (refused_first listed (suc d) scope).at k (same_front (begins listed scope) k.left i.left fr ∙ unlike)) }
 
-    go : (ps : List PlacedToken) (e : Ending) (f : ExprFault) → f ≡ no_level_of listed scope e ps → steady.Refused manner (IsExprIn listed (above d 0) scope) (expr_in listed 0 scope) (expr_in listed (above d 0) scope) (record { left = ps; ending = e }) f
+    go : (ps : List PlacedToken) (e : Ending) (f : ExprFault) → f ≡ level_fault_of listed scope e ps → steady.Refused manner (IsExprIn listed (above d 0) scope) (expr_in listed 0 scope) (expr_in listed (above d 0) scope) (record { left = ps; ending = e }) f
     go [] e f same = stuck (record { left = []; ending = e }) f same refl
     go (p ∷ ps) e f same = first (begins listed scope p.token) refl same
       where
         first : (b : Bool) → begins listed scope p.token ≡ b → f ≡ (if b then fault.TooDeep p.at else fault.Unexpected p.at) → steady.Refused manner (IsExprIn listed (above d 0) scope) (expr_in listed 0 scope) (expr_in listed (above d 0) scope) (record { left = p ∷ ps; ending = e }) f
         first true b same =
             let w = (begun listed d scope).from p.token b in
-            record { us = []; j = record { left = p ∷ ps; ending = e }; cut = refl; rest = p.token ∷ w.0; a = w.1; begins = w.2; how = inr (p, ps, refl, subst (λ g. manner.is_deep g p ≡ true) (sym same) (is_too_deep p (begins_one listed scope p.token b)), refl, λ k e. (no_level_of listed scope k.ending k.left, refl)) }
+            record { us = []; j = record { left = p ∷ ps; ending = e }; cut = refl; rest = p.token ∷ w.0; a = w.1; begins = w.2; how = inr (p, ps, refl, subst (λ g. manner.is_deep g p ≡ true) (sym same) (is_too_deep p (begins_one listed scope p.token b)), refl, λ k e. (level_fault_of listed scope k.ending k.left, refl)) }
         first false b same = stuck (record { left = p ∷ ps; ending = e }) f same b
 expr_steady listed d (suc n) scope =
     whole_steady listed (IsExprIn listed n) (IsExprIn listed (above d n)) (expr_in listed n) (expr_in listed (above d n)) (expr_first listed n) (expr_first listed (above d n)) (expr_steady listed d n) scope

@@ -4,8 +4,8 @@ use Rattle.ag_tokens.specs.declared.fault.TokenFault.{TokenFault}
 use Rattle.ag_tokens.specs.declared.fault.TokenFault.TheVariants as token_fault
 use Rattle.ag_tokens.specs.declared.token.Punctuation.TheVariants as punctuation
 use Rattle.ag_tokens.specs.Ending.{Ending}
-use Rattle.ag_tokens.specs.Left.{one_before}
-use Rattle.ag_tokens.specs.Parsing.{prefix, next, offset, is_end, is_sign, fault_of}
+use Rattle.ag_tokens.specs.Remaining.{with_token}
+use Rattle.ag_tokens.specs.Parsing.{next_token, next, offset, is_end, is_sign, fault_of}
 use Rattle.ag_tokens.specs.PlacedToken.{PlacedToken, Input}
 use Rattle.ag_tokens.specs.GrammarToken.{GrammarToken, mark}
 use Rattle.ag_tokens.specs.GrammarToken as token
@@ -13,15 +13,15 @@ use Rattle.ag_expr.specs.declared.fault.ExprFault.{ExprFault}
 use Rattle.ag_expr.specs.declared.fault.ExprFault.TheVariants as fault
 use Rattle.ag_grammar.specs.declared.syntax.occurrence.Occ.{Occ}
 use Rattle.ag_expr.specs.language.Occurrences.{occurrence_in, all_occurrences, listed_with, listed_with_all, position_of}
-use Rattle.ag_expr.specs.language.Reading.{begins, no_level_of, refusal}
-use Rattle.ag_expr.specs.language.State.{State, Keeps, PassesOther, begins_here, everything, from_end, input, is_occurrence, kept, no_level, passed}
+use Rattle.ag_expr.specs.language.Reading.{begins, level_fault_of, refusal}
+use Rattle.ag_expr.specs.language.State.{State, KeepsContext, NextIsOther, begins_here, complete_list, from_end, input, is_occurrence, before_end, level_fault, after_token}
 use Rattle.ag_expr.proofs.language.Numbered.{position_stays, has_number}
 
 abbrev pub is_semicolon : GrammarToken → Bool
 is_semicolon = is_sign (mark punctuation.Semicolon)
 
 -- the next token is that of the cursor, unless it ends the tokens
-pub front_is : (s : State) → prefix (input s) ≡ kept s.is_statement (prefix s.tokens)
+pub front_is : (s : State) → next_token (input s) ≡ before_end s.is_statement (next_token s.tokens)
 unfolding input
 front_is s = grind arith
 
@@ -44,85 +44,86 @@ abbrev pub stops : Bool → Option GrammarToken → Bool → Bool
 stops is_statement (Some t) ends = is_statement && is_semicolon t
 stops is_statement None ends = ends
 
-pub ends_is : (s : State) → is_end (input s).ending (input s).left ≡ stops s.is_statement (prefix s.tokens) (is_end s.tokens.ending s.tokens.left)
+pub ends_is : (s : State) → is_end (input s).ending (input s).left ≡ stops s.is_statement (next_token s.tokens) (is_end s.tokens.ending s.tokens.left)
 unfolding input
 ends_is s = grind arith
 
 -- there is a next token
 pub record HasToken (s : State) (t : GrammarToken) : Type 0 where
-  pub is : input s ≡ one_before (offset s.tokens) t (input (passed s))
+  pub is : input s ≡ with_token (offset s.tokens) t (input (after_token s))
   pub following : from_end s.is_statement (next s.tokens) ≡ from_end s.is_statement s.tokens
 
-pub occurs : (s : State) (t : GrammarToken) → prefix (input s) ≡ Some t → HasToken s t
+pub occurs : (s : State) (t : GrammarToken) → next_token (input s) ≡ Some t → HasToken s t
 unfolding input
 occurs s t h = record { is = grind arith; following = grind arith }
 
 pub some_token : (o : Option GrammarToken) → is_some o ≡ true → (t : GrammarToken) × (o ≡ Some t)
 some_token o h = grind arith
 
-module _ (s : State) (t : GrammarToken) (h : prefix (input s) ≡ Some t) where
-  pub passed_input : input (passed s) ≡ next (input s)
+module _ (s : State) (t : GrammarToken) (h : next_token (input s) ≡ Some t) where
+  pub passed_input : input (after_token s) ≡ next (input s)
   passed_input = sym (ap next (occurs s t h).is)
 
-  all_is : everything s ≡ listed_with_all s.listed (occurrence_in t (offset s.tokens) ++ all_occurrences (input (passed s)).left)
-  unfolding everything
+  all_is : complete_list s
+      ≡ listed_with_all s.listed (occurrence_in t (offset s.tokens) ++ all_occurrences (input (after_token s)).left)
+  unfolding complete_list
   all_is = ap (λ (i : Input). listed_with_all s.listed (all_occurrences i.left)) (occurs s t h).is
 
   -- a token that is not an occurrence lists nothing
-  pub passed_keeps : PassesOther s → Keeps s (passed s)
-  unfolding everything
-  passed_keeps other = record { occurrences = sym (all_is ∙ ap (λ os. listed_with_all s.listed (os ++ all_occurrences (input (passed s)).left)) (none t (sym (ap is_occurrence h) ∙ other))); names = refl; kind = refl; following = (occurs s t h).following }
+  pub passed_keeps : NextIsOther s → KeepsContext s (after_token s)
+  unfolding complete_list
+  passed_keeps other = record { occurrences = sym (all_is ∙ ap (λ os. listed_with_all s.listed (os ++ all_occurrences (input (after_token s)).left)) (none t (sym (ap is_occurrence h) ∙ other))); names = refl; kind = refl; following = (occurs s t h).following }
     where
       none : (t : GrammarToken) → is_occurrence (Some t) ≡ false → occurrence_in t (offset s.tokens) ≡ []
       none t h = grind arith
 
   -- whether an expression begins with the token is the same with all occurrences as in `begins_here`
-  begins_same : begins (everything s) s.scope t ≡ begins_here s.scope t
+  begins_same : begins (complete_list s) s.scope t ≡ begins_here s.scope t
   begins_same = go t all_is
     where
-      go : (t : GrammarToken) → everything s ≡ listed_with_all s.listed (occurrence_in t (offset s.tokens) ++ all_occurrences (input (passed s)).left) → begins (everything s) s.scope t ≡ begins_here s.scope t
+      go : (t : GrammarToken) → complete_list s ≡ listed_with_all s.listed (occurrence_in t (offset s.tokens) ++ all_occurrences (input (after_token s)).left) → begins (complete_list s) s.scope t ≡ begins_here s.scope t
       go (token.Number n) all = refl
       go (token.Text bytes) all = refl
       go (token.Name name) all = refl
       go (token.Occurrence p attr) all =
           let x : Occ = record { place = p; attr = attr; at = offset s.tokens } in
           let k = has_number s.listed x in
-          let number = ap (λ os. position_of os p attr) all ∙ position_stays (listed_with s.listed x) p attr k.0 (all_occurrences (input (passed s)).left) k.1 in
+          let number = ap (λ os. position_of os p attr) all ∙ position_stays (listed_with s.listed x) p attr k.0 (all_occurrences (input (after_token s)).left) k.1 in
           rw number refl
       go (token.Punctuation m) all = refl
 
   -- the fault for the token if no level is left
-  level_is : no_level s ≡ cond (begins_here s.scope t) (fault.TooDeep (offset s.tokens)) (fault.Unexpected (offset s.tokens))
-  level_is = ap (λ (i : Input). no_level_of (everything s) s.scope i.ending i.left) (occurs s t h).is ∙ rw begins_same (grind arith)
+  level_is : level_fault s ≡ cond (begins_here s.scope t) (fault.TooDeep (offset s.tokens)) (fault.Unexpected (offset s.tokens))
+  level_is = ap (λ (i : Input). level_fault_of (complete_list s) s.scope i.ending i.left) (occurs s t h).is ∙ rw begins_same (grind arith)
 
-  pub too_deep : begins_here s.scope t ≡ true → no_level s ≡ fault.TooDeep (offset s.tokens)
+  pub too_deep : begins_here s.scope t ≡ true → level_fault s ≡ fault.TooDeep (offset s.tokens)
   too_deep b = level_is ∙ rw b refl
 
-  pub not_begun : begins_here s.scope t ≡ false → no_level s ≡ refusal (input s)
+  pub not_begun : begins_here s.scope t ≡ false → level_fault s ≡ refusal (input s)
   not_begun b = level_is ∙ rw b (sym (ap refusal (occurs s t h).is))
 
-pub none_begun : (s : State) → prefix (input s) ≡ None → no_level s ≡ refusal (input s)
+pub none_begun : (s : State) → next_token (input s) ≡ None → level_fault s ≡ refusal (input s)
 none_begun s h = grind arith
 
 -- an occurrence that is read is listed
-module _ (s : State) (p : ℕ) (attr : List ℕ) (listed : List Occ) (h : prefix (input s) ≡ Some (token.Occurrence p attr)) (is : listed ≡ listed_with s.listed (record { place = p; attr = attr; at = offset s.tokens })) where
-  all_listed : everything s ≡ listed_with_all listed (all_occurrences (input (passed s)).left)
-  all_listed = all_is s (token.Occurrence p attr) h ∙ ap (λ os. listed_with_all os (all_occurrences (input (passed s)).left)) (sym is)
+module _ (s : State) (p : ℕ) (attr : List ℕ) (listed : List Occ) (h : next_token (input s) ≡ Some (token.Occurrence p attr)) (is : listed ≡ listed_with s.listed (record { place = p; attr = attr; at = offset s.tokens })) where
+  all_listed : complete_list s ≡ listed_with_all listed (all_occurrences (input (after_token s)).left)
+  all_listed = all_is s (token.Occurrence p attr) h ∙ ap (λ os. listed_with_all os (all_occurrences (input (after_token s)).left)) (sym is)
 
-  pub taken_keeps : Keeps s (record s { listed = listed; tokens = next s.tokens })
-  unfolding everything input
+  pub taken_keeps : KeepsContext s (record s { listed = listed; tokens = next s.tokens })
+  unfolding complete_list input
   taken_keeps = record { occurrences = sym all_listed; names = refl; kind = refl; following = (occurs s (token.Occurrence p attr) h).following }
 
-  pub taken_number : (k : ℕ) → position_of listed p attr ≡ Some k → position_of (everything s) p attr ≡ Some k
-  taken_number k e = ap (λ os. position_of os p attr) all_listed ∙ position_stays listed p attr k (all_occurrences (input (passed s)).left) e
+  pub taken_number : (k : ℕ) → position_of listed p attr ≡ Some k → position_of (complete_list s) p attr ≡ Some k
+  taken_number k e = ap (λ os. position_of os p attr) all_listed ∙ position_stays listed p attr k (all_occurrences (input (after_token s)).left) e
 
   pub taken_tokens : input (record s { listed = listed; tokens = next s.tokens }) ≡ next (input s)
   unfolding input
   taken_tokens = passed_input s (token.Occurrence p attr) h
 
 -- at the end of the tokens all occurrences are listed
-pub all_at_end : (s : State) → is_end (input s).ending (input s).left ≡ true → everything s ≡ s.listed
-unfolding everything
+pub all_at_end : (s : State) → is_end (input s).ending (input s).left ≡ true → complete_list s ≡ s.listed
+unfolding complete_list
 all_at_end s h = ap (λ ps. listed_with_all s.listed (all_occurrences ps)) (none (input s).ending (input s).left h)
   where
     none : (e : Ending) (ps : List PlacedToken) → is_end e ps ≡ true → ps ≡ []

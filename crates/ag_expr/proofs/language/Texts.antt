@@ -7,8 +7,8 @@ use Rattle.ag_grammar.specs.declared.syntax.node.Node.{Node}
 use Rattle.ag_grammar.specs.declared.syntax.occurrence.Occ.{Occ}
 use Rattle.ag_tokens.specs.Ending.{Ending, offset_of}
 use Rattle.ag_tokens.specs.Ending as ending
-use Rattle.ag_expr.specs.language.Expression.{max_levels, ReadsAsExpr, ReadsAsNone, IsRefused, IsAt, Says, begins_expression}
-use Rattle.ag_expr.specs.language.State.{State, IsReadToEnd, start, input, everything}
+use Rattle.ag_expr.specs.language.Expression.{max_levels, ReadsAsExpr, ReadsAsNone, IsRefused, IsFaultOf, IsFaultFrom, begins_expression}
+use Rattle.ag_expr.specs.language.State.{State, IsReadToEnd, start, input, complete_list}
 use Rattle.ag_expr.specs.language.Occurrences.{all_occurrences, distinct_occurrences}
 use Rattle.ag_tokens.specs.PlacedToken.{PlacedToken, Input, tokens}
 use Rattle.ag_expr.specs.language.Offsets.{IsFirstOf, IsRead, IsReadFrom, IsReportedFirst, answer_of, occurrences_of, read_from}
@@ -24,7 +24,7 @@ use Rattle.ag_expr.proofs.language.Offsets.{refuses_at_the_first}
 
 -- the result of parsing the tokens of a text is the answer, since the text has no other tokens
 pub read_to : (text : List ℕ) (from : ℕ) (j : Input) → Lexes from (chars (drop from text)) j → (r : Result (Node × List Occ) ExprFault) → IsReadToEnd (start false j) r → IsReadFrom text from r
-unfolding everything input
+unfolding complete_list input
 read_to text from j lexed r is i lexes memory =
     ap read_from (same_input from (chars (drop from text)) i j lexes lexed) ∙ ap (λ os. answer_of os (expr_of os max_levels j)) (sym (listed_are_different (all_occurrences j.left))) ∙ is memory
 
@@ -37,21 +37,21 @@ passed_on P (Err x) e is holds = subst (λ y. P (Err y)) (sym is) holds
 
 module _ (s : State) where
   -- the case with no names in scope
-  pub unnamed : s.scope ≡ [] → (o : Outcome Node) → expr_in (everything s) max_levels s.scope (input s) ≡ o → expr_from (everything s) max_levels (input s) ≡ o
-  unnamed none o is = subst (λ names. expr_in (everything s) max_levels names (input s) ≡ o) none is
+  pub unnamed : s.scope ≡ [] → (o : Outcome Node) → expr_in (complete_list s) max_levels s.scope (input s) ≡ o → expr_from (complete_list s) max_levels (input s) ≡ o
+  unnamed none o is = subst (λ names. expr_in (complete_list s) max_levels names (input s) ≡ o) none is
 
-  pub refused_within : (r : Result (Node × List Occ) ExprFault) (e : ExprFault) → IsErrAnd r (λ x. x ≡ e) → (e ≢ fault.NoMemory → expr_from (everything s) max_levels (input s) ≡ Err e) → IsReadToEnd s r
+  pub refused_within : (r : Result (Node × List Occ) ExprFault) (e : ExprFault) → IsErrAnd r (λ x. x ≡ e) → (e ≢ fault.NoMemory → expr_from (complete_list s) max_levels (input s) ≡ Err e) → IsReadToEnd s r
   unfolding expr_of
   refused_within (Ok x) e is h = absurd is
   refused_within (Err x) e is h = λ memory. rw (h (λ q. memory (ap Err (is ∙ q)))) (ap Err (sym is))
 
-  pub refused_after : (r : Result (Node × List Occ) ExprFault) (e : ExprFault) (f : Node) (j : Input) → IsErrAnd r (λ x. x ≡ e) → expr_from (everything s) max_levels (input s) ≡ Ok (f, j) → is_end j.ending j.left ≡ false → e ≡ refusal j → IsReadToEnd s r
+  pub refused_after : (r : Result (Node × List Occ) ExprFault) (e : ExprFault) (f : Node) (j : Input) → IsErrAnd r (λ x. x ≡ e) → expr_from (complete_list s) max_levels (input s) ≡ Ok (f, j) → is_end j.ending j.left ≡ false → e ≡ refusal j → IsReadToEnd s r
   unfolding expr_of
   refused_after (Ok x) e f j is read more says = absurd is
   refused_after (Err x) e f j is read more says = λ memory. rw (read, more) (ap Err (sym (is ∙ says)))
 
-  pub read_all : (f : Node) (j : Input) (listed : List Occ) → expr_from (everything s) max_levels (input s) ≡ Ok (f, j) → is_end j.ending j.left ≡ true → listed ≡ everything s → IsReadToEnd s (Ok (f, listed))
-  read_all f j listed read ends same = λ memory. ap (answer_of (everything s)) (read_of (everything s) max_levels (input s) j f read ends) ∙ ap (λ os. Ok (f, os)) (sym same)
+  pub read_all : (f : Node) (j : Input) (listed : List Occ) → expr_from (complete_list s) max_levels (input s) ≡ Ok (f, j) → is_end j.ending j.left ≡ true → listed ≡ complete_list s → IsReadToEnd s (Ok (f, listed))
+  read_all f j listed read ends same = λ memory. ap (answer_of (complete_list s)) (read_of (complete_list s) max_levels (input s) j f read ends) ∙ ap (λ os. Ok (f, os)) (sym same)
 
 -- ---- what follows for the text
 
@@ -154,14 +154,14 @@ module _ (from : ℕ) (cs : List ℕ) (i : Input) (lexes : Lexes from cs i) wher
   stands_at us p ps cut = let one = token_at lexes.before us p ps cut in ((one.0, ap is_within one.1 ∙ placed_inner us p ps (sym (ap all_within cut) ∙ lexes.within)), one.1)
 
   -- the ending of the tokens is at its offset
-  pub ends_at : Says from cs (ending_fault i.ending)
+  pub ends_at : IsFaultFrom from cs (ending_fault i.ending)
   ends_at = go i.left i.ending lexes
     where
-      go : (ps : List PlacedToken) (e : Ending) → Lexes from cs (record { left = ps; ending = e }) → Says from cs (ending_fault e)
+      go : (ps : List PlacedToken) (e : Ending) → Lexes from cs (record { left = ps; ending = e }) → IsFaultFrom from cs (ending_fault e)
       go ps (ending.EndsAt at) is = inr (record { placed = ps; before = subst (AreTokens from cs ps at) is.stops is.before })
       go ps (ending.NoTokenAt at) is = by is.rest is.before is.stops
         where
-          by : (rest : List ℕ) → AreTokens from cs ps at rest → HasNoToken rest → Says from cs (fault.NoToken at)
+          by : (rest : List ℕ) → AreTokens from cs ps at rest → HasNoToken rest → IsFaultFrom from cs (fault.NoToken at)
           by [] before none = absurd none
           by (c ∷ rest) before none = record { first = c; rest = rest; reaches = record { placed = ps; before = before }; no_separator = none.0; no_token = none.1 }
       go ps (ending.TooLargeAt at) is =
@@ -169,30 +169,31 @@ module _ (from : ℕ) (cs : List ℕ) (i : Input) (lexes : Lexes from cs i) wher
           (record { word = t.word; token = t.token; rest = t.following; reaches = record { placed = ps; before = subst (AreTokens from cs ps at) t.split is.before }; is = t.is; longest = t.longest }, t.large)
 
   -- A fault for a prefix of the tokens is right about the text, if that for the ending of the prefix is.
-  pub reported_before : (part : Input) (following : List PlacedToken) → i.left ≡ part.left ++ following → Says from cs (ending_fault part.ending) → (listed : List Occ) (levels : ℕ) (f : ExprFault) → IsReportedFirst listed levels part f → Says from cs f
+  pub reported_before : (part : Input) (following : List PlacedToken) → i.left ≡ part.left ++ following → IsFaultFrom from cs (ending_fault part.ending) → (listed : List Occ) (levels : ℕ) (f : ExprFault) → IsReportedFirst listed levels part f → IsFaultFrom from cs f
   reported_before part following cut ends listed levels f reported = go reported
     where
       further : (us ps : List PlacedToken) → part.left ≡ us ++ ps → i.left ≡ us ++ (ps ++ following)
       further us ps here = cut ∙ ap (λ qs. qs ++ following) here ∙ append_assoc us ps following
 
-      says : (us rest : List PlacedToken) → part.left ≡ us ++ rest → Says from cs (refusal_of part.ending rest)
+      says : (us rest : List PlacedToken) → part.left ≡ us ++ rest → IsFaultFrom from cs (refusal_of part.ending rest)
       says us [] here = ends
       says us (p ∷ ps) here = inl (stands_at us p (ps ++ following) (further us (p ∷ ps) here)).0
 
-      go : IsReportedFirst listed levels part f → Says from cs f
-      go (inl w) = subst (Says from cs) (sym w.says) (says w.before w.rest w.cut)
-      go (inr d) = let one = stands_at d.before d.first (d.rest ++ following) (further d.before (d.first ∷ d.rest) d.cut) in subst (Says from cs) (sym d.says) (one.0, ap begins_expression one.1 ∙ d.begins_one)
+      go : IsReportedFirst listed levels part f → IsFaultFrom from cs f
+      go (inl w) = subst (IsFaultFrom from cs) (sym w.says) (says w.before w.rest w.cut)
+      go (inr d) = let one = stands_at d.before d.first (d.rest ++ following) (further d.before (d.first ∷ d.rest) d.cut) in subst (IsFaultFrom from cs) (sym d.says) (one.0, ap begins_expression one.1 ∙ d.begins_one)
 
   -- and the same for all tokens
-  pub reported_at : (listed : List Occ) (levels : ℕ) (f : ExprFault) → IsReportedFirst listed levels i f → Says from cs f
+  pub reported_at : (listed : List Occ) (levels : ℕ) (f : ExprFault) → IsReportedFirst listed levels i f → IsFaultFrom from cs f
   reported_at = reported_before i [] (sym (append-nil i.left)) ends_at
 
 -- the fault `NoMemory` states nothing
-pub unless_memory : (from : ℕ) (cs : List ℕ) (e : ExprFault) → (e ≢ fault.NoMemory → Says from cs e) → Says from cs e
+pub unless_memory : (from : ℕ) (cs : List ℕ) (e : ExprFault)
+    → (e ≢ fault.NoMemory → IsFaultFrom from cs e) → IsFaultFrom from cs e
 unless_memory from cs fault.NoMemory says = tt
 unless_memory from cs e says = says (λ e. cc)
 
-pub offsets_of : (text : List ℕ) (r : Result (Node × List Occ) ExprFault) → IsRead text r → IfErr r (IsAt text)
+pub offsets_of : (text : List ℕ) (r : Result (Node × List Occ) ExprFault) → IsRead text r → IfErr r (IsFaultOf text)
 offsets_of text (Ok x) is = tt
 offsets_of text (Err e) is =
     let i = one_input (chars text) in

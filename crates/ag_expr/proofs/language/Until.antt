@@ -11,11 +11,11 @@ use Rattle.ag_tokens.proofs.Lexes.{same_input}
 use Rattle.ag_expr.specs.declared.fault.ExprFault.{ExprFault}
 use Rattle.ag_grammar.specs.declared.syntax.node.Node.{Node}
 use Rattle.ag_grammar.specs.declared.syntax.occurrence.Occ.{Occ}
-use Rattle.ag_expr.specs.language.Expression.{max_levels, Says}
+use Rattle.ag_expr.specs.language.Expression.{max_levels, IsFaultFrom}
 use Rattle.ag_expr.specs.language.Occurrences.{all_occurrences}
 use Rattle.ag_expr.specs.language.Offsets.{answer_of, read_from}
 use Rattle.ag_expr.specs.language.Reading.{ending_fault, expr_from, expr_of, refusal}
-use Rattle.ag_expr.specs.language.State.{IsReadEnded, Keeps, State, everything, from_end, input, start, up_to}
+use Rattle.ag_expr.specs.language.State.{IsReadEnded, KeepsContext, State, complete_list, from_end, input, start, up_to}
 use Rattle.ag_expr.specs.language.Syntax.{IsExpr}
 use Rattle.ag_expr.specs.language.Until.{Ended, semicolon, first_semicolon, before_semicolon, after_semicolon, from_semicolon, with_offset, or_fault, until_by, read_until_from, IsReadUntil, ReadsUntil, IsRefusedUntil, IsReportedUntil, IsFirstUntil}
 use Rattle.ag_expr.proofs.language.Agree.{read_of}
@@ -67,11 +67,11 @@ until_is i = let none = none_first i.left in grind arith
 
 module _ (i : Input) where
   abbrev all : List Occ
-  all = everything (start true i)
+  all = complete_list (start true i)
 
   -- the result of parsing the tokens before the semicolon as a whole text
   whole : (o : Result (Node × Input) ExprFault) → expr_of all max_levels (input (start true i)) ≡ o → read_from (up_to true i) ≡ answer_of all o
-  unfolding everything input
+  unfolding complete_list input
   whole o h = ap (λ os. answer_of os (expr_of os max_levels (up_to true i))) (sym (listed_are_different (all_occurrences (up_to true i).left))) ∙ ap (answer_of all) h
 
   pub refused_within : (f : ExprFault) → expr_from all max_levels (input (start true i)) ≡ Err f → read_until_from i ≡ Err f
@@ -109,7 +109,7 @@ module _ (i : Input) where
         by false more = ap (by_end (first_semicolon i.left) i.ending) (whole (Err (refusal (up_to true c))) (refused_at more)) ∙ grind arith
 
 -- the result, from the state of a reader that has parsed an expression
-module _ (i : Input) (s : State) (e : Node) (read : expr_from (all i) max_levels (input (start true i)) ≡ Ok (e, input s)) (kept : Keeps (start true i) s) where
+module _ (i : Input) (s : State) (e : Node) (read : expr_from (all i) max_levels (input (start true i)) ≡ Ok (e, input s)) (kept : KeepsContext (start true i) s) where
   tokens_are : input s ≡ up_to true s.tokens
   unfolding input
   tokens_are = ap (λ b. up_to b s.tokens) kept.kind
@@ -140,13 +140,13 @@ module _ (i : Input) (f : ExprFault) where
           inr (record { at = s.at; ends = s.ends; says = sym same ∙ ap ending_fault s.ends; tree = x.0; spells = s.spells })
       go (Err g) read is = let same : g ≡ f = cc in inl (reported_of i f (read ∙ ap Err same))
 
-  says_until : (from : ℕ) (cs : List ℕ) → Lexes from cs i → (o : Option ℕ) → first_semicolon i.left ≡ o → IsReportedUntil o i f → Says from cs f
+  says_until : (from : ℕ) (cs : List ℕ) → Lexes from cs i → (o : Option ℕ) → first_semicolon i.left ≡ o → IsReportedUntil o i f → IsFaultFrom from cs f
   says_until from cs lexes (Some at) h reported =
       let cut = split_first i.left at h in
       let stop = stands_at from cs i lexes (before_semicolon i.left) (semicolon at) (after_semicolon i.left) cut.0 in
       reported_before from cs i lexes (record { left = before_semicolon i.left; ending = ending.EndsAt at }) (semicolon at ∷ after_semicolon i.left) cut.0 (inl stop.0) _ max_levels f reported
   says_until from cs lexes None h (inl reported) = reported_at from cs i lexes _ max_levels f reported
-  says_until from cs lexes None h (inr u) = subst (Says from cs) (ap ending_fault u.ends ∙ sym u.says) (ends_at from cs i lexes)
+  says_until from cs lexes None h (inr u) = subst (IsFaultFrom from cs) (ap ending_fault u.ends ∙ sym u.says) (ends_at from cs i lexes)
 
 pub first_until : (text : List ℕ) (from : ℕ) (r : Result Ended ExprFault) → IsReadUntil text from r → IfErr r (IsFirstUntil text from)
 first_until text from (Ok x) is = tt
@@ -189,6 +189,6 @@ module _ (text : List ℕ) (from : ℕ) (j : Input) (lexes : Lexes from (chars (
       let contradiction = sym (is k reads.lexes (λ q. memory cc)) ∙ back in
       cc
 
-  pub offsets_until : (r : Result Ended ExprFault) → IsReadUntil text from r → IfErr r (Says from (chars (drop from text)))
+  pub offsets_until : (r : Result Ended ExprFault) → IsReadUntil text from r → IfErr r (IsFaultFrom from (chars (drop from text)))
   offsets_until (Ok x) is = tt
   offsets_until (Err f) is = unless_memory from (chars (drop from text)) f (λ memory. says_until j f from (chars (drop from text)) lexes (first_semicolon j.left) refl (first_until text from (Err f) is j lexes memory))

@@ -5,9 +5,9 @@ use Rattle.ag_tokens.specs.Ending.{Ending}
 use Rattle.ag_tokens.specs.PlacedToken.{PlacedToken, Input}
 use Rattle.ag_tokens.specs.GrammarToken.{GrammarToken}
 use Rattle.ag_tokens.specs.Parsing as parsing
-use Rattle.ag_tokens.specs.Parsing.{front_of, sees, Outcome, Parser, and_then, pure, taken, one_from, choose, many_from, further_from}
-use Rattle.ag_tokens.specs.Words as words
-use Rattle.ag_tokens.specs.Words.{gives, one, Many, none, more, IsFew, further}
+use Rattle.ag_tokens.specs.Parsing.{first_token, sees, Outcome, Parser, and_then, pure, accept_as, one_from, choose, many_from, further_from}
+use Rattle.ag_tokens.specs.Languages as languages
+use Rattle.ag_tokens.specs.Languages.{gives, one, Many, none, more, IsFew, further}
 
 -- What the theory needs to know about a language: the item for a token with its offset, the fault for an
 -- input that cannot be accepted, the faults that are about a token, and whether a fault means that this token
@@ -24,7 +24,7 @@ before us i = record i { left = us ++ i.left }
 
 -- whether the first token satisfies the test
 abbrev pub first_is : (GrammarToken → Bool) → List PlacedToken → Bool
-first_is test ps = parsing.front_is test (front_of ps)
+first_is test ps = parsing.next_satisfies test (first_token ps)
 
 -- each word of the language begins with a token that satisfies the test
 pub record Starts {T Fault A : Type 0} (m : Manner T Fault) (test : GrammarToken → Bool) (L : List T → A → Type 0) : Type 0 where
@@ -47,7 +47,7 @@ split item (u ∷ us) (v ∷ vs) ws e = let cut = split item us vs ws (cc) in (u
 
 -- a word of two parts over tokens with offsets, and a list of words with one more at its head
 module _ {T A : Type 0} (item : PlacedToken → T) (us : List PlacedToken) where
-  pub parts : {B : Type 0} (R : List T → A → Type 0) (S : A → List T → B → Type 0) (b : B) → words.◌>>=◌ R S (map item us) b → (xs : List PlacedToken) × (ys : List PlacedToken) × (a : A) × (us ≡ xs ++ ys) × R (map item xs) a × S a (map item ys) b
+  pub parts : {B : Type 0} (R : List T → A → Type 0) (S : A → List T → B → Type 0) (b : B) → languages.◌>>=◌ R S (map item us) b → (xs : List PlacedToken) × (ys : List PlacedToken) × (a : A) × (us ≡ xs ++ ys) × R (map item xs) a × S a (map item ys) b
   parts R S b (vs, ws, a, e, is, later) = let cut = split item us vs ws e in (cut.0, cut.1, a, cut.2, subst (λ ts. R ts a) (sym cut.3) is, subst (λ ts. S a ts b) (sym cut.4) later)
 
   many_parts : {L : List T → A → Type 0} (x : A) (xs : List A) → Many L (map item us) (x ∷ xs) → (vs : List PlacedToken) × (ws : List PlacedToken) × (us ≡ vs ++ ws) × L (map item vs) x × Many L (map item ws) xs
@@ -124,17 +124,17 @@ module _ {T Fault : Type 0} {m : Manner T Fault} where
       done (u ∷ us) j b (e, same) h = let bad : ⊥ = cc in absurd bad
 
   pub then_exact : {A B : Type 0} {inner outer : GrammarToken → Bool} {R : List T → A → Type 0} {S : A → List T → B → Type 0} {r : Parser Fault A} {s : A → Parser Fault B}
-      → Exact m inner R r → ((a : A) → Exact m outer (S a) (s a)) → ((a : A) → Before m outer inner (S a)) → Exact m outer (words.◌>>=◌ R S) (parsing.◌>>=◌ r s)
+      → Exact m inner R r → ((a : A) → Exact m outer (S a) (s a)) → ((a : A) → Before m outer inner (S a)) → Exact m outer (languages.◌>>=◌ R S) (parsing.◌>>=◌ r s)
   then_exact {A} {B} {inner} {outer} {R} {S} {r} {s} x y following = record { sound = found; complete = read }
     where
-      found : (i j : Input) (b : B) → parsing.◌>>=◌ r s i ≡ Ok (b, j) → (us : List PlacedToken) × (i ≡ before us j) × words.◌>>=◌ R S (map m.item us) b
+      found : (i j : Input) (b : B) → parsing.◌>>=◌ r s i ≡ Ok (b, j) → (us : List PlacedToken) × (i ≡ before us j) × languages.◌>>=◌ R S (map m.item us) b
       found i j b h =
           let one = opened (r i) s (b, j) h in
           let first = x.sound i one.0.1 one.0.0 one.1 in
           let second = (y one.0.0).sound one.0.1 j b one.2 in
           (first.0 ++ second.0, first.1 ∙ ap (before first.0) second.1 ∙ sym (before-append first.0 second.0 j), (map m.item first.0, map m.item second.0, one.0.0, map-append m.item first.0 second.0, first.2, second.2))
 
-      read : (us : List PlacedToken) (j : Input) (b : B) → words.◌>>=◌ R S (map m.item us) b → first_is outer j.left ≡ false → parsing.◌>>=◌ r s (before us j) ≡ Ok (b, j)
+      read : (us : List PlacedToken) (j : Input) (b : B) → languages.◌>>=◌ R S (map m.item us) b → first_is outer j.left ≡ false → parsing.◌>>=◌ r s (before us j) ≡ Ok (b, j)
       read us j b is h =
           let (vs, ws, a, cut, first, later) = parts m.item us R S b is in
           let one = x.complete vs (before ws j) a first (following a ws j.left b later h) in
@@ -142,26 +142,26 @@ module _ {T Fault : Type 0} {m : Manner T Fault} where
 
   -- one of two languages, chosen by the first token
   pub or_exact : {A : Type 0} {test those stops : GrammarToken → Bool} {L M : List T → A → Type 0} {l n : Parser Fault A}
-      → Exact m stops L l → Exact m stops M n → Starts m test L → Starts m those M → Apart test those → Exact m stops (words.◌or◌ L M) (choose test l n)
+      → Exact m stops L l → Exact m stops M n → Starts m test L → Starts m those M → Apart test those → Exact m stops (languages.◌or◌ L M) (choose test l n)
   or_exact {A} {test} {those} {stops} {L} {M} {l} {n} x y starts others apart = record { sound = λ i j a. found (sees test i) i j a; complete = read }
     where
-      found : (b : Bool) (i j : Input) (a : A) → (if b then l i else n i) ≡ Ok (a, j) → (us : List PlacedToken) × (i ≡ before us j) × words.◌or◌ L M (map m.item us) a
+      found : (b : Bool) (i j : Input) (a : A) → (if b then l i else n i) ≡ Ok (a, j) → (us : List PlacedToken) × (i ≡ before us j) × languages.◌or◌ L M (map m.item us) a
       found true i j a h = let one = x.sound i j a h in (one.0, one.1, inl one.2)
       found false i j a h = let one = y.sound i j a h in (one.0, one.1, inr one.2)
 
-      read : (us : List PlacedToken) (j : Input) (a : A) → words.◌or◌ L M (map m.item us) a → first_is stops j.left ≡ false → choose test l n (before us j) ≡ Ok (a, j)
+      read : (us : List PlacedToken) (j : Input) (a : A) → languages.◌or◌ L M (map m.item us) a → first_is stops j.left ≡ false → choose test l n (before us j) ≡ Ok (a, j)
       read us j a (inl is) h = rw (leads-append test us j.left (starts.leads us a is)) (x.complete us j a is h)
       read us j a (inr is) h = rw (led those test (apart_back test those apart) (us ++ j.left) (leads-append those us j.left (others.leads us a is))) (y.complete us j a is h)
 
   -- a language, or nothing
-  pub maybe_exact : {A : Type 0} {test stops : GrammarToken → Bool} {L : List T → A → Type 0} {l : Parser Fault A} (a : A) → Exact m stops L l → Starts m test L → Exact m (λ t. test t || stops t) (words.◌or◌ L (gives a)) (choose test l (pure a))
+  pub maybe_exact : {A : Type 0} {test stops : GrammarToken → Bool} {L : List T → A → Type 0} {l : Parser Fault A} (a : A) → Exact m stops L l → Starts m test L → Exact m (λ t. test t || stops t) (languages.◌or◌ L (gives a)) (choose test l (pure a))
   maybe_exact {A} {test} {stops} {L} {l} a x starts = record { sound = λ i j b. found (sees test i) i j b; complete = read }
     where
-      found : (b : Bool) (i j : Input) (c : A) → (if b then l i else pure a i) ≡ Ok (c, j) → (us : List PlacedToken) × (i ≡ before us j) × words.◌or◌ L (gives a) (map m.item us) c
+      found : (b : Bool) (i j : Input) (c : A) → (if b then l i else pure a i) ≡ Ok (c, j) → (us : List PlacedToken) × (i ≡ before us j) × languages.◌or◌ L (gives a) (map m.item us) c
       found true i j c h = let one = x.sound i j c h in (one.0, one.1, inl one.2)
       found false i j c h = let same = answered a c i j h in ([], same.1, inr (refl, same.0))
 
-      read : (us : List PlacedToken) (j : Input) (b : A) → words.◌or◌ L (gives a) (map m.item us) b → first_is (λ t. test t || stops t) j.left ≡ false → choose test l (pure a) (before us j) ≡ Ok (b, j)
+      read : (us : List PlacedToken) (j : Input) (b : A) → languages.◌or◌ L (gives a) (map m.item us) b → first_is (λ t. test t || stops t) j.left ≡ false → choose test l (pure a) (before us j) ≡ Ok (b, j)
       read us j b (inl is) h = rw (leads-append test us j.left (starts.leads us b is)) (x.complete us j b is (both_without test stops j.left h).1)
       read [] j b (inr (empty, same)) h = rw (same, (both_without test stops j.left h).0) refl
       read (u ∷ us) j b (inr (empty, same)) h = let bad : ⊥ = cc in absurd bad
@@ -256,21 +256,21 @@ module _ {T Fault : Type 0} {m : Manner T Fault} where
 
   -- items, followed by something else
   pub further_then : {A B : Type 0} (single : Bool) (found : List A) (begins inner outer : GrammarToken → Bool) {those : GrammarToken → Bool} {L : List T → A → Type 0} {S : List A → List T → B → Type 0} → Starts m begins L → Apart begins inner
-      → ((xs : List A) → Starts m those (S xs)) → Apart those inner → Before m outer inner (words.◌>>=◌ (further single found L) S)
+      → ((xs : List A) → Starts m those (S xs)) → Apart those inner → Before m outer inner (languages.◌>>=◌ (further single found L) S)
   further_then {A} {B} single found begins inner outer {those} {L} {S} starts apart following away vs rest b word h =
       let (us, ws, all, cut, (xs, are, le, is), later) = parts m.item vs (further single found L) S b word in
       let next = led those inner away (ws ++ rest) (leads-append those ws rest ((following all).leads ws b later)) in
       rw (cut, append_assoc us ws rest) (many_leads begins inner L starts apart us xs are (ws ++ rest) next)
 
   -- and items followed by nothing
-  pub further_after : {A B : Type 0} (single : Bool) (found : List A) (begins stops : GrammarToken → Bool) {L : List T → A → Type 0} (f : List A → B) → Starts m begins L → Apart begins stops → Before m (λ t. begins t || stops t) stops (words.◌>>=◌ (further single found L) (λ xs. gives (f xs)))
+  pub further_after : {A B : Type 0} (single : Bool) (found : List A) (begins stops : GrammarToken → Bool) {L : List T → A → Type 0} (f : List A → B) → Starts m begins L → Apart begins stops → Before m (λ t. begins t || stops t) stops (languages.◌>>=◌ (further single found L) (λ xs. gives (f xs)))
   further_after single found begins stops {L} f starts apart vs rest b (us, ws, all, e, (xs, are, le, is), (no_more, same)) h =
       let whole : map m.item vs ≡ us = e ∙ ap (λ ys. us ++ ys) no_more ∙ append-nil us in
       many_leads begins stops L starts apart vs xs (subst (λ ts. Many L ts xs) (sym whole) are) rest (both_without begins stops rest h).1
 
   -- ---- first tokens
 
-  pub then_starts : {A B : Type 0} {test : GrammarToken → Bool} {R : List T → A → Type 0} {S : A → List T → B → Type 0} → Starts m test R → Starts m test (words.◌>>=◌ R S)
+  pub then_starts : {A B : Type 0} {test : GrammarToken → Bool} {R : List T → A → Type 0} {S : A → List T → B → Type 0} → Starts m test R → Starts m test (languages.◌>>=◌ R S)
   then_starts {A} {B} {test} {R} {S} x = record { leads = λ us b word. let (vs, ws, a, cut, is, later) = parts m.item us R S b word in rw cut (leads-append test vs ws (x.leads vs a is)) }
 
   pub one_starts : {A : Type 0} {test : GrammarToken → Bool} (meaning : T → Option A) → ((p : PlacedToken) (a : A) → meaning (m.item p) ≡ Some a → test p.token ≡ true) → Starts m test (one meaning)
@@ -280,18 +280,18 @@ module _ {T Fault : Type 0} {m : Manner T Fault} where
       go [] a (t, e, is) = let bad : ⊥ = cc in absurd bad
       go (u ∷ us) a (t, e, is) = let same : m.item u ≡ t = cc in h u a (ap meaning same ∙ is)
 
-  pub or_starts : {A : Type 0} {these those : GrammarToken → Bool} {L M : List T → A → Type 0} → Starts m these L → Starts m those M → Starts m (λ t. these t || those t) (words.◌or◌ L M)
+  pub or_starts : {A : Type 0} {these those : GrammarToken → Bool} {L M : List T → A → Type 0} → Starts m these L → Starts m those M → Starts m (λ t. these t || those t) (languages.◌or◌ L M)
   or_starts {A} {these} {those} {L} {M} x y = record { leads = first }
     where
-      first : (us : List PlacedToken) (a : A) → words.◌or◌ L M (map m.item us) a → first_is (λ t. these t || those t) us ≡ true
+      first : (us : List PlacedToken) (a : A) → languages.◌or◌ L M (map m.item us) a → first_is (λ t. these t || those t) us ≡ true
       first us a (inl is) = either these those us (inl (x.leads us a is))
       first us a (inr is) = either these those us (inr (y.leads us a is))
 
   -- a language or nothing, followed by what begins with another token
-  pub maybe_starts : {A B : Type 0} {these those : GrammarToken → Bool} {L : List T → A → Type 0} {S : A → List T → B → Type 0} (c : A) → Starts m these L → ((a : A) → Starts m those (S a)) → Starts m (λ t. these t || those t) (words.◌>>=◌ (words.◌or◌ L (gives c)) S)
+  pub maybe_starts : {A B : Type 0} {these those : GrammarToken → Bool} {L : List T → A → Type 0} {S : A → List T → B → Type 0} (c : A) → Starts m these L → ((a : A) → Starts m those (S a)) → Starts m (λ t. these t || those t) (languages.◌>>=◌ (languages.◌or◌ L (gives c)) S)
   maybe_starts {A} {B} {these} {those} {L} {S} c x y = record { leads = go }
     where
-      go : (us : List PlacedToken) (b : B) → words.◌>>=◌ (words.◌or◌ L (gives c)) S (map m.item us) b → first_is (λ t. these t || those t) us ≡ true
+      go : (us : List PlacedToken) (b : B) → languages.◌>>=◌ (languages.◌or◌ L (gives c)) S (map m.item us) b → first_is (λ t. these t || those t) us ≡ true
       go us b (vs, ws, a, e, inl is, later) =
           let cut = split m.item us vs ws e in
           either these those us (inl (subst (λ qs. first_is these qs ≡ true) (sym cut.2) (leads-append these cut.0 cut.1 (x.leads cut.0 a (subst (λ ts. L ts a) (sym cut.3) is)))))
@@ -300,7 +300,7 @@ module _ {T Fault : Type 0} {m : Manner T Fault} where
   -- ---- the rest after a part
 
   -- the end of a form
-  pub ends_exact : {A B : Type 0} {stops : GrammarToken → Bool} {R : List T → A → Type 0} {r : Parser Fault A} (f : A → B) → Exact m stops R r → Exact m stops (words.◌>>=◌ R (λ a. gives (f a))) (parsing.◌>>=◌ r (λ a. pure (f a)))
+  pub ends_exact : {A B : Type 0} {stops : GrammarToken → Bool} {R : List T → A → Type 0} {r : Parser Fault A} (f : A → B) → Exact m stops R r → Exact m stops (languages.◌>>=◌ R (λ a. gives (f a))) (parsing.◌>>=◌ r (λ a. pure (f a)))
   ends_exact {A} {B} {stops} f x = then_exact x (λ a. pure_exact (f a)) nothing
     where
       nothing : (a : A) → Before m stops stops (gives (f a))
@@ -309,12 +309,12 @@ module _ {T Fault : Type 0} {m : Manner T Fault} where
 
   -- any continuation
   pub any_then : {A B : Type 0} {stops : GrammarToken → Bool} {R : List T → A → Type 0} {S : A → List T → B → Type 0} {r : Parser Fault A} {s : A → Parser Fault B}
-      → Exact m nowhere R r → ((a : A) → Exact m stops (S a) (s a)) → Exact m stops (words.◌>>=◌ R S) (parsing.◌>>=◌ r s)
+      → Exact m nowhere R r → ((a : A) → Exact m stops (S a) (s a)) → Exact m stops (languages.◌>>=◌ R S) (parsing.◌>>=◌ r s)
   any_then x y = then_exact x y (λ a vs rest b is h. anywhere (vs ++ rest))
 
   -- a continuation that begins with a token that cannot continue the part
   pub start_then : {A B : Type 0} {these inner stops : GrammarToken → Bool} {R : List T → A → Type 0} {S : A → List T → B → Type 0} {r : Parser Fault A} {s : A → Parser Fault B}
-      → Exact m inner R r → ((a : A) → Exact m stops (S a) (s a)) → ((a : A) → Starts m these (S a)) → Apart these inner → Exact m stops (words.◌>>=◌ R S) (parsing.◌>>=◌ r s)
+      → Exact m inner R r → ((a : A) → Exact m stops (S a) (s a)) → ((a : A) → Starts m these (S a)) → Apart these inner → Exact m stops (languages.◌>>=◌ R S) (parsing.◌>>=◌ r s)
   start_then {these = these} {inner = inner} x y starts apart = then_exact x y (λ a vs rest b is h. led these inner apart (vs ++ rest) (leads-append these vs rest ((starts a).leads vs b is)))
 
   -- ---- a parser that succeeds shortens the input

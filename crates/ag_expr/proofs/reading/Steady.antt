@@ -6,9 +6,9 @@ use Rattle.ag_tokens.specs.Ending.{Ending}
 use Rattle.ag_tokens.specs.PlacedToken.{PlacedToken, Input}
 use Rattle.ag_tokens.specs.GrammarToken.{GrammarToken}
 use Rattle.ag_tokens.specs.Parsing as parsing
-use Rattle.ag_tokens.specs.Parsing.{prefix, sees, offset, sign_of, Outcome, Parser, and_then, pure, taken, one_from, choose, many_from, further_from}
-use Rattle.ag_tokens.specs.Words as words
-use Rattle.ag_tokens.specs.Words.{gives, one, Many, none, more, IsFew, further}
+use Rattle.ag_tokens.specs.Parsing.{next_token, sees, offset, sign_of, Outcome, Parser, and_then, pure, accept_as, one_from, choose, many_from, further_from}
+use Rattle.ag_tokens.specs.Languages as languages
+use Rattle.ag_tokens.specs.Languages.{gives, one, Many, none, more, IsFew, further}
 use Rattle.ag_expr.proofs.reading.Exact.{Manner, before, before-append, first_is, opened, answered}
 
 abbrev pub first_of : List PlacedToken → Option PlacedToken
@@ -59,7 +59,7 @@ same_first (u ∷ us) j k e = refl
 pub same_front : (test : GrammarToken → Bool) (ps qs : List PlacedToken) → first_of ps ≡ first_of qs → first_is test ps ≡ first_is test qs
 same_front test ps qs e = grind arith
 
-same_sign : {A : Type 0} (sign : ℕ → GrammarToken → Option A) (k i : Input) → first k ≡ first i → sign_of sign (offset k) (prefix k) ≡ sign_of sign (offset i) (prefix i)
+same_sign : {A : Type 0} (sign : ℕ → GrammarToken → Option A) (k i : Input) → first k ≡ first i → sign_of sign (offset k) (next_token k) ≡ sign_of sign (offset i) (next_token i)
 same_sign sign k i e = grind arith
 
 heads-append : {T : Type 0} (t : T) (us vs : List T) → Heads t us → Heads t (us ++ vs)
@@ -90,10 +90,10 @@ module _ {T Fault : Type 0} {m : Manner T Fault} where
       go (inr (p, ps, l, d, h, deep)) = inr (p, ps, l, d, heads-append (m.item p) x.rest _ h, λ k e. let g = deep k e in (g.0, (kept k g.0 e).0 g.1))
 
   then_at : {A B : Type 0} {R : List T → A → Type 0} {S : A → List T → B → Type 0} {r q : Parser Fault A} {s t : A → Parser Fault B} {i : Input}
-      → SteadyAt m R r q i → ((a : A) (j : Input) → r i ≡ Ok (a, j) → SteadyAt m (S a) (s a) (t a) j) → ((a : A) → (w : List T) × (b : B) × S a w b) → SteadyAt m (words.◌>>=◌ R S) (parsing.◌>>=◌ r s) (parsing.◌>>=◌ q t) i
+      → SteadyAt m R r q i → ((a : A) (j : Input) → r i ≡ Ok (a, j) → SteadyAt m (S a) (s a) (t a) j) → ((a : A) → (w : List T) × (b : B) × S a w b) → SteadyAt m (languages.◌>>=◌ R S) (parsing.◌>>=◌ r s) (parsing.◌>>=◌ q t) i
   then_at {A} {B} {R} {S} {r} {q} {s} {t} {i} x y word = record { ok = found; err = λ f reported h. refused f reported (r i) refl h }
     where
-      found : (j : Input) (b : B) → parsing.◌>>=◌ r s i ≡ Ok (b, j) → (us : List PlacedToken) × (i ≡ before us j) × words.◌>>=◌ R S (map m.item us) b × ((k : Input) → first k ≡ first j → (parsing.◌>>=◌ r s (before us k) ≡ Ok (b, k)) × (parsing.◌>>=◌ q t (before us k) ≡ Ok (b, k)))
+      found : (j : Input) (b : B) → parsing.◌>>=◌ r s i ≡ Ok (b, j) → (us : List PlacedToken) × (i ≡ before us j) × languages.◌>>=◌ R S (map m.item us) b × ((k : Input) → first k ≡ first j → (parsing.◌>>=◌ r s (before us k) ≡ Ok (b, k)) × (parsing.◌>>=◌ q t (before us k) ≡ Ok (b, k)))
       found j b h =
           let one = opened (r i) s (b, j) h in
           let head = x.ok one.0.1 one.0.0 one.1 in
@@ -108,7 +108,7 @@ module _ {T Fault : Type 0} {m : Manner T Fault} where
                 (ap (λ z. and_then (r z) s) text ∙ ap (λ o. and_then o s) one.0 ∙ two.0, ap (λ z. and_then (q z) t) text ∙ ap (λ o. and_then o t) one.1 ∙ two.1),
           )
 
-      refused : (f : Fault) → m.is_reported f ≡ true → (o : Outcome Fault A) → r i ≡ o → and_then o s ≡ Err f → Refused m (words.◌>>=◌ R S) (parsing.◌>>=◌ r s) (parsing.◌>>=◌ q t) i f
+      refused : (f : Fault) → m.is_reported f ≡ true → (o : Outcome Fault A) → r i ≡ o → and_then o s ≡ Err f → Refused m (languages.◌>>=◌ R S) (parsing.◌>>=◌ r s) (parsing.◌>>=◌ q t) i f
       refused f reported (Err g) e h =
           let same : g ≡ f = cc in
           lift [] i i f refl (x.err f reported (e ∙ ap Err same)) (λ ts a is. let w = word a in (w.0, w.1, (ts, w.0, a, refl, is, w.2))) (λ z g fr. (λ e. ap (λ o. and_then o s) e, λ e. ap (λ o. and_then o t) e))
@@ -117,17 +117,17 @@ module _ {T Fault : Type 0} {m : Manner T Fault} where
           lift head.0 i j f head.1 ((y a j e).err f reported h) (λ ts b is. ([], b, (map m.item head.0, ts ++ [], a, refl, head.2, subst (λ us. S a us b) (sym (append-nil ts)) is))) (λ z g fr. (λ e. ap (λ o. and_then o s) (head.3 z fr).0 ∙ e, λ e. ap (λ o. and_then o t) (head.3 z fr).1 ∙ e))
 
   choose_at : {A : Type 0} (test : GrammarToken → Bool) {L M : List T → A → Type 0} {l n l' n' : Parser Fault A} {i : Input}
-      → (sees test i ≡ true → SteadyAt m L l l' i) → (sees test i ≡ false → SteadyAt m M n n' i) → SteadyAt m (words.◌or◌ L M) (choose test l n) (choose test l' n') i
+      → (sees test i ≡ true → SteadyAt m L l l' i) → (sees test i ≡ false → SteadyAt m M n n' i) → SteadyAt m (languages.◌or◌ L M) (choose test l n) (choose test l' n') i
   choose_at {A} test {L} {M} {l} {n} {l'} {n'} {i} x y = record { ok = λ j a. found (sees test i) refl j a; err = λ f. refused (sees test i) refl f }
     where
       seen : (us : List PlacedToken) (j k : Input) → i ≡ before us j → first k ≡ first j → sees test (before us k) ≡ sees test i
       seen us j k e fr = same_front test (us ++ k.left) (us ++ j.left) (same_first us j k fr) ∙ ap (sees test) (sym e)
 
-      found : (b : Bool) → sees test i ≡ b → (j : Input) (a : A) → (if b then l i else n i) ≡ Ok (a, j) → (us : List PlacedToken) × (i ≡ before us j) × words.◌or◌ L M (map m.item us) a × ((k : Input) → first k ≡ first j → (choose test l n (before us k) ≡ Ok (a, k)) × (choose test l' n' (before us k) ≡ Ok (a, k)))
+      found : (b : Bool) → sees test i ≡ b → (j : Input) (a : A) → (if b then l i else n i) ≡ Ok (a, j) → (us : List PlacedToken) × (i ≡ before us j) × languages.◌or◌ L M (map m.item us) a × ((k : Input) → first k ≡ first j → (choose test l n (before us k) ≡ Ok (a, k)) × (choose test l' n' (before us k) ≡ Ok (a, k)))
       found true b j a h = let one = (x b).ok j a h in (one.0, one.1, inl one.2, λ k e. rw (seen one.0 j k one.1 e ∙ b) (one.3 k e))
       found false b j a h = let one = (y b).ok j a h in (one.0, one.1, inr one.2, λ k e. rw (seen one.0 j k one.1 e ∙ b) (one.3 k e))
 
-      refused : (b : Bool) → sees test i ≡ b → (f : Fault) → m.is_reported f ≡ true → (if b then l i else n i) ≡ Err f → Refused m (words.◌or◌ L M) (choose test l n) (choose test l' n') i f
+      refused : (b : Bool) → sees test i ≡ b → (f : Fault) → m.is_reported f ≡ true → (if b then l i else n i) ≡ Err f → Refused m (languages.◌or◌ L M) (choose test l n) (choose test l' n') i f
       refused true b f reported h = lift [] i i f refl ((x b).err f reported h) (λ ts a is. ([], a, inl (subst (λ us. L us a) (sym (append-nil ts)) is))) (λ z g fr. rw (seen [] i z refl fr ∙ b) (λ e. e, λ e. e))
       refused false b f reported h = lift [] i i f refl ((y b).err f reported h) (λ ts a is. ([], a, inr (subst (λ us. M us a) (sym (append-nil ts)) is))) (λ z g fr. rw (seen [] i z refl fr ∙ b) (λ e. e, λ e. e))
 
@@ -148,19 +148,19 @@ module _ {T Fault : Type 0} {m : Manner T Fault} where
   wider_steady wider x = record { at = λ i. as_well wider (λ k. refl) (λ k. refl) (x.at i); word = let w = x.word in (w.0, w.1, wider w.0 w.1 w.2) }
 
   pub then_steady : {A B : Type 0} {R : List T → A → Type 0} {S : A → List T → B → Type 0} {r q : Parser Fault A} {s t : A → Parser Fault B}
-      → Steady m R r q → ((a : A) → Steady m (S a) (s a) (t a)) → Steady m (words.◌>>=◌ R S) (parsing.◌>>=◌ r s) (parsing.◌>>=◌ q t)
+      → Steady m R r q → ((a : A) → Steady m (S a) (s a) (t a)) → Steady m (languages.◌>>=◌ R S) (parsing.◌>>=◌ r s) (parsing.◌>>=◌ q t)
   then_steady x y =
       let w = x.word in
       let v = (y w.1).word in
       record { at = λ i. then_at (x.at i) (λ a j e. (y a).at j) (λ a. (y a).word); word = (w.0 ++ v.0, v.1, (w.0, v.0, w.1, refl, w.2, v.2)) }
 
-  pub or_steady : {A : Type 0} {test : GrammarToken → Bool} {L M : List T → A → Type 0} {l n l' n' : Parser Fault A} → Steady m L l l' → Steady m M n n' → Steady m (words.◌or◌ L M) (choose test l n) (choose test l' n')
+  pub or_steady : {A : Type 0} {test : GrammarToken → Bool} {L M : List T → A → Type 0} {l n l' n' : Parser Fault A} → Steady m L l l' → Steady m M n n' → Steady m (languages.◌or◌ L M) (choose test l n) (choose test l' n')
   or_steady {test = test} x y = record { at = λ i. choose_at test (λ b. x.at i) (λ b. y.at i); word = let w = x.word in (w.0, w.1, inl w.2) }
 
   pub pure_steady : {A : Type 0} (a : A) → Steady m (gives a) (pure a) (pure a)
   pure_steady a = record { at = pure_at a; word = ([], a, (refl, refl)) }
 
-  pub ends_steady : {A B : Type 0} {R : List T → A → Type 0} {r q : Parser Fault A} (f : A → B) → Steady m R r q → Steady m (words.◌>>=◌ R (λ a. gives (f a))) (parsing.◌>>=◌ r (λ a. pure (f a))) (parsing.◌>>=◌ q (λ a. pure (f a)))
+  pub ends_steady : {A B : Type 0} {R : List T → A → Type 0} {r q : Parser Fault A} (f : A → B) → Steady m R r q → Steady m (languages.◌>>=◌ R (λ a. gives (f a))) (parsing.◌>>=◌ r (λ a. pure (f a))) (parsing.◌>>=◌ q (λ a. pure (f a)))
   ends_steady f x = then_steady x (λ a. pure_steady (f a))
 
   pub one_steady : {A : Type 0} (sign : ℕ → GrammarToken → Option A) (meaning : T → Option A) → ((p : PlacedToken) → sign p.at p.token ≡ meaning (m.item p)) → (w : T) (v : A) → meaning w ≡ Some v → Steady m (one meaning) (one_from m.wrong sign) (one_from m.wrong sign)
@@ -176,7 +176,7 @@ module _ {T Fault : Type 0} {m : Manner T Fault} where
 
       refused : (i : Input) (f : Fault) → read i ≡ Err f → Refused m (one meaning) read read i f
       refused i f h =
-          let same : (f ≡ m.wrong i) × (sign_of sign (offset i) (prefix i) ≡ None) = (grind arith, grind arith) in
+          let same : (f ≡ m.wrong i) × (sign_of sign (offset i) (next_token i) ≡ None) = (grind arith, grind arith) in
           record { us = []; j = i; cut = refl; rest = w ∷ []; a = v; begins = (w, refl, means); how = inl (same.0, λ k e. rw (same_sign sign k i e ∙ same.1) refl) }
 
 -- ---- repetition
@@ -216,7 +216,7 @@ many_turn {Fault} {A} begins r short found i = many_enough begins r short (lengt
 
 -- a step as a language
 abbrev Turn : {T A : Type 0} → (List T → A → Type 0) → (A → List T → List A → Type 0) → List A → List T → List A → Type 0
-Turn L following found = words.◌or◌ (words.◌>>=◌ L following) (gives found)
+Turn L following found = languages.◌or◌ (languages.◌>>=◌ L following) (gives found)
 
 turned : {T A : Type 0} (L : List T → A → Type 0) (found : List A) (ts : List T) (all : List A) → Turn L (λ a. further false (found ++ a ∷ []) L) found ts all → further false found L ts all
 turned L found ts all (inl (us, vs, a, e, is, (xs, others, le, same))) = rw e (a ∷ xs, more us vs a xs is others, tt, same ∙ append_assoc found (a ∷ []) xs)
@@ -227,9 +227,9 @@ module _ {T Fault : Type 0} {m : Manner T Fault} where
       → SteadyAt m (further false found L) (further_from false begins r found) (further_from false begins q found) i
   more_at begins L r q x short shorter zero found i le =
       as_well (turned L found) (many_turn begins r short found) (many_turn begins q shorter found)
-      (choose_at begins {L = words.◌>>=◌ L (λ a. further false (found ++ a ∷ []) L)} {l = parsing.◌>>=◌ r (λ a. further_from false begins r (found ++ a ∷ []))} {l' = parsing.◌>>=◌ q (λ a. further_from false begins q (found ++ a ∷ []))} none_follows (λ b. pure_at found i))
+      (choose_at begins {L = languages.◌>>=◌ L (λ a. further false (found ++ a ∷ []) L)} {l = parsing.◌>>=◌ r (λ a. further_from false begins r (found ++ a ∷ []))} {l' = parsing.◌>>=◌ q (λ a. further_from false begins q (found ++ a ∷ []))} none_follows (λ b. pure_at found i))
     where
-      none_follows : sees begins i ≡ true → SteadyAt m (words.◌>>=◌ L (λ a. further false (found ++ a ∷ []) L)) (parsing.◌>>=◌ r (λ a. further_from false begins r (found ++ a ∷ []))) (parsing.◌>>=◌ q (λ a. further_from false begins q (found ++ a ∷ []))) i
+      none_follows : sees begins i ≡ true → SteadyAt m (languages.◌>>=◌ L (λ a. further false (found ++ a ∷ []) L)) (parsing.◌>>=◌ r (λ a. further_from false begins r (found ++ a ∷ []))) (parsing.◌>>=◌ q (λ a. further_from false begins q (found ++ a ∷ []))) i
       none_follows b = let unseen : sees begins i ≡ false = nothing_left begins i.left le in let bad : ⊥ = cc in absurd bad
   more_at begins L r q x short shorter (suc n) found i le =
       as_well (turned L found) (many_turn begins r short found) (many_turn begins q shorter found)

@@ -1,7 +1,7 @@
 -- Parts that are parsed one after the other, for the proofs of loops.
 use Rattle.std.proofs.Common.{◌≡◌, ◌<◌, ℕ, zero, suc, Bool, true, false, List, [], ◌∷◌, ◌++◌, length, Ok, Err, refl, sym, ◌∙◌, arith}
 use Rattle.ag_tokens.specs.PlacedToken.{Input}
-use Rattle.ag_tokens.specs.Parsing.{Outcome, Parser, sees, turns, many_from, further_from}
+use Rattle.ag_tokens.specs.Parsing.{Outcome, Parser, sees, item_bound, many_from, further_from}
 use Rattle.ag_tokens.specs.GrammarToken.{GrammarToken}
 use Rattle.ag_expr.proofs.reading.Steady.{Shortens, many_turn}
 
@@ -14,7 +14,7 @@ pub record Going {Fault A : Type 0} (single : Bool) (begins : GrammarToken → B
 -- if the next token begins no further part, there are none
 pub none_further : {Fault A : Type 0} (single : Bool) (begins : GrammarToken → Bool) (item : Parser Fault A) (found : List A) (i : Input) → sees begins i ≡ false → further_from single begins item found i ≡ Ok (found, i)
 unfolding many_from
-none_further {Fault} {A} single begins item found i none = go (turns single i.left)
+none_further {Fault} {A} single begins item found i none = go (item_bound single i.left)
   where
     go : (n : ℕ) → many_from begins item n found i ≡ Ok (found, i)
     go zero = refl

@@ -1,4 +1,5 @@
--- Chains of operators, parsed in another order: first the first atom, then the rest of each chain.
+-- Chains of operators, parsed as the code does it: first the first atom of the outermost chain, then the rest of
+-- each chain, from the innermost to the outermost.
 use Rattle.std.specs.Prelude.{Bool, false, ◌||◌, List, [], ◌∷◌}
 use Rattle.ag_grammar.specs.declared.syntax.node.Node.{Node}
 use Rattle.ag_expr.specs.declared.parser.Precedence.{Precedence}

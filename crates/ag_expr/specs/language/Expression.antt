@@ -55,13 +55,13 @@ begins_expression _ = false
 -- What a fault states about its offset, if the characters `cs` begin at the offset `from`: X1, no token
 -- begins there; X3, the token there has a number above its limit; X2, there is a token, or the text ends
 -- there; X4, an expression can begin with the token there.
-abbrev pub Says : ℕ → List ℕ → ExprFault → Type 0
-Says from cs (fault.NoToken at) = NoTokenAt from cs at
-Says from cs (fault.NumberTooLarge at) = TooLargeAt from cs at
-Says from cs (fault.Unexpected at) = TokenAt from cs at ⊎ EndsAt from cs at
-Says from cs (fault.TooDeep at) = (t : TokenAt from cs at) × (begins_expression t.0.token ≡ true)
-Says from cs fault.NoMemory = Unit {0}
+abbrev pub IsFaultFrom : ℕ → List ℕ → ExprFault → Type 0
+IsFaultFrom from cs (fault.NoToken at) = NoTokenAt from cs at
+IsFaultFrom from cs (fault.NumberTooLarge at) = TooLargeAt from cs at
+IsFaultFrom from cs (fault.Unexpected at) = TokenAt from cs at ⊎ EndsAt from cs at
+IsFaultFrom from cs (fault.TooDeep at) = (t : TokenAt from cs at) × (begins_expression t.0.token ≡ true)
+IsFaultFrom from cs fault.NoMemory = Unit {0}
 
 -- the same for a whole text
-abbrev pub IsAt : List ℕ → ExprFault → Type 0
-IsAt text e = Says 0 (chars text) e
+abbrev pub IsFaultOf : List ℕ → ExprFault → Type 0
+IsFaultOf text e = IsFaultFrom 0 (chars text) e

@@ -39,11 +39,11 @@ last_from test at found [] = found
 last_from test at found (y ∷ ys) = last_from test (at + 1) (cond (test y) (Some at) found) ys
 
 -- the index of the innermost binding of a name: an inner binding hides an outer one
-abbrev pub number_in : Names → List ℕ → Option ℕ
-number_in scope name = last_from (λ y. bytes_eq y name) 0 None scope
+abbrev pub binding_in : Names → List ℕ → Option ℕ
+binding_in scope name = last_from (λ y. bytes_eq y name) 0 None scope
 
 -- all names but the innermost
-abbrev pub outer : Names → Names
-outer [] = []
-outer (x ∷ []) = []
-outer (x ∷ y ∷ ys) = x ∷ outer (y ∷ ys)
+abbrev pub without_innermost : Names → Names
+without_innermost [] = []
+without_innermost (x ∷ []) = []
+without_innermost (x ∷ y ∷ ys) = x ∷ without_innermost (y ∷ ys)

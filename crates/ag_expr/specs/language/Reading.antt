@@ -39,6 +39,7 @@ abbrev pub refusal_of : Ending → List PlacedToken → ExprFault
 refusal_of e [] = ending_fault e
 refusal_of e (p ∷ ps) = fault.Unexpected p.at
 
+-- the same for an input
 abbrev pub refusal : Input → ExprFault
 refusal i = refusal_of i.ending i.left
 
@@ -50,10 +51,11 @@ Outcome = parsing.Outcome ExprFault
 abbrev pub Parser : Type 0 → Type 0
 Parser = parsing.Parser ExprFault
 
--- accepts the next token with its meaning, if it has one
+-- reads one token, and returns its meaning; fails with `refusal` if it has none
 abbrev pub token_as : {A : Type 0} → (GrammarToken → Option A) → Parser A
 token_as meaning = one_from refusal (λ at. meaning)
 
+-- reads this punctuation or this name
 abbrev pub as_sign : Sign → GrammarToken → Option (Unit {0})
 as_sign s t = if is_sign s t then Some tt else None
 
@@ -66,18 +68,21 @@ expect s = token_as (as_sign s)
 abbrev pub is_operator_of : Precedence → GrammarToken → Bool
 is_operator_of k t = is_some (operator_of k t)
 
+-- an operator of the precedence, and the operand after it
 unfoldable pub other_from : Precedence → Parser Node → Parser (Operator × Node)
 other_from k operand = do
   o ← token_as (operator_of k)
   e ← operand
   pure (o, e)
 
+-- operands with operators of the precedence between them
 unfoldable pub chain_from : Precedence → Parser Node → Parser Node
 chain_from k operand = do
   first ← operand
   others ← further_from (takes_one k) (is_operator_of k) (other_from k operand) []
   pure (chain_of first others)
 
+-- a chain of the first precedence, whose operands are chains of the others, the strongest last
 unfoldable pub ranked_from : Parser Node → List Precedence → Parser Node
 ranked_from atom [] = atom
 ranked_from atom (k ∷ ks) = chain_from k (ranked_from atom ks)
@@ -119,6 +124,7 @@ BeginsAtom atom.Call i =
 BeginsAtom atom.Operand i =
     (sees (is_sign (mark punctuation.Open)) i ≡ false) × (sees (is_sign (mark punctuation.OpenList)) i ≡ false) × (sees (is_sign (mark punctuation.OpenTable)) i ≡ false) × (sees is_call i ≡ false)
 
+-- the rest of an empty list after its opening bracket
 unfoldable pub none_from : Parser Node
 none_from = do
   expect (mark punctuation.CloseList)
@@ -130,6 +136,7 @@ table_from = do
   expect (mark punctuation.CloseTable)
   pure node.EmptyTable
 
+-- `inner` is the parser of expressions of one level less, by the names in scope
 module _ (inner : Names → Parser Node) (scope : Names) where
   unfoldable pub parenthesized_from : Parser Node
   parenthesized_from = do
@@ -146,6 +153,7 @@ module _ (inner : Names → Parser Node) (scope : Names) where
   unfoldable pub items_from : Node → Parser (List Node)
   items_from first = further_from false (is_sign (mark punctuation.Comma)) next_from (first ∷ [])
 
+  -- the rest of a list with items after its opening bracket
   unfoldable pub some_from : Parser Node
   some_from = do
     first ← inner scope
@@ -220,13 +228,13 @@ module _ (inner : Names → Parser Node) (scope : Names) where
     whole_from = choose (is_sign (word (codes "let"))) let_from (choose (is_sign (word (codes "if"))) if_from (ranked_from atom_from precedences))
 
 -- the fault for an expression that would begin here with no level left
-abbrev pub no_level_of : List Occ → Names → Ending → List PlacedToken → ExprFault
-no_level_of listed scope e [] = ending_fault e
-no_level_of listed scope e (p ∷ ps) = if begins listed scope p.token then fault.TooDeep p.at else fault.Unexpected p.at
+abbrev pub level_fault_of : List Occ → Names → Ending → List PlacedToken → ExprFault
+level_fault_of listed scope e [] = ending_fault e
+level_fault_of listed scope e (p ∷ ps) = if begins listed scope p.token then fault.TooDeep p.at else fault.Unexpected p.at
 
 -- an expression of at most `levels` levels, with these names in scope
 unfoldable pub expr_in : List Occ → ℕ → Names → Parser Node
-expr_in listed zero scope = λ i. Err (no_level_of listed scope i.ending i.left)
+expr_in listed zero scope = λ i. Err (level_fault_of listed scope i.ending i.left)
 expr_in listed (suc levels) scope = whole_from (expr_in listed levels) scope listed
 
 abbrev pub expr_from : List Occ → ℕ → Parser Node
@@ -237,6 +245,7 @@ expr_from listed levels = expr_in listed levels []
 abbrev pub at_end : Parser (Unit {0})
 at_end = end_from refusal
 
+-- an expression, and then the end of the text
 unfoldable pub expr_of : List Occ → ℕ → Parser Node
 expr_of listed levels = do
   e ← expr_from listed levels

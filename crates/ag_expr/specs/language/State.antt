@@ -4,7 +4,7 @@ use Rattle.std.specs.Prelude.{◌≡◌, ◌≢◌, ℕ, Bool, true, false, List
 use Rattle.ag_tokens.specs.declared.token.Punctuation.TheVariants as punctuation
 use Rattle.ag_tokens.specs.Ending.{Ending}
 use Rattle.ag_tokens.specs.Ending as ending
-use Rattle.ag_tokens.specs.Parsing.{prefix, is_sign, next}
+use Rattle.ag_tokens.specs.Parsing.{next_token, is_sign, next}
 use Rattle.ag_tokens.specs.PlacedToken.{Input}
 use Rattle.ag_tokens.specs.GrammarToken.{GrammarToken, mark}
 use Rattle.ag_tokens.specs.GrammarToken as token
@@ -15,7 +15,7 @@ use Rattle.ag_expr.specs.language.Names.{Names}
 use Rattle.ag_expr.specs.language.Occurrences.{all_occurrences, listed_with_all, position_of}
 use Rattle.ag_expr.specs.language.Expression.{max_levels}
 use Rattle.ag_expr.specs.language.Offsets.{answer_of}
-use Rattle.ag_expr.specs.language.Reading.{Parser, begins, expr_of, no_level_of}
+use Rattle.ag_expr.specs.language.Reading.{Parser, begins, expr_of, level_fault_of}
 use Rattle.ag_grammar.specs.declared.syntax.node.Node.{Node}
 use Rattle.ag_expr.specs.language.Until.{Ended, before_semicolon, after_semicolon, first_semicolon, from_semicolon, read_until_from}
 
@@ -37,15 +37,15 @@ from_end false i = record i { left = [] }
 from_end true i = record i { left = from_semicolon i.left }
 
 -- the next token, unless it is a `;` that ends a statement
-abbrev pub kept : Bool → Option GrammarToken → Option GrammarToken
-kept false o = o
-kept true None = None
-kept true (Some t) = cond (is_sign (mark punctuation.Semicolon) t) None (Some t)
+abbrev pub before_end : Bool → Option GrammarToken → Option GrammarToken
+before_end false o = o
+before_end true None = None
+before_end true (Some t) = cond (is_sign (mark punctuation.Semicolon) t) None (Some t)
 
 -- ---- the state of a reader
 
--- The distinct occurrences read so far, the names in scope, whether a `;` ends the tokens, and the remaining
--- input.
+-- The distinct occurrences read so far (`listed`), the names in scope, whether the first `;` ends the tokens
+-- (`is_statement`), and the remaining input (`tokens`).
 pub record State : Type 0 where
   pub listed : List Occ
   pub scope : Names
@@ -61,23 +61,24 @@ unfoldable pub input : State → Input
 input s = up_to s.is_statement s.tokens
 
 -- the distinct occurrences: those read so far, followed by the remaining ones
-unfoldable pub everything : State → List Occ
-everything s = listed_with_all s.listed (all_occurrences (input s).left)
+unfoldable pub complete_list : State → List Occ
+complete_list s = listed_with_all s.listed (all_occurrences (input s).left)
 
 -- the state after the next token
-abbrev pub passed : State → State
-passed s = record s { tokens = next s.tokens }
+abbrev pub after_token : State → State
+after_token s = record s { tokens = next s.tokens }
 
--- the occurrences of the whole, the names in scope, and the input after the end of the tokens are unchanged
-pub record Keeps (old new : State) : Type 0 where
-  pub occurrences : everything new ≡ everything old
+-- everything but the position is unchanged: the complete list of occurrences, the names in scope, and the input
+-- from the end of the tokens on
+pub record KeepsContext (old new : State) : Type 0 where
+  pub occurrences : complete_list new ≡ complete_list old
   pub names : new.scope ≡ old.scope
   pub kind : new.is_statement ≡ old.is_statement
   pub following : from_end new.is_statement new.tokens ≡ from_end old.is_statement old.tokens
 
 -- everything but the names in scope is unchanged
-pub record Stays (old new : State) : Type 0 where
-  pub occurrences : everything new ≡ everything old
+pub record ChangesOnlyScope (old new : State) : Type 0 where
+  pub occurrences : complete_list new ≡ complete_list old
   pub tokens : input new ≡ input old
   pub kind : new.is_statement ≡ old.is_statement
   pub following : from_end new.is_statement new.tokens ≡ from_end old.is_statement old.tokens
@@ -88,38 +89,40 @@ is_occurrence (Some (token.Occurrence place attr)) = true
 is_occurrence _ = false
 
 -- the next token is not an occurrence
-abbrev pub PassesOther : State → Type 0
-PassesOther s = is_occurrence (prefix (input s)) ≡ false
+abbrev pub NextIsOther : State → Type 0
+NextIsOther s = is_occurrence (next_token (input s)) ≡ false
 
 -- the occurrence with this place and name has this index among all of them
-abbrev pub HasNumber : State → ℕ → List ℕ → ℕ → Type 0
-HasNumber s place attr k = position_of (everything s) place attr ≡ Some k
+abbrev pub HasIndex : State → ℕ → List ℕ → ℕ → Type 0
+HasIndex s place attr k = position_of (complete_list s) place attr ≡ Some k
 
 -- the fault for an expression that would begin here with no level left
-abbrev pub no_level : State → ExprFault
-no_level s = no_level_of (everything s) s.scope (input s).ending (input s).left
+abbrev pub level_fault : State → ExprFault
+level_fault s = level_fault_of (complete_list s) s.scope (input s).ending (input s).left
 
 -- whether an expression can begin with the token; any occurrence can begin one
 abbrev pub begins_here : Names → GrammarToken → Bool
 begins_here scope (token.Occurrence place attr) = true
 begins_here scope t = begins [] scope t
 
--- The contract of a function that parses: its result, seen through `view`, is that of the plain parser, and
--- the reader has advanced over the same tokens; or it fails with the fault of the plain parser, unless memory
+-- The contract of a function that parses: its result, seen through `view`, is that of the specification's parser
+-- `read`, and the reader has advanced over the same tokens; or it fails with the fault of `read`, unless memory
 -- ran out.
 abbrev pub ReadsAs : {X Y : Type 0} → (X → Y) → (List Occ → Names → Parser Y) → State → Result X ExprFault → State → Type 0
-ReadsAs view read old (Ok x) new = (read (everything old) old.scope (input old) ≡ Ok (view x, input new)) × Keeps old new
-ReadsAs view read old (Err e) new = e ≢ fault.NoMemory → read (everything old) old.scope (input old) ≡ Err e
+ReadsAs view read old (Ok x) new =
+    (read (complete_list old) old.scope (input old) ≡ Ok (view x, input new)) × KeepsContext old new
+ReadsAs view read old (Err e) new = e ≢ fault.NoMemory → read (complete_list old) old.scope (input old) ≡ Err e
 
+-- the same for a result that is not converted
 abbrev pub Reads : {X : Type 0} → (List Occ → Names → Parser X) → State → Result X ExprFault → State → Type 0
 Reads = ReadsAs (λ x. x)
 
 -- The answer is the result of parsing the remaining tokens to their end, or memory ran out.
 abbrev pub IsReadToEnd : State → Result (Node × List Occ) ExprFault → Type 0
-IsReadToEnd s answer = answer ≢ Err fault.NoMemory → answer_of (everything s) (expr_of (everything s) max_levels (input s)) ≡ answer
+IsReadToEnd s answer = answer ≢ Err fault.NoMemory → answer_of (complete_list s) (expr_of (complete_list s) max_levels (input s)) ≡ answer
 
--- The result of parsing the tokens up to a `;`, with the input after the `;`; or the fault of the plain
--- parser, unless memory ran out.
+-- The result of parsing the tokens up to a `;`, with the input after the `;`; or the fault of the
+-- specification's parser, unless memory ran out.
 abbrev pub IsReadEnded : Input → Result Ended ExprFault → Input → Type 0
 IsReadEnded old (Ok x) new = (read_until_from old ≡ Ok x) × (new ≡ record old { left = after_semicolon old.left })
 IsReadEnded old (Err e) new = e ≢ fault.NoMemory → read_until_from old ≡ Err e

@@ -19,15 +19,15 @@ use Rattle.ag_expr.specs.declared.names.Call.{Call}
 use Rattle.ag_expr.specs.declared.names.Call.TheVariants as call
 use Rattle.ag_grammar.specs.declared.syntax.node.UnaryCall.{UnaryCall}
 use Rattle.ag_grammar.specs.declared.syntax.node.BinaryCall.{BinaryCall}
-use Rattle.ag_expr.specs.language.Names.{Names, call_of, is_reserved, number_in}
+use Rattle.ag_expr.specs.language.Names.{Names, call_of, is_reserved, binding_in}
 use Rattle.ag_expr.specs.language.Occurrences.{position_of}
-use Rattle.ag_tokens.specs.Words.{◌>>=◌, ◌>>◌, gives, one, ◌or◌, further}
+use Rattle.ag_tokens.specs.Languages.{◌>>=◌, ◌>>◌, gives, one, ◌or◌, further}
 
 -- ---- one sign
 
--- this punctuation or this name alone
-abbrev pub spelled : Sign → List GrammarToken → Unit {0} → Type 0
-spelled s ts u = ts ≡ sign_token s ∷ []
+-- the tokens are this one punctuation or name
+abbrev pub one_sign : Sign → List GrammarToken → Unit {0} → Type 0
+one_sign s ts u = ts ≡ sign_token s ∷ []
 
 -- ---- the table of operators with their precedences
 
@@ -91,7 +91,7 @@ bound_operand name number = cond (is_reserved name) None (option_map node.Bound 
 abbrev pub operand_of : List Occ → Names → GrammarToken → Option Node
 operand_of listed scope (token.Number n) = Some (node.Literal (value.Num n))
 operand_of listed scope (token.Text bytes) = Some (node.Literal (value.Text bytes))
-operand_of listed scope (token.Name name) = bound_operand name (number_in scope name)
+operand_of listed scope (token.Name name) = bound_operand name (binding_in scope name)
 operand_of listed scope (token.Occurrence place attr) = option_map node.Occurrence (position_of listed place attr)
 operand_of listed scope (token.Punctuation m) = None
 
@@ -131,13 +131,13 @@ IsRanked atom (k ∷ ks) = IsChain k (IsRanked atom ks)
 -- the rest of an empty list after its opening bracket
 abbrev pub AreNone : List GrammarToken → Node → Type 0
 AreNone = do
-  spelled (mark punctuation.CloseList)
+  one_sign (mark punctuation.CloseList)
   gives (node.List [])
 
 abbrev pub IsTable : List GrammarToken → Node → Type 0
 IsTable = do
-  spelled (mark punctuation.OpenTable)
-  spelled (mark punctuation.CloseTable)
+  one_sign (mark punctuation.OpenTable)
+  one_sign (mark punctuation.CloseTable)
   gives node.EmptyTable
 
 -- ---- expressions; `inner` is the language of expressions of one level less, by the names in scope
@@ -145,15 +145,15 @@ IsTable = do
 module _ (inner : Names → List GrammarToken → Node → Type 0) (scope : Names) where
   abbrev pub IsParenthesized : List GrammarToken → Node → Type 0
   IsParenthesized = do
-    spelled (mark punctuation.Open)
+    one_sign (mark punctuation.Open)
     e ← inner scope
-    spelled (mark punctuation.Close)
+    one_sign (mark punctuation.Close)
     gives e
 
   -- a comma, followed by one more expression
   abbrev pub IsNext : List GrammarToken → Node → Type 0
   IsNext = do
-    spelled (mark punctuation.Comma)
+    one_sign (mark punctuation.Comma)
     inner scope
 
   -- the rest of a list with items after its opening bracket: the items, separated by commas
@@ -161,26 +161,26 @@ module _ (inner : Names → List GrammarToken → Node → Type 0) (scope : Name
   AreSome = do
     first ← inner scope
     items ← further false (first ∷ []) IsNext
-    spelled (mark punctuation.CloseList)
+    one_sign (mark punctuation.CloseList)
     gives (node.List items)
 
   abbrev pub IsList : List GrammarToken → Node → Type 0
   IsList = do
-    spelled (mark punctuation.OpenList)
+    one_sign (mark punctuation.OpenList)
     AreNone or AreSome
 
   -- the arguments of a call, as many as it takes, and the closing parenthesis
   abbrev pub IsUnary : UnaryCall → List GrammarToken → Node → Type 0
   IsUnary c = do
     a ← inner scope
-    spelled (mark punctuation.Close)
+    one_sign (mark punctuation.Close)
     gives (node.Unary c a)
 
   abbrev pub IsBinary : BinaryCall → List GrammarToken → Node → Type 0
   IsBinary c = do
     a ← inner scope
     b ← IsNext
-    spelled (mark punctuation.Close)
+    one_sign (mark punctuation.Close)
     gives (node.Binary c a b)
 
   abbrev pub IsPut : List GrammarToken → Node → Type 0
@@ -188,7 +188,7 @@ module _ (inner : Names → List GrammarToken → Node → Type 0) (scope : Name
     t ← inner scope
     k ← IsNext
     v ← IsNext
-    spelled (mark punctuation.Close)
+    one_sign (mark punctuation.Close)
     gives (node.Put t k v)
 
   abbrev pub AreArguments : Call → List GrammarToken → Node → Type 0
@@ -199,27 +199,27 @@ module _ (inner : Names → List GrammarToken → Node → Type 0) (scope : Name
   abbrev pub IsCall : List GrammarToken → Node → Type 0
   IsCall = do
     c ← one call_in
-    spelled (mark punctuation.Open)
+    one_sign (mark punctuation.Open)
     AreArguments c
 
   -- the name of a `let` is in scope in its body, but not in its definition
   abbrev pub IsLet : List GrammarToken → Node → Type 0
   IsLet = do
-    spelled (word (codes "let"))
+    one_sign (word (codes "let"))
     x ← one new_name
-    spelled (mark punctuation.Equal)
+    one_sign (mark punctuation.Equal)
     e ← inner scope
-    spelled (word (codes "in"))
+    one_sign (word (codes "in"))
     f ← inner (scope ++ x ∷ [])
     gives (node.Let e f)
 
   abbrev pub IsIf : List GrammarToken → Node → Type 0
   IsIf = do
-    spelled (word (codes "if"))
+    one_sign (word (codes "if"))
     c ← inner scope
-    spelled (word (codes "then"))
+    one_sign (word (codes "then"))
     e ← inner scope
-    spelled (word (codes "else"))
+    one_sign (word (codes "else"))
     f ← inner scope
     gives (node.If c e f)
 

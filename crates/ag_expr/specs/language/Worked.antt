@@ -13,6 +13,7 @@ use Rattle.ag_value.specs.declared.value.Value.TheVariants as value
 abbrev pub least : ℤ
 least = negsuc 9223372036854775807
 
+-- a token at an offset
 abbrev pub placed : ℕ → GrammarToken → PlacedToken
 placed at t = record { at = at; token = t }
 

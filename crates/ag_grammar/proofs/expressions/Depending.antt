@@ -12,7 +12,7 @@ use Rattle.ag_grammar.specs.expressions.Evaluation.{Meaning, chain_value, item_v
 use Rattle.ag_grammar.specs.expressions.Laws.{RuleHasOneValue, RuleHoldsByOne, ValueOfOccurrences}
 use Rattle.ag_grammar.specs.expressions.Occurring.{AgreeOn, has_occurrence, has_step, some_item, some_operand}
 use Rattle.ag_grammar.specs.grammars.Sample.{rule_s}
-use Rattle.ag_grammar.specs.values.Calls.{call_result, called_with, choice_of, put}
+use Rattle.ag_grammar.specs.values.Calls.{unary_call_result, binary_call_result, choice_of, put}
 use Rattle.ag_grammar.specs.values.Lists.{listed}
 use Rattle.ag_grammar.specs.values.Operators.{operation_result}
 use Rattle.ag_grammar.proofs.expressions.Occurring.{alone, has_in, has_layer, has_sum, occurrences_are_listed, occurs}
@@ -78,9 +78,9 @@ settled_layer env other bound (Node-F.If c e f) same =
     let later : (k : ℕ) → (has_occurrence k e.0 || has_occurrence k f.0) ≡ true → env k ≡ other k = λ k h. same k (or_right (has_occurrence k c.0) (has_occurrence k e.0 || has_occurrence k f.0) h) in
     ap (λ v. choice_of v (value_in e.0 env bound) (value_in f.0 env bound)) (c.1 env other (λ k h. same k (or_left (has_occurrence k c.0) (has_occurrence k e.0 || has_occurrence k f.0) h)) bound)
     ∙ ap₂ (choice_of (value_in c.0 other bound)) (e.1 env other (λ k h. later k (or_left (has_occurrence k e.0) (has_occurrence k f.0) h)) bound) (f.1 env other (λ k h. later k (or_right (has_occurrence k e.0) (has_occurrence k f.0) h)) bound)
-settled_layer env other bound (Node-F.Unary call a) same = ap (call_result call) (a.1 env other same bound)
+settled_layer env other bound (Node-F.Unary call a) same = ap (unary_call_result call) (a.1 env other same bound)
 settled_layer env other bound (Node-F.Binary call a b) same =
-    ap₂ (called_with call) (a.1 env other (λ k h. same k (or_left (has_occurrence k a.0) (has_occurrence k b.0) h)) bound) (b.1 env other (λ k h. same k (or_right (has_occurrence k a.0) (has_occurrence k b.0) h)) bound)
+    ap₂ (binary_call_result call) (a.1 env other (λ k h. same k (or_left (has_occurrence k a.0) (has_occurrence k b.0) h)) bound) (b.1 env other (λ k h. same k (or_right (has_occurrence k a.0) (has_occurrence k b.0) h)) bound)
 settled_layer env other bound (Node-F.Put t i v) same =
     let later : (k : ℕ) → (has_occurrence k i.0 || has_occurrence k v.0) ≡ true → env k ≡ other k = λ k h. same k (or_right (has_occurrence k t.0) (has_occurrence k i.0 || has_occurrence k v.0) h) in
     ap (λ w. put w (value_in i.0 env bound) (value_in v.0 env bound)) (t.1 env other (λ k h. same k (or_left (has_occurrence k t.0) (has_occurrence k i.0 || has_occurrence k v.0) h)) bound)

@@ -10,7 +10,7 @@ use Rattle.ag_grammar.specs.declared.syntax.node.Node.TheOpen.{Node-F}
 use Rattle.ag_grammar.specs.declared.syntax.node.Node.TheVariants as node_of
 use Rattle.ag_grammar.specs.expressions.Laws.{OccurrencesAreListed}
 use Rattle.ag_grammar.specs.expressions.Occurring.{has_occurrence, has_step, some_item, some_operand}
-use Rattle.ag_grammar.specs.expressions.Trees.{all_pass, below_step, each_passes, is_within}
+use Rattle.ag_grammar.specs.expressions.Trees.{all_hold, below_step, each_holds, is_within}
 use Rattle.ag_grammar.specs.grammars.Sample.{rule_s}
 use Rattle.ag_grammar.proofs.expressions.Within.{layer}
 
@@ -40,20 +40,20 @@ module _ (n k : ℕ) where
   abbrev plain : Operator × Listed → Operator × Node
   plain p = (p.0, part p.1)
 
-  listed_operands : (bound : ℕ) (xs : List (Operator × Listed)) → all_pass bound (map (within_in n) (map plain xs)) ≡ true
+  listed_operands : (bound : ℕ) (xs : List (Operator × Listed)) → all_hold bound (map (within_in n) (map plain xs)) ≡ true
       → some_operand (map (has_in k) (map plain xs)) ≡ true → k < n
   listed_operands bound [] below has = let bad : ⊥ = cc in absurd bad
   listed_operands bound (x ∷ xs) below has =
-      let parts = and_parts (is_within n x.1.0 bound) (all_pass bound (map (within_in n) (map plain xs))) below in
+      let parts = and_parts (is_within n x.1.0 bound) (all_hold bound (map (within_in n) (map plain xs))) below in
       elim (or_cases (has_occurrence k x.1.0) (some_operand (map (has_in k) (map plain xs))) has) [
         | inl h ↦ x.1.1 bound parts.0 h
         | inr h ↦ listed_operands bound xs parts.1 h
       ]
 
-  listed_items : (bound : ℕ) (xs : List Listed) → each_passes bound (map (is_within n) (map part xs)) ≡ true → some_item (map (has_occurrence k) (map part xs)) ≡ true → k < n
+  listed_items : (bound : ℕ) (xs : List Listed) → each_holds bound (map (is_within n) (map part xs)) ≡ true → some_item (map (has_occurrence k) (map part xs)) ≡ true → k < n
   listed_items bound [] below has = let bad : ⊥ = cc in absurd bad
   listed_items bound (x ∷ xs) below has =
-      let parts = and_parts (is_within n x.0 bound) (each_passes bound (map (is_within n) (map part xs))) below in
+      let parts = and_parts (is_within n x.0 bound) (each_holds bound (map (is_within n) (map part xs))) below in
       elim (or_cases (has_occurrence k x.0) (some_item (map (has_occurrence k) (map part xs))) has) [
         | inl h ↦ x.1 bound parts.0 h
         | inr h ↦ listed_items bound xs parts.1 h
@@ -77,7 +77,7 @@ module _ (n k : ℕ) where
   listed_layer (Node-F.Occurrence j) bound below has = let less = ltb-true j n below in let same = eqb-true j k has in omega arith
   listed_layer (Node-F.Bound j) bound below has = let bad : ⊥ = cc in absurd bad
   listed_layer (Node-F.Chain first others) bound below has =
-      let parts = and_parts (is_within n first.0 bound) (all_pass bound (map (within_in n) (map plain others))) below in
+      let parts = and_parts (is_within n first.0 bound) (all_hold bound (map (within_in n) (map plain others))) below in
       elim (or_cases (has_occurrence k first.0) (some_operand (map (has_in k) (map plain others))) has) [
         | inl h ↦ first.1 bound parts.0 h
         | inr h ↦ listed_operands bound others parts.1 h

@@ -9,7 +9,7 @@ use Rattle.ag_grammar.specs.declared.syntax.node.Node.TheVariants.{rolls-Bound, 
 use Rattle.ag_grammar.specs.declared.syntax.node.Node.TheOpen.{Node-F}
 use Rattle.ag_grammar.specs.declared.syntax.node.Node.TheFolds.{fold-roll-Node}
 use Rattle.ag_grammar.specs.declared.syntax.node.UnaryCall.{UnaryCall}
-use Rattle.ag_grammar.specs.values.Calls.{call_result, choice_of}
+use Rattle.ag_grammar.specs.values.Calls.{unary_call_result, choice_of}
 use Rattle.ag_grammar.specs.values.Fitting.{fit}
 use Rattle.ag_grammar.specs.expressions.Evaluation.{Meaning, bound_value, chain_value, value_in, value_step}
 use Rattle.ag_grammar.specs.expressions.Trees.{all_below, below_step, is_within}
@@ -35,7 +35,7 @@ value-Let e f env bound = ap (λ (m : Meaning). m env bound) (ap value_in (sym (
 pub value-If : (c e f : Node) (env : ℕ → Value) (bound : List Value) → value_in (node.If c e f) env bound ≡ choice_of (value_in c env bound) (value_in e env bound) (value_in f env bound)
 value-If c e f env bound = ap (λ (m : Meaning). m env bound) (ap value_in (sym (rolls-If c e f)) ∙ fold-roll-Node Meaning value_step (Node-F.If c e f))
 
-pub value-Unary : (call : UnaryCall) (a : Node) (env : ℕ → Value) (bound : List Value) → value_in (node.Unary call a) env bound ≡ call_result call (value_in a env bound)
+pub value-Unary : (call : UnaryCall) (a : Node) (env : ℕ → Value) (bound : List Value) → value_in (node.Unary call a) env bound ≡ unary_call_result call (value_in a env bound)
 value-Unary call a env bound = ap (λ (m : Meaning). m env bound) (ap value_in (sym (rolls-Unary call a)) ∙ fold-roll-Node Meaning value_step (Node-F.Unary call a))
 
 -- the operands of a chain

@@ -6,7 +6,7 @@ use Rattle.ag_grammar.specs.declared.syntax.node.Node.{Node, roll-Node}
 use Rattle.ag_grammar.specs.declared.syntax.node.Node.TheVariants as node
 use Rattle.ag_grammar.specs.declared.syntax.node.Node.TheOpen.{Node-F}
 use Rattle.ag_grammar.specs.declared.syntax.node.Node.TheFolds.{fold-roll-Node, map-Node}
-use Rattle.ag_grammar.specs.expressions.Trees.{is_within, below_step, all_pass, each_passes}
+use Rattle.ag_grammar.specs.expressions.Trees.{is_within, below_step, all_hold, each_holds}
 
 -- P holds for each member of the list
 abbrev pub Each : {A : Type 0} → (A → Type 0) → List A → Type 0
@@ -30,14 +30,14 @@ module _ (n bound : ℕ) where
   pub in_chain : (first : Node) (others : List (Operator × Node)) → Within n bound first → Each (λ p. Within n bound p.1) others → Within n bound (node.Chain first others)
   in_chain first others here all = rolled (Node-F.Chain first others) _ (node.rolls-Chain first others) (both _ _ here (operands others all))
     where
-      operands : (xs : List (Operator × Node)) → Each (λ p. Within n bound p.1) xs → all_pass bound (map (λ p. (p.0, is_within n p.1)) xs) ≡ true
+      operands : (xs : List (Operator × Node)) → Each (λ p. Within n bound p.1) xs → all_hold bound (map (λ p. (p.0, is_within n p.1)) xs) ≡ true
       operands [] all = refl
       operands (x ∷ xs) all = both _ _ all.0 (operands xs all.1)
 
   pub in_list : (items : List Node) → Each (Within n bound) items → Within n bound (node.List items)
   in_list items all = rolled (Node-F.List items) _ (node.rolls-List items) (each items all)
     where
-      each : (xs : List Node) → Each (Within n bound) xs → each_passes bound (map (is_within n) xs) ≡ true
+      each : (xs : List Node) → Each (Within n bound) xs → each_holds bound (map (is_within n) xs) ≡ true
       each [] all = refl
       each (x ∷ xs) all = both _ _ all.0 (each xs all.1)
 

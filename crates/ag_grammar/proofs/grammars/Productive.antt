@@ -6,7 +6,7 @@ use Rattle.ag_grammar.specs.declared.grammar.Item.{Item}
 use Rattle.ag_grammar.specs.declared.grammar.Terminal.TheVariants.{Literal, Class}
 use Rattle.ag_grammar.specs.declared.grammar.Terminal.{Terminal}
 use Rattle.ag_grammar.specs.grammars.AttributeGrammar.{Grammar, stored_items}
-use Rattle.ag_grammar.specs.grammars.Accepted.{IsProductive, AreProductive, by_production, nothing, a_symbol, a_word}
+use Rattle.ag_grammar.specs.grammars.Accepted.{IsProductive, AreProductive, by_production, nothing, a_symbol, a_terminal}
 use Rattle.ag_grammar.specs.grammars.Tree.{Tree, Forest, leaf, node, none, more, Fits, FitsAll}
 use Rattle.ag_grammar.proofs.grammars.Children.{child, tree_ind}
 
@@ -22,7 +22,7 @@ mutual
   trees_of : (g : Grammar) (xs : List Item) → AreProductive g xs → (ts : Forest) × FitsAll g (stored_items xs) ts
   trees_of g [] nothing = (none, tt)
   trees_of g (item.Symbol s ∷ xs) (a_symbol h k) = let t = tree_of g s h in let f = trees_of g xs k in (more t.0 f.0, (t.1, f.1))
-  trees_of g (item.Terminal a ∷ xs) (a_word k) = with_terminal g a xs (trees_of g xs k)
+  trees_of g (item.Terminal a ∷ xs) (a_terminal k) = with_terminal g a xs (trees_of g xs k)
 
 abbrev Derives : Grammar → Tree → Type 0
 Derives g t = (s : ℕ) → Fits g (item.Symbol s) t → IsProductive g s
@@ -31,9 +31,9 @@ along : (g : Grammar) (xs : List Item) (ts : Forest) → ((i : ℕ) (t : Tree) �
 along g [] ts h f = nothing
 along g (item.Symbol s ∷ xs) none h f = elim f [ ]
 along g (item.Symbol s ∷ xs) (more t ts) h f = a_symbol (h 0 t refl s f.0) (along g xs ts (λ i u e. h (suc i) u e) f.1)
-along g (item.Terminal (Literal l) ∷ xs) ts h f = a_word (along g xs ts h f)
+along g (item.Terminal (Literal l) ∷ xs) ts h f = a_terminal (along g xs ts h f)
 along g (item.Terminal (Class c) ∷ xs) none h f = elim f [ ]
-along g (item.Terminal (Class c) ∷ xs) (more t ts) h f = a_word (along g xs ts (λ i u e. h (suc i) u e) f.1)
+along g (item.Terminal (Class c) ∷ xs) (more t ts) h f = a_terminal (along g xs ts (λ i u e. h (suc i) u e) f.1)
 
 derives : (g : Grammar) (t : Tree) → Derives g t
 derives g t = tree_ind (Derives g) (λ c x s f. elim f [ ]) (λ p ts ih s f. by_production p f.0 f.1 f.2 (along g f.0.items ts ih f.3)) t

@@ -4,7 +4,7 @@ use Rattle.ag_value.specs.declared.value.Value.{Value, Num}
 use Rattle.ag_grammar.specs.declared.grammar.Rule.{Rule}
 use Rattle.ag_grammar.specs.declared.grammar.Target.{Target}
 use Rattle.ag_grammar.specs.grammars.AttributeGrammar.{IsArgument}
-use Rattle.ag_grammar.specs.grammars.Solution.{Holds, Lends}
+use Rattle.ag_grammar.specs.grammars.Solution.{Holds, Supplies}
 
 -- an environment that gives a rule's occurrences the values of the attributes that they refer to, and 0 to
 -- other numbers
@@ -15,12 +15,12 @@ lent e (Some o) = e o.place o.attr
 abbrev pub environment : Rule → (ℕ → ℕ → Value) → ℕ → Value
 environment r e k = lent e (slice_get r.args k)
 
-pub lends : (r : Rule) (e : ℕ → ℕ → Value) → Lends r e (environment r e)
+pub lends : (r : Rule) (e : ℕ → ℕ → Value) → Supplies r e (environment r e)
 lends r e k o is = ap (lent e) is
 
 -- an environment for one valuation is an environment for another one in which the arguments have the same
 -- values
-pub lends_same : (r : Rule) (e f : ℕ → ℕ → Value) (env : ℕ → Value) → ((o : Target) → IsArgument r o → e o.place o.attr ≡ f o.place o.attr) → Lends r e env → Lends r f env
+pub lends_same : (r : Rule) (e f : ℕ → ℕ → Value) (env : ℕ → Value) → ((o : Target) → IsArgument r o → e o.place o.attr ≡ f o.place o.attr) → Supplies r e env → Supplies r f env
 lends_same r e f env same h k o is = h k o is ∙ same o (k, is)
 
 -- two valuations in which a rule holds have the same value at its target, if they have at its arguments

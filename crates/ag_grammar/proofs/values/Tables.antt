@@ -7,7 +7,7 @@ use Rattle.ag_value.specs.declared.value.Value.{Value}
 use Rattle.ag_value.specs.declared.value.Value.TheVariants as v
 use Rattle.ag_value.specs.declared.value.Value.TheVariants.{outs-Table}
 use Rattle.ag_value.specs.Measure.{depth_of, greatest, weight_of, weight_of_pair}
-use Rattle.ag_value.specs.Well.{IsWell, all_true, are_keys, is_item, is_item_pair, is_rising, key_of}
+use Rattle.ag_value.specs.Well.{IsWell, all_true, are_keys, is_item, is_item_pair, is_ascending, key_of}
 use Rattle.ag_value.proofs.Layers.{depth-List, depth-Table, depth-Text, item-List, item-Table, item-Text, weight-List, weight-Table, weight-Text}
 use Rattle.ag_value.proofs.Weights.{weight_positive}
 use Rattle.ag_grammar.specs.values.Arguments.{fault_at}
@@ -23,14 +23,14 @@ pub item_table : (pairs : List Pair) → IsWell (v.Table pairs) → is_item (v.T
 item_table pairs well = item_of (v.Table pairs) well (ap fault_at (outs-Table pairs))
 
 -- its keys rise and are UTF-8, and its values are allowed in it
-pub table_parts : (pairs : List Pair) → IsWell (v.Table pairs) → (is_rising (map key_of pairs) ≡ true) × (all_true (map is_utf8 (map key_of pairs)) ≡ true) × (all_true (map is_item_pair pairs) ≡ true)
+pub table_parts : (pairs : List Pair) → IsWell (v.Table pairs) → (is_ascending (map key_of pairs) ≡ true) × (all_true (map is_utf8 (map key_of pairs)) ≡ true) × (all_true (map is_item_pair pairs) ≡ true)
 table_parts pairs well =
     let whole : (are_keys (map key_of pairs) && all_true (map is_item_pair pairs)) ≡ true = sym (item-Table pairs) ∙ item_table pairs well in
     let parts = and_parts (are_keys (map key_of pairs)) (all_true (map is_item_pair pairs)) whole in
-    let keys = and_parts (is_rising (map key_of pairs)) (all_true (map is_utf8 (map key_of pairs))) parts.0 in
+    let keys = and_parts (is_ascending (map key_of pairs)) (all_true (map is_utf8 (map key_of pairs))) parts.0 in
     (keys.0, keys.1, parts.1)
 
-pub rising_table : (w : Value) (pairs : List Pair) → w ≡ v.Table pairs → IsWell w → is_rising (map key_of pairs) ≡ true
+pub rising_table : (w : Value) (pairs : List Pair) → w ≡ v.Table pairs → IsWell w → is_ascending (map key_of pairs) ≡ true
 rising_table w pairs is well = (table_parts pairs (subst IsWell is well)).0
 
 -- a member that `find` returns has an index in the list

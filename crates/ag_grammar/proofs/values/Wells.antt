@@ -15,7 +15,7 @@ use Rattle.std.proofs.lemmas.Bool.{and_parts, lt-ltb}
 use Rattle.std.proofs.lemmas.List.Sums.{sum_by-cons}
 use Rattle.std.proofs.lemmas.Option.{same_Some}
 use Rattle.ag_value.specs.declared.value.ErrorCode.TheVariants.{Big}
-use Rattle.ag_value.specs.Measure.{depth_of, greatest, max_depth, max_weight, weight_of}
+use Rattle.ag_value.specs.Measure.{depth_of, greatest, max_value_depth, max_weight, weight_of}
 use Rattle.ag_grammar.specs.values.Fitting.{fit}
 use Rattle.ag_grammar.specs.values.Lists.{item_at}
 use Rattle.ag_grammar.proofs.values.Growing.{items_of}
@@ -96,6 +96,6 @@ well_nth w items (negsuc k) item is well here = let bad : ⊥ = cc in absurd bad
 -- a text that is too long becomes the error `big`
 pub big_text : (text : List ℕ) (n : ℕ) → n ≡ min (length text) 18446744073709551615 → max_weight < min (5 + n) 18446744073709551615 → fit (v.Text text) ≡ v.Fault Big
 big_text text n is long =
-    let flat : nat_lt max_depth (depth_of (v.Text text)) ≡ false = rw (depth-Text text) refl in
+    let flat : nat_lt max_value_depth (depth_of (v.Text text)) ≡ false = rw (depth-Text text) refl in
     let heavy : nat_lt max_weight (weight_of (v.Text text)) ≡ true = lt-ltb max_weight (weight_of (v.Text text)) (let e = weight-Text text in omega arith) in
     rw (flat, heavy) refl

@@ -10,12 +10,12 @@ use Rattle.ag_value.specs.declared.value.Value.TheVariants as value
 use Rattle.ag_value.specs.declared.value.Value.TheVariants.{outs-Num, rolls-Fault, rolls-Table}
 use Rattle.ag_value.specs.declared.value.Value.TheFolds.{fold-roll-Value}
 use Rattle.ag_value.proofs.Layers.{depth-Num, weight-Fault, weight-Num}
-use Rattle.ag_value.specs.Measure.{depth_of, depth_step, max_depth, max_weight, weight_of}
+use Rattle.ag_value.specs.Measure.{depth_of, depth_step, max_value_depth, max_weight, weight_of}
 use Rattle.ag_value.specs.Spelling.{spelling_of}
 use Rattle.ag_value.specs.Well.{IsWell, fault_step, is_fault, is_item}
 use Rattle.ag_grammar.specs.values.Arguments.{truth}
 use Rattle.ag_grammar.specs.values.Fitting.{fit}
-use Rattle.ag_grammar.specs.values.Laws.{BigComesNext, DeepComesFirst, GotIsWell, KeysAreWell, SameIsOne, WhatFitsStays}
+use Rattle.ag_grammar.specs.values.Laws.{BigComesNext, DeepComesFirst, GetIsWell, KeysAreWell, SameIsOne, WhatFitsStays}
 use Rattle.ag_grammar.specs.values.Tables.{get_at, keys_at, pair_with}
 use Rattle.ag_grammar.proofs.values.Same.{one_value}
 use Rattle.ag_grammar.proofs.values.Tables.{well_got, well_keys}
@@ -28,13 +28,13 @@ not_above m n le = go (nat_lt m n) refl
     go true e = let lt = ltb-true m n e in absurd (omega (arith, lt, le))
 
 pub deep_first : DeepComesFirst
-deep_first v deep = rw (lt-ltb max_depth (depth_of v) deep) refl
+deep_first v deep = rw (lt-ltb max_value_depth (depth_of v) deep) refl
 
 pub big_next : BigComesNext
-big_next v shallow big = rw (not_above max_depth (depth_of v) shallow, lt-ltb max_weight (weight_of v) big) refl
+big_next v shallow big = rw (not_above max_value_depth (depth_of v) shallow, lt-ltb max_weight (weight_of v) big) refl
 
 pub fits : WhatFitsStays
-fits v shallow light = rw (not_above max_depth (depth_of v) shallow, not_above max_weight (weight_of v) light) refl
+fits v shallow light = rw (not_above max_value_depth (depth_of v) shallow, not_above max_weight (weight_of v) light) refl
 
 one_is_true : (b : Bool) → truth b ≡ value.Num (pos 1) → b ≡ true
 one_is_true true e = refl
@@ -72,7 +72,7 @@ got_layer (Value-F.Table pairs) (Value-F.Text key) well = go (pair_with key pair
     go None e = rw e (well_fault code.Key)
 got_layer x y well = well_fault code.Kind
 
-pub got_is_well : GotIsWell
+pub got_is_well : GetIsWell
 got_is_well table key well = got_layer (out-Value table) (out-Value key) (subst IsWell (sym (roll-out-Value table)) well)
 
 -- a number is within the limits

@@ -8,7 +8,7 @@ use Rattle.ag_grammar.specs.declared.syntax.node.Operator.{Operator}
 use Rattle.ag_grammar.specs.declared.syntax.node.Node.{Node}
 use Rattle.ag_grammar.specs.declared.syntax.node.Node.TheFolds.{fold-Node}
 use Rattle.ag_grammar.specs.declared.syntax.node.Node.TheOpen.{Node-F}
-use Rattle.ag_grammar.specs.values.Calls.{call_result, called_with, choice_of, put}
+use Rattle.ag_grammar.specs.values.Calls.{unary_call_result, binary_call_result, choice_of, put}
 use Rattle.ag_grammar.specs.values.Fitting.{fit}
 use Rattle.ag_grammar.specs.values.Lists.{listed}
 use Rattle.ag_grammar.specs.values.Operators.{operation_result}
@@ -42,8 +42,8 @@ value_step (Node-F.Bound k) env bound = bound_value (slice_get bound k)
 value_step (Node-F.Chain first others) env bound = chain_value env bound (first env bound) others
 value_step (Node-F.Let e f) env bound = f env (bound ++ e env bound ∷ [])
 value_step (Node-F.If c e f) env bound = choice_of (c env bound) (e env bound) (f env bound)
-value_step (Node-F.Unary call a) env bound = call_result call (a env bound)
-value_step (Node-F.Binary call a b) env bound = called_with call (a env bound) (b env bound)
+value_step (Node-F.Unary call a) env bound = unary_call_result call (a env bound)
+value_step (Node-F.Binary call a b) env bound = binary_call_result call (a env bound) (b env bound)
 value_step (Node-F.Put t k v) env bound = put (t env bound) (k env bound) (v env bound)
 value_step (Node-F.List items) env bound = listed (item_values env bound items)
 value_step Node-F.EmptyTable env bound = value.Table []

@@ -6,27 +6,27 @@ use Rattle.ag_grammar.specs.declared.syntax.node.Node.{Node}
 use Rattle.ag_grammar.specs.declared.syntax.node.Node.TheFolds.{fold-Node}
 use Rattle.ag_grammar.specs.declared.syntax.node.Node.TheOpen.{Node-F}
 
--- whether every operand of a chain, or every item of a list, passes with `bound` names bound around it
-abbrev pub all_pass : ℕ → List (Operator × (ℕ → Bool)) → Bool
-all_pass bound [] = true
-all_pass bound (x ∷ xs) = x.1 bound && all_pass bound xs
+-- whether the test of each operand of a chain, or of each item of a list, holds with `bound` names bound around it
+abbrev pub all_hold : ℕ → List (Operator × (ℕ → Bool)) → Bool
+all_hold bound [] = true
+all_hold bound (x ∷ xs) = x.1 bound && all_hold bound xs
 
-abbrev pub each_passes : ℕ → List (ℕ → Bool) → Bool
-each_passes bound [] = true
-each_passes bound (x ∷ xs) = x bound && each_passes bound xs
+abbrev pub each_holds : ℕ → List (ℕ → Bool) → Bool
+each_holds bound [] = true
+each_holds bound (x ∷ xs) = x bound && each_holds bound xs
 
 -- one level of a tree with `bound` names bound around it
 abbrev pub below_step : ℕ → Node-F (ℕ → Bool) → ℕ → Bool
 below_step n (Node-F.Literal v) bound = true
 below_step n (Node-F.Occurrence k) bound = nat_lt k n
 below_step n (Node-F.Bound k) bound = nat_lt k bound
-below_step n (Node-F.Chain first others) bound = first bound && all_pass bound others
+below_step n (Node-F.Chain first others) bound = first bound && all_hold bound others
 below_step n (Node-F.Let e f) bound = e bound && f (suc bound)
 below_step n (Node-F.If c e f) bound = c bound && (e bound && f bound)
 below_step n (Node-F.Unary call a) bound = a bound
 below_step n (Node-F.Binary call a b) bound = a bound && b bound
 below_step n (Node-F.Put t k v) bound = t bound && (k bound && v bound)
-below_step n (Node-F.List items) bound = each_passes bound items
+below_step n (Node-F.List items) bound = each_holds bound items
 below_step n Node-F.EmptyTable bound = true
 
 -- In a tree with `bound` names bound around it, the number of each occurrence is below n, and the number of
@@ -40,4 +40,4 @@ is_below n e = is_within n e 0
 
 -- the same for every operand of a chain
 abbrev pub all_below : ℕ → ℕ → List (Operator × Node) → Bool
-all_below n bound others = all_pass bound (map (λ p. (p.0, is_within n p.1)) others)
+all_below n bound others = all_hold bound (map (λ p. (p.0, is_within n p.1)) others)

@@ -10,7 +10,7 @@ use Rattle.ag_grammar.specs.declared.grammar.Symbol.{Symbol}
 use Rattle.ag_grammar.specs.declared.grammar.Target.{Target}
 use Rattle.ag_grammar.specs.declared.grammar.Terminal.TheVariants.{Literal, Class}
 use Rattle.ag_grammar.specs.declared.grammar.Terminal.{Terminal}
-use Rattle.ag_grammar.specs.declared.limits.TheConstants.{CLASS_COUNT, MAX_ATTRIBUTES, MAX_ITEMS, MAX_LITERALS, MAX_LITERAL_BYTES, MAX_PASSES, MAX_PRODUCTIONS, MAX_RULES, MAX_STORED, MAX_SYMBOLS, MAX_TEXT_BYTES, NAME, NUMBER, TEXT}
+use Rattle.ag_grammar.specs.declared.limits.TheConstants.{CLASS_COUNT, MAX_ATTRIBUTES, MAX_ITEMS, MAX_LITERALS, MAX_LITERAL_BYTES, MAX_PASSES, MAX_PRODUCTIONS, MAX_RULES, MAX_CHILDREN, MAX_SYMBOLS, MAX_TEXT_BYTES, NAME, NUMBER, TEXT}
 use Rattle.ag_grammar.specs.grammars.AttributeGrammar.{attribute_names, Grammar, stored_items, IsProduction, IsRule, Kind, HasKind, RefersTo, defined_kind, used_kind}
 
 -- The limits of a grammar (this project's): the maximum number of symbols,
@@ -29,9 +29,9 @@ max_productions = MAX_PRODUCTIONS
 abbrev pub max_items : ℕ
 max_items = MAX_ITEMS
 
--- of children of a production (items of its right side other than literals),
-abbrev pub max_stored : ℕ
-max_stored = MAX_STORED
+-- of children of a production (items of its right side other than literals, also called stored items),
+abbrev pub max_children : ℕ
+max_children = MAX_CHILDREN
 
 -- of rules of a production and of arguments of a rule (an accepted grammar has far fewer),
 abbrev pub max_rules : ℕ
@@ -78,7 +78,7 @@ pub record IsWithinGrammarLimits (g : Grammar) : Type 0 where
   pub attribute_count : Each (λ s. length (attribute_names s) ≤ max_attributes) g.symbols
   pub production_count : length g.productions ≤ max_productions
   pub item_count : Each (λ q. length q.items ≤ max_items) g.productions
-  pub stored_count : Each (λ q. length (stored_items q.items) ≤ max_stored) g.productions
+  pub stored_count : Each (λ q. length (stored_items q.items) ≤ max_children) g.productions
   pub literal_count : length g.literals ≤ max_literals
   pub literal_bytes : Each (λ x. (1 ≤ length x) × (length x ≤ max_literal_bytes)) g.literals
 
@@ -153,7 +153,7 @@ mutual
   pub data AreProductive (g : Grammar) : List Item → Type 0 where
     nothing : AreProductive g []
     a_symbol : {s : ℕ} {xs : List Item} → IsProductive g s → AreProductive g xs → AreProductive g (item.Symbol s ∷ xs)
-    a_word : {a : Terminal} {xs : List Item} → AreProductive g xs → AreProductive g (item.Terminal a ∷ xs)
+    a_terminal : {a : Terminal} {xs : List Item} → AreProductive g xs → AreProductive g (item.Terminal a ∷ xs)
 
 -- A reached symbol: it is the start symbol, or it occurs in a production of a reached symbol (the textbook).
 pub data IsReached (g : Grammar) : ℕ → Type 0 where

@@ -22,11 +22,11 @@ Valuation = List ℕ → ℕ → Value
 abbrev pub below : ℕ → Valuation → Valuation
 below i v path = v (i ∷ path)
 
--- the values in each child
+-- the valuation of each child
 abbrev pub children : Valuation → ℕ → Valuation
 children v i = below i v
 
--- the values in each child after the first
+-- the valuations of the children after the first
 abbrev pub rest : (ℕ → Valuation) → ℕ → Valuation
 rest vs i = vs (suc i)
 
@@ -40,14 +40,15 @@ abbrev pub graft : (ℕ → Value) → (ℕ → Valuation) → Valuation
 graft f ws [] = f
 graft f ws (i ∷ path) = ws i path
 
--- An environment gives each occurrence of a rule's expression the value of the attribute that it refers to.
-abbrev pub Lends : Rule → (ℕ → ℕ → Value) → (ℕ → Value) → Type 0
-Lends r e env = (k : ℕ) (o : Target) → slice_get r.args k ≡ Some o → env k ≡ e o.place o.attr
+-- An environment (`env`) has, for each occurrence of a rule's expression, the value of the attribute that the
+-- occurrence refers to. `e` has the values of attributes, by place and number.
+abbrev pub Supplies : Rule → (ℕ → ℕ → Value) → (ℕ → Value) → Type 0
+Supplies r e env = (k : ℕ) (o : Target) → slice_get r.args k ≡ Some o → env k ≡ e o.place o.attr
 
--- A rule holds: its target has the value that its expression has over the values of the attributes that its
--- occurrences refer to (Knuth 1968).
+-- A rule holds: its target has the value of its expression for the values of the attributes that its occurrences
+-- refer to (Knuth 1968).
 abbrev pub Holds : Rule → (ℕ → ℕ → Value) → Type 0
-Holds r e = (env : ℕ → Value) → Lends r e env → e r.target.place r.target.attr ≡ value_of r.expr.0 env
+Holds r e = (env : ℕ → Value) → Supplies r e env → e r.target.place r.target.attr ≡ value_of r.expr.0 env
 
 -- each rule of a production that satisfies W holds
 abbrev pub RulesHold : (Production → Rule → Type 0) → Option Production → (ℕ → ℕ → Value) → Type 0

@@ -5,7 +5,7 @@ use Rattle.ag_grammar.specs.declared.grammar.Item.TheVariants as item
 use Rattle.ag_grammar.specs.declared.grammar.Item.{Item}
 use Rattle.ag_grammar.specs.declared.grammar.Production.{Production}
 use Rattle.ag_grammar.specs.declared.grammar.Terminal.TheVariants.{Literal, Class}
-use Rattle.ag_grammar.specs.declared.limits.TheConstants.{MAX_DEPTH, MAX_NODES, MAX_TOKEN_BYTES, MAX_TURNED_DEPTH, MAX_TURNED_NODES}
+use Rattle.ag_grammar.specs.declared.limits.TheConstants.{MAX_DEPTH, MAX_NODES, MAX_TOKEN_BYTES, MAX_REVERSED_DEPTH, MAX_REVERSED_NODES}
 use Rattle.ag_grammar.specs.grammars.AttributeGrammar.{Grammar, stored_items, IsProduction}
 
 mutual
@@ -77,11 +77,11 @@ abbrev pub max_nodes : ℕ
 max_nodes = MAX_NODES
 
 -- and those of a tree whose file is reversed, or converted from version 1 (this project's)
-abbrev pub max_turned_depth : ℕ
-max_turned_depth = MAX_TURNED_DEPTH
+abbrev pub max_reversed_depth : ℕ
+max_reversed_depth = MAX_REVERSED_DEPTH
 
-abbrev pub max_turned_nodes : ℕ
-max_turned_nodes = MAX_TURNED_NODES
+abbrev pub max_reversed_nodes : ℕ
+max_reversed_nodes = MAX_REVERSED_NODES
 
 -- the tree has at most this depth and at most this number of nodes
 pub record IsWithinLimits (depth count : ℕ) (t : Tree) : Type 0 where

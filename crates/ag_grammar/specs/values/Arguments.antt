@@ -47,9 +47,9 @@ abbrev pub has_fault : Option ErrorCode → Bool
 has_fault (Some code) = true
 has_fault None = false
 
--- `iserr(v)`, which accepts errors: 1 if v is an error, else 0
-abbrev pub test_result : Value → Value
-test_result v = truth (has_fault (fault_of v))
+-- the value of `iserr(v)`, which accepts errors: 1 if v is an error, else 0
+abbrev pub iserr_result : Value → Value
+iserr_result v = truth (has_fault (fault_of v))
 
 -- `orelse(v, w)`, which accepts errors: v if that is not an error, else w
 abbrev pub either : Option ErrorCode → Value → Value → Value

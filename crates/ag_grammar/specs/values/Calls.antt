@@ -9,32 +9,32 @@ use Rattle.ag_grammar.specs.declared.syntax.node.BinaryCall.{BinaryCall}
 use Rattle.ag_grammar.specs.declared.syntax.node.BinaryCall.TheVariants as binary
 use Rattle.ag_grammar.specs.declared.syntax.node.UnaryCall.{UnaryCall}
 use Rattle.ag_grammar.specs.declared.syntax.node.UnaryCall.TheVariants as unary
-use Rattle.ag_grammar.specs.values.Arguments.{or_else, strict, test_result}
+use Rattle.ag_grammar.specs.values.Arguments.{or_else, strict, iserr_result}
 use Rattle.ag_grammar.specs.values.Lists.{append_result, length_of, nth_of}
 use Rattle.ag_grammar.specs.values.Numbers.{decimal_of, number_of}
-use Rattle.ag_grammar.specs.values.Tables.{got_from, had_by, keys_of, put_in}
-use Rattle.ag_grammar.specs.values.Texts.{joined_by}
+use Rattle.ag_grammar.specs.values.Tables.{get_result, has_result, keys_of, put_result}
+use Rattle.ag_grammar.specs.values.Texts.{join_result}
 
--- a call with one argument
-abbrev pub call_result : UnaryCall → Value → Value
-call_result unary.Len a = strict (a ∷ []) (length_of a)
-call_result unary.Text n = strict (n ∷ []) (decimal_of n)
-call_result unary.Number t = strict (t ∷ []) (number_of t)
-call_result unary.Keys t = strict (t ∷ []) (keys_of t)
-call_result unary.IsError v = test_result v
+-- the value of a call with one argument
+abbrev pub unary_call_result : UnaryCall → Value → Value
+unary_call_result unary.Len a = strict (a ∷ []) (length_of a)
+unary_call_result unary.Text n = strict (n ∷ []) (decimal_of n)
+unary_call_result unary.Number t = strict (t ∷ []) (number_of t)
+unary_call_result unary.Keys t = strict (t ∷ []) (keys_of t)
+unary_call_result unary.IsError v = iserr_result v
 
--- a call with two arguments
-abbrev pub called_with : BinaryCall → Value → Value → Value
-called_with binary.Nth l i = strict (l ∷ i ∷ []) (nth_of l i)
-called_with binary.Append l v = strict (l ∷ v ∷ []) (append_result l v)
-called_with binary.Join l s = strict (l ∷ s ∷ []) (joined_by l s)
-called_with binary.Get t k = strict (t ∷ k ∷ []) (got_from t k)
-called_with binary.Has t k = strict (t ∷ k ∷ []) (had_by t k)
-called_with binary.OrElse v w = or_else v w
+-- the value of a call with two arguments
+abbrev pub binary_call_result : BinaryCall → Value → Value → Value
+binary_call_result binary.Nth l i = strict (l ∷ i ∷ []) (nth_of l i)
+binary_call_result binary.Append l v = strict (l ∷ v ∷ []) (append_result l v)
+binary_call_result binary.Join l s = strict (l ∷ s ∷ []) (join_result l s)
+binary_call_result binary.Get t k = strict (t ∷ k ∷ []) (get_result t k)
+binary_call_result binary.Has t k = strict (t ∷ k ∷ []) (has_result t k)
+binary_call_result binary.OrElse v w = or_else v w
 
 -- `put(t, k, v)`
 abbrev pub put : Value → Value → Value → Value
-put t k v = strict (t ∷ k ∷ v ∷ []) (put_in t k v)
+put t k v = strict (t ∷ k ∷ v ∷ []) (put_result t k v)
 
 -- `if c then e else f`: c if that is an error, the error `kind` if c is not a number; f if c is 0, else e
 abbrev pub chosen_at : Value-F Value → Value → Value → Value

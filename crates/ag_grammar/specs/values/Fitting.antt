@@ -3,13 +3,13 @@ use Rattle.std.specs.Prelude.{◌≡◌, ℕ, ◌-◌, ◌^◌, min, true, List,
 use Rattle.ag_value.specs.declared.value.ErrorCode.TheVariants.{Big, Deep}
 use Rattle.ag_value.specs.declared.value.Value.{Value}
 use Rattle.ag_value.specs.declared.value.Value.TheVariants as value
-use Rattle.ag_value.specs.Measure.{depth_of, weight_of, max_depth, max_weight}
+use Rattle.ag_value.specs.Measure.{depth_of, weight_of, max_value_depth, max_weight}
 use Rattle.ag_value.specs.Well.{IsWell, is_item}
 
 -- The value after the check of the limits: the error `deep` if it is too deep, else the error `big` if it is
 -- too heavy, else the value itself.
 abbrev pub fit : Value → Value
-fit v = if nat_lt max_depth (depth_of v) then value.Fault Deep else (if nat_lt max_weight (weight_of v) then value.Fault Big else v)
+fit v = if nat_lt max_value_depth (depth_of v) then value.Fault Deep else (if nat_lt max_weight (weight_of v) then value.Fault Big else v)
 
 -- A well value together with its weight and its depth.
 pub record IsMeasured (v : Value) (weight depth : ℕ) : Type 0 where

@@ -3,23 +3,23 @@ use Rattle.std.specs.Prelude.{◌≡◌, ◌↔◌, ◌<◌, ◌≤◌, pos}
 use Rattle.ag_value.specs.declared.value.ErrorCode.TheVariants.{Big, Deep}
 use Rattle.ag_value.specs.declared.value.Value.{Value}
 use Rattle.ag_value.specs.declared.value.Value.TheVariants as value
-use Rattle.ag_value.specs.Measure.{depth_of, max_depth, max_weight, weight_of}
+use Rattle.ag_value.specs.Measure.{depth_of, max_value_depth, max_weight, weight_of}
 use Rattle.ag_value.specs.Well.{IsWell}
 use Rattle.ag_grammar.specs.values.Fitting.{fit}
 use Rattle.ag_grammar.specs.values.Operators.{comparison_result}
-use Rattle.ag_grammar.specs.values.Tables.{got_from, keys_of}
+use Rattle.ag_grammar.specs.values.Tables.{get_result, keys_of}
 
 -- A value that is too deep becomes the error `deep`, even if it is also too heavy;
 abbrev pub DeepComesFirst : Type 0
-DeepComesFirst = (v : Value) → max_depth < depth_of v → fit v ≡ value.Fault Deep
+DeepComesFirst = (v : Value) → max_value_depth < depth_of v → fit v ≡ value.Fault Deep
 
 -- a value that is only too heavy becomes the error `big`;
 abbrev pub BigComesNext : Type 0
-BigComesNext = (v : Value) → depth_of v ≤ max_depth → max_weight < weight_of v → fit v ≡ value.Fault Big
+BigComesNext = (v : Value) → depth_of v ≤ max_value_depth → max_weight < weight_of v → fit v ≡ value.Fault Big
 
 -- and any other value is unchanged.
 abbrev pub WhatFitsStays : Type 0
-WhatFitsStays = (v : Value) → depth_of v ≤ max_depth → weight_of v ≤ max_weight → fit v ≡ v
+WhatFitsStays = (v : Value) → depth_of v ≤ max_value_depth → weight_of v ≤ max_weight → fit v ≡ v
 
 -- `==` returns 1 for two well values if and only if they are the same.
 abbrev pub SameIsOne : Type 0
@@ -29,5 +29,5 @@ SameIsOne = (v w : Value) → IsWell v → IsWell w → (comparison_result v w �
 abbrev pub KeysAreWell : Type 0
 KeysAreWell = (table : Value) → IsWell table → IsWell (keys_of table)
 
-abbrev pub GotIsWell : Type 0
-GotIsWell = (table key : Value) → IsWell table → IsWell (got_from table key)
+abbrev pub GetIsWell : Type 0
+GetIsWell = (table key : Value) → IsWell table → IsWell (get_result table key)

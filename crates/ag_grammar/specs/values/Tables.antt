@@ -16,13 +16,13 @@ pair_with key pairs = find (λ p. bytes_eq p.0 key) pairs
 abbrev pub with_pair : List ℕ → Value → List (List ℕ × Value) → List (List ℕ × Value)
 with_pair key v pairs = filter (λ p. is_before p.0 key) pairs ++ (key, v) ∷ filter (λ p. is_before key p.0) pairs
 
--- `put(t, k, v)`
+-- `put(t, k, v)`, for arguments that are not errors
 abbrev pub put_at : Value-F Value → Value-F Value → Value → Value
 put_at (Value-F.Table pairs) (Value-F.Text key) v = fit (value.Table (with_pair key v pairs))
 put_at table key v = value.Fault Kind
 
-abbrev pub put_in : Value → Value → Value → Value
-put_in table key v = put_at (out-Value table) (out-Value key) v
+abbrev pub put_result : Value → Value → Value → Value
+put_result table key v = put_at (out-Value table) (out-Value key) v
 
 abbrev pub value_or_fault : Option (List ℕ × Value) → Value
 value_or_fault (Some p) = p.1
@@ -33,8 +33,8 @@ abbrev pub get_at : Value-F Value → Value-F Value → Value
 get_at (Value-F.Table pairs) (Value-F.Text key) = value_or_fault (pair_with key pairs)
 get_at table key = value.Fault Kind
 
-abbrev pub got_from : Value → Value → Value
-got_from table key = get_at (out-Value table) (out-Value key)
+abbrev pub get_result : Value → Value → Value
+get_result table key = get_at (out-Value table) (out-Value key)
 
 abbrev pub is_there : Option (List ℕ × Value) → Bool
 is_there (Some p) = true
@@ -45,8 +45,8 @@ abbrev pub has_at : Value-F Value → Value-F Value → Value
 has_at (Value-F.Table pairs) (Value-F.Text key) = truth (is_there (pair_with key pairs))
 has_at table key = value.Fault Kind
 
-abbrev pub had_by : Value → Value → Value
-had_by table key = has_at (out-Value table) (out-Value key)
+abbrev pub has_result : Value → Value → Value
+has_result table key = has_at (out-Value table) (out-Value key)
 
 -- `keys(t)`: the keys in ascending order
 abbrev pub keys_at : Value-F Value → Value
@@ -61,7 +61,7 @@ abbrev pub has_key : List ℕ → Option (List ℕ × Value) → Bool
 has_key key (Some p) = bytes_eq p.0 key
 has_key key None = false
 
--- i is the index of a key in a table: the number of pairs with smaller keys. Either the pair at i has the
+-- i is the index at which a key is or would be in a table: the number of pairs with smaller keys. Either the pair at i has the
 -- key, or no pair has it.
 pub record IsIndex (key : List ℕ) (pairs : List (List ℕ × Value)) (i : ℕ) : Type 0 where
   pub prefix : filter (λ p. is_before p.0 key) pairs ≡ take i pairs

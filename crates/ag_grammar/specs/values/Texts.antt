@@ -32,5 +32,5 @@ abbrev pub joined_at : Value-F Value → Value-F Value → Value
 joined_at (Value-F.List items) (Value-F.Text separator) = joined_texts items separator
 joined_at list separator = value.Fault Kind
 
-abbrev pub joined_by : Value → Value → Value
-joined_by list separator = joined_at (out-Value list) (out-Value separator)
+abbrev pub join_result : Value → Value → Value
+join_result list separator = joined_at (out-Value list) (out-Value separator)

@@ -37,7 +37,7 @@ impl Model for Expr {
 
 impl Expr {
     /// Makes the expression from a tree and the distinct occurrences to which the tree refers by
-    /// number. Does not allocate.
+    /// index. Does not allocate.
     pub fn new(node: Node, occurrences: SmallVec<Occ, 4>) -> Expr
         requires below { is_below (length occurrences.items) node ≡ true }
         requires different { AreDifferent occurrences.items }

@@ -27,32 +27,32 @@ pub enum Operator {
 /// A call with one argument.
 #[derive(Clone, Copy, Debug, PartialEq, Eq)]
 pub enum UnaryCall {
-    /// `len(a)`
+    /// `len(a)`: of a text, a list or a table
     Len,
-    /// `text(n)`
+    /// `text(n)`: a number in decimal
     Text,
-    /// `number(t)`
+    /// `number(t)`: of a text
     Number,
-    /// `keys(t)`
+    /// `keys(t)`: of a table
     Keys,
-    /// `iserr(v)`
+    /// `iserr(v)`: whether a value is an error
     IsError,
 }
 
 /// A call with two arguments.
 #[derive(Clone, Copy, Debug, PartialEq, Eq)]
 pub enum BinaryCall {
-    /// `nth(l, i)`
+    /// `nth(l, i)`: the item of a list at an index from 0
     Nth,
-    /// `append(l, v)`
+    /// `append(l, v)`: a list with one more item
     Append,
-    /// `join(l, s)`
+    /// `join(l, s)`: the texts of a list with a separator between them
     Join,
-    /// `get(t, k)`
+    /// `get(t, k)`: the value at a key of a table
     Get,
-    /// `has(t, k)`
+    /// `has(t, k)`: whether a table has a key
     Has,
-    /// `orelse(v, w)`
+    /// `orelse(v, w)`: `v`, or `w` if `v` is an error
     OrElse,
 }
 
@@ -66,8 +66,8 @@ pub enum Node {
     /// A bound name, by its index among the names that are bound around it; the outermost has index
     /// 0.
     Bound(usize),
-    /// A first operand, followed by one or more pairs of an operator and an operand;
-    /// left-associative.
+    /// A first operand, followed by one or more pairs of an operator and an operand. The operators have
+    /// one precedence and are left-associative.
     Chain(Boxed<Node>, Items<(Operator, Node)>),
     /// `let x = e in f`: the definition of the name, and the body in which it is bound.
     Let(Boxed<Node>, Boxed<Node>),
@@ -77,7 +77,7 @@ pub enum Node {
     Unary(UnaryCall, Boxed<Node>),
     /// A call with two arguments.
     Binary(BinaryCall, Boxed<Node>, Boxed<Node>),
-    /// `put(t, k, v)`
+    /// `put(t, k, v)`: a table with this value at this key
     Put(Boxed<Node>, Boxed<Node>, Boxed<Node>),
     /// `[a, ..]`
     List(Items<Node>),

@@ -4,57 +4,57 @@ use Rattle.std.proofs.Math.ListN.{set}
 use Rattle.std.proofs.lemmas.List.{length-set, get_or-set_other}
 use Rattle.std.proofs.lemmas.Grind.{get_or-set_at}
 use Rattle.std.proofs.lemmas.Option.{slice_get_within}
-use Rattle.ag_scan.specs.declared.literals.Word.{Word}
-use Rattle.ag_scan.specs.declared.starts.StartingWords.{StartingWords}
-use Rattle.ag_scan.specs.declared.starts.StartingWords.TheVariants.{Sole}
-use Rattle.ag_scan.specs.Table.{IsPrefix, IsTable, IsLongestFront, HasNoPrefix, AreCovered, Covers, with_one}
+use Rattle.ag_scan.specs.declared.literals.LiteralEntry.{LiteralEntry}
+use Rattle.ag_scan.specs.declared.starts.StartingLiterals.{StartingLiterals}
+use Rattle.ag_scan.specs.declared.starts.StartingLiterals.TheVariants.{Sole}
+use Rattle.ag_scan.specs.Table.{IsPrefix, IsTable, IsLongestPrefix, HasNoPrefix, AreCovered, Covers, with_one}
 use Rattle.ag_scan.proofs.words.Tables.{compared, same_there}
 
--- the entry of a byte still agrees with a word after one more word that begins with the byte
-still_covered : (k : ℕ) (s : StartingWords) (index : ℕ) → Covers k s → Covers k (with_one s index)
+-- what is stored for a byte still includes an entry after one more that begins with the byte
+still_covered : (k : ℕ) (s : StartingLiterals) (index : ℕ) → Covers k s → Covers k (with_one s index)
 still_covered k s index h = grind arith
 
-newly_covered : (s : StartingWords) (index : ℕ) → Covers index (with_one s index)
+newly_covered : (s : StartingLiterals) (index : ℕ) → Covers index (with_one s index)
 newly_covered s index = grind arith
 
--- the table after one more word
-module _ (words : List Word) (starts : List StartingWords) (index b : ℕ) (rest : List ℕ) (w : Word) (s : StartingWords) (exact : AreCovered words starts index) (there : slice_get words index ≡ Some w) (text : w.text.now ≡ b ∷ rest) (byte : b < 256) (is : get_or starts b s ≡ s) where
+-- what is stored after one more entry
+module _ (entries : List LiteralEntry) (starts : List StartingLiterals) (index b : ℕ) (rest : List ℕ) (w : LiteralEntry) (s : StartingLiterals) (exact : AreCovered entries starts index) (there : slice_get entries index ≡ Some w) (text : w.text.now ≡ b ∷ rest) (byte : b < 256) (is : get_or starts b s ≡ s) where
   within : b < length starts
   within = omega (arith, exact.whole)
 
-  kept : (k c : ℕ) → ((d : StartingWords) → Covers k (get_or starts c d)) → (d : StartingWords) → Covers k (get_or (set starts b (with_one s index)) c d)
+  kept : (k c : ℕ) → ((d : StartingLiterals) → Covers k (get_or starts c d)) → (d : StartingLiterals) → Covers k (get_or (set starts b (with_one s index)) c d)
   kept k c old d = let at_d = old d in let at_s = old s in let still = still_covered k s index in grind (arith, get_or-set_other, get_or-set_at)
 
-  by : (k : ℕ) (u : Word) → k < index + 1 → slice_get words k ≡ Some u → (c : ℕ) × (more : List ℕ) × (u.text.now ≡ c ∷ more) × ((d : StartingWords) → Covers k (get_or (set starts b (with_one s index)) c d))
+  by : (k : ℕ) (u : LiteralEntry) → k < index + 1 → slice_get entries k ≡ Some u → (c : ℕ) × (more : List ℕ) × (u.text.now ≡ c ∷ more) × ((d : StartingLiterals) → Covers k (get_or (set starts b (with_one s index)) c d))
   by k u below at =
       compared k index
       (λ less. let old = exact.each k u less at in (old.0, old.1, old.2, kept k old.0 old.3))
-      (λ same. (b, rest, ap (λ (v : Word). v.text.now) (same_there words k index u w at there same) ∙ text, λ d. (let new = newly_covered s index in grind (arith, get_or-set_at))))
+      (λ same. (b, rest, ap (λ (v : LiteralEntry). v.text.now) (same_there entries k index u w at there same) ∙ text, λ d. (let new = newly_covered s index in grind (arith, get_or-set_at))))
       (λ more. let bad : ⊥ = omega arith in absurd bad)
 
-  pub one_covered : AreCovered words (set starts b (with_one s index)) (index + 1)
+  pub one_covered : AreCovered entries (set starts b (with_one s index)) (index + 1)
   one_covered = record { whole = length-set starts b (with_one s index) ∙ exact.whole; each = by }
 
--- The result for a text whose first byte begins only one word.
-module _ (literals : List (List ℕ)) (words : List Word) (shorter : List (Option ℕ)) (table : IsTable literals words shorter) (starts : List StartingWords) (exact : AreCovered words starts (length words)) (text : List ℕ) (b : ℕ) (rest : List ℕ) (e : text ≡ b ∷ rest) (d : StartingWords) (i : ℕ) (sole : get_or starts b d ≡ Sole i) where
-  -- a literal that is a prefix of the text is this word
-  sole_prefix : (n : ℕ) (x : List ℕ) → slice_get literals n ≡ Some x → IsPrefix x text → (w : Word) × (slice_get words i ≡ Some w) × (w.text.now ≡ x)
+-- The result for a text whose first byte begins only one literal.
+module _ (literals : List (List ℕ)) (entries : List LiteralEntry) (shorter : List (Option ℕ)) (table : IsTable literals entries shorter) (starts : List StartingLiterals) (exact : AreCovered entries starts (length entries)) (text : List ℕ) (b : ℕ) (rest : List ℕ) (e : text ≡ b ∷ rest) (d : StartingLiterals) (i : ℕ) (sole : get_or starts b d ≡ Sole i) where
+  -- a literal that is a prefix of the text is this one
+  sole_prefix : (n : ℕ) (x : List ℕ) → slice_get literals n ≡ Some x → IsPrefix x text → (w : LiteralEntry) × (slice_get entries i ≡ Some w) × (w.text.now ≡ x)
   sole_prefix n x at prefix =
       let found = table.literals_all.whole n x at in
-      let of = exact.each found.0 found.1 (slice_get_within words found.0 found.1 found.2) found.2 in
+      let of = exact.each found.0 found.1 (slice_get_within entries found.0 found.1 found.2) found.2 in
       let both : of.0 ∷ (of.1 ++ prefix.0) ≡ b ∷ rest = ap (λ y. y ++ prefix.0) (sym of.2 ∙ found.3) ∙ sym prefix.1 ∙ e in
       let first : of.0 ≡ b = cc in
       let same : i ≡ found.0 = subst (Covers found.0) sole (rw first at (of.3 d)) in
       (found.1, rw same found.2, found.3)
 
-  pub sole_exact : (r : Option (Bor Word)) → IfSome r (λ w. slice_get words i ≡ Some w.now) → IfSome r (λ w. IsPrefix w.now.text.now text) → IfNone r ((w : Word) → slice_get words i ≡ Some w → IsPrefix w.text.now text → ⊥)
-      → MatchOption r (HasNoPrefix literals text) (λ w. IsLongestFront literals text w.now)
+  pub sole_exact : (r : Option (Bor LiteralEntry)) → IfSome r (λ w. slice_get entries i ≡ Some w.now) → IfSome r (λ w. IsPrefix w.now.text.now text) → IfNone r ((w : LiteralEntry) → slice_get entries i ≡ Some w → IsPrefix w.text.now text → ⊥)
+      → MatchOption r (HasNoPrefix literals text) (λ w. IsLongestPrefix literals text w.now)
   sole_exact None there prefix not_here = λ n x at is. (let (w, here, same) = sole_prefix n x at is in not_here w here (rw same is))
   sole_exact (Some w) there prefix not_here = record {
     numbered = table.literals_all.numbered i w.now there;
     prefix = prefix;
     longest = λ n x at is.
         let (u, here, same) = sole_prefix n x at is in
-        let one = same_there words i i w.now u there here refl in
-        omega (arith, ap (λ (v : Word). length v.text.now) one, ap length same);
+        let one = same_there entries i i w.now u there here refl in
+        omega (arith, ap (λ (v : LiteralEntry). length v.text.now) one, ap length same);
   }

@@ -4,10 +4,10 @@ use Rattle.std.proofs.lemmas.Str.{len_utf8_bounds}
 use Rattle.ag_grammar.specs.declared.grammar.Terminal.TheVariants.{Literal, Class}
 use Rattle.ag_tokens.specs.Tokens.{width}
 use Rattle.ag_tokens.proofs.Lexed.{width-append}
-use Rattle.ag_scan.specs.Words.{Vocabulary, IsLiteral, IsClassed, IsAnyWord, IsLongest, BeginsNone}
-use Rattle.ag_scan.specs.declared.prefix.LeadingWord as lent
-use Rattle.ag_scan.specs.Cutting.{LeadingWord, CutsLiteral, CutsToken, front_of, class_from, longer_of}
-use Rattle.ag_scan.proofs.words.ClassWords.{CutsClass, class_cut, class_none}
+use Rattle.ag_scan.specs.Words.{Vocabulary, IsLiteral, IsClassWord, IsAnyWord, IsLongest, BeginsNone}
+use Rattle.ag_scan.specs.declared.prefix.LeadingWord as code
+use Rattle.ag_scan.specs.Cutting.{LeadingWord, IsLeadingLiteral, IsLeadingToken, leading_word_of, class_from, longer_of}
+use Rattle.ag_scan.proofs.words.ClassWords.{IsLeadingClassWord, class_cut, class_none}
 use Rattle.ag_scan.proofs.OneToken.{IsWordIn}
 use Rattle.std.proofs.lemmas.Bool.Decides.{nat_tests}
 
@@ -25,15 +25,15 @@ no_longer (x ∷ xs) (y ∷ ys) us vs e h = let more = no_longer xs ys us vs in 
 
 -- the result of the search: the longest literal at the beginning, or `None` if no literal begins there
 abbrev pub IsLiteralIn : List (List ℕ) → List ℕ → Option LeadingWord → Type 0
-IsLiteralIn literals cs o = MatchOption o (BeginsNone (IsLiteral literals) cs) (λ f. CutsLiteral literals cs f)
+IsLiteralIn literals cs o = MatchOption o (BeginsNone (IsLiteral literals) cs) (λ f. IsLeadingLiteral literals cs f)
 
 module _ (v : Vocabulary) (cs : List ℕ) where
-  no_word : BeginsNone (IsLiteral v.literals) cs → BeginsNone (IsClassed v.classes) cs → BeginsNone (IsAnyWord v) cs
+  no_word : BeginsNone (IsLiteral v.literals) cs → BeginsNone (IsClassWord v.classes) cs → BeginsNone (IsAnyWord v) cs
   no_word none no_class word more split (Literal l, lex, is) = none word more split (l, is.0)
   no_word none no_class word more split (Class c, lex, is) = no_class word more split (c, lex, is.0, is.1)
 
   -- a word of a class is the token if each literal at the beginning is shorter,
-  class_token : (f : LeadingWord) → (cut : CutsClass v.classes cs f) → ((word more : List ℕ) → cs ≡ word ++ more → IsLiteral v.literals word → length word < length cut.word) → CutsToken v cs f
+  class_token : (f : LeadingWord) → (cut : IsLeadingClassWord v.classes cs f) → ((word more : List ℕ) → cs ≡ word ++ more → IsLiteral v.literals word → length word < length cut.word) → IsLeadingToken v cs f
   class_token f cut less = record { word = cut.word; split = cut.split; token = rw cut.kind (record { is = (cut.used, cut.is); longest = longest; tie = tie }) }
     where
       longest : IsLongest (IsAnyWord v) cut.word f.rest
@@ -44,14 +44,14 @@ module _ (v : Vocabulary) (cs : List ℕ) where
       tie is = let k = less cut.word f.rest cut.split is in omega arith
 
   -- and a literal is if no word of a class is longer
-  literal_token : (f : LeadingWord) → (cut : CutsLiteral v.literals cs f) → ((word more : List ℕ) → cs ≡ word ++ more → IsClassed v.classes word → length word ≤ length cut.word) → CutsToken v cs f
+  literal_token : (f : LeadingWord) → (cut : IsLeadingLiteral v.literals cs f) → ((word more : List ℕ) → cs ≡ word ++ more → IsClassWord v.classes word → length word ≤ length cut.word) → IsLeadingToken v cs f
   literal_token f cut fit = record { word = cut.word; split = cut.split; token = rw cut.kind (record { is = (cut.there, cut.text); longest = longest; tie = tt }) }
     where
       longest : IsLongest (IsAnyWord v) cut.word f.rest
       longest longer more same (Literal l, lex, is) = cut.longest longer more same (l, is.0)
       longest longer more same (Class c, lex, is) = fit longer more (cut.split ∙ same) (c, lex, is.0, is.1)
 
-  longer : (f g : LeadingWord) → CutsLiteral v.literals cs f → CutsClass v.classes cs g → (b : Bool) → nat_lt (width g.rest) (width f.rest) ≡ b → IsWordIn v cs (cond b (Some g) (Some f))
+  longer : (f g : LeadingWord) → IsLeadingLiteral v.literals cs f → IsLeadingClassWord v.classes cs g → (b : Bool) → nat_lt (width g.rest) (width f.rest) ≡ b → IsWordIn v cs (cond b (Some g) (Some f))
   longer f g literal class b h = go b h
     where
       both : literal.word ++ f.rest ≡ class.word ++ g.rest
@@ -80,6 +80,6 @@ module _ (v : Vocabulary) (cs : List ℕ) where
   chosen (Some f) (Some g) literal e = longer f g literal (class_cut v.classes cs g e) (nat_lt (width g.rest) (width f.rest)) refl
 
 -- the same for a word of the code
-pub lent_word : (v : Vocabulary) (cs : List ℕ) (o : Option lent.LeadingWord) → IsWordIn v cs (option_map (λ f. front_of f) o) → MatchOption o (BeginsNone (IsAnyWord v) cs) (λ f. CutsToken v cs (front_of f))
+pub lent_word : (v : Vocabulary) (cs : List ℕ) (o : Option code.LeadingWord) → IsWordIn v cs (option_map (λ f. leading_word_of f) o) → MatchOption o (BeginsNone (IsAnyWord v) cs) (λ f. IsLeadingToken v cs (leading_word_of f))
 lent_word v cs None none = none
 lent_word v cs (Some f) cut = cut

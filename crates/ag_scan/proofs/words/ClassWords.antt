@@ -14,18 +14,18 @@ use Rattle.ag_grammar.specs.declared.grammar.Terminal.TheVariants.{Class}
 use Rattle.ag_tokens.specs.Tokens.{is_quotable, starts_name, IsName, IsDigits}
 use Rattle.ag_tokens.proofs.Fronts.{prefix_passes, prefix_reaches, front_ends}
 use Rattle.ag_tokens.proofs.TokenLaws.{no_start}
-use Rattle.ag_scan.specs.Words.{IsWordOfClass, IsClassed, IsLongest, BeginsNone}
-use Rattle.ag_scan.specs.Cutting.{LeadingWord, prefix_in, back_of, span_from, close_quote, text_from, uses, class_from}
+use Rattle.ag_scan.specs.Words.{IsWordOfClass, IsClassWord, IsLongest, BeginsNone}
+use Rattle.ag_scan.specs.Cutting.{LeadingWord, prefix_in, rest_after, span_from, close_quote, text_from, uses, class_from}
 
 -- The word is the longest word of a class at the beginning of the characters.
-pub record CutsClass (classes cs : List ℕ) (f : LeadingWord) : Type 0 where
+pub record IsLeadingClassWord (classes cs : List ℕ) (f : LeadingWord) : Type 0 where
   pub class : ℕ
   pub word : List ℕ
   pub kind : f.kind ≡ Class class
   pub split : cs ≡ word ++ f.rest
   pub used : Has classes class
   pub is : IsWordOfClass class word f.lex
-  pub longest : IsLongest (IsClassed classes) word f.rest
+  pub longest : IsLongest (IsClassWord classes) word f.rest
 
 -- ---- the first characters of words
 
@@ -134,7 +134,7 @@ closed_there classes prefix (c ∷ back) f used all e =
 
 text_is_there : (classes cs : List ℕ) (f : LeadingWord) → Has classes 2 → text_from cs ≡ Some f → IsThere classes (34 ∷ cs) f
 text_is_there classes cs f used e =
-    subst (λ x. IsThere classes (34 ∷ x) f) (take-append-drop (prefix_len is_quotable cs) cs) (closed_there classes (prefix_in is_quotable cs) (back_of is_quotable cs) f used (prefix_passes is_quotable cs) e)
+    subst (λ x. IsThere classes (34 ∷ x) f) (take-append-drop (prefix_len is_quotable cs) cs) (closed_there classes (prefix_in is_quotable cs) (rest_after is_quotable cs) f used (prefix_passes is_quotable cs) e)
 
 cut_is_there : (classes cs : List ℕ) (f : LeadingWord) → class_from classes cs ≡ Some f → IsThere classes cs f
 unfolding class_from
@@ -149,20 +149,20 @@ cut_is_there classes (c ∷ cs) f e = go (starts_name c) (is_ascii_digit c) (c =
 
 -- ---- both together
 
-pub class_cut : (classes cs : List ℕ) (f : LeadingWord) → class_from classes cs ≡ Some f → CutsClass classes cs f
+pub class_cut : (classes cs : List ℕ) (f : LeadingWord) → class_from classes cs ≡ Some f → IsLeadingClassWord classes cs f
 class_cut classes cs f e = record { class = there.0; word = there.1; kind = there.2; split = there.3; used = there.4; is = there.5; longest = longest }
   where
     there : IsThere classes cs f
     there = cut_is_there classes cs f e
 
-    longest : IsLongest (IsClassed classes) there.1 f.rest
+    longest : IsLongest (IsClassWord classes) there.1 f.rest
     longest longer more same (c, lex, used, is) =
         let far = word_reached classes longer more lex c used is in
         let one : Some far.cut ≡ Some f = sym far.is ∙ ap (class_from classes) (sym same ∙ sym there.3) ∙ e in
         let rest : length far.cut.rest ≡ length f.rest = ap (λ (x : LeadingWord). length x.rest) (same_Some _ _ one) in
         omega (arith, far.far, ap length same, length-append there.1 f.rest, length-append longer more)
 
-pub class_none : (classes cs : List ℕ) → class_from classes cs ≡ None → BeginsNone (IsClassed classes) cs
+pub class_none : (classes cs : List ℕ) → class_from classes cs ≡ None → BeginsNone (IsClassWord classes) cs
 class_none classes cs e word more split (c, lex, used, is) =
     let far = word_reached classes word more lex c used is in
     none-some _ (sym e ∙ ap (class_from classes) split ∙ far.is)

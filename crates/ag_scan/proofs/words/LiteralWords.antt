@@ -5,9 +5,9 @@ use Rattle.std.proofs.Math.Seq.{drop-append_seam, take-append_seam}
 use Rattle.std.specs.Str.{IsCharBoundary}
 use Rattle.ag_grammar.specs.declared.grammar.Terminal.TheVariants.{Literal}
 use Rattle.ag_tokens.proofs.Lexed.{width-encoded}
-use Rattle.ag_scan.specs.declared.literals.Word.{Word}
-use Rattle.ag_scan.specs.Cutting.{CutsLiteral}
-use Rattle.ag_scan.specs.Table.{IsPrefix, IsLongestFront, HasNoPrefix}
+use Rattle.ag_scan.specs.declared.literals.LiteralEntry.{LiteralEntry}
+use Rattle.ag_scan.specs.Cutting.{IsLeadingLiteral}
+use Rattle.ag_scan.specs.Table.{IsPrefix, IsLongestPrefix, HasNoPrefix}
 use Rattle.ag_scan.specs.Words.{IsLiteral, IsLongest, BeginsNone}
 use Rattle.ag_scan.proofs.words.Choosing.{no_longer}
 use Rattle.ag_scan.proofs.words.Tables.{front_fits}
@@ -30,8 +30,8 @@ bytes_prefix text word more utf8 split = (encode_utf8_all more, sym (encodes-cha
 pub literal_none : (literals : List (List ℕ)) (text : List ℕ) → IsUtf8 text → HasNoPrefix literals text → BeginsNone (IsLiteral literals) (chars text)
 literal_none literals text utf8 none word more split (l, e) = none l (encode_utf8_all word) e (bytes_prefix text word more utf8 split)
 
-pub literal_cut : (literals : List (List ℕ)) (text lex rest : List ℕ) (w : Word) → IsUtf8 text → IsLongestFront literals text w → lex ≡ w.text.now → chars text ≡ chars w.text.now ++ chars rest → encode_utf8_all (chars w.text.now) ≡ w.text.now
-    → CutsLiteral literals (chars text) (record { kind = Literal w.number; lex = lex; rest = chars rest })
+pub literal_cut : (literals : List (List ℕ)) (text lex rest : List ℕ) (w : LiteralEntry) → IsUtf8 text → IsLongestPrefix literals text w → lex ≡ w.text.now → chars text ≡ chars w.text.now ++ chars rest → encode_utf8_all (chars w.text.now) ≡ w.text.now
+    → IsLeadingLiteral literals (chars text) (record { kind = Literal w.number; lex = lex; rest = chars rest })
 literal_cut literals text lex rest w utf8 is same split encoded = record {
   number = w.number;
   word = chars w.text.now;

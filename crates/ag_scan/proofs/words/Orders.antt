@@ -6,7 +6,7 @@ use Rattle.std.specs.Cmp.{ranks, nat_cmp_total, tied_itself, upto}
 use Rattle.std.specs.Cmp.Lexicographic.{slice_cmp, nat_list_cmp_total, told_text}
 use Rattle.std.specs.List.{starts_with}
 use Rattle.std.specs.Ordering.{nat_cmp, is_gt, is_lt}
-use Rattle.ag_scan.specs.Table.{IsPrefix, IsUpTo}
+use Rattle.ag_scan.specs.Table.{IsPrefix, IsNotAfter}
 
 -- a prefix of a text is not after the text
 pub prefix_up : (p rest : List ℕ) → is_gt (slice_cmp nat_cmp p (p ++ rest)) ≡ false
@@ -24,17 +24,17 @@ between (c ∷ p) (d ∷ m) rest a b =
     let same : c ≡ d = grind arith in
     (found.0, cc)
 
-pub prefix_is_up : (p text : List ℕ) → IsPrefix p text → IsUpTo p text
+pub prefix_is_up : (p text : List ℕ) → IsPrefix p text → IsNotAfter p text
 prefix_is_up p text (rest, e) = record { up = subst (λ x. is_gt (slice_cmp nat_cmp p x) ≡ false) (sym e) (prefix_up p rest) }
 
-pub prefix_between : (p m text : List ℕ) → IsUpTo p m → IsUpTo m text → IsPrefix p text → IsPrefix p m
+pub prefix_between : (p m text : List ℕ) → IsNotAfter p m → IsNotAfter m text → IsPrefix p text → IsPrefix p m
 prefix_between p m text a b (rest, e) = between p m rest a.up (subst (λ x. is_gt (slice_cmp nat_cmp m x) ≡ false) e b.up)
 
-pub up_up : (a b c : List ℕ) → IsUpTo a b → IsUpTo b c → IsUpTo a c
+pub up_up : (a b c : List ℕ) → IsNotAfter a b → IsNotAfter b c → IsNotAfter a c
 up_up a b c x y = record { up = upto nat_list_cmp_total a b c x.up y.up }
 
 -- if b is not less than a, then a is not after b
-pub not_less : (a b : List ℕ) → is_lt (slice_cmp nat_cmp b a) ≡ false → IsUpTo a b
+pub not_less : (a b : List ℕ) → is_lt (slice_cmp nat_cmp b a) ≡ false → IsNotAfter a b
 not_less a b h = let turned = nat_list_cmp_total.antisymm b a in record { up = grind arith }
 
 -- the meaning of the result of `starts_with`

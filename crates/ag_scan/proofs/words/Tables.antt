@@ -9,8 +9,8 @@ use Rattle.std.proofs.lemmas.Option.{get_or_from_slice_get, slice_get-get_or, sl
 use Rattle.std.specs.Ordering.{nat_cmp, is_le, MatchOrdering}
 use Rattle.std.specs.declared.cmp.Ordering.{Ordering}
 use Rattle.std.specs.declared.cmp.Ordering.TheVariants.{Less, Equal, Greater}
-use Rattle.ag_scan.specs.declared.literals.Word.{Word}
-use Rattle.ag_scan.specs.Table.{IsPrefix, IsUpTo, AreUpTo, NoPrefix, IsLastPrefix, GivesLast, after_last, AreLinked, AreOrdered, AreLiterals, IsTable, IsLongestFront}
+use Rattle.ag_scan.specs.declared.literals.LiteralEntry.{LiteralEntry}
+use Rattle.ag_scan.specs.Table.{IsPrefix, IsNotAfter, AreNotAfter, NoPrefix, IsLastPrefix, IsLastPrefixIfAny, after_last, AreLinked, AreOrdered, AreLiterals, IsTable, IsLongestPrefix}
 use Rattle.ag_scan.proofs.words.Orders.{prefix_between, prefix_is_up, up_up, not_less}
 
 -- a list has a member at each index below its length
@@ -26,12 +26,12 @@ same_there xs i j x y ex ey e = grind arith
 pub front_fits : (p text : List ℕ) → IsPrefix p text → length p ≤ length text
 front_fits p text (rest, e) = omega (arith, ap length e, length-append p rest)
 
--- no word after the last one that is a prefix of the text is a prefix of it
-pub last_after : (words : List Word) (bound : ℕ) (text : List ℕ) (o : Option ℕ) → GivesLast words bound text o → NoPrefix words (after_last o) bound text
-last_after words bound text o h = grind arith
+-- no entry after the last one that is a prefix of the text is a prefix of it
+pub last_after : (entries : List LiteralEntry) (bound : ℕ) (text : List ℕ) (o : Option ℕ) → IsLastPrefixIfAny entries bound text o → NoPrefix entries (after_last o) bound text
+last_after entries bound text o h = grind arith
 
-pub last_below : (words : List Word) (bound : ℕ) (text : List ℕ) (o : Option ℕ) → GivesLast words bound text o → after_last o ≤ bound
-last_below words bound text o h = grind arith
+pub last_below : (entries : List LiteralEntry) (bound : ℕ) (text : List ℕ) (o : Option ℕ) → IsLastPrefixIfAny entries bound text o → after_last o ≤ bound
+last_below entries bound text o h = grind arith
 
 -- the comparison of two numbers, by its three cases
 pub compared : {A : Type 0} (i k : ℕ) → (i < k → A) → (i ≡ k → A) → (k < i → A) → A
@@ -45,32 +45,32 @@ compared {A = A} i k less same more = go (nat_cmp i k) (ranks i k)
 pub split : {A : Type 0} (i k : ℕ) → (i < k → A) → (k ≤ i → A) → A
 split i k less others = compared i k less (λ same. others (omega arith)) (λ more. others (omega arith))
 
-module _ (words : List Word) (shorter : List (Option ℕ)) (bound : ℕ) (text : List ℕ) (ordered : AreOrdered words) (linked : AreLinked words shorter) (up : AreUpTo words bound text) where
-  -- if the word at `last` is not a prefix of the text, the next candidate is the one that it links to
-  pub goes_on : (limit last : ℕ) (w : Word) (o : Option ℕ) → limit ≤ bound → limit ≡ last + 1 → NoPrefix words limit bound text → slice_get words last ≡ Some w → slice_get shorter last ≡ Some o → (IsPrefix w.text.now text → ⊥)
-      → NoPrefix words (after_last o) bound text
+module _ (entries : List LiteralEntry) (shorter : List (Option ℕ)) (bound : ℕ) (text : List ℕ) (ordered : AreOrdered entries) (linked : AreLinked entries shorter) (up : AreNotAfter entries bound text) where
+  -- if the entry at `last` is not a prefix of the text, the next candidate is the one that it links to
+  pub goes_on : (limit last : ℕ) (w : LiteralEntry) (o : Option ℕ) → limit ≤ bound → limit ≡ last + 1 → NoPrefix entries limit bound text → slice_get entries last ≡ Some w → slice_get shorter last ≡ Some o → (IsPrefix w.text.now text → ⊥)
+      → NoPrefix entries (after_last o) bound text
   goes_on limit last w o within is none there link not_here =
-      let lower = last_after words last w.text.now o (linked.each last w o there link) in
+      let lower = last_after entries last w.text.now o (linked.each last w o there link) in
       record {
         none = λ i u low high at prefix.
             compared i last
             (λ less. lower.none i u low less at (prefix_between u.text.now w.text.now text (ordered.each i last u w (omega arith) at there) (up.each last w (omega arith) there) prefix))
-            (λ same. not_here (subst (λ (u : Word). IsPrefix u.text.now text) (same_there words i last u w at there same) prefix))
+            (λ same. not_here (subst (λ (u : LiteralEntry). IsPrefix u.text.now text) (same_there entries i last u w at there same) prefix))
             (λ more. none.none i u (omega arith) high at prefix);
       }
 
--- the last prefix of the text among the words that are not after it is the longest literal that is a prefix
-module _ (literals : List (List ℕ)) (words : List Word) (shorter : List (Option ℕ)) (table : IsTable literals words shorter) (bound : ℕ) (text : List ℕ) (up : AreUpTo words bound text) (others : NoPrefix words bound (length words) text) where
-  pub last_is_longest : (k : ℕ) (w : Word) → IsLastPrefix words bound text k → slice_get words k ≡ Some w → IsLongestFront literals text w
+-- the last prefix of the text among the entries that are not after it is the longest literal that is a prefix
+module _ (literals : List (List ℕ)) (entries : List LiteralEntry) (shorter : List (Option ℕ)) (table : IsTable literals entries shorter) (bound : ℕ) (text : List ℕ) (up : AreNotAfter entries bound text) (others : NoPrefix entries bound (length entries) text) where
+  pub last_is_longest : (k : ℕ) (w : LiteralEntry) → IsLastPrefix entries bound text k → slice_get entries k ≡ Some w → IsLongestPrefix literals text w
   last_is_longest k w last there = record { numbered = table.literals_all.numbered k w there; prefix = prefix; longest = longest }
     where
       prefix : IsPrefix w.text.now text
-      prefix = subst (λ (u : Word). IsPrefix u.text.now text) (same_there words k k last.word w last.there there refl) last.prefix
+      prefix = subst (λ (u : LiteralEntry). IsPrefix u.text.now text) (same_there entries k k last.word w last.there there refl) last.prefix
 
-      fits : (j : ℕ) (u : Word) → slice_get words j ≡ Some u → IsPrefix u.text.now text → length u.text.now ≤ length w.text.now
+      fits : (j : ℕ) (u : LiteralEntry) → slice_get entries j ≡ Some u → IsPrefix u.text.now text → length u.text.now ≤ length w.text.now
       fits j u at is =
           split k j
-          (λ more. absurd (split j bound (λ less. last.last.none j u (omega arith) less at is) (λ far. others.none j u far (slice_get_within words j u at) at is)))
+          (λ more. absurd (split j bound (λ less. last.last.none j u (omega arith) less at is) (λ far. others.none j u far (slice_get_within entries j u at) at is)))
           (λ le. front_fits u.text.now w.text.now (prefix_between u.text.now w.text.now text (table.ordered.each j k u w le at there) (up.each k w last.below there) is))
 
       longest : (n : ℕ) (x : List ℕ) → slice_get literals n ≡ Some x → IsPrefix x text → length x ≤ length w.text.now
@@ -84,25 +84,25 @@ pushed [] x i y e = inr (grind arith, grind arith)
 pushed (z ∷ xs) x zero y e = inl e
 pushed (z ∷ xs) x (suc i) y e = let more = pushed xs x i y e in grind arith
 
--- the words so far are the first literals, each with its number
-pub record AreFirst (literals : List (List ℕ)) (words : List Word) (count : ℕ) : Type 0 where
-  pub many : length words ≡ count
-  pub each : (k : ℕ) (w : Word) → slice_get words k ≡ Some w → (w.number ≡ k) × (slice_get literals k ≡ Some w.text.now)
+-- the entries so far are the first literals, each with its number
+pub record AreFirst (literals : List (List ℕ)) (entries : List LiteralEntry) (count : ℕ) : Type 0 where
+  pub many : length entries ≡ count
+  pub each : (k : ℕ) (w : LiteralEntry) → slice_get entries k ≡ Some w → (w.number ≡ k) × (slice_get literals k ≡ Some w.text.now)
 
-pub all_first : (literals : List (List ℕ)) (words : List Word) → AreFirst literals words (length literals) → AreLiterals literals words
-all_first literals words first = record {
+pub all_first : (literals : List (List ℕ)) (entries : List LiteralEntry) → AreFirst literals entries (length literals) → AreLiterals literals entries
+all_first literals entries first = record {
   numbered = λ k w e. ap (slice_get literals) (first.each k w e).0 ∙ (first.each k w e).1;
   whole = λ n x e.
       let within : n < length literals = slice_get_within literals n x e in
-      let there = some_there words n (omega (arith, first.many)) in
+      let there = some_there entries n (omega (arith, first.many)) in
       let same : Some there.0.text.now ≡ Some x = sym (first.each n there.0 there.1).1 ∙ e in
       (n, there.0, there.1, same_Some _ _ same);
 }
 
--- the same words in another order
-pub moved : (literals : List (List ℕ)) (xs ys : List Word) → IsPermutation xs ys → AreLiterals literals xs → AreLiterals literals ys
+-- the same entries in another order
+pub moved : (literals : List (List ℕ)) (xs ys : List LiteralEntry) → IsPermutation xs ys → AreLiterals literals xs → AreLiterals literals ys
 moved literals xs ys perm are = record {
-  numbered = λ k w e. subst (λ (w : Word). slice_get literals w.number ≡ Some w.text.now) (get_or_from_slice_get ys k w w e)
+  numbered = λ k w e. subst (λ (w : LiteralEntry). slice_get literals w.number ≡ Some w.text.now) (get_or_from_slice_get ys k w w e)
       (All-permutation (λ w. slice_get literals w.number ≡ Some w.text.now) xs ys perm (λ i d lt. are.numbered i (get_or xs i d) (slice_get-get_or xs i d lt)) k w (slice_get_within ys k w e));
   whole = λ n x e.
       let old = are.whole n x e in
@@ -110,43 +110,43 @@ moved literals xs ys perm are = record {
       (new.0, old.1, slice_get-get_or ys new.0 old.1 new.1 ∙ ap Some new.2, old.3);
 }
 
-pub sorted_is_ordered : (words : List Word) → IsSortedByKey (λ (w : Word). w.text) (λ x y. slice_cmp nat_cmp x.now y.now) words → AreOrdered words
-sorted_is_ordered words up = record {
+pub sorted_is_ordered : (entries : List LiteralEntry) → IsSortedByKey (λ (w : LiteralEntry). w.text) (λ x y. slice_cmp nat_cmp x.now y.now) entries → AreOrdered entries
+sorted_is_ordered entries up = record {
   each = λ i j a b le at there.
-      let far = sorted_far _ (ranks_by (on_texts (λ (x : Bor (List ℕ)). x.now)) (λ (w : Word). w.text)) words up i j a le (slice_get_within words j b there) in
-      not_less a.text.now b.text.now (rw (get_or_from_slice_get words j b a there, get_or_from_slice_get words i a a at) at far);
+      let far = sorted_far _ (ranks_by (on_texts (λ (x : Bor (List ℕ)). x.now)) (λ (w : LiteralEntry). w.text)) entries up i j a le (slice_get_within entries j b there) in
+      not_less a.text.now b.text.now (rw (get_or_from_slice_get entries j b a there, get_or_from_slice_get entries i a a at) at far);
 }
 
--- ---- the position of the text among the words
+-- ---- the position of the text among the entries
 
--- whether a word is not after the text
-abbrev pub stands_up : List ℕ → Word → Bool
+-- whether an entry is not after the text
+abbrev pub stands_up : List ℕ → LiteralEntry → Bool
 stands_up text w = is_le (slice_cmp nat_cmp w.text.now text)
 
-up_of_test : (a b : List ℕ) → is_le (slice_cmp nat_cmp a b) ≡ true → IsUpTo a b
+up_of_test : (a b : List ℕ) → is_le (slice_cmp nat_cmp a b) ≡ true → IsNotAfter a b
 up_of_test a b h = record { up = grind arith }
 
-test_of_up : (a b : List ℕ) → IsUpTo a b → is_le (slice_cmp nat_cmp a b) ≡ true
+test_of_up : (a b : List ℕ) → IsNotAfter a b → is_le (slice_cmp nat_cmp a b) ≡ true
 test_of_up a b h = let up = h.up in grind arith
 
-pub parted : (words : List Word) (text : List ℕ) → AreOrdered words → IsPartitionedBy (stands_up text) words
-parted words text ordered i j d le within passes =
-    let first = slice_get-get_or words i d (omega arith) in
-    let second = slice_get-get_or words j d within in
-    test_of_up (get_or words i d).text.now text (up_up (get_or words i d).text.now (get_or words j d).text.now text (ordered.each i j (get_or words i d) (get_or words j d) le first second) (up_of_test (get_or words j d).text.now text passes))
+pub parted : (entries : List LiteralEntry) (text : List ℕ) → AreOrdered entries → IsPartitionedBy (stands_up text) entries
+parted entries text ordered i j d le within passes =
+    let first = slice_get-get_or entries i d (omega arith) in
+    let second = slice_get-get_or entries j d within in
+    test_of_up (get_or entries i d).text.now text (up_up (get_or entries i d).text.now (get_or entries j d).text.now text (ordered.each i j (get_or entries i d) (get_or entries j d) le first second) (up_of_test (get_or entries j d).text.now text passes))
 
-pub up_to_point : (words : List Word) (text : List ℕ) (n : ℕ) → IsPartitionPoint (λ w. stands_up text w ≡ true) (λ w. stands_up text w ≡ false) words n → AreUpTo words n text
-up_to_point words text n point = record { each = λ i w less at. up_of_test w.text.now text (subst (λ (u : Word). stands_up text u ≡ true) (get_or_from_slice_get words i w w at) (point.0 i w (omega arith) less)) }
+pub up_to_point : (entries : List LiteralEntry) (text : List ℕ) (n : ℕ) → IsPartitionPoint (λ w. stands_up text w ≡ true) (λ w. stands_up text w ≡ false) entries n → AreNotAfter entries n text
+up_to_point entries text n point = record { each = λ i w less at. up_of_test w.text.now text (subst (λ (u : LiteralEntry). stands_up text u ≡ true) (get_or_from_slice_get entries i w w at) (point.0 i w (omega arith) less)) }
 
-pub none_past_point : (words : List Word) (text : List ℕ) (n : ℕ) → IsPartitionPoint (λ w. stands_up text w ≡ true) (λ w. stands_up text w ≡ false) words n → NoPrefix words n (length words) text
-none_past_point words text n point = record {
+pub none_past_point : (entries : List LiteralEntry) (text : List ℕ) (n : ℕ) → IsPartitionPoint (λ w. stands_up text w ≡ true) (λ w. stands_up text w ≡ false) entries n → NoPrefix entries n (length entries) text
+none_past_point entries text n point = record {
   none = λ i w low high at prefix.
       let fails = point.1 i w low high in
       let passes = test_of_up w.text.now text (prefix_is_up w.text.now text prefix) in
-      let same = get_or_from_slice_get words i w w at in
+      let same = get_or_from_slice_get entries i w w at in
       grind arith;
 }
 
--- a link leads to an earlier word
-pub links_below : (words : List Word) (shorter : List (Option ℕ)) (last : ℕ) (o : Option ℕ) → AreLinked words shorter → last < length words → slice_get shorter last ≡ Some o → after_last o ≤ last
-links_below words shorter last o linked within link = let word = some_there words last within in last_below words last word.0.text.now o (linked.each last word.0 o word.1 link)
+-- a link leads to an earlier entry
+pub links_below : (entries : List LiteralEntry) (shorter : List (Option ℕ)) (last : ℕ) (o : Option ℕ) → AreLinked entries shorter → last < length entries → slice_get shorter last ≡ Some o → after_last o ≤ last
+links_below entries shorter last o linked within link = let word = some_there entries last within in last_below entries last word.0.text.now o (linked.each last word.0 o word.1 link)

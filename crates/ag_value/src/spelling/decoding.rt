@@ -3,7 +3,7 @@ ghost use Rattle.std.specs.Prelude.{◌≡◌, ◌++◌, ◌≤◌, ℕ, List, [
 ghost use Rattle.std.specs.Prelude.{IfOk, IfSome, IfNone, MatchResult};
 ghost use Rattle.std.specs.Int.{w32, w64};
 ghost use Rattle.std.specs.Str.{is_utf8};
-ghost use Rattle.ag_value.specs.Reading.{Gives, all_at, code_at, fault_at, item_at, number_at};
+ghost use Rattle.ag_value.specs.Reading.{Agrees, all_at, code_at, fault_at, item_at, number_at};
 ghost use Rattle.ag_value.specs.Reading.{pair_at, text_at, value_at};
 ghost use Rattle.ag_value.specs.Spelling.{spelling_of};
 ghost use Rattle.ag_value.specs.Well.{IsWell};
@@ -14,12 +14,12 @@ use crate::items::Items;
 use crate::limits::{MAX_VALUE_DEPTH, MAX_WEIGHT};
 use crate::text::Text;
 use crate::value::{ErrorCode, Value};
-use crate::walks::wellness::is_keyed;
+use crate::walks::wellness::has_ascending_keys;
 use std::alloc::Global;
 use std::str::from_utf8;
 
-/// The length of the shortest spelling of an item, in bytes.
-const MIN_ITEM: usize = 5;
+/// The length of the shortest spelling of an item (an empty text or list), in bytes. A pair is longer.
+const MIN_ITEM_LENGTH: usize = 5;
 
 /// The greatest number of items for which room is reserved before the first of them is read.
 const MAX_RESERVED: usize = 1024;
@@ -40,7 +40,7 @@ pub fn decode(alloc: Global, input: &[u8]) -> Result<(Value, usize), ValueFault>
         (λ found. found ≡ (value, length (spelling_of value)))
         (λ e. e ≡ ValueFault.NoMemory) }
 {
-    let (value, rest) = front_of(alloc, MAX_VALUE_DEPTH as usize, input)?;
+    let (value, rest) = leading_value(alloc, MAX_VALUE_DEPTH as usize, input)?;
     // The weight of the value is the length of its spelling.
     let len = input.len() - rest.len();
     if len as u64 > MAX_WEIGHT {
@@ -49,12 +49,13 @@ pub fn decode(alloc: Global, input: &[u8]) -> Result<(Value, usize), ValueFault>
     Ok((value, len))
 }
 
-/// Reads the value of at most `levels` levels with which the bytes begin: a number or an error at
-/// once.
+/// Reads the value, of a depth of at most `levels`, at the beginning of the bytes. Returns it and the
+/// bytes after it. Fails with V1 if there is none, and with NoMemory. Reads numbers and errors
+/// without a further call.
 #[inline(always)]
 #[tactic(auto, unfolding(crate::specs::Reading::value_at, crate::specs::Reading::item_at))]
-fn front_of(alloc: Global, levels: usize, bytes: &[u8]) -> Result<(Value, &[u8]), ValueFault>
-    ensures { Gives (λ x. (x.0, x.1.now)) result (value_at levels bytes.now) }
+fn leading_value(alloc: Global, levels: usize, bytes: &[u8]) -> Result<(Value, &[u8]), ValueFault>
+    ensures { Agrees (λ x. (x.0, x.1.now)) result (value_at levels bytes.now) }
 {
     match bytes {
         [0, rest @ ..] => {
@@ -66,12 +67,13 @@ fn front_of(alloc: Global, levels: usize, bytes: &[u8]) -> Result<(Value, &[u8])
     }
 }
 
-/// Reads the value of at most `levels` levels with which the bytes begin. Fails with V1 if it is
-/// an error, or if the keys of a table do not rise.
+/// Reads the value, of a depth of at most `levels`, at the beginning of the bytes. Returns it and the
+/// bytes after it. Fails with V1 if there is none, if it is an error, or if the keys of a table do not
+/// rise, and with NoMemory.
 #[cycle(reading)]
 #[tactic(auto, unfolding(crate::specs::Reading::item_at))]
 fn item_of(alloc: Global, levels: usize, bytes: &[u8]) -> Result<(Value, &[u8]), ValueFault>
-    ensures { Gives (λ x. (x.0, x.1.now)) result (item_at levels bytes.now) }
+    ensures { Agrees (λ x. (x.0, x.1.now)) result (item_at levels bytes.now) }
 {
     match bytes {
         [] => Err(ValueFault::Malformed),
@@ -97,7 +99,7 @@ fn item_of(alloc: Global, levels: usize, bytes: &[u8]) -> Result<(Value, &[u8]),
             }
             let (count, rest) = u32_of(rest)?;
             let (pairs, rest) = pairs_of(alloc, levels - 1, count, rest)?;
-            if !is_keyed(pairs.as_slice()) {
+            if !has_ascending_keys(pairs.as_slice()) {
                 return Err(ValueFault::Malformed);
             }
             Ok((Value::Table(pairs), rest))
@@ -106,6 +108,7 @@ fn item_of(alloc: Global, levels: usize, bytes: &[u8]) -> Result<(Value, &[u8]),
     }
 }
 
+/// Reads `count` values, as `item_of` does.
 #[cycle(reading)]
 #[tactic(auto, using(crate::proofs::Turns::goes_on), unfolding(crate::specs::Reading::all_at))]
 fn items_of(
@@ -114,7 +117,7 @@ fn items_of(
     count: u32,
     bytes: &[u8],
 ) -> Result<(Items<Value>, &[u8]), ValueFault>
-    ensures { Gives (λ x. (x.0, x.1.now)) result (all_at (item_at levels) count [] bytes.now) }
+    ensures { Agrees (λ x. (x.0, x.1.now)) result (all_at (item_at levels) count [] bytes.now) }
 {
     let mut items = Vec::with_capacity(alloc, room_for(count, bytes))?;
     let mut rest = bytes;
@@ -126,6 +129,7 @@ fn items_of(
     Ok((Items::from_vec(items), rest))
 }
 
+/// Reads `count` pairs, as `pair_of` does. Does not compare their keys.
 #[cycle(reading)]
 #[tactic(auto, using(crate::proofs::Turns::goes_on), unfolding(crate::specs::Reading::all_at))]
 fn pairs_of(
@@ -134,7 +138,7 @@ fn pairs_of(
     count: u32,
     bytes: &[u8],
 ) -> Result<(Items<(Text, Value)>, &[u8]), ValueFault>
-    ensures { Gives (λ x. (x.0, x.1.now)) result
+    ensures { Agrees (λ x. (x.0, x.1.now)) result
         (all_at (pair_at (item_at levels)) count [] bytes.now) }
 {
     let mut pairs = Vec::with_capacity(alloc, room_for(count, bytes))?;
@@ -147,10 +151,11 @@ fn pairs_of(
     Ok((Items::from_vec(pairs), rest))
 }
 
+/// Reads a key, and a value as `item_of` does.
 #[cycle(reading)]
 #[tactic(auto, unfolding(crate::specs::Reading::pair_at))]
 fn pair_of(alloc: Global, levels: usize, bytes: &[u8]) -> Result<((Text, Value), &[u8]), ValueFault>
-    ensures { Gives (λ x. (x.0, x.1.now)) result (pair_at (item_at levels) bytes.now) }
+    ensures { Agrees (λ x. (x.0, x.1.now)) result (pair_at (item_at levels) bytes.now) }
 {
     let (key, rest) = text_of(alloc, bytes)?;
     let (value, rest) = item_of(alloc, levels, rest)?;
@@ -161,13 +166,14 @@ fn pair_of(alloc: Global, levels: usize, bytes: &[u8]) -> Result<((Text, Value),
 /// and at most [`MAX_RESERVED`], so that a wrong count takes little memory.
 fn room_for(count: u32, bytes: &[u8]) -> usize {
     (count as usize)
-        .min(bytes.len() / MIN_ITEM)
+        .min(bytes.len() / MIN_ITEM_LENGTH)
         .min(MAX_RESERVED)
 }
 
+/// Reads an error by its number, one byte from 1 to 8. Fails with V1.
 #[tactic(auto, unfolding(crate::specs::Reading::fault_at))]
 fn fault_of(bytes: &[u8]) -> Result<(Value, &[u8]), ValueFault>
-    ensures { Gives (λ x. (x.0, x.1.now)) result (fault_at bytes.now) }
+    ensures { Agrees (λ x. (x.0, x.1.now)) result (fault_at bytes.now) }
 {
     match bytes {
         [] => Err(ValueFault::Malformed),
@@ -178,6 +184,7 @@ fn fault_of(bytes: &[u8]) -> Result<(Value, &[u8]), ValueFault>
     }
 }
 
+/// Returns the error with this number, or `None`.
 fn code_of(number: u8) -> Option<ErrorCode>
     ensures { result ≡ code_at number }
 {
@@ -194,9 +201,10 @@ fn code_of(number: u8) -> Option<ErrorCode>
     }
 }
 
+/// Reads a length in four bytes, and that many bytes of UTF-8. Fails with V1, and with NoMemory.
 #[tactic(auto, unfolding(crate::specs::Reading::text_at))]
 fn text_of(alloc: Global, bytes: &[u8]) -> Result<(Text, &[u8]), ValueFault>
-    ensures { Gives (λ x. (x.0, x.1.now)) result (text_at bytes.now) }
+    ensures { Agrees (λ x. (x.0, x.1.now)) result (text_at bytes.now) }
 {
     let (len, rest) = u32_of(bytes)?;
     let len = len as usize;
@@ -210,6 +218,7 @@ fn text_of(alloc: Global, bytes: &[u8]) -> Result<(Text, &[u8]), ValueFault>
     Ok((Text::from_str(alloc, text)?, rest))
 }
 
+/// Returns the bytes as text, or `None` if they are not UTF-8.
 #[tactic(auto, using(crate::proofs::Utf8::utf8))]
 fn utf8_of(bytes: &[u8]) -> Option<&str>
     ensures text { IfSome result (λ text. text.now ≡ bytes.now) }
@@ -222,8 +231,10 @@ fn utf8_of(bytes: &[u8]) -> Option<&str>
     }
 }
 
+/// Reads a big-endian number of four bytes. Returns it and the bytes after it. Fails with V1 if
+/// there are fewer.
 fn u32_of(bytes: &[u8]) -> Result<(u32, &[u8]), ValueFault>
-    ensures { Gives (λ x. (x.0, x.1.now)) result (number_at w32 bytes.now) }
+    ensures { Agrees (λ x. (x.0, x.1.now)) result (number_at w32 bytes.now) }
 {
     if bytes.len() < 4 {
         return Err(ValueFault::Malformed);
@@ -233,9 +244,11 @@ fn u32_of(bytes: &[u8]) -> Result<(u32, &[u8]), ValueFault>
     Ok((number, rest))
 }
 
+/// Reads a big-endian number of eight bytes. Returns it and the bytes after it. Fails with V1 if
+/// there are fewer.
 #[inline(always)]
 fn u64_of(bytes: &[u8]) -> Result<(u64, &[u8]), ValueFault>
-    ensures { Gives (λ x. (x.0, x.1.now)) result (number_at w64 bytes.now) }
+    ensures { Agrees (λ x. (x.0, x.1.now)) result (number_at w64 bytes.now) }
 {
     if bytes.len() < 8 {
         return Err(ValueFault::Malformed);

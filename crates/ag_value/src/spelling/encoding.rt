@@ -21,13 +21,15 @@ pub fn encode(value: &Value, out: &mut Vec<u8>) -> Result<(), NoMemory>
     let start = out.len();
     match append_value(out, value) {
         Ok(()) => Ok(()),
-        Err(refusal) => {
+        Err(error) => {
             out.truncate(start);
-            Err(refusal)
+            Err(error)
         }
     }
 }
 
+/// Appends the spelling of a value. Fails with NoMemory, and then may have appended a part of it; so
+/// do the other functions of this file except `encode`.
 #[cycle(encoding)]
 #[tactic(auto, using(crate::proofs::Extending::appending))]
 fn append_value(out: &mut Vec<u8>, value: &Value) -> Result<(), NoMemory>
@@ -45,6 +47,7 @@ fn append_value(out: &mut Vec<u8>, value: &Value) -> Result<(), NoMemory>
     Ok(())
 }
 
+/// Appends the spelling of a list.
 #[cycle(encoding)]
 #[tactic(auto, using(crate::proofs::Extending::extending, crate::proofs::Weights::few))]
 fn append_list(out: &mut Vec<u8>, items: &[Value]) -> Result<(), NoMemory>
@@ -61,6 +64,7 @@ fn append_list(out: &mut Vec<u8>, items: &[Value]) -> Result<(), NoMemory>
     Ok(())
 }
 
+/// Appends the spelling of a table.
 #[cycle(encoding)]
 #[tactic(auto, using(crate::proofs::Extending::extending, crate::proofs::Weights::few))]
 fn append_table(out: &mut Vec<u8>, pairs: &[(Text, Value)]) -> Result<(), NoMemory>
@@ -78,6 +82,7 @@ fn append_table(out: &mut Vec<u8>, pairs: &[(Text, Value)]) -> Result<(), NoMemo
     Ok(())
 }
 
+/// Appends the spelling of a number.
 #[tactic(auto, using(crate::proofs::Extending::extending))]
 fn append_number(out: &mut Vec<u8>, n: i64) -> Result<(), NoMemory>
     ensures ok { OnOk result
@@ -89,6 +94,7 @@ fn append_number(out: &mut Vec<u8>, n: i64) -> Result<(), NoMemory>
     Ok(())
 }
 
+/// Appends the spelling of a text.
 #[tactic(auto, using(crate::proofs::Extending::extending))]
 fn append_tagged_text(out: &mut Vec<u8>, text: &str) -> Result<(), NoMemory>
     requires { length text.now < 2 ^ 32 }
@@ -112,6 +118,7 @@ fn append_text(out: &mut Vec<u8>, text: &str) -> Result<(), NoMemory>
     Ok(())
 }
 
+/// Appends a count in four bytes, big-endian.
 #[tactic(auto, using(crate::proofs::Extending::extending))]
 fn append_count(out: &mut Vec<u8>, count: usize) -> Result<(), NoMemory>
     requires { count < 2 ^ 32 }

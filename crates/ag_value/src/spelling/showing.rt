@@ -15,7 +15,7 @@ use std::alloc::Global;
 /// Returns the text of a value: a number in decimal; a text in double quotes, with a backslash
 /// before a double quote and a backslash, and `\n`, `\t`, `\r` for line feed, tab and carriage
 /// return; a list as `[a, b]`; a table as `{"k": v, "l": w}`; an error as `error overflow` and so
-/// on.
+/// on. Fails with NoMemory.
 pub fn show(alloc: Global, value: &Value) -> Result<String, NoMemory>
     ensures { IfOk result (λ text. string_bytes text ≡ shown_of value.now) }
 {
@@ -154,6 +154,7 @@ fn show_error(out: &mut String, code: ErrorCode) -> Result<(), NoMemory>
     Ok(())
 }
 
+/// Returns the name of an error.
 fn name(code: ErrorCode) -> &'static str
     ensures { result.now ≡ name_of code }
 {

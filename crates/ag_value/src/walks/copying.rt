@@ -1,4 +1,4 @@
-//! Copies of values, each in memory of its own.
+//! Deep copies of values.
 ghost use Rattle.std.specs.Prelude.{◌≡◌, IfOk};
 
 use crate::fault::NoMemory;
@@ -7,7 +7,7 @@ use crate::text::Text;
 use crate::value::Value;
 use std::alloc::Global;
 
-/// Copies a value into memory of its own.
+/// Copies a value with all values in it. Fails with NoMemory.
 #[cycle(copy)]
 pub fn copy(alloc: Global, value: &Value) -> Result<Value, NoMemory>
     ensures { IfOk result (λ copied. copied ≡ value.now) }

@@ -21,6 +21,7 @@ pub fn weight(value: &Value) -> u64
     }
 }
 
+/// Returns the sum of the weights of values, saturated at `u64::MAX`.
 #[cycle(weighing)]
 fn weight_of_items(items: &[Value]) -> u64
     ensures { result ≡ min (sum (map weight_of items.now)) (2 ^ 64 - 1) }
@@ -32,6 +33,8 @@ fn weight_of_items(items: &[Value]) -> u64
     total
 }
 
+/// Returns the sum of the weights of pairs, saturated at `u64::MAX`: 4, the key's bytes, and the
+/// value's weight.
 #[cycle(weighing)]
 fn weight_of_pairs(pairs: &[(Text, Value)]) -> u64
     ensures { result ≡ min (sum (map weight_of_pair pairs.now)) (2 ^ 64 - 1) }
@@ -61,6 +64,7 @@ pub fn depth(value: &Value) -> u32
     }
 }
 
+/// Returns the greatest depth of some values, 0 if there are none, saturated at `u32::MAX`.
 #[cycle(measuring_depth)]
 fn depth_of_items(items: &[Value]) -> u32
     ensures { result ≡ min (greatest (map depth_of items.now)) (2 ^ 32 - 1) }
@@ -72,6 +76,8 @@ fn depth_of_items(items: &[Value]) -> u32
     deepest
 }
 
+/// Returns the greatest depth of the values of some pairs, 0 if there are none, saturated at
+/// `u32::MAX`.
 #[cycle(measuring_depth)]
 fn depth_of_pairs(pairs: &[(Text, Value)]) -> u32
     ensures { result ≡ min (greatest (map (λ p. depth_of p.1) pairs.now)) (2 ^ 32 - 1) }

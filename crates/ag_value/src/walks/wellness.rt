@@ -1,4 +1,4 @@
-//! The test of well values: those that the product makes, stores and takes.
+//! The test of well values: those that the program makes, stores and accepts.
 ghost use Rattle.std.specs.Prelude.{◌≡◌, ◌↔◌, ◌&&◌, ◌∷◌, IsTrue, map};
 ghost use Rattle.ag_value.specs.Well.{IsWell, all_true, are_keys, is_item, is_item_pair, key_of};
 
@@ -25,7 +25,8 @@ pub fn is_well(value: &Value) -> bool
     }
 }
 
-/// Returns whether a list or table may contain a value.
+/// Returns whether a list or table may contain this value: at every level, keys rise strictly and
+/// no value is an error. Its weight and depth are not tested.
 #[cycle(items)]
 #[tactic(auto, using(crate::proofs::Layers::items, crate::proofs::Utf8::utf8))]
 fn is_item(value: &Value) -> bool
@@ -43,11 +44,12 @@ fn is_item(value: &Value) -> bool
             true
         }
         Value::List(items) => are_items(items.as_slice()),
-        Value::Table(pairs) => is_keyed(pairs.as_slice()) && are_item_pairs(pairs.as_slice()),
+        Value::Table(pairs) => has_ascending_keys(pairs.as_slice()) && are_item_pairs(pairs.as_slice()),
         Value::Fault(_) => false,
     }
 }
 
+/// Returns whether a list may contain each of these values.
 #[cycle(items)]
 fn are_items(items: &[Value]) -> bool
     ensures { result ≡ all_true (map is_item items.now) }
@@ -60,6 +62,7 @@ fn are_items(items: &[Value]) -> bool
     true
 }
 
+/// Returns whether a list or table may contain the value of each pair.
 #[cycle(items)]
 fn are_item_pairs(pairs: &[(Text, Value)]) -> bool
     ensures { result ≡ all_true (map is_item_pair pairs.now) }
@@ -72,9 +75,9 @@ fn are_item_pairs(pairs: &[(Text, Value)]) -> bool
     true
 }
 
-/// Returns whether each key comes before the next by its bytes.
+/// Returns whether each key comes before the next, compared by their bytes.
 #[tactic(auto, using(crate::proofs::Keys::keys))]
-pub fn is_keyed(pairs: &[(Text, Value)]) -> bool
+pub fn has_ascending_keys(pairs: &[(Text, Value)]) -> bool
     ensures { result ≡ are_keys (map key_of pairs.now) }
 {
     if pairs.is_empty() {

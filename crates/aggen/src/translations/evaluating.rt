@@ -3,7 +3,7 @@
 
 ghost use Rattle.std.specs.Prelude.{◌≡◌, IfErr, IfOk, IsErrOf};
 ghost use Rattle.aggen.specs.Building.{IsLeastPlan};
-ghost use Rattle.aggen.specs.Evaluating.{IsPassesFault, LeavesFilesOfTree};
+ghost use Rattle.aggen.specs.Evaluating.{IsTreeFaultBeforeText, LeavesFilesOfTree};
 ghost use Rattle.passrun.specs.Rounds.{LeavesSomeFile, other_last};
 ghost use Rattle.treefile.specs.devices.Device.{LeavesContent, WhenHonest};
 ghost use Rattle.treefile.specs.devices.Several.{ThreePersist};
@@ -27,8 +27,9 @@ fn other(last: Last) -> Last
     }
 }
 
-/// Runs all passes of the plan over the tree whose file a device has: pass 1 from there to `b`, and
-/// the others alternately from `b` to `a` and back.
+/// Runs all passes of the plan over the tree whose file is on the device `tree`: pass 1 from there
+/// to `b`, and the others alternately from `b` to `a` and back. Returns the report. Fails as
+/// `run_pass` and `run_all` do.
 pub(crate) fn run_tree<T: Device, D: Device>(
     alloc: Global,
     translator: &Translator,
@@ -41,7 +42,7 @@ pub(crate) fn run_tree<T: Device, D: Device>(
     ensures left { IfOk result (λ report. LeavesFilesOfTree translator.now plan.now.0
         (T.is_honest tree.new) (D.is_honest a.new) (D.is_honest b.new) (T.content tree.old)
         (D.content a.new) (D.content b.new) report) }
-    ensures refused { IfErr result (λ e. IsPassesFault translator.now (T.is_honest tree.new)
+    ensures refused { IfErr result (λ e. IsTreeFaultBeforeText translator.now (T.is_honest tree.new)
         (D.is_honest a.new) (D.is_honest b.new) (T.content tree.old) e) }
     ensures content { LeavesContent (T.is_honest tree.new)
         (T.content tree.old) (T.content tree.new) }

@@ -5,7 +5,7 @@ use passrun::Last;
 /// The statistics of a translation.
 #[derive(Clone, Copy, Debug, PartialEq, Eq)]
 pub struct Report {
-    /// The number of stored nodes of the tree, those with records, from 1 to `MAX_NODES`.
+    /// The number of stored nodes of the tree, which are those with records, from 1 to `MAX_NODES`.
     pub nodes: u32,
     /// The number of passes that ran: those of the plan, at least 1.
     pub passes: u16,
@@ -16,6 +16,7 @@ pub struct Report {
     pub read: u64,
     /// The number of records that the passes wrote, which is the same.
     pub written: u64,
-    /// The device that has the file of the last pass. The other one has that of the pass before it.
+    /// The device that has the file of the last pass. The other one has that of the pass before it,
+    /// except if `Translator::evaluate_tree` ran one pass: then the tree's own device has it.
     pub last: Last,
 }

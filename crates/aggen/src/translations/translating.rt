@@ -4,7 +4,7 @@
 ghost use Rattle.std.specs.Prelude.{◌≡◌, IfErr, IfOk, IsErrOf};
 ghost use Rattle.aggen.specs.Building.{IsLeastPlan};
 ghost use Rattle.aggen.specs.Sentences.{IsParseFault, IsScanFault};
-ghost use Rattle.aggen.specs.Translating.{IsFilesFault, IsRefusedSentence, LeavesFiles};
+ghost use Rattle.aggen.specs.Translating.{IsFaultBeforeText, IsRefusedSentence, LeavesFiles};
 ghost use Rattle.passrun.specs.Rounds.{LeavesSomeFile, last_content};
 ghost use Rattle.planchecker.specs.Plans.{IsPlan};
 ghost use Rattle.roottext.specs.Roots.{IsWellText, MatchesRoot};
@@ -24,7 +24,8 @@ use roottext::{OutFault, root_text};
 use std::alloc::Global;
 use treefile::Device;
 
-/// Writes the tree of a sentence to `a`, and runs all passes of the plan over it.
+/// Writes the file of pass 0 of a sentence's tree to `a`, and runs all passes of the plan over it.
+/// Returns the report. Fails as `Translator::parse_tree` and `run_all` do.
 pub(crate) fn leave_files<D: Device>(
     alloc: Global,
     translator: &Translator,
@@ -36,7 +37,7 @@ pub(crate) fn leave_files<D: Device>(
     requires least { IsLeastPlan translator.now plan.now.0 plan.now.1 }
     ensures left { IfOk result (λ report. LeavesFiles translator.now sentence.now plan.now.0
         (D.is_honest a.new) (D.is_honest b.new) (D.content a.new) (D.content b.new) report) }
-    ensures refused { IfErr result (λ e. IsFilesFault translator.now sentence.now
+    ensures refused { IfErr result (λ e. IsFaultBeforeText translator.now sentence.now
         (D.is_honest a.new) (D.is_honest b.new) e) }
     ensures untouched { IfErr result (λ e. IsScanFault e → a.new ≡ a.old) }
     ensures b_untouched { IfErr result (λ e. IsRefusedSentence e → b.new ≡ b.old) }
@@ -62,7 +63,7 @@ pub(crate) fn leave_files<D: Device>(
     })
 }
 
-/// Returns the text of the root from the file of the last pass.
+/// Returns the text of the root's `out` from the file of the last pass. Fails as `root_text` does.
 pub(crate) fn last_text<D: Device>(
     alloc: Global,
     grammar: &Grammar,

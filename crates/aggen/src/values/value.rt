@@ -5,7 +5,7 @@ ghost use Rattle.ag_expr.specs.language.Expression.{ReadsAsExpr};
 ghost use Rattle.ag_value.specs.Well.{IsWell};
 ghost use Rattle.treefile.specs.framing.Beginning.{LeavesBeginning};
 ghost use Rattle.treefile.specs.devices.Device.{Persists, WhenHonest};
-ghost use Rattle.aggen.specs.Showing.{BeginsLine, HasNone, HasValue, IsDamage, IsExplained};
+ghost use Rattle.aggen.specs.Showing.{BeginsLine, HasNoValue, HasValue, IsDamage, IsExplained};
 ghost use Rattle.aggen.specs.Showing.{IsExprFault, IsShowFault, IsTextFault, IsUnexpectedAt};
 ghost use Rattle.aggen.specs.Showing.{OccursAt, Shows};
 ghost use Rattle.aggen.specs.Showing.{ShowsBeginning, WritesLine, first_offset};
@@ -21,15 +21,15 @@ use std::alloc::Global;
 use std::io::Write;
 use treefile::Device;
 
-/// Evaluates an expression without occurrences, writes its value to the device as the one record of
-/// a tree file of pass 0, a token with number 0, reads the record again, and writes the text of the
-/// value that it read, and LF, to `out`.
+/// Evaluates an expression without attribute occurrences (`$1.a`). Writes its value to the device
+/// as the one record of a tree file of pass 0, a token with number 0. Reads the record again, and
+/// writes the text of the value that was read, and LF, to `out`.
 ///
 /// Fails before the device is used with X1 to X4 if the text is not an expression, and with X2 at
 /// its first `$` if it has occurrences. Fails with D1 Device if the device failed, and with B1 or
-/// B2 if it does not return the bytes that were written. The text is written after these; O2 Write
-/// if a write fails or takes no byte. After each fault except X the device has its old content, or
-/// a prefix of the file.
+/// B2 if it does not return the bytes that were written. Only then writes to `out`, and fails with
+/// O2 Write if a write fails or takes no byte. After each fault except X the device has its old
+/// content, or a prefix of the file.
 pub fn show_value<D: Device, W: Write>(
     alloc: Global,
     text: &str,
@@ -40,8 +40,8 @@ pub fn show_value<D: Device, W: Write>(
         (Shows text.now (W.contents out.old) (W.contents out.new) (D.content device.new))) }
 
     // X exactly if the text is not an expression without occurrences; the device is unchanged then
-    ensures refused { IfErr result (λ e. IsExprFault e → HasNone text.now) }
-    ensures only { HasNone text.now → IsErrAnd result IsTextFault }
+    ensures refused { IfErr result (λ e. IsExprFault e → HasNoValue text.now) }
+    ensures only { HasNoValue text.now → IsErrAnd result IsTextFault }
     ensures untouched { IfErr result (λ e. IsExprFault e → device.new ≡ device.old) }
 
     // X1 to X4 are true; for occurrences it is X2 at the first `$`
@@ -82,24 +82,24 @@ fn value_of(alloc: Global, text: &str) -> Result<Value, Fault>
     ensures value { IfOk result (λ value. HasValue text.now value) }
     ensures well { IfOk result (λ value. IsWell value) }
     ensures kind { IfErr result IsTextFault }
-    ensures refused { IfErr result (λ e. IsExprFault e → HasNone text.now) }
+    ensures refused { IfErr result (λ e. IsExprFault e → HasNoValue text.now) }
     ensures offsets { IfErr result (IsExplained text.now) }
     ensures occurs { (at : ℕ) → OccursAt text.now at → IsErrAnd result (IsUnexpectedAt at) }
 {
     let expr = read_closed(alloc, text)?;
-    let env = Unasked {
+    let env = NoOccurrences {
         number: Value::Num(0),
     };
     let mut meter = Meter::new();
     Ok(eval(alloc, &expr, &env, &mut meter)?)
 }
 
-/// Returns the expression of a text without occurrences. Fails with X1 to X4.
+/// Returns the expression of a text, which has no occurrences. Fails as `value_of` does.
 fn read_closed(alloc: Global, text: &str) -> Result<Expr, Fault>
     ensures reads { IfOk result (λ expr. ReadsAsExpr text.now expr) }
     ensures closed { IfOk result (λ expr. expr.1 ≡ []) }
     ensures kind { IfErr result IsTextFault }
-    ensures refused { IfErr result (λ e. IsExprFault e → HasNone text.now) }
+    ensures refused { IfErr result (λ e. IsExprFault e → HasNoValue text.now) }
     ensures offsets { IfErr result (IsExplained text.now) }
     ensures occurs { (at : ℕ) → OccursAt text.now at → IsErrAnd result (IsUnexpectedAt at) }
 {
@@ -110,7 +110,7 @@ fn read_closed(alloc: Global, text: &str) -> Result<Expr, Fault>
     }
 }
 
-/// Returns the offset in bytes of the first occurrence in an expression.
+/// Returns the offset in bytes of the first occurrence in an expression, if it has one.
 fn first_occurrence(expr: &Expr) -> Option<usize>
     ensures { result ≡ first_offset expr.now.1 }
 {
@@ -120,13 +120,13 @@ fn first_occurrence(expr: &Expr) -> Option<usize>
     }
 }
 
-/// The environment of an expression without occurrences: it lends a number, which is never used.
+/// The environment of an expression without occurrences. It lends 0 for each, which is never used.
 #[derive(Drop)]
-struct Unasked {
+struct NoOccurrences {
     number: Value,
 }
 
-impl Environment for Unasked {
+impl Environment for NoOccurrences {
     ghost count = { λ _. 1 };
 
     ghost lent = { λ env _. env.number };

@@ -56,7 +56,8 @@ pub fn read_file<D: Device>(alloc: Global, device: &mut D) -> Result<Value, Faul
     value_in(alloc, body.as_slice(), end)
 }
 
-/// Returns the value in the body of the last record of a file that ends at offset `end`.
+/// Returns the value in the body of the last record of a file that ends at offset `end`. Fails with
+/// B2 Damaged at `end` if the body is not that of a token with number 0 and exactly one value.
 fn value_in(alloc: Global, body: &[u8], end: u64) -> Result<Value, Fault>
     ensures found { IfOk result (λ value. body.now ≡ body_of Kind.Token 0 (value ∷ [])) }
     ensures well { IfOk result (λ value. IsWell value) }

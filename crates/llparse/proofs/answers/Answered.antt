@@ -6,9 +6,9 @@ use Rattle.ag_grammar.specs.grammars.Tree.{Tree}
 use Rattle.ag_scan.specs.Tokens.{Token}
 use Rattle.treefile.specs.devices.Device.{WhenHonest}
 use Rattle.treefile.specs.records.TreeFile.{header, version_two}
-use Rattle.llparse.specs.sentence.Parsing.{task_of, IsParsed, IsRefused, post}
+use Rattle.llparse.specs.sentence.Parsing.{task_of, IsParsed, IsRefused, tree_frames}
 use Rattle.treefile.specs.records.FirstFile.{IsFirstFile}
-use Rattle.ag_scan.specs.Supplied.{offset_at}
+use Rattle.ag_scan.specs.TokenReader.{offset_at}
 use Rattle.llparse.specs.sentence.Sentences.{words_of, IsTreeWith}
 use Rattle.llparse.specs.declared.sentence.parse_fault.ParseFault.{ParseFault}
 use Rattle.llparse.specs.declared.sentence.parse_fault.ParseFault.TheVariants as fault
@@ -21,7 +21,7 @@ module _ (g : Grammar) (tokens : List Token) (honest : Bool) (prefix bytes : Lis
   file_of parsed begun t has = go result parsed
     where
       go : (r : Result ℕ ParseFault) → IfOk r (λ count. IsParsed (task_of g tokens honest prefix) count bytes) → OnOk r (WhenHonest honest (IsFirstFile version_two g t bytes))
-      go (Ok count) p = λ h. first_file g t bytes has.tree (p.content h ∙ ap (λ z. z ++ post p.tree) (begun h) ∙ ap (λ z. header version_two 0 ++ post z) (sym (p.only t has)))
+      go (Ok count) p = λ h. first_file g t bytes has.tree (p.content h ∙ ap (λ z. z ++ tree_frames p.tree) (begun h) ∙ ap (λ z. header version_two 0 ++ tree_frames z) (sym (p.only t has)))
       go (Err e) p = tt
 
   -- no tree has the tokens if one can't be taken

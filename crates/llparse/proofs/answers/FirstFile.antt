@@ -9,23 +9,23 @@ use Rattle.treefile.specs.records.FirstFile.{IsFirstFile, first_bodies, first_bo
 use Rattle.treefile.specs.records.Orders.{postfix, postfix_all}
 use Rattle.treefile.specs.records.TreeFile.{frame, header, version_two}
 use Rattle.treefile.proofs.records.FirstFile.{is_first_file}
-use Rattle.llparse.specs.sentence.Parsing.{leaf_frame, node_frame, post, posts}
+use Rattle.llparse.specs.sentence.Parsing.{leaf_frame, node_frame, tree_frames, forest_frames}
 
 mutual
-  frames : (t : Tree) → flat_map frame (postfix LeftToRight (first_bodies version_two t)) ≡ post t
+  frames : (t : Tree) → flat_map frame (postfix LeftToRight (first_bodies version_two t)) ≡ tree_frames t
   frames (leaf c x) = append-nil (leaf_frame c x)
   frames (node p ts) =
       flat_map-append frame (postfix_all LeftToRight (first_bodies_all version_two ts)) _
       ∙ ap (λ z. z ++ (node_frame p (leaf_texts ts) ++ [])) (frames_all ts)
-      ∙ ap (λ z. posts ts ++ z) (append-nil (node_frame p (leaf_texts ts)))
+      ∙ ap (λ z. forest_frames ts ++ z) (append-nil (node_frame p (leaf_texts ts)))
 
-  frames_all : (ts : Forest) → flat_map frame (postfix_all LeftToRight (first_bodies_all version_two ts)) ≡ posts ts
+  frames_all : (ts : Forest) → flat_map frame (postfix_all LeftToRight (first_bodies_all version_two ts)) ≡ forest_frames ts
   frames_all none = refl
   frames_all (more t ts) =
       flat_map-append frame (postfix LeftToRight (first_bodies version_two t)) (postfix_all LeftToRight (first_bodies_all version_two ts))
       ∙ ap (λ z. z ++ flat_map frame (postfix_all LeftToRight (first_bodies_all version_two ts))) (frames t)
-      ∙ ap (λ z. post t ++ z) (frames_all ts)
+      ∙ ap (λ z. tree_frames t ++ z) (frames_all ts)
 
 -- header and frames are the file
-pub first_file : (g : Grammar) (t : Tree) (content : List ℕ) → IsTreeOf g t → content ≡ header version_two 0 ++ post t → IsFirstFile version_two g t content
+pub first_file : (g : Grammar) (t : Tree) (content : List ℕ) → IsTreeOf g t → content ≡ header version_two 0 ++ tree_frames t → IsFirstFile version_two g t content
 first_file g t content fits is = is_first_file version_two g t content fits (is ∙ ap (λ z. header version_two 0 ++ z) (sym (frames t)))

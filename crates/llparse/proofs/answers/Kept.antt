@@ -8,13 +8,13 @@ use Rattle.ag_grammar.specs.declared.grammar.Item.TheVariants as item
 use Rattle.ag_grammar.specs.declared.grammar.Item.{Item}
 use Rattle.ag_grammar.specs.declared.grammar.Production.{Production}
 use Rattle.ag_grammar.specs.declared.grammar.Terminal.TheVariants.{Literal, Class}
-use Rattle.ag_grammar.specs.grammars.Accepted.{IsAccepted, max_stored}
+use Rattle.ag_grammar.specs.grammars.Accepted.{IsAccepted, max_children}
 use Rattle.ag_grammar.specs.grammars.AttributeGrammar.{Grammar, stored_items, IsProduction}
 use Rattle.ag_grammar.specs.grammars.Tree.{Tree, leaf, node, Forest, none, more, Fits, FitsAll, IsTreeOf}
 use Rattle.ag_grammar.specs.grammars.Yield.{Lexeme}
 use Rattle.llparse.specs.sentence.Opened.{joined, Open, Continues}
 use Rattle.treefile.specs.records.FirstFile.{leaf_texts}
-use Rattle.llparse.specs.sentence.Parsing.{Task, Made, Reading, kept}
+use Rattle.llparse.specs.sentence.Parsing.{Task, Output, Reading, kept}
 use Rattle.llparse.specs.declared.sentence.parser.OpenProduction.{OpenProduction}
 use Rattle.llparse.proofs.steps.Begins.{finish}
 use Rattle.treefile.proofs.records.FirstFile.{text_well}
@@ -64,8 +64,8 @@ module _ (g : Grammar) where
       among o.done (stored_items items.0.items) c k.0 items.2
 
 module _ (k : Task) (accepted : IsAccepted k.grammar) where
-  pub own_texts : (p base : ℕ) (fs : List OpenProduction) (i n : ℕ) (made : Made) → Reading k p base [] fs i n made
-      → (base ≤ length made.texts) × (length (drop base made.texts) ≤ max_stored) × All IsWell (drop base made.texts)
+  pub own_texts : (p base : ℕ) (fs : List OpenProduction) (i n : ℕ) (made : Output) → Reading k p base [] fs i n made
+      → (base ≤ length made.texts) × (length (drop base made.texts) ≤ max_children) × All IsWell (drop base made.texts)
   own_texts p base fs i n made r =
       let s = r.occurs in
       let outer = finish k.grammar accepted r.under s.0.left s.4 (node p r.done) in
@@ -77,6 +77,6 @@ module _ (k : Task) (accepted : IsAccepted k.grammar) where
       let own : drop base made.texts ≡ leaf_texts r.done = (parted made.texts (kept r.under) (leaf_texts r.done) base r.held.texts r.begins).1 in
       let all : length made.texts ≡ length (kept r.under ++ leaf_texts r.done) = ap length r.held.texts in (
         omega (arith, r.begins, all, length-append (kept r.under) (leaf_texts r.done)),
-        subst (λ (texts : List Value). length texts ≤ max_stored) (sym own) (omega (arith, fit.0, few)),
+        subst (λ (texts : List Value). length texts ≤ max_children) (sym own) (omega (arith, fit.0, few)),
         subst (λ (texts : List Value). All IsWell texts) (sym own) fit.1,
       )

@@ -1,6 +1,6 @@
 -- The remaining words, by the tokens.
 use Rattle.std.proofs.Common.{◌≡◌, ℕ, zero, suc, ◌+◌, ◌<◌, ◌≤◌, true, false, List, [], ◌∷◌, drop, length, slice_get, Option, Some, None, is_some, option_map, refl, ap, sym, ◌∙◌, add-one, arith}
-use Rattle.ag_scan.specs.Supplied.{token_of}
+use Rattle.ag_scan.specs.TokenReader.{token_of}
 use Rattle.ag_scan.specs.Tokens.{Token}
 use Rattle.ag_scan.specs.declared.token.Token as lent
 use Rattle.ag_scan.proofs.Lefts.{following, rest_at, rest_none, ended}

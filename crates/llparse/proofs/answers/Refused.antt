@@ -8,9 +8,9 @@ use Rattle.ag_grammar.specs.grammars.AttributeGrammar.{Grammar, literal_text}
 use Rattle.ag_grammar.specs.grammars.Tree.{max_depth}
 use Rattle.ag_scan.specs.Tokens.{Token}
 use Rattle.llparse.specs.sentence.Parsing.{task_of, IsRefused}
-use Rattle.ag_scan.specs.Supplied.{offset_at}
+use Rattle.ag_scan.specs.TokenReader.{offset_at}
 use Rattle.llparse.specs.sentence.Sentences.{words_of, IsStuckAt}
-use Rattle.llparse.specs.sentence.Turns.{IsAtSymbol, Faces, IsFull, made_by}
+use Rattle.llparse.specs.sentence.Turns.{IsAtSymbol, IsAtItem, IsFull, output_of}
 use Rattle.llparse.specs.declared.sentence.parse_fault.ParseFault.{ParseFault}
 use Rattle.llparse.specs.declared.sentence.parse_fault.ParseFault.TheVariants as fault
 use Rattle.llparse.specs.declared.sentence.parser.OpenProduction.{OpenProduction}
@@ -24,18 +24,18 @@ module _ (g : Grammar) (tokens : List Token) (honest : Bool) (prefix : List ℕ)
   full_node accepted node p s bytes (fault.Unexpected at) full a = absurd full
   full_node accepted node p s bytes fault.TooDeep full a =
       let deep : max_depth ≤ length (node ∷ reverse p.waiting.items) = omega (arith, length-reverse p.waiting.items) in
-      starts.deep_node (task_of g tokens honest prefix) accepted s (node ∷ reverse p.waiting.items) p.tokens.taken p.count (made_by p bytes) deep a
-  full_node accepted node p s bytes fault.TooManyNodes full a = starts.large_node (task_of g tokens honest prefix) accepted s (node ∷ reverse p.waiting.items) p.tokens.taken p.count (made_by p bytes) full a
+      starts.deep_node (task_of g tokens honest prefix) accepted s (node ∷ reverse p.waiting.items) p.tokens.taken p.count (output_of p bytes) deep a
+  full_node accepted node p s bytes fault.TooManyNodes full a = starts.large_node (task_of g tokens honest prefix) accepted s (node ∷ reverse p.waiting.items) p.tokens.taken p.count (output_of p bytes) full a
   full_node accepted node p s bytes fault.Device full a = absurd full
   full_node accepted node p s bytes fault.NoMemory full a = absurd full
 
   -- nor a leaf
-  pub full_leaf : IsAccepted g → (node : OpenProduction) (p : Parser) (c : ℕ) (bytes : List ℕ) (e : ParseFault) → IsFull p e → Faces (task_of g tokens honest prefix) (item.Terminal (Class c)) node p bytes → IsRefused (task_of g tokens honest prefix) (offset_at tokens) e
+  pub full_leaf : IsAccepted g → (node : OpenProduction) (p : Parser) (c : ℕ) (bytes : List ℕ) (e : ParseFault) → IsFull p e → IsAtItem (task_of g tokens honest prefix) (item.Terminal (Class c)) node p bytes → IsRefused (task_of g tokens honest prefix) (offset_at tokens) e
   full_leaf accepted node p c bytes (fault.Unexpected at) full b = absurd full
   full_leaf accepted node p c bytes fault.TooDeep full b =
       let deep : max_depth ≤ length (node ∷ reverse p.waiting.items) = omega (arith, length-reverse p.waiting.items) in
-      stacks.deep_leaf (task_of g tokens honest prefix) accepted c (node ∷ reverse p.waiting.items) p.tokens.taken p.count (made_by p bytes) deep b
-  full_leaf accepted node p c bytes fault.TooManyNodes full b = stacks.large_leaf (task_of g tokens honest prefix) accepted c (node ∷ reverse p.waiting.items) p.tokens.taken p.count (made_by p bytes) full b
+      stacks.deep_leaf (task_of g tokens honest prefix) accepted c (node ∷ reverse p.waiting.items) p.tokens.taken p.count (output_of p bytes) deep b
+  full_leaf accepted node p c bytes fault.TooManyNodes full b = stacks.large_leaf (task_of g tokens honest prefix) accepted c (node ∷ reverse p.waiting.items) p.tokens.taken p.count (output_of p bytes) full b
   full_leaf accepted node p c bytes fault.Device full b = absurd full
   full_leaf accepted node p c bytes fault.NoMemory full b = absurd full
 

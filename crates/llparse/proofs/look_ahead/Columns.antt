@@ -15,7 +15,7 @@ use Rattle.llparse.specs.Ahead.{InFirst, of_production, InFirstOf, here, inside,
 use Rattle.llparse.specs.table.Columns.{AreColumns, IsColumn, IsLeastAt, IsLeastBelow, IsLesserConflict, at_ahead}
 use Rattle.llparse.specs.table.Edges.{IsKnownAhead}
 use Rattle.llparse.specs.table.Nodes.{index_of}
-use Rattle.llparse.specs.table.Predicted.{choice_at, AreFirstFrom, ArePredicted, AreConflicting, IsLeastFrom, IsMarkedOf}
+use Rattle.llparse.specs.table.Predicted.{choice_at, AreEarliestFrom, ArePredicted, AreConflicting, IsLeastFrom, IsMarkedOf}
 use Rattle.closure.specs.Waiting.{rows}
 use Rattle.llparse.specs.table.Tables.{choice_of, is_known, Choices, FitsGrammar, IsChoice, IsLeastConflict}
 use Rattle.llparse.specs.declared.ahead.Ahead.{Ahead}
@@ -34,7 +34,7 @@ module _ (g : Grammar) (x : Ahead) (marks : List Bool) (predicted : ArePredicted
   mark_of_choice : (s k : ℕ) → IsChoice g s x k → IsMarkedOf g.productions marks s k
   mark_of_choice s k h = (h.0, h.1, h.2, (predicted k h.0 h.1).1 h.3)
 
-  pub column_is : (choices : List (Option ℕ)) → AreFirstFrom g.productions marks 0 choices → IsColumn g x choices
+  pub column_is : (choices : List (Option ℕ)) → AreEarliestFrom g.productions marks 0 choices → IsColumn g x choices
   column_is choices first = record {
     chosen = λ s k e. let r = first.chosen s k e in (choice_of_mark s k r.1, λ j h. r.2 j (omega arith) (mark_of_choice s j h));
     none = λ s k e h. first.none s k e (omega arith) (mark_of_choice s k h);

@@ -3,9 +3,9 @@ use Rattle.std.proofs.Common.{ℕ, Contains, ◌+◌, ◌≡◌, ◌<◌, ◌≤
 use Rattle.std.proofs.lemmas.List.{take_more, drop_all, append-nil}
 use Rattle.std.proofs.lemmas.List.Elements.{Contains-push_cases, Contains-append_cases, Contains-append_left, Contains-append_right, Contains-push}
 use Rattle.ag_grammar.specs.declared.grammar.Item.{Item}
-use Rattle.llparse.specs.table.Edges.{prefix, Adds, IsEdge, OfSome}
+use Rattle.llparse.specs.table.Edges.{starting_items, Adds, IsEdge, OfSome}
 use Rattle.closure.specs.declared.edges.Edge.{Edge}
-use Rattle.llparse.specs.table.Nullable.{is_empty}
+use Rattle.llparse.specs.table.Nullable.{is_nullable_item}
 
 pub contains_none : {X : Type 0} (x : X) → Contains [] x → ⊥
 contains_none x h = omega (arith, h.1)
@@ -28,26 +28,26 @@ cons_cases y xs x h = elim (Contains-append_cases (y ∷ []) xs x h) [
 drop_more : (items : List Item) (at : ℕ) (d : Item) → at < length items → drop at items ≡ get_or items at d ∷ drop (at + 1) items
 drop_more items at d lt = rw add-one (drop-cons items at d lt)
 
-front_goes : (n : ℕ → Bool) (y : Item) (zs : List Item) → is_empty n y ≡ true → prefix n (y ∷ zs) ≡ y ∷ prefix n zs
+front_goes : (n : ℕ → Bool) (y : Item) (zs : List Item) → is_nullable_item n y ≡ true → starting_items n (y ∷ zs) ≡ y ∷ starting_items n zs
 front_goes n y zs h = rw h refl
 
-front_ends : (n : ℕ → Bool) (y : Item) (zs : List Item) → is_empty n y ≡ false → prefix n (y ∷ zs) ≡ y ∷ []
+front_ends : (n : ℕ → Bool) (y : Item) (zs : List Item) → is_nullable_item n y ≡ false → starting_items n (y ∷ zs) ≡ y ∷ []
 front_ends n y zs h = rw h refl
 
 -- one more item of the front is passed
-pub prefix_step : (n : ℕ → Bool) (items : List Item) (at : ℕ) (d : Item) → at < length items → is_empty n (get_or items at d) ≡ true → prefix n items ≡ take at items ++ prefix n (drop at items) → prefix n items ≡ take (at + 1) items ++ prefix n (drop (at + 1) items)
+pub prefix_step : (n : ℕ → Bool) (items : List Item) (at : ℕ) (d : Item) → at < length items → is_nullable_item n (get_or items at d) ≡ true → starting_items n items ≡ take at items ++ starting_items n (drop at items) → starting_items n items ≡ take (at + 1) items ++ starting_items n (drop (at + 1) items)
 prefix_step n items at d lt h is =
-    is ∙ ap (λ zs. take at items ++ prefix n zs) (drop_more items at d lt) ∙ ap (λ zs. take at items ++ zs) (front_goes n (get_or items at d) (drop (at + 1) items) h)
-    ∙ sym (append_assoc (take at items) (get_or items at d ∷ []) (prefix n (drop (at + 1) items))) ∙ ap (λ zs. zs ++ prefix n (drop (at + 1) items)) (sym (take_more items at d lt))
+    is ∙ ap (λ zs. take at items ++ starting_items n zs) (drop_more items at d lt) ∙ ap (λ zs. take at items ++ zs) (front_goes n (get_or items at d) (drop (at + 1) items) h)
+    ∙ sym (append_assoc (take at items) (get_or items at d ∷ []) (starting_items n (drop (at + 1) items))) ∙ ap (λ zs. zs ++ starting_items n (drop (at + 1) items)) (sym (take_more items at d lt))
 
 -- an item that is not nullable is the last of the front
-pub prefix_stop : (n : ℕ → Bool) (items : List Item) (at : ℕ) (d : Item) → at < length items → is_empty n (get_or items at d) ≡ false → prefix n items ≡ take at items ++ prefix n (drop at items) → take (at + 1) items ≡ prefix n items
+pub prefix_stop : (n : ℕ → Bool) (items : List Item) (at : ℕ) (d : Item) → at < length items → is_nullable_item n (get_or items at d) ≡ false → starting_items n items ≡ take at items ++ starting_items n (drop at items) → take (at + 1) items ≡ starting_items n items
 prefix_stop n items at d lt h is =
-    take_more items at d lt ∙ sym (is ∙ ap (λ zs. take at items ++ prefix n zs) (drop_more items at d lt) ∙ ap (λ zs. take at items ++ zs) (front_ends n (get_or items at d) (drop (at + 1) items) h))
+    take_more items at d lt ∙ sym (is ∙ ap (λ zs. take at items ++ starting_items n zs) (drop_more items at d lt) ∙ ap (λ zs. take at items ++ zs) (front_ends n (get_or items at d) (drop (at + 1) items) h))
 
 -- the front has all items
-pub front_whole : (n : ℕ → Bool) (items : List Item) (at : ℕ) → length items ≤ at → prefix n items ≡ take at items ++ prefix n (drop at items) → take (length items) items ≡ prefix n items
-front_whole n items at most is = take_all (length items) items (omega arith) ∙ sym (is ∙ ap (λ zs. take at items ++ prefix n zs) (drop_all at items most) ∙ append-nil (take at items) ∙ take_all at items most)
+pub front_whole : (n : ℕ → Bool) (items : List Item) (at : ℕ) → length items ≤ at → starting_items n items ≡ take at items ++ starting_items n (drop at items) → take (length items) items ≡ starting_items n items
+front_whole n items at most is = take_all (length items) items (omega arith) ∙ sym (is ∙ ap (λ zs. take at items ++ starting_items n zs) (drop_all at items most) ∙ append-nil (take at items) ∙ take_all at items most)
 
 pub adds_none : {X : Type 0} (P A : X → Type 0) → ((x : X) → P x → ⊥) → Adds P A A
 adds_none P A no_more = record { kept = λ x h. h; all = λ x h. absurd (no_more x h); only = λ x h. inl h }

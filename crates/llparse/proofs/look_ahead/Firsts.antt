@@ -9,15 +9,15 @@ use Rattle.ag_grammar.specs.declared.grammar.Terminal.{Terminal}
 use Rattle.ag_grammar.specs.declared.grammar.Terminal.TheVariants.{Literal, Class}
 use Rattle.ag_grammar.specs.grammars.AttributeGrammar.{Grammar}
 use Rattle.ag_grammar.specs.grammars.Accepted.{IsAccepted, IsNamedItem}
-use Rattle.closure.specs.Edges.{along, IsEdgeBelow}
+use Rattle.closure.specs.Edges.{clause_of_edge, IsEdgeBelow}
 use Rattle.closure.specs.Following.{Follows, seed}
 use Rattle.closure.specs.declared.edges.Edge.{Edge}
 use Rattle.closure.proofs.Positions.{element_at, position_of_element}
 use Rattle.closure.proofs.Reached.{reached_in, step}
 use Rattle.llparse.specs.Ahead.{IsNullable, InFirst, of_production, InFirstOf, here, inside, later}
-use Rattle.llparse.specs.table.Edges.{Adds, prefix, node_in, Begins, IsEdge, IsFirstEdge, IsKnownAhead, OfSome}
+use Rattle.llparse.specs.table.Edges.{Adds, starting_items, node_in, InFirstOfItem, IsEdge, IsFirstEdge, IsKnownAhead, OfSome}
 use Rattle.llparse.specs.table.Nodes.{node_of, index_of}
-use Rattle.llparse.specs.table.Nullable.{is_empty}
+use Rattle.llparse.specs.table.Nullable.{is_nullable_item}
 use Rattle.llparse.specs.declared.ahead.Ahead.{Ahead}
 use Rattle.llparse.specs.declared.ahead.Ahead.TheVariants as ahead
 use Rattle.llparse.proofs.look_ahead.Edges.{adds_more, contains_none, contains_here, contains_there, cons_cases}
@@ -67,45 +67,45 @@ module _ (g : Grammar) (ok : IsAccepted g) where
   first_below s a (of_production p q e l h) = rw (← l) (ok.named.left_sides p q e)
 
   module _ (n : ℕ → Bool) where
-    front_within : (xs : List Item) (y : Item) → Contains (prefix n xs) y → Contains xs y
+    front_within : (xs : List Item) (y : Item) → Contains (starting_items n xs) y → Contains xs y
     front_within [] y h = h
-    front_within (x ∷ xs) y h = elim (cons_cases x (if is_empty n x then prefix n xs else []) y h) [
+    front_within (x ∷ xs) y h = elim (cons_cases x (if is_nullable_item n x then starting_items n xs else []) y h) [
       | inl e ↦ rw e (contains_here y xs)
-      | inr more ↦ contains_there x xs y (front_within xs y (among (is_empty n x) (prefix n xs) more))
+      | inr more ↦ contains_there x xs y (front_within xs y (among (is_nullable_item n x) (starting_items n xs) more))
     ]
       where
         among : (b : Bool) (zs : List Item) → Contains (if b then zs else []) y → Contains zs y
         among true zs h = h
         among false zs h = absurd (contains_none y h)
 
-    later_at : (xs : List Item) (y : Item) (a : Terminal) (s : ℕ) (b : Bool) → (b ≡ true → IsNullable g s) → (Contains (prefix n xs) y → InFirstOf g xs a)
-        → Contains (if b then prefix n xs else []) y → InFirstOf g (item.Symbol s ∷ xs) a
+    later_at : (xs : List Item) (y : Item) (a : Terminal) (s : ℕ) (b : Bool) → (b ≡ true → IsNullable g s) → (Contains (starting_items n xs) y → InFirstOf g xs a)
+        → Contains (if b then starting_items n xs else []) y → InFirstOf g (item.Symbol s ∷ xs) a
     later_at xs y a s true sound rec h = later (sound refl) (rec h)
     later_at xs y a s false sound rec h = absurd (contains_none y h)
 
-    later_in : ((s : ℕ) → n s ≡ true → IsNullable g s) → (xs : List Item) (y : Item) (a : Terminal) (x : Item) → (Contains (prefix n xs) y → InFirstOf g xs a)
-        → Contains (if is_empty n x then prefix n xs else []) y → InFirstOf g (x ∷ xs) a
+    later_in : ((s : ℕ) → n s ≡ true → IsNullable g s) → (xs : List Item) (y : Item) (a : Terminal) (x : Item) → (Contains (starting_items n xs) y → InFirstOf g xs a)
+        → Contains (if is_nullable_item n x then starting_items n xs else []) y → InFirstOf g (x ∷ xs) a
     later_in sound xs y a (item.Symbol s) rec h = later_at xs y a s (n s) (sound s) rec h
     later_in sound xs y a (item.Terminal b) rec h = absurd (contains_none y h)
 
     -- the items begin with what an item of their front begins with
-    pub prefix_first : ((s : ℕ) → n s ≡ true → IsNullable g s) → (xs : List Item) (y : Item) (a : Terminal) → Contains (prefix n xs) y → ((zs : List Item) → InFirstOf g (y ∷ zs) a) → InFirstOf g xs a
+    pub prefix_first : ((s : ℕ) → n s ≡ true → IsNullable g s) → (xs : List Item) (y : Item) (a : Terminal) → Contains (starting_items n xs) y → ((zs : List Item) → InFirstOf g (y ∷ zs) a) → InFirstOf g xs a
     prefix_first sound [] y a h begins = absurd (contains_none y h)
-    prefix_first sound (x ∷ xs) y a h begins = elim (cons_cases x (if is_empty n x then prefix n xs else []) y h) [
+    prefix_first sound (x ∷ xs) y a h begins = elim (cons_cases x (if is_nullable_item n x then starting_items n xs else []) y h) [
       | inl e ↦ rw e (begins xs)
       | inr more ↦ later_in sound xs y a x (λ k. prefix_first sound xs y a k begins) more
     ]
 
     -- the edges of one more production are added
     pub edges_more : (at : ℕ) (q : Production) (symbols literals left : ℕ) (items : List Item) (k : ℕ) (A B C : Edge → Type 0) → at < length g.productions → symbols ≡ length g.symbols → literals ≡ length g.literals → left ≡ (get_or g.productions at q).left
-        → items ≡ (get_or g.productions at q).items → take k items ≡ prefix n items → Adds (OfSome (IsFirstEdge g n) (take at g.productions)) A B → Adds (OfSome (λ x e. IsEdge (node_of symbols literals x) left e) (take k items)) B C
+        → items ≡ (get_or g.productions at q).items → take k items ≡ starting_items n items → Adds (OfSome (IsFirstEdge g n) (take at g.productions)) A B → Adds (OfSome (λ x e. IsEdge (node_of symbols literals x) left e) (take k items)) B C
         → Adds (OfSome (IsFirstEdge g n) (take (at + 1) g.productions)) A C
     edges_more at q symbols literals left items k A B C lt ss ll to same fits old new =
         let q' = get_or g.productions at q in
         let a = subst (λ z. Adds (OfSome (λ x e. IsEdge (node_of z literals x) left e) (take k items)) B C) ss new in
         let b = subst (λ z. Adds (OfSome (λ x e. IsEdge (node_of (length g.symbols) z x) left e) (take k items)) B C) ll a in
         let c = subst (λ z. Adds (OfSome (λ x e. IsEdge (node_in g x) z e) (take k items)) B C) to b in
-        let d = subst (λ zs. Adds (OfSome (λ x e. IsEdge (node_in g x) q'.left e) zs) B C) (fits ∙ ap (prefix n) same) c in
+        let d = subst (λ zs. Adds (OfSome (λ x e. IsEdge (node_in g x) q'.left e) zs) B C) (fits ∙ ap (starting_items n) same) c in
         adds_more (IsFirstEdge g n) g.productions at q A B C lt old d
 
     -- the edges are between nodes
@@ -122,7 +122,7 @@ module _ (g : Grammar) (ok : IsAccepted g) where
       root = length g.symbols + index_of (length g.literals) x
 
       abbrev Reached : ℕ → Type 0
-      Reached t = Follows (map along edges) (root ∷ []) t
+      Reached t = Follows (map clause_of_edge edges) (root ∷ []) t
 
       abbrev May : ℕ → Type 0
       May t = (a : Terminal) × (x ≡ ahead.Terminal a) × InFirst g t a
@@ -155,7 +155,7 @@ module _ (g : Grammar) (ok : IsAccepted g) where
     -- an item that begins with a terminal is reached
     module _ (edges : List Edge) (a : Terminal) where
       abbrev FromTerminal : ℕ → Type 0
-      FromTerminal t = Follows (map along edges) ((length g.symbols + index_of (length g.literals) (ahead.Terminal a)) ∷ []) t
+      FromTerminal t = Follows (map clause_of_edge edges) ((length g.symbols + index_of (length g.literals) (ahead.Terminal a)) ∷ []) t
 
       mutual
         first_reached : ((s : ℕ) → IsNullable g s → n s ≡ true) → ((e : Edge) → OfSome (IsFirstEdge g n) g.productions e → Contains edges e) → (s : ℕ) (b : Terminal) → b ≡ a → InFirst g s b → FromTerminal s
@@ -163,24 +163,24 @@ module _ (g : Grammar) (ok : IsAccepted g) where
             let r = prefix_reached whole all_edges q.items b is h in
             step edges _ (record { from = node_in g r.0; to = s }) (all_edges (record { from = node_in g r.0; to = s }) (q, element_at g.productions p q e, (r.0, r.1, record { tail = refl; head = sym l }))) r.2
 
-        prefix_reached : ((s : ℕ) → IsNullable g s → n s ≡ true) → ((e : Edge) → OfSome (IsFirstEdge g n) g.productions e → Contains edges e) → (xs : List Item) (b : Terminal) → b ≡ a → InFirstOf g xs b → (y : Item) × Contains (prefix n xs) y × FromTerminal (node_in g y)
+        prefix_reached : ((s : ℕ) → IsNullable g s → n s ≡ true) → ((e : Edge) → OfSome (IsFirstEdge g n) g.productions e → Contains edges e) → (xs : List Item) (b : Terminal) → b ≡ a → InFirstOf g xs b → (y : Item) × Contains (starting_items n xs) y × FromTerminal (node_in g y)
         prefix_reached whole all_edges (item.Terminal c ∷ xs) b is here = (item.Terminal a, subst (λ z. Contains (item.Terminal c ∷ []) (item.Terminal z)) is (contains_here (item.Terminal c) []), seed (contains_here (node_in g (item.Terminal a)) []))
-        prefix_reached whole all_edges (item.Symbol s ∷ xs) b is (inside h) = (item.Symbol s, contains_here (item.Symbol s) (if n s then prefix n xs else []), first_reached whole all_edges s b is h)
+        prefix_reached whole all_edges (item.Symbol s ∷ xs) b is (inside h) = (item.Symbol s, contains_here (item.Symbol s) (if n s then starting_items n xs else []), first_reached whole all_edges s b is h)
         prefix_reached whole all_edges (item.Symbol s ∷ xs) b is (later k h) =
             let r = prefix_reached whole all_edges xs b is h in
-            (r.0, contains_there (item.Symbol s) (if n s then prefix n xs else []) r.0 (rw (whole s k) r.1), r.2)
+            (r.0, contains_there (item.Symbol s) (if n s then starting_items n xs else []) r.0 (rw (whole s k) r.1), r.2)
 
     module _ (edges : List Edge) (known_empty : (s : ℕ) → n s ≡ true ↔ IsNullable g s) (exact : (e : Edge) → Contains edges e ↔ OfSome (IsFirstEdge g n) g.productions e) where
-      begins_of : (x : Ahead) (known : IsKnownAhead g x) (y : Item) → IsNamedItem g y → (node_in g y ≡ root edges x known) ⊎ May edges x known (node_in g y) → Begins g y x
+      begins_of : (x : Ahead) (known : IsKnownAhead g x) (y : Item) → IsNamedItem g y → (node_in g y ≡ root edges x known) ⊎ May edges x known (node_in g y) → InFirstOfItem g y x
       begins_of x known (item.Symbol s) h (inl e) = absurd (omega arith)
       begins_of x known (item.Symbol s) h (inr may) = rw may.1 may.2
       begins_of x known (item.Terminal b) h (inl e) = let f = root_item edges x known (item.Terminal b) h e in rw f.2 (ap ahead.Terminal (let same : b ≡ f.0 = (let e = f.1 in cc) in same))
       begins_of x known (item.Terminal b) h (inr may) = let lt = first_below (node_in g (item.Terminal b)) may.0 may.2 in absurd (omega arith)
 
-      reached_of : (x : Ahead) (known : IsKnownAhead g x) (y : Item) → Begins g y x → Reached edges x known (node_in g y)
+      reached_of : (x : Ahead) (known : IsKnownAhead g x) (y : Item) → InFirstOfItem g y x → Reached edges x known (node_in g y)
       reached_of (ahead.Terminal a) known (item.Symbol s) h = first_reached edges a (λ t. (known_empty t).1) (λ e. (exact e).1) s a refl h
       reached_of ahead.End known (item.Symbol s) h = absurd h
       reached_of x known (item.Terminal b) h = rw (← h) (seed (contains_here (node_in g (item.Terminal b)) []))
 
-      pub first_iff : (x : Ahead) (known : IsKnownAhead g x) (y : Item) → IsNamedItem g y → Reached edges x known (node_in g y) ↔ Begins g y x
+      pub first_iff : (x : Ahead) (known : IsKnownAhead g x) (y : Item) → IsNamedItem g y → Reached edges x known (node_in g y) ↔ InFirstOfItem g y x
       first_iff x known y h = (λ r. begins_of x known y h (reached_may edges x known (λ t. (known_empty t).0) (λ e. (exact e).0) (node_in g y) r), reached_of x known y)

@@ -11,7 +11,7 @@ use Rattle.ag_grammar.specs.grammars.Tree.{IsTokenText, Tree, leaf, node, Forest
 use Rattle.ag_grammar.specs.grammars.Yield.{Lexeme, yield_along, yield_of}
 use Rattle.ag_grammar.proofs.grammars.Productive.{by_trees}
 use Rattle.llparse.specs.sentence.Opened.{joined, Open, open_at, Continues, IsCutAt, IsNext, IsStack}
-use Rattle.llparse.specs.sentence.Parsing.{Task, Made, After, Reading, AtSymbol}
+use Rattle.llparse.specs.sentence.Parsing.{Task, Output, IsTreeAfter, Reading, AtSymbol}
 use Rattle.llparse.specs.declared.sentence.parser.OpenProduction.{OpenProduction}
 use Rattle.llparse.proofs.steps.Steps as step
 
@@ -70,14 +70,14 @@ module _ (g : Grammar) (accepted : IsAccepted g) where
   some_tree (o ∷ os) s (q, before, get, items, is) = symbol_tree o.production q get before o.rest s items
 
 module _ (k : Task) (accepted : IsAccepted k.grammar) where
-  pub begins_reading : (p base : ℕ) (ys : List Item) (fs : List OpenProduction) (i n : ℕ) (rs : Made) → Reading k p base ys fs i n rs → (rest : List Lexeme) × (t : Tree) × After k i rest t
+  pub begins_reading : (p base : ℕ) (ys : List Item) (fs : List OpenProduction) (i n : ℕ) (rs : Output) → Reading k p base ys fs i n rs → (rest : List Lexeme) × (t : Tree) × IsTreeAfter k i rest t
   begins_reading p base ys fs i n rs r =
       let s = r.occurs in
       let own = columns_of k.grammar accepted p s.0 s.2 s.1 ys s.3 in
       let outer = finish k.grammar accepted r.under s.0.left s.4 (node p (joined r.done own.0)) in
       (yield_along k.grammar ys own.0 ++ outer.0, outer.1, r.sound (yield_along k.grammar ys own.0 ++ outer.0) outer.1 (own.0, outer.0, own.1, refl, outer.2))
 
-  pub begins_symbol : (s : ℕ) (fs : List OpenProduction) (i n : ℕ) (rs : Made) (a : AtSymbol k s fs i n rs) → (rest : List Lexeme) × (t : Tree) × After k i rest t × IsCutAt k.grammar a.under rest t
+  pub begins_symbol : (s : ℕ) (fs : List OpenProduction) (i n : ℕ) (rs : Output) (a : AtSymbol k s fs i n rs) → (rest : List Lexeme) × (t : Tree) × IsTreeAfter k i rest t × IsCutAt k.grammar a.under rest t
   begins_symbol s fs i n rs a =
       let c = some_tree k.grammar accepted a.under s a.occurs in
       let outer = finish k.grammar accepted a.under s a.occurs c.0 in
@@ -89,8 +89,8 @@ module _ (k : Task) (accepted : IsAccepted k.grammar) where
       )
 
   -- the next item is a leaf
-  pub begins_leaf : (p base c : ℕ) (ys : List Item) (fs : List OpenProduction) (i n : ℕ) (rs : Made) (r : Reading k p base (item.Terminal (Class c) ∷ ys) fs i n rs)
-      → (rest : List Lexeme) × (t : Tree) × After k i rest t × IsCutAt k.grammar (open_at p r.done ys ∷ r.under) rest t
+  pub begins_leaf : (p base c : ℕ) (ys : List Item) (fs : List OpenProduction) (i n : ℕ) (rs : Output) (r : Reading k p base (item.Terminal (Class c) ∷ ys) fs i n rs)
+      → (rest : List Lexeme) × (t : Tree) × IsTreeAfter k i rest t × IsCutAt k.grammar (open_at p r.done ys ∷ r.under) rest t
   begins_leaf p base c ys fs i n rs r =
       let s = r.occurs in
       let own = columns_of k.grammar accepted p s.0 s.2 (s.1 ++ item.Terminal (Class c) ∷ []) ys (s.3 ∙ sym (append_assoc s.1 (item.Terminal (Class c) ∷ []) ys)) in

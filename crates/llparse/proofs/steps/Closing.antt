@@ -10,7 +10,7 @@ use Rattle.treefile.specs.devices.Device.{WhenHonest}
 use Rattle.llparse.specs.Ahead.{ahead_of}
 use Rattle.llparse.specs.sentence.Opened.{joined, Open, open_at, Completes, FitsStack}
 use Rattle.treefile.specs.records.FirstFile.{leaf_texts}
-use Rattle.llparse.specs.sentence.Parsing.{Task, Made, After, Shows, kept, written, Held, Reading, Between, Whole, IsParsed, node_frame, post, posts}
+use Rattle.llparse.specs.sentence.Parsing.{Task, Output, IsTreeAfter, Shows, kept, written, Agrees, Reading, Between, Finished, IsParsed, node_frame, tree_frames, forest_frames}
 use Rattle.llparse.specs.sentence.Sentences.{IsTreeWith, IsStuckAt}
 use Rattle.llparse.specs.declared.ahead.Ahead.TheVariants as ahead
 use Rattle.llparse.specs.declared.sentence.parser.OpenProduction.{OpenProduction}
@@ -34,13 +34,13 @@ module _ (k : Task) where
   g = k.grammar
 
   -- the node around it continues
-  pub on_close : (p base : ℕ) (f : OpenProduction) (fs : List OpenProduction) (i n : ℕ) (rs out : Made) → WhenHonest k.honest (out.bytes ≡ rs.bytes ++ node_frame p (drop base rs.texts)) → out.texts ≡ take base rs.texts
+  pub on_close : (p base : ℕ) (f : OpenProduction) (fs : List OpenProduction) (i n : ℕ) (rs out : Output) → WhenHonest k.honest (out.bytes ≡ rs.bytes ++ node_frame p (drop base rs.texts)) → out.texts ≡ take base rs.texts
       → Reading k p base [] (f ∷ fs) i n rs → Between k (f ∷ fs) i n out
   on_close p base f fs i n rs out put cut r = go r.under r.shows r.begins r.held r.occurs r.sound r.complete
     where
-      go : (os : List Open) → Shows g os (f ∷ fs) → base ≡ length (kept os) → Held k (open_at p r.done [] ∷ os) i n rs → FitsStack k.grammar (open_at p r.done []) os
-          → ((rest : List Lexeme) (t : Tree) → Completes k.grammar (open_at p r.done []) os rest t → After k i rest t)
-          → ((rest : List Lexeme) (t : Tree) → ahead_of rest ≡ ahead_of (drop i k.words) → After k i rest t → Completes k.grammar (open_at p r.done []) os rest t)
+      go : (os : List Open) → Shows g os (f ∷ fs) → base ≡ length (kept os) → Agrees k (open_at p r.done [] ∷ os) i n rs → FitsStack k.grammar (open_at p r.done []) os
+          → ((rest : List Lexeme) (t : Tree) → Completes k.grammar (open_at p r.done []) os rest t → IsTreeAfter k i rest t)
+          → ((rest : List Lexeme) (t : Tree) → ahead_of rest ≡ ahead_of (drop i k.words) → IsTreeAfter k i rest t → Completes k.grammar (open_at p r.done []) os rest t)
           → Between k (f ∷ fs) i n out
       go [] shows begins held occurs sound complete = absurd shows
       go (o ∷ os) shows begins held occurs sound complete =
@@ -53,10 +53,10 @@ module _ (k : Task) where
           let outer = held.shallow.1.0 in
           let parts = parted rs.texts (kept (o ∷ os)) (leaf_texts r.done) base held.texts begins in
           let own : List ℕ = node_frame p (leaf_texts r.done) in
-          let content : WhenHonest k.honest (out.bytes ≡ k.prefix ++ (written os ++ posts d)) = λ h.
-          put h ∙ ap (λ (z : List Value). rs.bytes ++ node_frame p z) parts.1 ∙ ap (λ z. z ++ own) (held.content h) ∙ append_assoc k.prefix ((written os ++ posts o.done) ++ posts r.done) own
-          ∙ ap (λ z. k.prefix ++ z) (append_assoc (written os ++ posts o.done) (posts r.done) own ∙ append_assoc (written os) (posts o.done) (post (node p r.done))
-          ∙ ap (λ z. written os ++ (posts o.done ++ z)) (sym (append-nil (post (node p r.done)))) ∙ ap (λ z. written os ++ z) (sym (size.posts-joined o.done (more (node p r.done) none)))) in
+          let content : WhenHonest k.honest (out.bytes ≡ k.prefix ++ (written os ++ forest_frames d)) = λ h.
+          put h ∙ ap (λ (z : List Value). rs.bytes ++ node_frame p z) parts.1 ∙ ap (λ z. z ++ own) (held.content h) ∙ append_assoc k.prefix ((written os ++ forest_frames o.done) ++ forest_frames r.done) own
+          ∙ ap (λ z. k.prefix ++ z) (append_assoc (written os ++ forest_frames o.done) (forest_frames r.done) own ∙ append_assoc (written os) (forest_frames o.done) (tree_frames (node p r.done))
+          ∙ ap (λ z. written os ++ (forest_frames o.done ++ z)) (sym (append-nil (tree_frames (node p r.done)))) ∙ ap (λ z. written os ++ z) (sym (size.forest_frames-joined o.done (more (node p r.done) none)))) in
           let texts : out.texts ≡ kept os ++ leaf_texts d = cut ∙ parts.0 ∙ ap (λ z. kept os ++ z) (sym (texts-joined o.done (more (node p r.done) none) ∙ append-nil (leaf_texts o.done))) in
           let whole : Reading k o.production f.base o.rest fs i n out = record {
             done = d;
@@ -71,13 +71,13 @@ module _ (k : Task) where
           subst (λ x. Reading k f.production f.base x fs i n out) shows.1 (subst (λ x. Reading k x f.base o.rest fs i n out) shows.0 whole)
 
   -- the last node was closed
-  pub on_root : (p base i n : ℕ) (rs out : Made) → WhenHonest k.honest (out.bytes ≡ rs.bytes ++ node_frame p (drop base rs.texts)) → Reading k p base [] [] i n rs → Whole k i n out.bytes
+  pub on_root : (p base i n : ℕ) (rs out : Output) → WhenHonest k.honest (out.bytes ≡ rs.bytes ++ node_frame p (drop base rs.texts)) → Reading k p base [] [] i n rs → Finished k i n out.bytes
   on_root p base i n rs out put r = go r.under r.shows r.begins r.held r.sound r.complete
     where
-      go : (os : List Open) → Shows g os [] → base ≡ length (kept os) → Held k (open_at p r.done [] ∷ os) i n rs
-          → ((rest : List Lexeme) (t : Tree) → Completes k.grammar (open_at p r.done []) os rest t → After k i rest t)
-          → ((rest : List Lexeme) (t : Tree) → ahead_of rest ≡ ahead_of (drop i k.words) → After k i rest t → Completes k.grammar (open_at p r.done []) os rest t)
-          → Whole k i n out.bytes
+      go : (os : List Open) → Shows g os [] → base ≡ length (kept os) → Agrees k (open_at p r.done [] ∷ os) i n rs
+          → ((rest : List Lexeme) (t : Tree) → Completes k.grammar (open_at p r.done []) os rest t → IsTreeAfter k i rest t)
+          → ((rest : List Lexeme) (t : Tree) → ahead_of rest ≡ ahead_of (drop i k.words) → IsTreeAfter k i rest t → Completes k.grammar (open_at p r.done []) os rest t)
+          → Finished k i n out.bytes
       go [] shows begins held sound complete =
           let counted = held.counted in
           let shallow = held.shallow.0 in
@@ -85,7 +85,7 @@ module _ (k : Task) where
           record {
             tree = node p r.done;
             within = held.within;
-            content = λ h. put h ∙ ap (λ (z : List Value). rs.bytes ++ node_frame p z) own ∙ ap (λ z. z ++ node_frame p (leaf_texts r.done)) (held.content h) ∙ append_assoc k.prefix (posts r.done) (node_frame p (leaf_texts r.done));
+            content = λ h. put h ∙ ap (λ (z : List Value). rs.bytes ++ node_frame p z) own ∙ ap (λ z. z ++ node_frame p (leaf_texts r.done)) (held.content h) ∙ append_assoc k.prefix (forest_frames r.done) (node_frame p (leaf_texts r.done));
             counted = omega arith;
             few = held.few;
             shallow = omega arith;
@@ -95,7 +95,7 @@ module _ (k : Task) where
       go (o ∷ os) shows begins held sound complete = absurd shows
 
   -- all words are taken
-  pub on_end : (i n : ℕ) (rs : List ℕ) → length k.words ≤ i → Whole k i n rs → IsParsed k n rs
+  pub on_end : (i n : ℕ) (rs : List ℕ) → length k.words ≤ i → Finished k i n rs → IsParsed k n rs
   on_end i n rs all w =
       let within = w.within in
       let every : take i k.words ≡ k.words = take_all i k.words (omega arith) in
@@ -113,7 +113,7 @@ module _ (k : Task) where
       }
 
   -- words are left
-  pub no_end : (i n : ℕ) (rs : List ℕ) → i < length k.words → Whole k i n rs → IsStuckAt k.grammar k.words i
+  pub no_end : (i n : ℕ) (rs : List ℕ) → i < length k.words → Finished k i n rs → IsStuckAt k.grammar k.words i
   no_end i n rs short w = record {
     within = w.within;
     begins = ([], w.tree, w.sound);

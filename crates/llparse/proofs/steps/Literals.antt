@@ -7,7 +7,7 @@ use Rattle.ag_grammar.specs.grammars.Accepted.{IsAccepted}
 use Rattle.ag_grammar.specs.grammars.AttributeGrammar.{Grammar, literal_text}
 use Rattle.ag_grammar.specs.grammars.Yield.{Lexeme}
 use Rattle.llparse.specs.Ahead.{ahead_of}
-use Rattle.llparse.specs.sentence.Parsing.{Task, Made, Reading}
+use Rattle.llparse.specs.sentence.Parsing.{Task, Output, Reading}
 use Rattle.llparse.specs.sentence.Sentences.{IsTreeWith, IsStuckAt}
 use Rattle.llparse.specs.declared.ahead.Ahead.TheVariants as ahead
 use Rattle.llparse.specs.declared.sentence.parser.OpenProduction.{OpenProduction}
@@ -20,7 +20,7 @@ module _ (k : Task) where
   abbrev g : Grammar
   g = k.grammar
 
-  pub on_literal : (p base l : ℕ) (ys : List Item) (fs : List OpenProduction) (i n : ℕ) (rs : Made) (rest : List Lexeme) → drop i k.words ≡ (Literal l, literal_text k.grammar l) ∷ rest
+  pub on_literal : (p base l : ℕ) (ys : List Item) (fs : List OpenProduction) (i n : ℕ) (rs : Output) (rest : List Lexeme) → drop i k.words ≡ (Literal l, literal_text k.grammar l) ∷ rest
       → Reading k p base (item.Terminal (Literal l) ∷ ys) fs i n rs → Reading k p base ys fs (i + 1) n rs
   on_literal p base l ys fs i n rs rest next r =
       let after = following k.words i (Literal l, literal_text k.grammar l) rest next in
@@ -39,7 +39,7 @@ module _ (k : Task) where
             (subst (λ ws. IsTreeWith k.grammar ws t) (one_more k.words i (Literal l, literal_text k.grammar l) rest others next) w));
       }
 
-  pub no_literal : IsAccepted k.grammar → (p base l : ℕ) (ys : List Item) (fs : List OpenProduction) (i n : ℕ) (rs : Made) → (ahead_of (drop i k.words) ≡ ahead.Terminal (Literal l) → ⊥)
+  pub no_literal : IsAccepted k.grammar → (p base l : ℕ) (ys : List Item) (fs : List OpenProduction) (i n : ℕ) (rs : Output) → (ahead_of (drop i k.words) ≡ ahead.Terminal (Literal l) → ⊥)
       → Reading k p base (item.Terminal (Literal l) ∷ ys) fs i n rs → IsStuckAt k.grammar k.words i
   no_literal accepted p base l ys fs i n rs other r = record {
     within = r.held.within;

@@ -4,7 +4,7 @@ use Rattle.ag_grammar.specs.grammars.AttributeGrammar.{Grammar}
 use Rattle.ag_grammar.specs.grammars.Tree.{Tree, leaf, node, Forest, none, more, depth_of, deepest, node_count, node_counts}
 use Rattle.ag_grammar.specs.grammars.Yield.{Lexeme}
 use Rattle.llparse.specs.sentence.Opened.{joined, Open, opened, Continues, Completes}
-use Rattle.llparse.specs.sentence.Parsing.{post, posts}
+use Rattle.llparse.specs.sentence.Parsing.{tree_frames, forest_frames}
 
 pub node_counts-joined : (a b : Forest) → node_counts (joined a b) ≡ node_counts a + node_counts b
 node_counts-joined none b = omega arith
@@ -14,9 +14,9 @@ pub deepest-joined : (a b : Forest) → deepest (joined a b) ≡ max (deepest a)
 deepest-joined none b = omega arith
 deepest-joined (more t a) b = let e = deepest-joined a b in omega arith
 
-pub posts-joined : (a b : Forest) → posts (joined a b) ≡ posts a ++ posts b
-posts-joined none b = refl
-posts-joined (more t a) b = ap (λ x. post t ++ x) (posts-joined a b) ∙ sym (append_assoc (post t) (posts a) (posts b))
+pub forest_frames-joined : (a b : Forest) → forest_frames (joined a b) ≡ forest_frames a ++ forest_frames b
+forest_frames-joined none b = refl
+forest_frames-joined (more t a) b = ap (λ x. tree_frames t ++ x) (forest_frames-joined a b) ∙ sym (append_assoc (tree_frames t) (forest_frames a) (forest_frames b))
 
 pub depth_some : (t : Tree) → 1 ≤ depth_of t
 depth_some (leaf c x) = omega arith

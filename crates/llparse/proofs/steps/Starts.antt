@@ -10,7 +10,7 @@ use Rattle.ag_grammar.specs.grammars.Yield as yields
 use Rattle.ag_grammar.specs.grammars.Yield.{Lexeme}
 use Rattle.llparse.specs.Ahead.{ahead_of}
 use Rattle.llparse.specs.sentence.Opened.{Continues, IsStack, Open, open_at, opened}
-use Rattle.llparse.specs.sentence.Parsing.{Task, Made, kept, written, Reading, AtSymbol, IsTooDeep, IsTooLarge, right_side}
+use Rattle.llparse.specs.sentence.Parsing.{Task, Output, kept, written, Reading, AtSymbol, IsTooDeep, IsTooLarge, right_side}
 use Rattle.llparse.specs.sentence.Sentences.{IsStuckAt, LeavesOnly}
 use Rattle.llparse.specs.table.Tables.{Choices, FitsGrammar, choice_of}
 use Rattle.llparse.specs.declared.sentence.parser.OpenProduction.{OpenProduction}
@@ -23,7 +23,7 @@ module _ (k : Task) where
   abbrev g : Grammar
   g = k.grammar
 
-  pub begin : (rs : Made) → rs.bytes ≡ k.prefix → rs.texts ≡ [] → AtSymbol k k.grammar.start [] 0 0 rs
+  pub begin : (rs : Output) → rs.bytes ≡ k.prefix → rs.texts ≡ [] → AtSymbol k k.grammar.start [] 0 0 rs
   begin rs same bare = record {
     under = [];
     shows = tt;
@@ -33,7 +33,7 @@ module _ (k : Task) where
     complete = λ rest t e p. (step.begin k.grammar rest t).0 p;
   }
 
-  pub on_symbol : (f : OpenProduction) (s : ℕ) (ys : List Item) (fs : List OpenProduction) (i n : ℕ) (rs : Made) → ys ≡ drop f.passed (right_side g f.production)
+  pub on_symbol : (f : OpenProduction) (s : ℕ) (ys : List Item) (fs : List OpenProduction) (i n : ℕ) (rs : Output) → ys ≡ drop f.passed (right_side g f.production)
       → Reading k f.production f.base (item.Symbol s ∷ ys) fs i n rs → AtSymbol k s (f ∷ fs) i n rs
   on_symbol f s ys fs i n rs left r = record {
     under = open_at f.production r.done ys ∷ r.under;
@@ -45,7 +45,7 @@ module _ (k : Task) where
   }
 
   module _ (tables : Choices) (fits : FitsGrammar k.grammar tables) where
-    pub on_open : (s p base : ℕ) (fs : List OpenProduction) (i n : ℕ) (rs : Made) → choice_of tables s (ahead_of (drop i k.words)) ≡ Some p → base ≡ length rs.texts → n < k.nodes → length fs < k.depth
+    pub on_open : (s p base : ℕ) (fs : List OpenProduction) (i n : ℕ) (rs : Output) → choice_of tables s (ahead_of (drop i k.words)) ≡ Some p → base ≡ length rs.texts → n < k.nodes → length fs < k.depth
         → AtSymbol k s fs i n rs → Reading k p base (right_side g p) fs i (n + 1) rs
     on_open s p base fs i n rs chosen at more_nodes more_levels a =
         let c = (fits s (ahead_of (drop i k.words)) p).0 chosen in
@@ -65,7 +65,7 @@ module _ (k : Task) where
         } in
         subst (λ x. Reading k p base x fs i (n + 1) rs) items r
 
-    pub no_rule : IsAccepted k.grammar → (s : ℕ) (fs : List OpenProduction) (i n : ℕ) (rs : Made) → choice_of tables s (ahead_of (drop i k.words)) ≡ None → AtSymbol k s fs i n rs → IsStuckAt k.grammar k.words i
+    pub no_rule : IsAccepted k.grammar → (s : ℕ) (fs : List OpenProduction) (i n : ℕ) (rs : Output) → choice_of tables s (ahead_of (drop i k.words)) ≡ None → AtSymbol k s fs i n rs → IsStuckAt k.grammar k.words i
     no_rule accepted s fs i n rs unnamed a = record {
       within = a.held.within;
       ends = λ rest t e p. step.no_rule k.grammar tables fits a.under s rest t a.occurs (ap (choice_of tables s) e ∙ unnamed) (a.complete rest t e p);
@@ -74,7 +74,7 @@ module _ (k : Task) where
 
   -- if a node is to be opened and a limit is reached, each tree that has the node below the open nodes is
   -- beyond it
-  beyond_node : (size : Tree → ℕ) (begun : List Open → ℕ) (limit : ℕ) → IsAccepted k.grammar → (s : ℕ) (fs : List OpenProduction) (i n : ℕ) (rs : Made)
+  beyond_node : (size : Tree → ℕ) (begun : List Open → ℕ) (limit : ℕ) → IsAccepted k.grammar → (s : ℕ) (fs : List OpenProduction) (i n : ℕ) (rs : Output)
       → (a : AtSymbol k s fs i n rs) → limit ≤ begun a.under → ((c : Tree) (ws : List Lexeme) (t : Tree) → Continues k.grammar a.under c ws t → limit < size t)
       → LeavesOnly k.grammar k.words size begun limit
   beyond_node size begun limit accepted s fs i n rs a full passed =
@@ -92,7 +92,7 @@ module _ (k : Task) where
       }
 
   -- a node that is opened counts, and is below the others
-  pub deep_node : IsAccepted k.grammar → (s : ℕ) (fs : List OpenProduction) (i n : ℕ) (rs : Made) → k.depth ≤ length fs → AtSymbol k s fs i n rs → IsTooDeep k
+  pub deep_node : IsAccepted k.grammar → (s : ℕ) (fs : List OpenProduction) (i n : ℕ) (rs : Output) → k.depth ≤ length fs → AtSymbol k s fs i n rs → IsTooDeep k
   deep_node accepted s fs i n rs full a =
       let same = length-shows g a.under fs a.shows in
       beyond_node depth_of (λ above. length above) k.depth accepted s fs i n rs a (omega arith) (λ c ws t h.
@@ -100,7 +100,7 @@ module _ (k : Task) where
       let one : 1 ≤ depth_of c = size.depth_some c in
       omega arith)
 
-  pub large_node : IsAccepted k.grammar → (s : ℕ) (fs : List OpenProduction) (i n : ℕ) (rs : Made) → k.nodes ≤ n → AtSymbol k s fs i n rs → IsTooLarge k
+  pub large_node : IsAccepted k.grammar → (s : ℕ) (fs : List OpenProduction) (i n : ℕ) (rs : Output) → k.nodes ≤ n → AtSymbol k s fs i n rs → IsTooLarge k
   large_node accepted s fs i n rs full a =
       let counted = a.held.counted in
       beyond_node node_count opened k.nodes accepted s fs i n rs a (omega arith) (λ c ws t h.

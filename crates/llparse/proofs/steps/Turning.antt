@@ -5,17 +5,17 @@ use Rattle.std.proofs.lemmas.Option.{slice_get_within}
 use Rattle.ag_value.specs.declared.value.Value.{Value}
 use Rattle.ag_value.specs.Well.{IsWell}
 use Rattle.ag_grammar.specs.declared.grammar.Item.{Item}
-use Rattle.ag_grammar.specs.grammars.Accepted.{IsAccepted, max_stored}
+use Rattle.ag_grammar.specs.grammars.Accepted.{IsAccepted, max_children}
 use Rattle.ag_grammar.specs.grammars.AttributeGrammar.{Grammar}
 use Rattle.ag_grammar.specs.grammars.Tree.{max_nodes}
 use Rattle.ag_grammar.specs.grammars.Yield.{Lexeme}
 use Rattle.ag_scan.specs.Tokens.{Token}
 use Rattle.treefile.specs.devices.Device.{Persists, WhenHonest}
 use Rattle.llparse.specs.Ahead.{ahead_of}
-use Rattle.llparse.specs.sentence.Parsing.{Task, task_of, Made, AtSymbol, Between, Whole, IsParsed, node_frame, right_side}
+use Rattle.llparse.specs.sentence.Parsing.{Task, task_of, Output, AtSymbol, Between, Finished, IsParsed, node_frame, right_side}
 use Rattle.llparse.specs.sentence.Sentences.{IsStuckAt, words_of}
 use Rattle.llparse.specs.table.Tables.{Choices, FitsGrammar, choice_of}
-use Rattle.llparse.specs.sentence.Turns.{advanced, left_of, made_by, Advances, Faces, IsBetween}
+use Rattle.llparse.specs.sentence.Turns.{advanced, left_of, output_of, Advances, IsAtItem, IsBetween}
 use Rattle.llparse.specs.declared.sentence.parser.OpenProduction.{OpenProduction}
 use Rattle.llparse.specs.declared.sentence.parser.Parser.{Parser}
 use Rattle.llparse.proofs.steps.Closing.{no_end, on_end}
@@ -25,7 +25,7 @@ use Rattle.llparse.proofs.steps.Starts.{begin, no_rule, on_open}
 
 -- at the beginning the root is open, or no production of its symbol is predicted
 module _ (k : Task) (tables : Choices) (fits : FitsGrammar k.grammar tables) (s : ℕ) (start : s ≡ k.grammar.start) where
-  abbrev nothing_made : Made
+  abbrev nothing_made : Output
   nothing_made = record { bytes = k.prefix; texts = [] }
 
   at_start : AtSymbol k s [] 0 0 nothing_made
@@ -51,32 +51,32 @@ pub within : (k : Task) (node : OpenProduction) (p : Parser) (bytes : List ℕ) 
 within k node p bytes occurs = slice_get_within k.grammar.productions node.production occurs.occurs.0 occurs.occurs.2
 
 -- the innermost open node has a next item, and moves past it
-module _ (k : Task) (node now : OpenProduction) (x : Item) (passed : Advances (right_side k.grammar node.production) node (Some x) now) where
-  pub faced : (y : Item) → x ≡ y → (p : Parser) (bytes : List ℕ) → IsBetween k node p bytes → Faces k y now p bytes
-  faced y is p bytes occurs = rw (sym is, passed.1) (faces k node x (reverse p.waiting.items) p.tokens.taken p.count (made_by p bytes) passed.0 occurs)
+module _ (k : Task) (node new : OpenProduction) (x : Item) (passed : Advances (right_side k.grammar node.production) node (Some x) new) where
+  pub faced : (y : Item) → x ≡ y → (p : Parser) (bytes : List ℕ) → IsBetween k node p bytes → IsAtItem k y new p bytes
+  faced y is p bytes occurs = rw (sym is, passed.1) (faces k node x (reverse p.waiting.items) p.tokens.taken p.count (output_of p bytes) passed.0 occurs)
 
   -- fewer steps are left
-  pub smaller : (p r : Parser) → r.waiting.items ≡ p.waiting.items → p.count ≤ r.count → left_of k.grammar now r < left_of k.grammar node p
+  pub smaller : (p r : Parser) → r.waiting.items ≡ p.waiting.items → p.count ≤ r.count → left_of k.grammar new r < left_of k.grammar node p
   smaller p r same le =
       let fewer = fewer_passed k.grammar max_nodes node x (reverse p.waiting.items) p.count passed.0 in
       let counted = fewer_counted k.grammar max_nodes (advanced node ∷ reverse p.waiting.items) p.count r.count le in
       rw (passed.1, same) (omega arith)
 
 -- it is at its end: its texts are few and well,
-module _ (k : Task) (node now : OpenProduction) (p : Parser) (bytes : List ℕ) (over : Advances (right_side k.grammar node.production) node None now) (occurs : IsBetween k node p bytes) where
-  pub own_few : IsAccepted k.grammar → (now.base ≤ length p.texts.items) × (length (drop now.base p.texts.items) ≤ max_stored) × All IsWell (drop now.base p.texts.items)
+module _ (k : Task) (node new : OpenProduction) (p : Parser) (bytes : List ℕ) (over : Advances (right_side k.grammar node.production) node None new) (occurs : IsBetween k node p bytes) where
+  pub own_few : IsAccepted k.grammar → (new.base ≤ length p.texts.items) × (length (drop new.base p.texts.items) ≤ max_children) × All IsWell (drop new.base p.texts.items)
   own_few accepted =
-      let few = own_texts k accepted node.production node.base (reverse p.waiting.items) p.tokens.taken p.count (made_by p bytes) (ends k node (reverse p.waiting.items) p.tokens.taken p.count (made_by p bytes) over.0 occurs) in
-      subst (λ (f : OpenProduction). (f.base ≤ length p.texts.items) × (length (drop f.base p.texts.items) ≤ max_stored) × All IsWell (drop f.base p.texts.items)) (sym over.1) few
+      let few = own_texts k accepted node.production node.base (reverse p.waiting.items) p.tokens.taken p.count (output_of p bytes) (ends k node (reverse p.waiting.items) p.tokens.taken p.count (output_of p bytes) over.0 occurs) in
+      subst (λ (f : OpenProduction). (f.base ≤ length p.texts.items) × (length (drop f.base p.texts.items) ≤ max_children) × All IsWell (drop f.base p.texts.items)) (sym over.1) few
 
   -- and it is closed
-  pub ended : (out : List ℕ) (own texts : List Value) → own ≡ drop now.base p.texts.items → texts ≡ take now.base p.texts.items → WhenHonest k.honest (out ≡ bytes ++ node_frame now.production own)
+  pub ended : (out : List ℕ) (own texts : List Value) → own ≡ drop new.base p.texts.items → texts ≡ take new.base p.texts.items → WhenHonest k.honest (out ≡ bytes ++ node_frame new.production own)
       → Between k (reverse p.waiting.items) p.tokens.taken p.count (record { bytes = out; texts = texts })
   ended out own texts following cut put =
-      let with_own = subst (λ (z : List Value). WhenHonest k.honest (out ≡ bytes ++ node_frame now.production z)) following put in
+      let with_own = subst (λ (z : List Value). WhenHonest k.honest (out ≡ bytes ++ node_frame new.production z)) following put in
       let frame = subst (λ (f : OpenProduction). WhenHonest k.honest (out ≡ bytes ++ node_frame f.production (drop f.base p.texts.items))) over.1 with_own in
       let rest = subst (λ (f : OpenProduction). texts ≡ take f.base p.texts.items) over.1 cut in
-      closed k node.production node.base (reverse p.waiting.items) p.tokens.taken p.count (made_by p bytes) (record { bytes = out; texts = texts }) frame rest (ends k node (reverse p.waiting.items) p.tokens.taken p.count (made_by p bytes) over.0 occurs)
+      closed k node.production node.base (reverse p.waiting.items) p.tokens.taken p.count (output_of p bytes) (record { bytes = out; texts = texts }) frame rest (ends k node (reverse p.waiting.items) p.tokens.taken p.count (output_of p bytes) over.0 occurs)
 
 -- the end of a parse
 module _ (g : Grammar) (tokens : List Token) (honest : Bool) (prefix : List ℕ) (p : Parser) (bytes : List ℕ) (texts : List Value) (none_waits : length p.waiting.items ≡ 0) (occurs : Between (task_of g tokens honest prefix) (reverse p.waiting.items) p.tokens.taken p.count (record { bytes = bytes; texts = texts })) where
@@ -87,7 +87,7 @@ module _ (g : Grammar) (tokens : List Token) (honest : Bool) (prefix : List ℕ)
   as_many : length (words_of tokens) ≡ length tokens
   as_many = length-map tokens (λ (t : Token). let w : Lexeme = (t.kind, t.lex) in w)
 
-  done : Whole (task_of g tokens honest prefix) p.tokens.taken p.count bytes
+  done : Finished (task_of g tokens honest prefix) p.tokens.taken p.count bytes
   done = subst (λ fs. Between (task_of g tokens honest prefix) fs p.tokens.taken p.count (record { bytes = bytes; texts = texts })) (nothing p.waiting.items none_waits) occurs
 
   pub all_taken : length tokens ≤ p.tokens.taken → IsParsed (task_of g tokens honest prefix) p.count bytes

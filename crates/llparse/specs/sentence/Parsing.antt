@@ -20,7 +20,7 @@ use Rattle.llparse.specs.declared.sentence.parse_fault.ParseFault.{ParseFault}
 use Rattle.llparse.specs.declared.sentence.parse_fault.ParseFault.TheVariants as fault
 use Rattle.llparse.specs.declared.sentence.parser.OpenProduction.{OpenProduction}
 
--- the input of a parse, its limits, whether the device is honest, and its old content
+-- the input of a parse, its limits, whether the device is honest, and the device's content before the parse
 pub record Task : Type 0 where
   pub grammar : Grammar
   pub words : List Lexeme
@@ -47,17 +47,17 @@ node_frame p texts = frame (body_of Node p texts)
 
 -- the frames of a tree from left to right, each node after its children
 abbrev mutual
-  pub post : Tree → List ℕ
-  post (leaf c x) = leaf_frame c x
-  post (node p ts) = posts ts ++ node_frame p (leaf_texts ts)
+  pub tree_frames : Tree → List ℕ
+  tree_frames (leaf c x) = leaf_frame c x
+  tree_frames (node p ts) = forest_frames ts ++ node_frame p (leaf_texts ts)
 
-  pub posts : Forest → List ℕ
-  posts none = []
-  posts (more t ts) = post t ++ posts ts
+  pub forest_frames : Forest → List ℕ
+  forest_frames none = []
+  forest_frames (more t ts) = tree_frames t ++ forest_frames ts
 
 -- the trees whose words are those before an index, and then others
-abbrev pub After : Task → ℕ → List Lexeme → Tree → Type 0
-After k i rest = IsTreeWith k.grammar (take i k.words ++ rest)
+abbrev pub IsTreeAfter : Task → ℕ → List Lexeme → Tree → Type 0
+IsTreeAfter k i rest = IsTreeWith k.grammar (take i k.words ++ rest)
 
 -- the texts of the leaves among the trees that are done, those of the outermost node first
 abbrev pub kept : List Open → List Value
@@ -74,10 +74,10 @@ Shows g (o ∷ os) (f ∷ fs) = (o.production ≡ f.production) × (o.rest ≡ d
 -- the records of the trees that are done, those of the outermost node first
 abbrev pub written : List Open → List ℕ
 written [] = []
-written (o ∷ os) = written os ++ posts o.done
+written (o ∷ os) = written os ++ forest_frames o.done
 
 -- the output of a parser: the bytes that the device has, and the texts that it keeps
-pub record Made : Type 0 where
+pub record Output : Type 0 where
   pub bytes : List ℕ
   pub texts : List Value
 
@@ -86,8 +86,8 @@ abbrev pub IsShallow : ℕ → List Open → Type 0
 IsShallow depth [] = Unit {0}
 IsShallow depth (o ∷ os) = (deepest o.done + suc (length os) ≤ depth) × IsShallow depth os
 
--- the counters, the records and the texts agree with the open nodes
-pub record Held (k : Task) (os : List Open) (at count : ℕ) (made : Made) : Type 0 where
+-- the position `at` in the words, the count of nodes, the records and the texts agree with the open nodes
+pub record Agrees (k : Task) (os : List Open) (at count : ℕ) (made : Output) : Type 0 where
   pub within : at ≤ length k.words
   pub content : WhenHonest k.honest (made.bytes ≡ k.prefix ++ written os)
   pub texts : made.texts ≡ kept os
@@ -98,53 +98,53 @@ pub record Held (k : Task) (os : List Open) (at count : ℕ) (made : Made) : Typ
 -- A node of production p is open at ys, within the nodes of the stack fs, and its texts begin at `base`; the
 -- trees that complete it have the words read so far and then their remaining words, and these are all such
 -- trees with the given look-ahead.
-pub record Reading (k : Task) (p base : ℕ) (ys : List Item) (fs : List OpenProduction) (at count : ℕ) (made : Made) : Type 0 where
+pub record Reading (k : Task) (p base : ℕ) (ys : List Item) (fs : List OpenProduction) (at count : ℕ) (made : Output) : Type 0 where
   pub done : Forest
   pub under : List Open
   pub shows : Shows k.grammar under fs
   pub begins : base ≡ length (kept under)
-  pub held : Held k (open_at p done ys ∷ under) at count made
+  pub held : Agrees k (open_at p done ys ∷ under) at count made
   pub occurs : FitsStack k.grammar (open_at p done ys) under
-  pub sound : (rest : List Lexeme) (t : Tree) → Completes k.grammar (open_at p done ys) under rest t → After k at rest t
-  pub complete : (rest : List Lexeme) (t : Tree) → ahead_of rest ≡ ahead_of (drop at k.words) → After k at rest t → Completes k.grammar (open_at p done ys) under rest t
+  pub sound : (rest : List Lexeme) (t : Tree) → Completes k.grammar (open_at p done ys) under rest t → IsTreeAfter k at rest t
+  pub complete : (rest : List Lexeme) (t : Tree) → ahead_of rest ≡ ahead_of (drop at k.words) → IsTreeAfter k at rest t → Completes k.grammar (open_at p done ys) under rest t
 
 -- A tree of symbol s comes next, within the nodes of the stack fs.
-pub record AtSymbol (k : Task) (s : ℕ) (fs : List OpenProduction) (at count : ℕ) (made : Made) : Type 0 where
+pub record AtSymbol (k : Task) (s : ℕ) (fs : List OpenProduction) (at count : ℕ) (made : Output) : Type 0 where
   pub under : List Open
   pub shows : Shows k.grammar under fs
-  pub held : Held k under at count made
+  pub held : Agrees k under at count made
   pub occurs : IsStack k.grammar under s
-  pub sound : (rest : List Lexeme) (t : Tree) → ContinuesWith k.grammar under s rest t → After k at rest t
-  pub complete : (rest : List Lexeme) (t : Tree) → ahead_of rest ≡ ahead_of (drop at k.words) → After k at rest t → ContinuesWith k.grammar under s rest t
+  pub sound : (rest : List Lexeme) (t : Tree) → ContinuesWith k.grammar under s rest t → IsTreeAfter k at rest t
+  pub complete : (rest : List Lexeme) (t : Tree) → ahead_of rest ≡ ahead_of (drop at k.words) → IsTreeAfter k at rest t → ContinuesWith k.grammar under s rest t
 
 -- A tree is done, and nothing is open; it is the one tree of the words read so far, and no tree has more words.
-pub record Whole (k : Task) (at count : ℕ) (bytes : List ℕ) : Type 0 where
+pub record Finished (k : Task) (at count : ℕ) (bytes : List ℕ) : Type 0 where
   pub tree : Tree
   pub within : at ≤ length k.words
-  pub content : WhenHonest k.honest (bytes ≡ k.prefix ++ post tree)
+  pub content : WhenHonest k.honest (bytes ≡ k.prefix ++ tree_frames tree)
   pub counted : count ≡ node_count tree
   pub few : count ≤ k.nodes
   pub shallow : depth_of tree ≤ k.depth
-  pub sound : After k at [] tree
-  pub complete : (rest : List Lexeme) (t : Tree) → ahead_of rest ≡ ahead_of (drop at k.words) → After k at rest t → (rest ≡ []) × (t ≡ tree)
+  pub sound : IsTreeAfter k at [] tree
+  pub complete : (rest : List Lexeme) (t : Tree) → ahead_of rest ≡ ahead_of (drop at k.words) → IsTreeAfter k at rest t → (rest ≡ []) × (t ≡ tree)
 
 -- A parser is between two steps: the first node of its stack is open where the stack says, or the tree is
 -- done.
-abbrev pub Between : Task → List OpenProduction → ℕ → ℕ → Made → Type 0
-Between k [] at count made = Whole k at count made.bytes
+abbrev pub Between : Task → List OpenProduction → ℕ → ℕ → Output → Type 0
+Between k [] at count made = Finished k at count made.bytes
 Between k (f ∷ fs) at count made = Reading k f.production f.base (drop f.passed (right_side k.grammar f.production)) fs at count made
 
 -- The first node of the stack has just passed an item.
-abbrev pub Before : Task → Item → List OpenProduction → ℕ → ℕ → Made → Type 0
-Before k x [] at count made = ⊥
-Before k x (f ∷ fs) at count made = Reading k f.production f.base (x ∷ drop f.passed (right_side k.grammar f.production)) fs at count made
+abbrev pub AtItem : Task → Item → List OpenProduction → ℕ → ℕ → Output → Type 0
+AtItem k x [] at count made = ⊥
+AtItem k x (f ∷ fs) at count made = Reading k f.production f.base (x ∷ drop f.passed (right_side k.grammar f.production)) fs at count made
 
 -- the tree of a task's words, within its limits, whose records are written
 pub record IsParsed (k : Task) (count : ℕ) (bytes : List ℕ) : Type 0 where
   pub tree : Tree
   pub has_words : IsTreeWith k.grammar k.words tree
   pub only : (t : Tree) → IsTreeWith k.grammar k.words t → t ≡ tree
-  pub content : WhenHonest k.honest (bytes ≡ k.prefix ++ post tree)
+  pub content : WhenHonest k.honest (bytes ≡ k.prefix ++ tree_frames tree)
   pub counted : count ≡ node_count tree
   pub few : node_count tree ≤ k.nodes
   pub shallow : depth_of tree ≤ k.depth
@@ -164,16 +164,16 @@ IsRefused k offset fault.TooManyNodes = IsTooLarge k
 IsRefused k offset fault.Device = Unit {0}
 IsRefused k offset fault.NoMemory = Unit {0}
 
--- at least the length of each right side
-abbrev pub most : List Production → ℕ
-most [] = 0
-most (q ∷ qs) = length q.items + most qs
+-- the sum of the lengths of the right sides, which is at least each of them
+abbrev pub total_length : List Production → ℕ
+total_length [] = 0
+total_length (q ∷ qs) = length q.items + total_length qs
 
--- the greatest number of steps of the open nodes before the next one is opened
-abbrev pub weight : Grammar → List OpenProduction → ℕ
-weight g [] = 0
-weight g (f ∷ fs) = suc (length (drop f.passed (right_side g f.production))) + weight g fs
+-- the greatest number of steps before a node is opened: one for each item that is left, and one for each end
+abbrev pub own_steps : Grammar → List OpenProduction → ℕ
+own_steps g [] = 0
+own_steps g (f ∷ fs) = suc (length (drop f.passed (right_side g f.production))) + own_steps g fs
 
--- the greatest number of steps left
+-- a bound of the number of steps that are left
 abbrev pub steps_left : Grammar → ℕ → List OpenProduction → ℕ → ℕ
-steps_left g nodes fs count = (most g.productions + 2) * (nodes - count) + weight g fs
+steps_left g nodes fs count = (total_length g.productions + 2) * (nodes - count) + own_steps g fs

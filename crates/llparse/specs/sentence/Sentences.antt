@@ -3,7 +3,7 @@ use Rattle.std.specs.Prelude.{ℕ, ◌≡◌, ◌<◌, ◌≤◌, ◌++◌, List
 use Rattle.ag_grammar.specs.grammars.AttributeGrammar.{Grammar}
 use Rattle.ag_grammar.specs.grammars.Tree.{Tree, IsTreeOf, depth_of, node_count}
 use Rattle.ag_grammar.specs.grammars.Yield.{Lexeme, yield_of}
-use Rattle.ag_scan.specs.Supplied.{offset_at}
+use Rattle.ag_scan.specs.TokenReader.{offset_at}
 use Rattle.ag_scan.specs.Tokens.{Token}
 use Rattle.llparse.specs.Ahead.{ahead_of}
 use Rattle.llparse.specs.sentence.Opened.{Open, opened, IsCutAt}

@@ -8,9 +8,9 @@ use Rattle.ag_grammar.specs.grammars.AttributeGrammar.{Grammar}
 use Rattle.ag_grammar.specs.grammars.Accepted.{IsNamedItem, class_count}
 use Rattle.llparse.specs.Ahead.{InFirst}
 use Rattle.llparse.specs.table.Nodes.{node_of}
-use Rattle.llparse.specs.table.Nullable.{is_empty}
+use Rattle.llparse.specs.table.Nullable.{is_nullable_item}
 use Rattle.closure.specs.Clauses.{Clauses}
-use Rattle.closure.specs.Edges.{over}
+use Rattle.closure.specs.Edges.{clauses_of_edges}
 use Rattle.closure.specs.Following.{is_marked}
 use Rattle.closure.specs.declared.edges.Edge.{Edge}
 use Rattle.llparse.specs.declared.ahead.Ahead.{Ahead}
@@ -22,7 +22,7 @@ pub record Adds {X : Type 0} (P A B : X → Type 0) : Type 0 where
   pub all : (x : X) → P x → B x
   pub only : (x : X) → B x → A x ⊎ P x
 
--- it is in the relation with some element
+-- y is in the relation with some element of the list
 abbrev pub OfSome : {X Y : Type 0} → (X → Y → Type 0) → List X → Y → Type 0
 OfSome {X} R xs y = (x : X) × Contains xs x × R x y
 
@@ -35,14 +35,14 @@ pub record IsEdge (from to : ℕ) (e : Edge) : Type 0 where
 abbrev pub node_in : Grammar → Item → ℕ
 node_in g x = node_of (length g.symbols) (length g.literals) x
 
--- the items up to the first that is not a symbol of the set, including that one
-abbrev pub prefix : (ℕ → Bool) → List Item → List Item
-prefix n [] = []
-prefix n (x ∷ xs) = x ∷ (if is_empty n x then prefix n xs else [])
+-- the starting items for a set of nullable symbols: those up to the first that is not nullable, with that one
+abbrev pub starting_items : (ℕ → Bool) → List Item → List Item
+starting_items n [] = []
+starting_items n (x ∷ xs) = x ∷ (if is_nullable_item n x then starting_items n xs else [])
 
--- an edge goes from an item of the front of a right side to the left side
+-- an edge goes from a starting item of a right side to the left side
 abbrev pub IsFirstEdge : Grammar → (ℕ → Bool) → Production → Edge → Type 0
-IsFirstEdge g n q e = OfSome (λ x e. IsEdge (node_in g x) q.left e) (prefix n q.items) e
+IsFirstEdge g n q e = OfSome (λ x e. IsEdge (node_in g x) q.left e) (starting_items n q.items) e
 
 -- the number of nodes of a grammar: its symbols, its literals, the classes and the end
 abbrev pub node_count : Grammar → ℕ
@@ -54,7 +54,7 @@ AddsEdges P before after = Adds P (Contains before) (Contains after)
 
 -- clauses are those of such edges, over the nodes of a grammar
 abbrev pub IsOver : Grammar → (List Edge → Type 0) → Clauses → Type 0
-IsOver g P clauses = (edges : List Edge) × (clauses ≡ over edges (node_count g)) × P edges
+IsOver g P clauses = (edges : List Edge) × (clauses ≡ clauses_of_edges edges (node_count g)) × P edges
 
 -- a list has exactly the edges for FIRST
 abbrev pub AreFirstEdges : Grammar → List Bool → List Edge → Type 0
@@ -66,12 +66,12 @@ IsKnownAhead g (ahead.Terminal (Literal l)) = l < length g.literals
 IsKnownAhead g (ahead.Terminal (Class c)) = c < class_count
 IsKnownAhead g ahead.End = Unit {0}
 
--- an item begins with a look-ahead: it is that terminal, or a symbol with it in FIRST
-abbrev pub Begins : Grammar → Item → Ahead → Type 0
-Begins g (item.Symbol s) (ahead.Terminal a) = InFirst g s a
-Begins g (item.Symbol s) ahead.End = ⊥
-Begins g (item.Terminal b) x = ahead.Terminal b ≡ x
+-- a look-ahead is in FIRST of an item: the item is that terminal, or a symbol with it in FIRST
+abbrev pub InFirstOfItem : Grammar → Item → Ahead → Type 0
+InFirstOfItem g (item.Symbol s) (ahead.Terminal a) = InFirst g s a
+InFirstOfItem g (item.Symbol s) ahead.End = ⊥
+InFirstOfItem g (item.Terminal b) x = ahead.Terminal b ≡ x
 
--- the marks are those of the items that may begin with a look-ahead
-abbrev pub AreFirst : Grammar → Ahead → List Bool → Type 0
-AreFirst g x marks = (y : Item) → IsNamedItem g y → is_marked marks (node_in g y) ≡ true ↔ Begins g y x
+-- the marks are those of the items with a look-ahead in FIRST
+abbrev pub AreFirstMarks : Grammar → Ahead → List Bool → Type 0
+AreFirstMarks g x marks = (y : Item) → IsNamedItem g y → is_marked marks (node_in g y) ≡ true ↔ InFirstOfItem g y x

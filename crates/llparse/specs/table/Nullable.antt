@@ -9,10 +9,10 @@ use Rattle.closure.specs.declared.clause.Clause.{Clause}
 use Rattle.llparse.specs.Ahead.{IsNullable}
 use Rattle.llparse.specs.table.Nodes.{node_of}
 
--- an item is a symbol of the set
-abbrev pub is_empty : (ℕ → Bool) → Item → Bool
-is_empty n (item.Symbol s) = n s
-is_empty n (item.Terminal a) = false
+-- whether an item is nullable, for a set of nullable symbols: it is a symbol of the set
+abbrev pub is_nullable_item : (ℕ → Bool) → Item → Bool
+is_nullable_item n (item.Symbol s) = n s
+is_nullable_item n (item.Terminal a) = false
 
 -- a left side is nullable if each item of the right side is
 abbrev pub clause_of : ℕ → ℕ → Production → Clause

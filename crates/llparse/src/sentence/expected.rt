@@ -16,9 +16,9 @@ use ag_scan::{Sentence, Token};
 use ag_value::NoMemory;
 use std::alloc::Global;
 
-/// Takes the next token as one of `terminal`, without writing a record or keeping a text. Fails
+/// Takes the next token, which has to be `terminal`, but writes no record and keeps no text. Fails
 /// with P1 if the token is another one, and with P2 or P3 if a limit is reached.
-fn pass(parser: &mut Parser<'_>, terminal: Terminal) -> Result<(), ParseFault>
+fn take_unwritten(parser: &mut Parser<'_>, terminal: Terminal) -> Result<(), ParseFault>
     ensures waiting { OnOk result (parser.new.waiting.items ≡ parser.old.waiting.items) }
     ensures count { OnOk result (parser.old.count ≤ parser.new.count) }
 {
@@ -45,7 +45,7 @@ fn next_if_any(grammar: &Grammar, node: &mut OpenProduction) -> Option<Item>
 /// Continues with the innermost open node and those that wait for it, until `until` tokens are
 /// taken or no node is open, and writes nothing. Returns the node that is then the innermost one,
 /// if any. After a fault the parser is at the token that it can't take.
-fn go_on(
+fn continue_until(
     parser: &mut Parser<'_>,
     innermost: OpenProduction,
     grammar: &Grammar,
@@ -56,7 +56,7 @@ fn go_on(
     loop {
         match next_if_any(grammar, &mut node) {
             Some(Item::Terminal(terminal)) => {
-                pass(parser, terminal)?;
+                take_unwritten(parser, terminal)?;
                 if until <= parser.tokens.taken() {
                     return Ok(Some(node));
                 }
@@ -74,19 +74,19 @@ fn go_on(
 
 /// Opens the start symbol and continues until `until` tokens are taken. Returns the innermost open
 /// node, if any.
-fn begin(
+fn start_until(
     parser: &mut Parser<'_>,
     grammar: &Grammar,
     tables: &Tables,
     until: usize,
 ) -> Result<Option<OpenProduction>, ParseFault> {
     let root = new_node(tables, &parser.tokens, grammar.start(), 0)?;
-    go_on(parser, root, grammar, tables, until)
+    continue_until(parser, root, grammar, tables, until)
 }
 
 /// Returns whether a terminal is the look-ahead, and the parser has room for its leaf, if it has
 /// one.
-fn takes(parser: &Parser<'_>, terminal: Terminal, ahead: Ahead) -> bool {
+fn can_take(parser: &Parser<'_>, terminal: Terminal, ahead: Ahead) -> bool {
     if ahead != Ahead::Terminal(terminal) {
         return false;
     }
@@ -97,7 +97,7 @@ fn takes(parser: &Parser<'_>, terminal: Terminal, ahead: Ahead) -> bool {
 }
 
 /// Returns whether a parser with this innermost open node can accept the look-ahead next.
-fn leads_to(
+fn can_accept(
     parser: &mut Parser<'_>,
     innermost: OpenProduction,
     grammar: &Grammar,
@@ -107,7 +107,7 @@ fn leads_to(
     let mut node = innermost;
     loop {
         match next_if_any(grammar, &mut node) {
-            Some(Item::Terminal(terminal)) => return Ok(takes(parser, terminal, ahead)),
+            Some(Item::Terminal(terminal)) => return Ok(can_take(parser, terminal, ahead)),
             Some(Item::Symbol(symbol)) => {
                 let Some(inner) = node_at(tables, symbol, ahead, 0) else {
                     return Ok(false);
@@ -131,7 +131,7 @@ fn leads_to(
 
 /// Returns whether a look-ahead can follow the tokens that a parser has taken, with its innermost
 /// open node, if any.
-fn could_follow(
+fn can_follow(
     alloc: Global,
     grammar: &Grammar,
     tables: &Tables,
@@ -149,13 +149,13 @@ fn could_follow(
         None => return Ok(ahead == Ahead::End),
     };
     match node {
-        Some(node) => leads_to(&mut trial, node, grammar, tables, ahead),
+        Some(node) => can_accept(&mut trial, node, grammar, tables, ahead),
         None => Ok(false),
     }
 }
 
 /// Returns all look-aheads that can follow the tokens that a parser has taken, in their order.
-fn all_that_could(
+fn expected_after(
     alloc: Global,
     grammar: &Grammar,
     tables: &Tables,
@@ -170,7 +170,7 @@ fn all_that_could(
     let sizes = Sizes::of(grammar);
     for index in 0..sizes.aheads() {
         let ahead = sizes.ahead(index);
-        if could_follow(alloc, grammar, tables, sentence, before, innermost, ahead)? {
+        if can_follow(alloc, grammar, tables, sentence, before, innermost, ahead)? {
             expected.push(ahead)?;
         }
     }
@@ -190,16 +190,16 @@ pub struct StuckPlace<'t> {
     pub expected: Vec<Ahead>,
 }
 
-/// Runs a parser that takes as many tokens as it can. Returns it, and whether the next token can't
-/// be taken or the sentence can't end there.
-fn stopped<'t>(
+/// Runs a parser that takes as many tokens as it can, and writes nothing. Returns it, and whether
+/// `parse` fails with P1 there: the next token can't be taken, or the sentence can't end.
+fn run_until_stuck<'t>(
     alloc: Global,
     grammar: &Grammar,
     tables: &Tables,
     sentence: &'t Sentence<'_>,
 ) -> Result<(Parser<'t>, bool), NoMemory> {
     let mut parser = Parser::new(alloc, sentence);
-    let refused = match begin(&mut parser, grammar, tables, usize::MAX) {
+    let refused = match start_until(&mut parser, grammar, tables, usize::MAX) {
         Ok(_) => parser.tokens.ahead().is_some(),
         Err(ParseFault::Unexpected(_)) => true,
         Err(ParseFault::NoMemory) => return Err(NoMemory::NoMemory),
@@ -222,7 +222,7 @@ fn parser_after<'t>(
     if count == 0 {
         return Ok((parser, None));
     }
-    let innermost = begin(&mut parser, grammar, tables, count)?;
+    let innermost = start_until(&mut parser, grammar, tables, count)?;
     Ok((parser, innermost))
 }
 
@@ -244,7 +244,7 @@ pub fn expected_at<'t>(
         (λ ahead. is_known (length grammar.now.literals) ahead ≡ true) stuck.expected.items) }
 {
     let expected = Vec::new(alloc);
-    let (parser, refused) = stopped(alloc, grammar, tables, sentence)?;
+    let (parser, refused) = run_until_stuck(alloc, grammar, tables, sentence)?;
     let index = parser.tokens.taken();
     let found = parser.tokens.ahead();
     if !refused {
@@ -268,6 +268,6 @@ pub fn expected_at<'t>(
     Ok(StuckPlace {
         index,
         found,
-        expected: all_that_could(alloc, grammar, tables, sentence, &before, innermost)?,
+        expected: expected_after(alloc, grammar, tables, sentence, &before, innermost)?,
     })
 }

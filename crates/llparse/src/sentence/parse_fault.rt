@@ -14,7 +14,7 @@ pub enum ParseFault {
     Unexpected(u32),
     /// P2: each tree with these tokens is deeper than the limit.
     TooDeep,
-    /// P3: each tree with these tokens has more stored nodes than the limit.
+    /// P3: each tree with these tokens has more nodes than the limit. A literal has no node.
     TooManyNodes,
     /// D1: a call of the device failed.
     Device,

@@ -6,7 +6,7 @@ ghost use Rattle.ag_value.specs.Well.{IsWell};
 ghost use Rattle.ag_grammar.specs.declared.grammar.Item.TheVariants as item;
 ghost use Rattle.ag_grammar.specs.grammars.AttributeGrammar.{Grammar as AGrammar};
 ghost use Rattle.ag_grammar.specs.grammars.Tree.{IsTokenText, max_depth, max_nodes};
-ghost use Rattle.ag_scan.specs.Supplied.{supplied, offset_at};
+ghost use Rattle.ag_scan.specs.TokenReader.{reader_at, offset_at};
 ghost use Rattle.treefile.specs.framing.Beginning.{AddsFrames};
 ghost use Rattle.treefile.specs.devices.Device.{WhenHonest};
 ghost use Rattle.treefile.specs.records.TreeFile.{version_two};
@@ -15,8 +15,8 @@ ghost use Rattle.llparse.specs.sentence.Parsing.{leaf_frame, node_frame, right_s
 ghost use Rattle.llparse.specs.sentence.Refusals.{BreaksWriter, IsResourceFault};
 ghost use Rattle.llparse.specs.sentence.Sentences.{words_of};
 ghost use Rattle.llparse.specs.table.Tables.{choice_of};
-ghost use Rattle.llparse.specs.sentence.Turns.{left_of, IsAtSymbol, Faces, IsFull, Leads, Advances, IsBetween};
-ghost use Rattle.llparse.specs.sentence.Turns.{HasTables, HasTokens, Refuses, Writes};
+ghost use Rattle.llparse.specs.sentence.Turns.{left_of, IsAtSymbol, IsAtItem, IsFull, Leads, Advances, IsBetween};
+ghost use Rattle.llparse.specs.sentence.Turns.{FitsTables, FitsTokens, Refuses, Writes};
 
 use crate::ahead::Ahead;
 use crate::sentence::parse_fault::ParseFault;
@@ -184,7 +184,7 @@ impl<'t> Parser<'t> {
     pub(crate) fn new(alloc: Global, sentence: &'t Sentence<'_>) -> Parser<'t>
         ensures waiting { result.waiting.items ≡ [] }
         ensures texts { result.texts.items ≡ [] }
-        ensures tokens { result.tokens ≡ supplied sentence.now 0 }
+        ensures tokens { result.tokens ≡ reader_at sentence.now 0 }
         ensures count { result.count ≡ 1 }
     {
         Parser {
@@ -230,9 +230,9 @@ impl<'t> Parser<'t> {
         outer: OpenProduction,
         symbol: u16,
     ) -> Result<OpenProduction, ParseFault>
-        ensures opens { IfOk result (λ node. Leads (HasTables tables.now) self.old.tokens.list
+        ensures opens { IfOk result (λ node. Leads (FitsTables tables.now) self.old.tokens.list
             (λ k. IsAtSymbol k symbol outer self.old) (λ k. IsBetween k node self.new)) }
-        ensures refuses { IfErr result (Refuses (HasTables tables.now) self.old.tokens.list
+        ensures refuses { IfErr result (Refuses (FitsTables tables.now) self.old.tokens.list
             (λ k. IsAtSymbol k symbol outer self.old)) }
         ensures tokens { self.new.tokens ≡ self.old.tokens }
         ensures steps { IfOk result (λ node. (g : AGrammar)
@@ -250,7 +250,7 @@ impl<'t> Parser<'t> {
         Ok(node)
     }
 
-    /// Takes the next token as one of `terminal`. A token of a class has a record, which is
+    /// Takes the next token, which has to be `terminal`. A token of a class has a record, which is
     /// appended, and its text is kept. Fails with P1 if the token is another one, with P2 or P3 if
     /// a limit is reached, and with D1 or NoMemory.
     #[inline(always)]
@@ -261,20 +261,20 @@ impl<'t> Parser<'t> {
         device: &mut D,
         writer: &mut Writer,
     ) -> Result<(), ParseFault>
-        requires fits { (g : AGrammar) × HasTokens self.old.tokens.list g }
+        requires fits { (g : AGrammar) × FitsTokens self.old.tokens.list g }
         requires written { writer.old.written + length self.old.waiting.items + 1
             ≡ self.old.count }
         requires fine { writer.old.is_broken ≡ false }
         // for each hypothesis about the device that makes it honest
         ensures takes { OnOk result ((node : OpenProduction) (honest : Bool)
             → (honest ≡ true → D.is_honest device.new ≡ true)
-            → Writes (HasTokens self.old.tokens.list) self.old.tokens.list
+            → Writes (FitsTokens self.old.tokens.list) self.old.tokens.list
             honest (D.content device.old) (D.content device.new)
-            (λ k. Faces k (item.Terminal terminal) node self.old)
+            (λ k. IsAtItem k (item.Terminal terminal) node self.old)
             (λ k. IsBetween k node self.new)) }
         ensures refuses { (node : OpenProduction)
-            → IfErr result (Refuses (HasTokens self.old.tokens.list) self.old.tokens.list
-            (λ k. Faces k (item.Terminal terminal) node self.old)) }
+            → IfErr result (Refuses (FitsTokens self.old.tokens.list) self.old.tokens.list
+            (λ k. IsAtItem k (item.Terminal terminal) node self.old)) }
         ensures list { OnOk result (self.new.tokens.list ≡ self.old.tokens.list) }
         ensures waiting { OnOk result (self.new.waiting.items ≡ self.old.waiting.items) }
         ensures count { OnOk result (self.old.count ≤ self.new.count) }

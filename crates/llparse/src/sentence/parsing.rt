@@ -3,7 +3,7 @@
 ghost use Rattle.std.specs.Prelude.{◌≡◌, ◌+◌, ℕ, false, Err, IfErr, IfOk, IsErrOf, OnOk};
 ghost use Rattle.ag_grammar.specs.grammars.Tree.{node_count, IsWithinLimits, Tree};
 ghost use Rattle.ag_grammar.specs.grammars.Tree.{max_depth, max_nodes};
-ghost use Rattle.ag_scan.specs.Supplied.{offset_at};
+ghost use Rattle.ag_scan.specs.TokenReader.{offset_at};
 ghost use Rattle.ag_scan.specs.Tokens.{FitAll};
 ghost use Rattle.ag_scan.specs.Words.{vocabulary_of};
 ghost use Rattle.treefile.specs.records.FirstFile.{IsFirstFile};
@@ -77,7 +77,7 @@ fn run<D: Device>(
 }
 
 /// Writes the file of pass 0 of the one tree of a sentence's tokens in a single pass, and returns
-/// the number of its stored nodes: one frame for each node, after those of its children from
+/// the number of its nodes: one frame for each node, after those of its children from
 /// left to right, and one for each token of a class; a literal has none. The record of a node has
 /// the texts of the tokens of a class among its children.
 ///

@@ -1,7 +1,7 @@
 //! The next token of a sentence.
 ghost use Rattle.std.specs.Prelude.{◌≡◌, ◌≢◌, ◌∷◌, ◌+◌, ◌<◌, ◌↔◌, drop, length, IfErr, IfOk};
 ghost use Rattle.std.specs.Prelude.{IsTrue};
-ghost use Rattle.ag_scan.specs.Supplied.{offset_at};
+ghost use Rattle.ag_scan.specs.TokenReader.{offset_at};
 ghost use Rattle.ag_scan.specs.Tokens.{FitAll, IsTokenOf};
 ghost use Rattle.ag_scan.specs.Words.{Vocabulary};
 ghost use Rattle.llparse.specs.Ahead.{ahead_of};
@@ -13,7 +13,7 @@ use crate::sentence::parse_fault::ParseFault;
 use ag_grammar::Terminal;
 use ag_scan::Tokens;
 
-/// Returns the look-ahead of the tokens.
+/// Returns the look-ahead: the terminal of the next token, or the end.
 #[inline(always)]
 pub(crate) fn next_of(tokens: &Tokens<'_>) -> Ahead
     ensures { result ≡ ahead_of (drop tokens.now.taken (words_of tokens.now.list)) }
@@ -32,6 +32,7 @@ pub(crate) fn unexpected(tokens: &Tokens<'_>) -> ParseFault
     ParseFault::Unexpected(tokens.at())
 }
 
+/// Returns whether two terminals are the same.
 #[inline(always)]
 fn same(a: Terminal, b: Terminal) -> bool
     ensures { IsTrue result ↔ (a ≡ b) }
@@ -43,7 +44,7 @@ fn same(a: Terminal, b: Terminal) -> bool
     }
 }
 
-/// Returns the text of the next token, if it is one of terminal `kind`. Else fails with P1.
+/// Returns the text of the next token, if its terminal is `kind`. Fails with P1 otherwise.
 #[inline(always)]
 pub(crate) fn expect<'t>(tokens: &Tokens<'t>, kind: Terminal) -> Result<&'t str, ParseFault>
     ensures taken { IfOk result (λ lex. drop tokens.now.taken (words_of tokens.now.list)

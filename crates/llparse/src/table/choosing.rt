@@ -4,7 +4,7 @@ ghost use Rattle.std.specs.Prelude.{◌≡◌, ◌≤◌, ◌<◌, ℕ, true, le
 ghost use Rattle.std.specs.Prelude.{Some, IfOk};
 ghost use Rattle.ag_grammar.specs.declared.grammar.Production.{Production as AProduction};
 ghost use Rattle.ag_grammar.specs.grammars.Accepted.{max_productions};
-ghost use Rattle.llparse.specs.table.Predicted.{AreFirstFrom, IsLeastFrom, PutsFirst, PutsLeast};
+ghost use Rattle.llparse.specs.table.Predicted.{AreEarliestFrom, IsLeastFrom, PutsEarliest, PutsLeast};
 
 use ag_grammar::Production;
 use ag_value::NoMemory;
@@ -24,8 +24,8 @@ pub(crate) struct Column {
     pub(crate) conflict: Option<Pair>,
 }
 
-/// Returns the least pair, if `production` comes before all others, and `chosen` was the choice of
-/// its symbol before.
+/// Returns the least conflict after one more production, which comes before all those before it:
+/// `production` and `chosen`, the choice so far for its symbol, or `conflict`, the least so far.
 fn conflict_with(production: u16, chosen: Option<u16>, conflict: Option<Pair>) -> Option<Pair>
     ensures some { (r : ℕ) → chosen ≡ Some r → result ≡ Some
         (record { first = production; second = r }) }
@@ -45,7 +45,7 @@ impl Column {
     fn put(&mut self, symbol: usize, production: u16)
         requires symbol { symbol < length self.old.choices.items }
         ensures len { length self.new.choices.items ≡ length self.old.choices.items }
-        ensures first { PutsFirst symbol production true self.old.choices.items
+        ensures earliest { PutsEarliest symbol production true self.old.choices.items
             self.new.choices.items }
         ensures least { PutsLeast symbol production true self.old.choices.items
             self.old.conflict self.new.conflict }
@@ -54,11 +54,11 @@ impl Column {
         self.choices[symbol] = Some(production);
     }
 
-    /// Chooses a production if it is marked.
+    /// Chooses a production that comes before all those chosen so far, if it is marked (`wanted`).
     fn choose_if(&mut self, symbol: usize, production: u16, wanted: bool)
         requires symbol { symbol < length self.old.choices.items }
         ensures len { length self.new.choices.items ≡ length self.old.choices.items }
-        ensures first { PutsFirst symbol production wanted self.old.choices.items
+        ensures earliest { PutsEarliest symbol production wanted self.old.choices.items
             self.new.choices.items }
         ensures least { PutsLeast symbol production wanted self.old.choices.items
             self.old.conflict self.new.conflict }
@@ -69,7 +69,8 @@ impl Column {
     }
 }
 
-/// Returns the choices of a look-ahead that the marked productions predict.
+/// Returns the choices of the look-ahead that the marked productions predict, for this number of
+/// symbols. Fails with `NoMemory` if memory is refused.
 pub(crate) fn choose(
     alloc: Global,
     productions: &[Production],
@@ -81,8 +82,8 @@ pub(crate) fn choose(
     requires below { (p : ℕ) (q : AProduction) → slice_get productions.now p ≡ Some q
         → q.left < symbols }
     ensures len { IfOk result (λ column. length column.choices.items ≡ symbols) }
-    ensures first { IfOk result
-        (λ column. AreFirstFrom productions.now marks.now 0 column.choices.items) }
+    ensures earliest { IfOk result
+        (λ column. AreEarliestFrom productions.now marks.now 0 column.choices.items) }
     ensures least { IfOk result
         (λ column. IsLeastFrom productions.now marks.now 0 column.conflict) }
 {

@@ -28,7 +28,7 @@ pub(crate) struct Columns {
     pub(crate) conflict: Option<Conflict>,
 }
 
-/// Returns the choices of one look-ahead.
+/// Returns the choices of one look-ahead. Fails with `NoMemory` if memory is refused.
 fn column_of(
     alloc: Global,
     grammar: &Grammar,
@@ -70,7 +70,7 @@ fn lesser_conflict(least: Option<Conflict>, pair: Option<Pair>, ahead: Ahead) ->
     Some(least)
 }
 
-/// Returns the columns of a grammar.
+/// Returns the columns of a grammar. Fails with `NoMemory` if memory is refused.
 pub(crate) fn columns_of(alloc: Global, grammar: &Grammar) -> Result<Columns, NoMemory>
     ensures columns { IfOk result (λ columns. AreColumns grammar.now
         (length grammar.now.literals + 4) (rows columns.choices.items)) }

@@ -1,22 +1,23 @@
-//! FIRST: edges from the items of the nullable prefix of a right side, and the item after it, to
-//! the left side; and the nodes that are reached by them from a look-ahead.
+//! The items with a look-ahead in FIRST. The starting items of a right side are those up to the
+//! first that is not nullable, with that one. Edges go from each starting item to the left side.
+//! The marked nodes are those that edges reach from the look-ahead.
 ghost use Rattle.std.specs.Prelude.{◌≡◌, ◌≤◌, length, take, IfOk, OnOk};
 ghost use Rattle.closure.specs.Following.{is_marked};
 ghost use Rattle.ag_grammar.specs.declared.grammar.Item.{Item as AnItem};
-ghost use Rattle.llparse.specs.table.Edges.{prefix, AddsEdges, AreFirst, AreFirstEdges};
+ghost use Rattle.llparse.specs.table.Edges.{starting_items, AddsEdges, AreFirstMarks, AreFirstEdges};
 ghost use Rattle.llparse.specs.table.Edges.{IsEdge, IsKnownAhead, IsOver, OfSome};
 ghost use Rattle.llparse.specs.table.Nullable.{AreNullableMarks};
 ghost use Rattle.llparse.specs.table.Nodes.{node_by};
 
 use crate::ahead::Ahead;
 use crate::table::nodes::Sizes;
-use crate::table::nullable::is_empty;
+use crate::table::nullable::is_nullable_item;
 use ag_grammar::{Grammar, Item};
 use ag_value::NoMemory;
 use closure::{Clauses, Edge};
 use std::alloc::Global;
 
-/// Adds an edge.
+/// Adds an edge from one node to another.
 pub(crate) fn add_edge(edges: &mut Vec<Edge>, from: usize, to: usize) -> Result<(), NoMemory>
     ensures { OnOk result (AddsEdges (IsEdge from to) edges.old.items edges.new.items) }
 {
@@ -24,21 +25,21 @@ pub(crate) fn add_edge(edges: &mut Vec<Edge>, from: usize, to: usize) -> Result<
     Ok(())
 }
 
-/// Returns the number of items up to the first that is not nullable, including that one.
-pub(crate) fn nullable_prefix_len(nullable: &[bool], items: &[Item]) -> usize
+/// Returns the number of starting items: those up to the first that is not nullable, with that one.
+pub(crate) fn starting_items_len(nullable: &[bool], items: &[Item]) -> usize
     ensures within { result ≤ length items.now }
-    ensures prefix { take result items.now ≡ prefix (is_marked nullable.now) items.now }
+    ensures items { take result items.now ≡ starting_items (is_marked nullable.now) items.now }
 {
     for at in 0..items.len() {
-        if !is_empty(nullable, items[at]) {
+        if !is_nullable_item(nullable, items[at]) {
             return at + 1;
         }
     }
     items.len()
 }
 
-/// Adds an edge from each of some items to a left side.
-pub(crate) fn add_prefix_edges(
+/// Adds an edge from each of these items to a left side.
+pub(crate) fn add_first_edges(
     edges: &mut Vec<Edge>,
     sizes: Sizes,
     left: usize,
@@ -53,8 +54,9 @@ pub(crate) fn add_prefix_edges(
     Ok(())
 }
 
-/// Returns the marks of the items that can begin with a look-ahead.
-pub(crate) fn first(
+/// Returns the marks of the items with a look-ahead in FIRST (of a terminal, itself). Fails with
+/// `NoMemory` if memory is refused.
+pub(crate) fn first_marks(
     alloc: Global,
     grammar: &Grammar,
     nullable: &[bool],
@@ -64,7 +66,7 @@ pub(crate) fn first(
     requires nullable { AreNullableMarks grammar.now nullable.now }
     requires edges { IsOver grammar.now (AreFirstEdges grammar.now nullable.now) edges.now }
     requires known { IsKnownAhead grammar.now ahead }
-    ensures { IfOk result (λ marks. AreFirst grammar.now ahead marks.items) }
+    ensures { IfOk result (λ marks. AreFirstMarks grammar.now ahead marks.items) }
 {
     let sizes = Sizes::of(grammar);
     let node = sizes.symbols as usize + sizes.index(ahead);

@@ -1,39 +1,41 @@
-//! FOLLOW: edges from left sides to the items that can be last, seeds from the look-aheads that
-//! come next after an item, and the nodes that are reached.
+//! The symbols with a look-ahead in FOLLOW. Seeds are the items after which the look-ahead can come
+//! within a right side, and for the end the start symbol. Edges go from a left side to each item
+//! after which all items are nullable. The marked nodes are those that edges reach from the seeds.
 ghost use Rattle.std.specs.Prelude.{◌≡◌, ◌<◌, ◌↔◌, ◌&&◌, ◌||◌, true, false, length};
 ghost use Rattle.std.specs.Prelude.{Contains, IfOk, OnOk};
-ghost use Rattle.llparse.specs.table.CanStart.{AreFollow, AreFollowed, AreFollowEdges, IsLastEdge};
-ghost use Rattle.llparse.specs.table.CanStart.{IsNextNode};
-ghost use Rattle.llparse.specs.table.Edges.{Adds, AddsEdges, AreFirst, IsEdge, IsOver};
-ghost use Rattle.llparse.specs.table.Nullable.{is_empty, AreNullableMarks};
+ghost use Rattle.llparse.specs.table.CanStart.{AreFollowMarks, AreFollowSeeds, AreFollowEdges, IsLastEdge};
+ghost use Rattle.llparse.specs.table.CanStart.{IsSeedNode};
+ghost use Rattle.llparse.specs.table.Edges.{Adds, AddsEdges, AreFirstMarks, IsEdge, IsOver};
+ghost use Rattle.llparse.specs.table.Nullable.{is_nullable_item, AreNullableMarks};
 ghost use Rattle.closure.specs.Following.{is_marked};
 ghost use Rattle.llparse.specs.declared.ahead.Ahead.TheVariants as look;
 
 use crate::ahead::Ahead;
 use crate::table::first::add_edge;
 use crate::table::nodes::Sizes;
-use crate::table::nullable::is_empty;
+use crate::table::nullable::is_nullable_item;
 use ag_grammar::{Grammar, Item};
 use ag_value::NoMemory;
 use closure::{Clauses, Edge};
 use std::alloc::Global;
 
-/// Returns whether a number is marked.
-pub(crate) fn has(marks: &[bool], at: usize) -> bool
+/// Returns whether a number has a mark; no number beyond the list has one.
+pub(crate) fn is_marked(marks: &[bool], at: usize) -> bool
     ensures { result ≡ is_marked marks.now at }
 {
     at < marks.len() && marks[at]
 }
 
-/// Returns whether a look-ahead comes next: an item begins with it, or is nullable and the
-/// look-ahead comes next after it.
-pub(crate) fn can_start(begins: bool, empty: bool, following: bool) -> bool
-    ensures { result ≡ (begins || (empty && following)) }
+/// Returns whether an item and those after it can start with a look-ahead: the look-ahead is in
+/// FIRST of the item, or the item is `nullable` and those after it can start with the look-ahead
+/// (`following`).
+pub(crate) fn can_start(in_first: bool, nullable: bool, following: bool) -> bool
+    ensures { result ≡ (in_first || (nullable && following)) }
 {
-    begins || (empty && following)
+    in_first || (nullable && following)
 }
 
-/// Adds an edge if `wanted`.
+/// Adds an edge from one node to another if `wanted`.
 fn add_edge_if(edges: &mut Vec<Edge>, from: usize, to: usize, wanted: bool) -> Result<(), NoMemory>
     ensures { OnOk result (AddsEdges (λ e. (wanted
         ≡ true) × IsEdge from to e) edges.old.items edges.new.items) }
@@ -55,16 +57,16 @@ pub(crate) fn add_follow_edges(
     ensures { OnOk result (AddsEdges (IsLastEdge sizes nullable.now left items.now)
         edges.old.items edges.new.items) }
 {
-    let mut empty = true;
+    let mut rest_nullable = true;
     for at in (0..items.len()).rev() {
-        add_edge_if(edges, left, sizes.node(items[at]), empty)?;
-        empty = can_start(false, is_empty(nullable, items[at]), empty);
+        add_edge_if(edges, left, sizes.node(items[at]), rest_nullable)?;
+        rest_nullable = can_start(false, is_nullable_item(nullable, items[at]), rest_nullable);
     }
     Ok(())
 }
 
 /// Adds a seed if `wanted`.
-fn note_seed(seeds: &mut Vec<usize>, seed: usize, wanted: bool) -> Result<(), NoMemory>
+fn add_seed_if(seeds: &mut Vec<usize>, seed: usize, wanted: bool) -> Result<(), NoMemory>
     ensures { OnOk result (Adds (λ t. (wanted ≡ true) × (t ≡ seed)) (Contains seeds.old.items)
         (Contains seeds.new.items)) }
 {
@@ -74,22 +76,23 @@ fn note_seed(seeds: &mut Vec<usize>, seed: usize, wanted: bool) -> Result<(), No
     Ok(())
 }
 
-/// Adds each item after which the look-ahead comes next.
-fn note_next(
+/// Adds the node of each item after which the items of a right side can start with the look-ahead
+/// whose FIRST marks are `in_first`.
+fn add_seeds(
     seeds: &mut Vec<usize>,
     sizes: Sizes,
     nullable: &[bool],
-    begins: &[bool],
+    in_first: &[bool],
     items: &[Item],
 ) -> Result<(), NoMemory>
-    ensures { OnOk result (Adds (IsNextNode sizes begins.now nullable.now items.now)
+    ensures { OnOk result (Adds (IsSeedNode sizes in_first.now nullable.now items.now)
         (Contains seeds.old.items) (Contains seeds.new.items)) }
 {
     let mut next = false;
     for at in (0..items.len()).rev() {
         let node = sizes.node(items[at]);
-        note_seed(seeds, node, next)?;
-        next = can_start(has(begins, node), is_empty(nullable, items[at]), next);
+        add_seed_if(seeds, node, next)?;
+        next = can_start(is_marked(in_first, node), is_nullable_item(nullable, items[at]), next);
     }
     Ok(())
 }
@@ -104,47 +107,49 @@ fn is_end(ahead: Ahead) -> bool
     }
 }
 
-/// Returns the items after which the look-ahead comes next.
-fn followed(
+/// Returns the nodes of all items after which the rest of a right side can start with the
+/// look-ahead whose FIRST marks are `in_first`.
+fn follow_seeds(
     alloc: Global,
     grammar: &Grammar,
     nullable: &[bool],
-    begins: &[bool],
+    in_first: &[bool],
 ) -> Result<Vec<usize>, NoMemory>
-    ensures { IfOk result (λ seeds. AreFollowed grammar.now nullable.now begins.now seeds.items) }
+    ensures { IfOk result (λ seeds. AreFollowSeeds grammar.now nullable.now in_first.now seeds.items) }
 {
     let sizes = Sizes::of(grammar);
     let mut seeds = Vec::new(alloc);
     let productions = grammar.productions();
     for at in 0..productions.len() {
         let production = &productions[at];
-        note_next(
+        add_seeds(
             &mut seeds,
             sizes,
             nullable,
-            begins,
+            in_first,
             production.items.as_slice(),
         )?;
     }
     Ok(seeds)
 }
 
-/// Returns the marks of the symbols that a look-ahead can follow.
-pub(crate) fn follow(
+/// Returns the marks of the symbols with a look-ahead in FOLLOW, from the marks of the nodes with
+/// it in FIRST. Fails with `NoMemory` if memory is refused.
+pub(crate) fn follow_marks(
     alloc: Global,
     grammar: &Grammar,
     nullable: &[bool],
-    begins: &[bool],
+    in_first: &[bool],
     edges: &Clauses,
     ahead: Ahead,
 ) -> Result<Vec<bool>, NoMemory>
     requires nullable { AreNullableMarks grammar.now nullable.now }
-    requires first { AreFirst grammar.now ahead begins.now }
+    requires first { AreFirstMarks grammar.now ahead in_first.now }
     requires edges { IsOver grammar.now (AreFollowEdges grammar.now nullable.now) edges.now }
-    ensures { IfOk result (λ marks. AreFollow grammar.now ahead marks.items) }
+    ensures { IfOk result (λ marks. AreFollowMarks grammar.now ahead marks.items) }
 {
-    let mut seeds = followed(alloc, grammar, nullable, begins)?;
-    note_seed(&mut seeds, grammar.start() as usize, is_end(ahead))?;
+    let mut seeds = follow_seeds(alloc, grammar, nullable, in_first)?;
+    add_seed_if(&mut seeds, grammar.start() as usize, is_end(ahead))?;
     let marks = edges.closure(alloc, seeds.as_slice())?;
     Ok(marks)
 }

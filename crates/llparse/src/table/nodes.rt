@@ -1,4 +1,5 @@
-//! The numbering of the symbols and the look-aheads of a grammar.
+//! The numbering of the symbols and the look-aheads of a grammar, which are the nodes of the graphs
+//! for FIRST and FOLLOW.
 ghost use Rattle.std.specs.Prelude.{◌≡◌, ◌+◌, ◌<◌, true, length};
 ghost use Rattle.ag_grammar.specs.grammars.Accepted.{IsAccepted};
 ghost use Rattle.llparse.specs.table.Nodes.{node_of, index_of};
@@ -39,7 +40,7 @@ impl Sizes {
         }
     }
 
-    /// Returns the node of an item: symbols come first, then look-aheads.
+    /// Returns the number of an item's node: symbols come first, then look-aheads.
     pub(crate) fn node(self, item: Item) -> usize
         ensures { result ≡ node_of self.symbols self.literals item }
     {

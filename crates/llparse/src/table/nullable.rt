@@ -3,7 +3,7 @@
 ghost use Rattle.std.specs.Prelude.{◌≡◌, IfOk};
 ghost use Rattle.closure.specs.Following.{is_marked};
 ghost use Rattle.llparse.specs.table.Nullable as spec;
-ghost use Rattle.llparse.specs.table.Nullable.{is_empty, AreNullableMarks};
+ghost use Rattle.llparse.specs.table.Nullable.{is_nullable_item, AreNullableMarks};
 
 use crate::table::nodes::Sizes;
 use ag_grammar::{Grammar, Item, Production};
@@ -11,9 +11,9 @@ use ag_value::{Items, NoMemory};
 use closure::{Clause, Clauses};
 use std::alloc::Global;
 
-/// Returns whether an item is a marked symbol.
-pub(crate) fn is_empty(marks: &[bool], item: Item) -> bool
-    ensures { result ≡ is_empty (is_marked marks.now) item }
+/// Returns whether an item is a symbol with a mark; the marks are those of the nullable symbols.
+pub(crate) fn is_nullable_item(marks: &[bool], item: Item) -> bool
+    ensures { result ≡ is_nullable_item (is_marked marks.now) item }
 {
     match item {
         Item::Symbol(symbol) => {
@@ -52,7 +52,7 @@ fn clauses_of(alloc: Global, grammar: &Grammar) -> Result<Vec<Clause>, NoMemory>
     Ok(clauses)
 }
 
-/// Returns the marks of the nullable symbols.
+/// Returns the marks of the nullable symbols. Fails with `NoMemory` if memory is refused.
 pub(crate) fn nullable(alloc: Global, grammar: &Grammar) -> Result<Vec<bool>, NoMemory>
     ensures { IfOk result (λ marks. AreNullableMarks grammar.now marks.items) }
 {

@@ -1,42 +1,43 @@
 //! The productions that predict a look-ahead.
 ghost use Rattle.std.specs.Prelude.{◌≡◌, length, IfOk};
-ghost use Rattle.llparse.specs.table.CanStart.{next_by, AreFollowEdges};
+ghost use Rattle.llparse.specs.table.CanStart.{can_start_by, AreFollowEdges};
 ghost use Rattle.llparse.specs.table.Edges.{AreFirstEdges, IsKnownAhead};
 ghost use Rattle.llparse.specs.table.Predicted.{ArePredicted, AreSets};
 
 use crate::ahead::Ahead;
-use crate::table::first::{add_prefix_edges, first, nullable_prefix_len};
-use crate::table::follow::{add_follow_edges, follow, has};
+use crate::table::first::{add_first_edges, first_marks, starting_items_len};
+use crate::table::follow::{add_follow_edges, follow_marks, is_marked};
 use crate::table::nodes::Sizes;
-use crate::table::nullable::{is_empty, nullable};
+use crate::table::nullable::{is_nullable_item, nullable};
 use ag_grammar::{Grammar, Item};
 use ag_value::NoMemory;
 use closure::{Clauses, Edge};
 use std::alloc::Global;
 
-/// Returns whether a look-ahead comes next along items, or after them if all are nullable
-/// (`following`).
-fn is_next(
+/// Returns whether items can start with the look-ahead whose FIRST marks are `in_first`: an item
+/// has it in FIRST and all before that item are nullable, or all items are nullable and
+/// `following`.
+fn items_can_start(
     sizes: Sizes,
     nullable: &[bool],
-    begins: &[bool],
+    in_first: &[bool],
     items: &[Item],
     following: bool,
 ) -> bool
-    ensures { result ≡ next_by sizes begins.now nullable.now following items.now }
+    ensures { result ≡ can_start_by sizes in_first.now nullable.now following items.now }
 {
     for item in items {
-        if has(begins, sizes.node(*item)) {
+        if is_marked(in_first, sizes.node(*item)) {
             return true;
         }
-        if !is_empty(nullable, *item) {
+        if !is_nullable_item(nullable, *item) {
             return false;
         }
     }
     following
 }
 
-/// Returns the edges for FIRST, from the first items of right sides to the left sides, and those
+/// Returns the edges for FIRST, from the starting items of right sides to the left sides, and those
 /// for FOLLOW, from left sides to the items that can be last.
 fn edges_of(
     alloc: Global,
@@ -54,15 +55,15 @@ fn edges_of(
         let production = &productions[at];
         let left = production.left as usize;
         let items = production.items.as_slice();
-        let prefix = nullable_prefix_len(nullable, items);
-        add_prefix_edges(&mut first, sizes, left, &items[..prefix])?;
+        let count = starting_items_len(nullable, items);
+        add_first_edges(&mut first, sizes, left, &items[..count])?;
         add_follow_edges(&mut follow, sizes, nullable, left, items)?;
     }
     Ok((first, follow))
 }
 
-/// The sets of a grammar for all look-aheads: the nullable symbols, and the edges for FIRST and
-/// FOLLOW.
+/// What the predictions for all look-aheads are computed from: the marks of the nullable symbols,
+/// and the edges for FIRST and FOLLOW.
 #[derive(Drop)]
 pub(crate) struct Sets {
     nullable: Vec<bool>,
@@ -71,7 +72,8 @@ pub(crate) struct Sets {
 }
 
 impl Sets {
-    /// Computes the sets of a grammar.
+    /// Computes the nullable symbols and the edges of a grammar. Fails with `NoMemory` if memory is
+    /// refused.
     pub(crate) fn of(alloc: Global, grammar: &Grammar) -> Result<Sets, NoMemory>
         ensures { IfOk result (λ sets. AreSets grammar.now sets) }
     {
@@ -87,7 +89,8 @@ impl Sets {
         })
     }
 
-    /// Returns the marks of the productions that predict a look-ahead.
+    /// Returns the marks of the productions that predict a look-ahead, by their numbers. Fails with
+    /// `NoMemory` if memory is refused.
     pub(crate) fn predicted(
         &self,
         alloc: Global,
@@ -101,17 +104,17 @@ impl Sets {
     {
         let sizes = Sizes::of(grammar);
         let nullable = self.nullable.as_slice();
-        let begins = first(alloc, grammar, nullable, &self.first, ahead)?;
-        let begins = begins.as_slice();
-        let follows = follow(alloc, grammar, nullable, begins, &self.follow, ahead)?;
-        let follows = follows.as_slice();
+        let in_first = first_marks(alloc, grammar, nullable, &self.first, ahead)?;
+        let in_first = in_first.as_slice();
+        let in_follow = follow_marks(alloc, grammar, nullable, in_first, &self.follow, ahead)?;
+        let in_follow = in_follow.as_slice();
         let productions = grammar.productions();
         let mut marks = Vec::new(alloc);
         for at in 0..productions.len() {
             let production = &productions[at];
-            let following = has(follows, production.left as usize);
+            let following = is_marked(in_follow, production.left as usize);
             let items = production.items.as_slice();
-            marks.push(is_next(sizes, nullable, begins, items, following))?;
+            marks.push(items_can_start(sizes, nullable, in_first, items, following))?;
         }
         Ok(marks)
     }

@@ -16,7 +16,8 @@ struct Conflict<'a> {
     ahead: Ahead,
 }
 
-/// Returns the conflict of a fault. None if it is none of this grammar.
+/// Returns the productions and the look-ahead of L1. None for another fault, or if this grammar does not have the
+/// productions.
 fn conflict_of<'a>(fault: TableFault, raw: &'a RawGrammar) -> Option<Conflict<'a>> {
     match fault {
         TableFault::Conflict {
@@ -41,9 +42,9 @@ pub fn locate_conflict(fault: TableFault, text: &GrammarText<'_>) -> Location {
     match &text.raw {
         Some(raw) => match conflict_of(fault, raw) {
             Some(conflict) => text.location(conflict.first.left.at),
-            None => Location::WithNumber,
+            None => Location::InFault,
         },
-        None => Location::WithNumber,
+        None => Location::InFault,
     }
 }
 
@@ -130,7 +131,7 @@ fn write_repetition(out: &mut String, left: &str) -> Result<(), AllocError> {
     )
 }
 
-/// Writes that a symbol that can be empty has to be separated from a token that can follow it.
+/// Writes that a symbol that can be empty has to be separated from a token that can follow it too.
 fn write_separation(
     out: &mut String,
     left: &str,

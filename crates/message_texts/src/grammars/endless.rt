@@ -1,4 +1,4 @@
-//! The symbols of a grammar that never end: no sentence can be built from them.
+//! The unproductive symbols of a grammar. Messages say that they never end: no sentence can be built from them.
 
 use ag_grammar::{RawGrammar, RawItem, RawProduction};
 use ag_value::NoMemory;
@@ -23,7 +23,7 @@ pub fn endless_symbols<'a>(
     Ok(None)
 }
 
-/// Adds the symbols that end by those that are known to end. Returns whether there are new ones.
+/// Adds each symbol to `ending` that has a production of symbols in `ending` alone. Returns whether one was added.
 fn add_ending<'a>(raw: &'a RawGrammar, ending: &mut HashSet<&'a str>) -> Result<bool, NoMemory> {
     let mut is_new = false;
     for production in raw.productions.as_slice() {
@@ -47,7 +47,7 @@ fn is_ending(production: &RawProduction, ending: &HashSet<&str>) -> bool {
     true
 }
 
-/// Returns the names of the symbols besides some, in declared order.
+/// Returns the names of the symbols that are not in `ending`, in declared order.
 fn symbols_besides<'a>(
     alloc: Global,
     raw: &'a RawGrammar,

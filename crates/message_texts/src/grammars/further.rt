@@ -1,4 +1,4 @@
-//! Counts the places of a grammar that a refusal is true of, not only the first one.
+//! Counts all places of a grammar with the same fault, not only the first one, and lists missing rules.
 
 use ag_grammar::{Named, Occ, RawGrammar, RawItem, RawProduction, RawSymbol, occurrences};
 use ag_value::NoMemory;
@@ -11,7 +11,7 @@ const LEX: &str = "lex";
 
 /// The symbol or class at a place of a production.
 #[derive(Clone, Copy, PartialEq, Eq)]
-enum Placed {
+enum ItemAtPlace {
     /// The symbol of this number.
     Symbol(usize),
     /// A symbol that is not declared.
@@ -22,14 +22,14 @@ enum Placed {
 
 /// The two kinds of attributes.
 #[derive(Clone, Copy, PartialEq, Eq)]
-enum Kind {
+enum AttributeKind {
     Synthesized,
     Inherited,
 }
 
 /// A rule that a production lacks: the place and the name of its target.
 #[derive(Clone, Copy)]
-pub struct Missing<'a> {
+pub struct MissingRule<'a> {
     pub place: usize,
     pub name: &'a str,
 }
@@ -42,11 +42,11 @@ pub struct Declarations<'a> {
     /// The number of each symbol, by its first declaration.
     numbers: HashMap<&'a str, usize>,
     /// The kind of each attribute, by the number of its symbol and its name.
-    kinds: HashMap<(usize, &'a str), Kind>,
+    kinds: HashMap<(usize, &'a str), AttributeKind>,
 }
 
 impl<'a> Declarations<'a> {
-    /// Looks up the names that a grammar declares. Takes memory.
+    /// Puts the names that a grammar declares into tables. Takes memory.
     pub fn of(alloc: Global, raw: &'a RawGrammar) -> Result<Declarations<'a>, NoMemory> {
         let symbols = raw.symbols.as_slice();
         let mut declarations = Declarations {
@@ -67,8 +67,8 @@ impl<'a> Declarations<'a> {
         if !self.numbers.contains_key(name) {
             self.numbers.insert(name, number)?;
         }
-        self.declare_kind(number, symbol.syn.as_slice(), Kind::Synthesized)?;
-        self.declare_kind(number, symbol.inh.as_slice(), Kind::Inherited)
+        self.declare_kind(number, symbol.syn.as_slice(), AttributeKind::Synthesized)?;
+        self.declare_kind(number, symbol.inh.as_slice(), AttributeKind::Inherited)
     }
 
     /// Adds the attributes of a kind, unless they are there.
@@ -76,7 +76,7 @@ impl<'a> Declarations<'a> {
         &mut self,
         number: usize,
         names: &'a [Named],
-        kind: Kind,
+        kind: AttributeKind,
     ) -> Result<(), NoMemory> {
         for name in names {
             let key = (number, name.name.as_str());
@@ -132,7 +132,7 @@ impl<'a> Declarations<'a> {
     }
 
     /// Returns whether a refusal is true of the target of a rule.
-    fn is_target_refused(&self, fault: &NormalFault, places: &[Placed], target: &Occ) -> bool {
+    fn is_target_refused(&self, fault: &NormalFault, places: &[ItemAtPlace], target: &Occ) -> bool {
         match fault {
             NormalFault::UnknownName(_) => self.kind_of(places, target).is_none(),
             NormalFault::NotDefinedHere(_) => !self.is_defined(places, target),
@@ -141,7 +141,12 @@ impl<'a> Declarations<'a> {
     }
 
     /// Returns whether a refusal is true of an occurrence in an expression.
-    fn is_argument_refused(&self, fault: &NormalFault, places: &[Placed], argument: &Occ) -> bool {
+    fn is_argument_refused(
+        &self,
+        fault: &NormalFault,
+        places: &[ItemAtPlace],
+        argument: &Occ,
+    ) -> bool {
         match fault {
             NormalFault::UnknownName(_) => self.kind_of(places, argument).is_none(),
             NormalFault::NotNormal(_) => self.is_defined(places, argument),
@@ -160,7 +165,10 @@ impl<'a> Declarations<'a> {
 
     /// Returns the rules that a production lacks, by place and then in the order of the declarations.
     /// Takes memory.
-    pub fn missing_in(&self, production: &'a RawProduction) -> Result<Vec<Missing<'a>>, NoMemory> {
+    pub fn missing_in(
+        &self,
+        production: &'a RawProduction,
+    ) -> Result<Vec<MissingRule<'a>>, NoMemory> {
         let targets = self.targets_of(production)?;
         let places = self.places_of(production)?;
         let mut missing = Vec::new(self.alloc);
@@ -168,27 +176,28 @@ impl<'a> Declarations<'a> {
         Ok(missing)
     }
 
-    /// Appends the attributes at places that a production has no rules for.
+    /// Appends the missing rules of a production with these targets of rules and these places.
     fn gather_missing(
         &self,
         targets: &HashSet<(usize, &'a str)>,
-        places: &[Placed],
-        missing: &mut Vec<Missing<'a>>,
+        places: &[ItemAtPlace],
+        missing: &mut Vec<MissingRule<'a>>,
     ) -> Result<(), NoMemory> {
         for (place, placed) in places.iter().enumerate() {
             for name in self.defined_at(place, *placed) {
                 let name = name.name.as_str();
                 if !targets.contains(&(place, name)) {
-                    missing.push(Missing { place, name })?;
+                    missing.push(MissingRule { place, name })?;
                 }
             }
         }
         Ok(())
     }
 
-    /// Returns the attributes at a place that a production has rules for.
-    fn defined_at(&self, place: usize, placed: Placed) -> &'a [Named] {
-        let Placed::Symbol(number) = placed else {
+    /// Returns the attributes at a place that a production has to have rules for: the synthesized ones of its left
+    /// side, place 0, and the inherited ones of a child.
+    fn defined_at(&self, place: usize, placed: ItemAtPlace) -> &'a [Named] {
+        let ItemAtPlace::Symbol(number) = placed else {
             return &[];
         };
         match self.symbols.get(number) {
@@ -211,42 +220,43 @@ impl<'a> Declarations<'a> {
     }
 
     /// Returns the symbols and classes at the places of a production, from the left side on.
-    fn places_of(&self, production: &RawProduction) -> Result<Vec<Placed>, NoMemory> {
+    fn places_of(&self, production: &RawProduction) -> Result<Vec<ItemAtPlace>, NoMemory> {
         let mut places = Vec::new(self.alloc);
         places.push(self.symbol_of(&production.left))?;
         for item in production.items.as_slice() {
             match item {
                 RawItem::Name(name) => places.push(self.symbol_of(name))?,
-                RawItem::Class(_) => places.push(Placed::Class)?,
+                RawItem::Class(_) => places.push(ItemAtPlace::Class)?,
                 RawItem::Literal(_) => {}
             }
         }
         Ok(places)
     }
 
-    /// Returns the symbol of a name.
-    fn symbol_of(&self, name: &Named) -> Placed {
+    /// Returns the symbol of a name at a place.
+    fn symbol_of(&self, name: &Named) -> ItemAtPlace {
         match self.numbers.get(name.name.as_str()) {
-            Some(number) => Placed::Symbol(*number),
-            None => Placed::Undeclared,
+            Some(number) => ItemAtPlace::Symbol(*number),
+            None => ItemAtPlace::Undeclared,
         }
     }
 
-    /// Returns whether the rules of a production are for the attribute of an occurrence.
-    fn is_defined(&self, places: &[Placed], occurrence: &Occ) -> bool {
+    /// Returns whether a production has to have a rule for the attribute of an occurrence. False if the attribute
+    /// does not exist.
+    fn is_defined(&self, places: &[ItemAtPlace], occurrence: &Occ) -> bool {
         match self.kind_of(places, occurrence) {
-            Some(kind) => (kind == Kind::Synthesized) == (occurrence.place == 0),
+            Some(kind) => (kind == AttributeKind::Synthesized) == (occurrence.place == 0),
             None => false,
         }
     }
 
     /// Returns the kind of the attribute of an occurrence. None if the place or the attribute is not there.
-    fn kind_of(&self, places: &[Placed], occurrence: &Occ) -> Option<Kind> {
+    fn kind_of(&self, places: &[ItemAtPlace], occurrence: &Occ) -> Option<AttributeKind> {
         let name = occurrence.attr.as_str();
         match places.get(usize::from(occurrence.place))? {
-            Placed::Symbol(number) => self.kinds.get(&(*number, name)).copied(),
-            Placed::Class if name == LEX => Some(Kind::Synthesized),
-            Placed::Class | Placed::Undeclared => None,
+            ItemAtPlace::Symbol(number) => self.kinds.get(&(*number, name)).copied(),
+            ItemAtPlace::Class if name == LEX => Some(AttributeKind::Synthesized),
+            ItemAtPlace::Class | ItemAtPlace::Undeclared => None,
         }
     }
 }
@@ -264,11 +274,11 @@ pub fn count_further(
 }
 
 /// Returns the number of symbols of a production that are not declared, where that is the refusal.
-fn undeclared_in(fault: &NormalFault, places: &[Placed]) -> usize {
+fn undeclared_in(fault: &NormalFault, places: &[ItemAtPlace]) -> usize {
     match fault {
         NormalFault::UnknownName(_) => places
             .iter()
-            .filter(|placed| **placed == Placed::Undeclared)
+            .filter(|placed| **placed == ItemAtPlace::Undeclared)
             .count(),
         _ => 0,
     }

@@ -1,17 +1,17 @@
 //! Grammars that exceed a limit.
 
-use crate::display::Grouped;
+use crate::display::GroupedNumber;
 use crate::parts::Parts;
 use ag_grammar::limits::{
-    MAX_ATTRIBUTES, MAX_ITEMS, MAX_LITERAL_BYTES, MAX_LITERALS, MAX_PRODUCTIONS, MAX_STORED,
+    MAX_ATTRIBUTES, MAX_CHILDREN, MAX_ITEMS, MAX_LITERAL_BYTES, MAX_LITERALS, MAX_PRODUCTIONS,
     MAX_SYMBOLS,
 };
 use ag_grammar::{RawGrammar, RawItem, RawProduction, RawSymbol};
 use normalform::LimitKind;
 use std::alloc::AllocError;
 
-/// Returns the offset of what exceeds a limit: of the name of a symbol, or of that on the left of a
-/// production. None if it is the whole grammar.
+/// Returns the offset in bytes of what exceeds a limit: of the name of a symbol, or of that on the left of a
+/// production. None if the whole grammar does.
 pub fn offset_of_limit(raw: &RawGrammar, kind: LimitKind) -> Option<usize> {
     if kind == LimitKind::Attributes {
         return Some(large_symbol(raw)?.name.at);
@@ -58,7 +58,7 @@ fn write_excess(out: &mut String, kind: LimitKind) -> Result<(), AllocError> {
         LimitKind::Attributes => (MAX_ATTRIBUTES, " attributes"),
         LimitKind::Productions => (MAX_PRODUCTIONS, " productions"),
         LimitKind::Items => (MAX_ITEMS, " items on its right side"),
-        LimitKind::Stored => (MAX_STORED, " symbols and classes on its right side"),
+        LimitKind::Stored => (MAX_CHILDREN, " symbols and classes on its right side"),
         LimitKind::LiteralLength => (MAX_LITERAL_BYTES, " bytes"),
         LimitKind::Literals => (MAX_LITERALS, " different literals"),
     };
@@ -66,10 +66,10 @@ fn write_excess(out: &mut String, kind: LimitKind) -> Result<(), AllocError> {
         LimitKind::LiteralLength => " has a literal of more than ",
         _ => " has more than ",
     };
-    write!(out, "{what}{}{unit}", Grouped(limit))
+    write!(out, "{what}{}{unit}", GroupedNumber(limit))
 }
 
-/// Returns what to do.
+/// Returns what to do about a limit.
 fn hint_of(kind: LimitKind) -> &'static str {
     match kind {
         LimitKind::Items | LimitKind::Stored => "move a part of it to a new symbol",
@@ -90,12 +90,12 @@ fn large_symbol(raw: &RawGrammar) -> Option<&RawSymbol> {
     None
 }
 
-/// Returns the first production that exceeds a limit of productions.
+/// Returns the first production whose right side exceeds a limit. None for a limit of something else.
 fn large_production(raw: &RawGrammar, kind: LimitKind) -> Option<&RawProduction> {
     for production in raw.productions.as_slice() {
         let exceeds = match kind {
             LimitKind::Items => production.items.as_slice().len() > MAX_ITEMS,
-            LimitKind::Stored => production.last_place() > MAX_STORED,
+            LimitKind::Stored => production.last_place() > MAX_CHILDREN,
             LimitKind::LiteralLength => has_long_literal(production),
             _ => false,
         };

@@ -3,7 +3,7 @@
 use crate::display::MAX_NAMED;
 use crate::grammar_text::GrammarText;
 use crate::grammars::endless::endless_symbols;
-use crate::grammars::further::{Declarations, Missing, count_further};
+use crate::grammars::further::{Declarations, MissingRule, count_further};
 use crate::grammars::limits::{describe_limit, offset_of_limit};
 use crate::grammars::lookup::{
     AsWritten, AtPlace, PlacedOccurrence, at_place, attribute_at, has_production, name_at,
@@ -14,11 +14,11 @@ use ag_grammar::{Named, RawGrammar, RawProduction, RawSymbol};
 use normalform::NormalFault;
 use std::alloc::{AllocError, Global};
 
-/// Returns the location at which a grammar is refused, or at which what is refused begins; some limits are
-/// of the whole.
+/// Returns the location of the name, the occurrence or the production for which a grammar is refused, or
+/// `Whole` if the whole grammar exceeds a limit.
 pub fn locate_in_grammar(fault: &NormalFault, text: &GrammarText<'_>) -> Location {
     let Some(raw) = &text.raw else {
-        return Location::WithNumber;
+        return Location::InFault;
     };
     match offset_of(fault, raw) {
         Some(at) => text.location(at),
@@ -26,7 +26,7 @@ pub fn locate_in_grammar(fault: &NormalFault, text: &GrammarText<'_>) -> Locatio
     }
 }
 
-/// Returns the offset at which a grammar is refused, or at which what is refused begins.
+/// Returns the offset in bytes of the name, the occurrence or the production for which a grammar is refused.
 fn offset_of(fault: &NormalFault, raw: &RawGrammar) -> Option<usize> {
     match fault {
         NormalFault::UnknownName(at)
@@ -86,7 +86,7 @@ fn write_further(help: &mut String, further: usize) -> Result<(), AllocError> {
     }
 }
 
-/// Describes N1 to N10 at the first place.
+/// Describes N1 to N10 at the place that the fault names.
 fn describe_first(
     parts: &mut Parts,
     fault: &NormalFault,
@@ -290,19 +290,19 @@ fn describe_endless(parts: &mut Parts, names: &[&str]) -> Result<(), AllocError>
 
 /// Writes the names of symbols, at most the first twelve, and the number of the rest.
 fn write_symbols(out: &mut String, names: &[&str]) -> Result<(), AllocError> {
-    let mut left = names.len();
+    let mut remaining = names.len();
     for name in names.iter().take(MAX_NAMED) {
-        left = left.saturating_sub(1);
-        let separator = match left {
+        remaining = remaining.saturating_sub(1);
+        let separator = match remaining {
             0 => "",
             1 => " and ",
             _ => ", ",
         };
         write!(out, "`{}`{separator}", *name)?;
     }
-    match left {
+    match remaining {
         0 => Ok(()),
-        _ => write!(out, "{left} more"),
+        _ => write!(out, "{remaining} more"),
     }
 }
 
@@ -329,7 +329,7 @@ fn describe_missing(
     }
 }
 
-/// Describes N6 by the names that a grammar declares.
+/// Describes N6 with the names that a grammar declares.
 fn describe_missing_by(
     parts: &mut Parts,
     declarations: &Declarations<'_>,
@@ -349,7 +349,7 @@ fn describe_missing_by(
 fn describe_rules(
     parts: &mut Parts,
     production: &RawProduction,
-    missing: &[Missing<'_>],
+    missing: &[MissingRule<'_>],
     all: usize,
 ) -> Result<(), AllocError> {
     let left = production.left.name.as_str();
@@ -364,7 +364,7 @@ fn describe_rules(
 }
 
 /// Writes the rules that a production lacks, as they would be written.
-fn write_rules(out: &mut String, missing: &[Missing<'_>]) -> Result<(), AllocError> {
+fn write_rules(out: &mut String, missing: &[MissingRule<'_>]) -> Result<(), AllocError> {
     let mut separator = "";
     for rule in missing {
         write!(out, "{separator}`${}.{} = ..;`", rule.place, rule.name)?;

@@ -11,9 +11,9 @@ use std::alloc::AllocError;
 /// The greatest number of rules that a message names.
 const MAX_NAMED_RULES: usize = 8;
 
-/// Describes A1, after the attributes that no pass can have: the rules that keep them out of the passes of
-/// the direction in which fewest rules do so, or of the first one. Nothing if memory for reading the text
-/// again is refused.
+/// Describes A1. The fault itself prints the attributes that no pass can have; this names the rules that keep
+/// them out of the passes of one direction: the one with fewer such rules, or that of the first pass if both have
+/// as many. Nothing if memory for reading the text again is refused.
 pub fn describe_stuck(
     parts: &mut Parts,
     stuck: &Stuck,
@@ -25,19 +25,19 @@ pub fn describe_stuck(
     }
 }
 
-/// Describes A1 by the direction in which fewest rules are in the way.
+/// Describes A1 by the direction with fewer rules that keep attributes out of its passes.
 fn describe_fewest(
     parts: &mut Parts,
     stuck: &Stuck,
     raw: &RawGrammar,
     source: &Source<'_>,
 ) -> Result<(), AllocError> {
-    let first = Struck {
+    let first = DirectionStrikes {
         direction: Direction::RightToLeft,
         strikes: stuck.odd.as_slice(),
         raw,
     };
-    let second = Struck {
+    let second = DirectionStrikes {
         direction: Direction::LeftToRight,
         strikes: stuck.even.as_slice(),
         raw,
@@ -53,7 +53,7 @@ fn describe_fewest(
     fewest.describe(parts, source)
 }
 
-/// Why a rule for a child's attribute comes before what it uses.
+/// Why a pass reaches a rule for a child's attribute before an argument of the rule is computed.
 #[derive(Clone, Copy)]
 enum Reason {
     /// It uses an attribute of a child that is visited later.
@@ -62,7 +62,7 @@ enum Reason {
     Within,
 }
 
-/// A rule that a pass reaches before an argument of it is computed.
+/// A rule that a pass reaches before an argument of it is computed, by its target.
 #[derive(Clone, Copy)]
 struct Obstacle<'a> {
     target: &'a Occ,
@@ -84,16 +84,18 @@ impl Obstacle<'_> {
     }
 }
 
-/// The strikes of the passes of a direction, and the grammar as it is written.
+/// The strikes of the passes of a direction, and the grammar as it is written. A strike is an argument of a rule,
+/// for which the rule's target can't have a pass of the direction. It waits for another strike if the pass reaches
+/// the argument in time, but another strike keeps the argument out of the pass.
 #[derive(Clone, Copy)]
-struct Struck<'a> {
+struct DirectionStrikes<'a> {
     direction: Direction,
     strikes: &'a [Strike],
     raw: &'a RawGrammar,
 }
 
-impl<'a> Struck<'a> {
-    /// Returns the rule of a strike that waits for no other strike. None for one that does.
+impl<'a> DirectionStrikes<'a> {
+    /// Returns the rule of a strike that waits for no other strike. None if it waits for one.
     fn obstacle(&self, strike: Strike) -> Option<Obstacle<'a>> {
         let productions = self.raw.productions.as_slice();
         let production = productions.get(usize::from(strike.production))?;
@@ -107,8 +109,8 @@ impl<'a> Struck<'a> {
         })
     }
 
-    /// Returns why a rule for a place can't use what is at another in one pass of the direction. None if
-    /// it can, once that is computed.
+    /// Returns why a rule for the place `target` can't use an attribute at the place `argument` in the same pass of
+    /// the direction. None if it can, once that attribute is computed.
     fn reason(&self, target: u16, argument: u16) -> Option<Reason> {
         if target == 0 || argument == 0 {
             None
@@ -150,7 +152,7 @@ impl<'a> Struck<'a> {
         )
     }
 
-    /// Writes the first rules, as many as are named.
+    /// Writes the first rules of the strikes that wait for no other, at most `MAX_NAMED_RULES`.
     fn write_named(&self, out: &mut String, source: &Source<'_>) -> Result<(), AllocError> {
         let mut named = 0usize;
         for strike in self.strikes {

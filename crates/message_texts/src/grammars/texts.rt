@@ -18,7 +18,7 @@ const LITERAL_NEEDS: &str =
 /// What a writer may have meant by a name that no `let` binds.
 const ATTRIBUTE: &str = "an attribute is written with its place, as in `$1.s`";
 
-/// Returns the location at which a text reads as no grammar.
+/// Returns the location from which on a text can't be read as a grammar, or `Whole` if it is too long.
 pub fn locate_in_text(fault: TextFault, text: &GrammarText<'_>) -> Location {
     match offset_of(fault) {
         Some(at) => text.location(at),
@@ -26,7 +26,7 @@ pub fn locate_in_text(fault: TextFault, text: &GrammarText<'_>) -> Location {
     }
 }
 
-/// Returns the offset at which a text reads as no grammar.
+/// Returns the offset in bytes from which on a text can't be read as a grammar. None if the fault has none.
 fn offset_of(fault: TextFault) -> Option<usize> {
     match fault {
         TextFault::BadUtf8(at) | TextFault::Unexpected(_, at) => Some(at),
@@ -86,7 +86,7 @@ fn describe_rule(
     Ok(())
 }
 
-/// Returns why what was found is not a literal or an occurrence, if it begins as one and one could come.
+/// Returns why what was found is not a literal or an occurrence, if it begins as one where one is expected.
 fn damaged_token(found: Option<&str>, expected: &[Expected]) -> Option<ExprFault> {
     let is_meant = begins_with(found, '"') && expected.contains(&Expected::Item)
         || begins_with(found, '$') && expected.contains(&Expected::Rule);

@@ -13,7 +13,7 @@ use std::alloc::{AllocError, Global};
 /// What has no tree within the limits.
 const SENTENCE: &str = "the sentence";
 
-/// Returns the location at which a sentence has no tree.
+/// Returns the location of the token at which the parser stops, or `Whole` for a limit.
 pub fn locate_in_sentence(fault: ParseFault, sentence: &Source<'_>) -> Location {
     match fault {
         ParseFault::Unexpected(at) => Location::At(sentence.position(at as usize)),
@@ -53,7 +53,7 @@ pub fn describe_parse(
     }
 }
 
-/// Describes the token that can't be taken, and the tokens that could come in its place. Nothing if memory
+/// Describes the token at which the parser stops, and the tokens that could come in its place. Nothing if memory
 /// for finding them is refused.
 fn describe_unexpected(
     alloc: Global,

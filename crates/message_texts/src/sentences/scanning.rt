@@ -22,7 +22,7 @@ const ADD_QUOTE: &str = "add the quote (a TEXT has no escapes)";
 /// What is wrong with any sentence but the empty one of a grammar without terminals.
 const NO_TERMINALS: &str = ", but the grammar has no literal and no class";
 
-/// Returns the location at which a sentence has no token.
+/// Returns the location at which a sentence can't be cut into tokens, or `Whole` if it is too long.
 pub fn locate_token(fault: ScanFault, sentence: &Source<'_>) -> Location {
     match fault {
         ScanFault::BadUtf8(at) | ScanFault::NoToken(at) | ScanFault::LongToken(at) => {
@@ -101,7 +101,7 @@ fn quote_before<'a>(sentence: &Source<'a>, at: usize) -> Option<Place<'a>> {
     }
 }
 
-/// Returns the character at an offset. None at the text's end.
+/// Returns the character at an offset in bytes. None at the text's end.
 fn first_character(text: &str, at: usize) -> Option<&str> {
     let rest = text.get(at..)?;
     match rest.char_indices().nth(1) {

@@ -6,7 +6,7 @@ use crate::display::PlainText;
 use crate::parts::Parts;
 use crate::terminals::class_name;
 use crate::trees::frames::{Frame, expected_before, frame_before};
-use ag_grammar::limits::{MAX_DEPTH, MAX_NODES, MAX_TURNED_DEPTH, MAX_TURNED_NODES, TEXT};
+use ag_grammar::limits::{MAX_DEPTH, MAX_NODES, MAX_REVERSED_DEPTH, MAX_REVERSED_NODES, TEXT};
 use ag_grammar::{Grammar, Item, Terminal};
 use std::alloc::{AllocError, Global};
 use treefile::{Device, FileVersion, HEADER_BYTES};
@@ -41,16 +41,16 @@ const NO_UPGRADE: &str =
 /// What has no tree within the limits.
 const FILE: &str = "the file";
 
-/// A file of pass 0 that is read: of this version, with a tree of this grammar.
+/// How a tree file of pass 0 is read: its version, and the grammar of its tree.
 #[derive(Clone, Copy)]
 pub struct TreeFormat<'a> {
     pub version: FileVersion,
     pub grammar: &'a Grammar,
 }
 
-/// Describes R1 of a tree file at an offset in bytes. The file is read once more from its end if a record
-/// is damaged. Takes memory for the records that the tree needs there. If the file can't be read, leaves
-/// out what it would have said of it.
+/// Describes R1 of a tree file at the offset `at` in bytes. If a record is damaged, and not the header, the file
+/// is read once more from its end. Takes memory for the records that the tree needs there. If that is refused, or
+/// the file can't be read, leaves out what was expected.
 pub fn describe_damage<D: Device>(
     alloc: Global,
     parts: &mut Parts,
@@ -60,7 +60,7 @@ pub fn describe_damage<D: Device>(
 ) -> Result<(), AllocError>
     ensures content { LeavesContent (D.is_honest tree.new)
         (D.content tree.old) (D.content tree.new) }
-    // nothing is said of a device that failed
+    // ⊥: the result does not say that a call of the device failed
     ensures persists { Persists (D.is_honest tree.old) (D.is_honest tree.new)
         (D.failures tree.old) (D.failures tree.new) ⊥ }
 {
@@ -89,7 +89,7 @@ impl TreeFormat<'_> {
         parts.add(ANOTHER_FILE, help)
     }
 
-    /// Describes what ends at an offset, and what should.
+    /// Describes the record that ends at an offset, if one does, and the one that should.
     fn describe_record(
         &self,
         parts: &mut Parts,
@@ -105,7 +105,8 @@ impl TreeFormat<'_> {
         parts.help.push_str(AGAIN)
     }
 
-    /// Writes what ends at an offset.
+    /// Writes the record that ends at an offset, if one does. Its body begins with 3 bytes before the values: its
+    /// kind and its number.
     fn write_found(
         &self,
         out: &mut String,
@@ -125,7 +126,7 @@ impl TreeFormat<'_> {
         }
     }
 
-    /// Writes what should end at the offset, by the records that the tree still needs.
+    /// Writes the record that should end at the offset, by the records that the tree still needs.
     fn write_expected(&self, out: &mut String, expected: &[Item]) -> Result<(), AllocError> {
         out.push_str("expected ")?;
         match expected.last() {
@@ -173,7 +174,7 @@ impl TreeFormat<'_> {
     /// Describes P2 of a tree file, and what to do.
     pub fn describe_depth_limit(&self, parts: &mut Parts) -> Result<(), AllocError> {
         let most = match self.version {
-            FileVersion::One => MAX_TURNED_DEPTH,
+            FileVersion::One => MAX_REVERSED_DEPTH,
             FileVersion::Two => MAX_DEPTH,
         };
         parts.add_tree_limit(most, "levels", FILE, "nest the sentence less")
@@ -182,7 +183,7 @@ impl TreeFormat<'_> {
     /// Describes P3 of a tree file, and what to do.
     pub fn describe_node_limit(&self, parts: &mut Parts) -> Result<(), AllocError> {
         let most = match self.version {
-            FileVersion::One => MAX_TURNED_NODES,
+            FileVersion::One => MAX_REVERSED_NODES,
             FileVersion::Two => MAX_NODES,
         };
         parts.add_tree_limit(most as usize, "nodes", FILE, "split the sentence")

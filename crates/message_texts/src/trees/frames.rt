@@ -7,13 +7,16 @@ use ag_grammar::{Grammar, Item};
 use std::alloc::Global;
 use treefile::{Device, FileVersion, LENGTH_BYTES, fits_before};
 
-/// A frame of a tree file: where it begins, the kind and the number in its body, and the length of the
-/// body.
+/// The frame of a record in a tree file: the body, and after it the length of the body.
 #[derive(Clone, Copy)]
 pub struct Frame {
+    /// The offset in bytes at which the frame begins.
     pub begin: u64,
+    /// The kind in the body: 0 for a node, 1 for a token; a damaged file can have others.
     pub kind: u8,
+    /// The number in the body: of the node's production, or of the token's class.
     pub number: u16,
+    /// The length of the body in bytes.
     pub bytes: u64,
 }
 
@@ -44,8 +47,9 @@ pub fn frame_before<D: Device>(version: FileVersion, tree: &mut D, end: u64) -> 
     })
 }
 
-/// Returns what a tree still needs once all records of its file of a version from an offset on have been
-/// read, the next one last. None if they can't be read, or memory is refused.
+/// Returns the items whose records the tree still needs after those from the offset `at` to the end of its file
+/// have been read from the end. The item that is read next is the last one. None if a record can't be read or has
+/// an unknown production, or if memory is refused.
 pub fn expected_before<D: Device>(
     alloc: Global,
     version: FileVersion,
@@ -75,7 +79,8 @@ pub fn expected_before<D: Device>(
     Some(expected)
 }
 
-/// Appends the children that a node of a production has, the rightmost one last.
+/// Appends the children that a node of a production has, the rightmost one last. None if there is no such
+/// production, or memory is refused.
 fn push_children(grammar: &Grammar, number: u16, expected: &mut Vec<Item>) -> Option<()> {
     let production = grammar.productions().get(usize::from(number))?;
     for item in production.items.as_slice() {

@@ -9,7 +9,7 @@ use Rattle.normalform.specs.faults.Faults.{first_wrong, unknown_checks, doubled_
 use Rattle.normalform.specs.faults.Found.{IsFoundAt}
 use Rattle.normalform.specs.numbers.Numbers.{symbol_of, numbered}
 use Rattle.closure.specs.Clauses.{IsClauseBelow}
-use Rattle.closure.specs.Edges.{along, IsEdgeBelow}
+use Rattle.closure.specs.Edges.{clause_of_edge, IsEdgeBelow}
 use Rattle.closure.specs.Following.{Follows}
 use Rattle.normalform.specs.faults.Underivable.{IsFirstUnderivable}
 use Rattle.normalform.proofs.found.Reduced.{symbols, clauses, edges, follows_productive, productive_follows, follows_reached, reached_follows, clauses_below, edges_below, start, start_below, FollowsStart}
@@ -49,7 +49,7 @@ unproductive_found raw n none left = record {
 pub all_productive : (raw : RawGrammar) → ((t : ℕ) → t < length (symbols raw) → Follows (clauses raw) [] t) → AreAll (IsProductive (numbered raw)) raw
 all_productive raw h s lt = follows_productive raw s (h s (rw (count raw) lt))
 
-pub unreached_found : (raw : RawGrammar) (n : ℕ) → first_wrong (naming_checks raw) ≡ None → AreAll (IsProductive (numbered raw)) raw → IsFirstUnderivable (map along (edges raw)) (start raw ∷ []) (length (symbols raw)) n → IsFoundAt raw fault.Unreachable n
+pub unreached_found : (raw : RawGrammar) (n : ℕ) → first_wrong (naming_checks raw) ≡ None → AreAll (IsProductive (numbered raw)) raw → IsFirstUnderivable (map clause_of_edge (edges raw)) (start raw ∷ []) (length (symbols raw)) n → IsFoundAt raw fault.Unreachable n
 unreached_found raw n none all left = record {
   within = rw (← count raw) left.within;
   first = λ name at. in_reached none all (record {

@@ -11,7 +11,7 @@ use Rattle.ag_grammar.specs.declared.grammar.Item.{Item}
 use Rattle.ag_grammar.specs.declared.grammar.Item.TheVariants as item
 use Rattle.ag_grammar.specs.declared.grammar.Production.{Production}
 use Rattle.ag_grammar.specs.declared.grammar.Symbol.{Symbol}
-use Rattle.ag_grammar.specs.grammars.Accepted.{IsProductive, AreProductive, by_production, nothing as no_item, a_symbol, a_word, IsReached, at_start, within}
+use Rattle.ag_grammar.specs.grammars.Accepted.{IsProductive, AreProductive, by_production, nothing as no_item, a_symbol, a_terminal, IsReached, at_start, within}
 use Rattle.ag_grammar.specs.grammars.AttributeGrammar.{Grammar}
 use Rattle.ag_grammar.specs.declared.raw.RawGrammar.{RawGrammar}
 use Rattle.ag_grammar.specs.declared.raw.RawItem.{RawItem}
@@ -19,13 +19,13 @@ use Rattle.ag_grammar.specs.declared.raw.RawItem.TheVariants as raw_item
 use Rattle.ag_grammar.specs.declared.raw.RawProduction.{RawProduction}
 use Rattle.closure.specs.declared.clause.Clause.{Clause}
 use Rattle.closure.specs.Clauses.{IsClauseBelow}
-use Rattle.closure.specs.Edges.{along, IsEdgeBelow}
+use Rattle.closure.specs.Edges.{clause_of_edge, IsEdgeBelow}
 use Rattle.closure.specs.Following.{Follows, seed}
 use Rattle.closure.specs.declared.edges.Edge.{Edge}
 use Rattle.closure.proofs.Positions.{at_mapped, element_at, mapped_at, position_of_element}
 use Rattle.closure.proofs.Reached.{reached_in, step}
 use Rattle.closure.proofs.Following.{follows_in, head_follows}
-use Rattle.normalform.specs.faults.Clauses.{body_of, clause_of, clauses_of, edge, edges_of, reaching}
+use Rattle.normalform.specs.faults.Clauses.{body_of, clause_of, clauses_of, edge, edges_of, reach_edges}
 use Rattle.normalform.specs.numbers.Numbers.{number_in, symbol_of, symbol_names, item_of, literals_of, placed, production_of, numbered}
 use Rattle.normalform.proofs.numbered.Texts.{found}
 use Rattle.ag_grammar.specs.declared.raw.Named.{Named}
@@ -46,7 +46,7 @@ mutual
   items_in : (g : Grammar) (P : ℕ → Type 0) → ((p : ℕ) (q : Production) → slice_get g.productions p ≡ Some q → All P (symbols_of q.items) → P q.left) → (xs : List Item) → AreProductive g xs → All P (symbols_of xs)
   items_in g P closed [] no_item = All-nil P
   items_in g P closed (item.Symbol s ∷ xs) (a_symbol h k) = All-cons P s (symbols_of xs) (productive_in g P closed s h) (items_in g P closed xs k)
-  items_in g P closed (item.Terminal a ∷ xs) (a_word k) = items_in g P closed xs k
+  items_in g P closed (item.Terminal a ∷ xs) (a_terminal k) = items_in g P closed xs k
 
 -- and of reached ones
 symbols_in : (g : Grammar) (P : ℕ → Type 0) → P g.start → ((p : ℕ) (q : Production) (s : ℕ) → slice_get g.productions p ≡ Some q → P q.left → Has q.items (item.Symbol s) → P s) → (s : ℕ) → IsReached g s → P s
@@ -71,8 +71,8 @@ items_productive : (raw : RawGrammar) (lits : List (List ℕ)) (xs : List RawIte
 items_productive raw lits [] all = no_item
 items_productive raw lits (raw_item.Name name ∷ xs) all =
     a_symbol (All-head (IsProductive (numbered raw)) (number_in (names raw) name.name) (body_of (names raw) xs) all) (items_productive raw lits xs (All-tail (IsProductive (numbered raw)) (number_in (names raw) name.name) (body_of (names raw) xs) all))
-items_productive raw lits (raw_item.Literal text ∷ xs) all = a_word (items_productive raw lits xs all)
-items_productive raw lits (raw_item.Class c ∷ xs) all = a_word (items_productive raw lits xs all)
+items_productive raw lits (raw_item.Literal text ∷ xs) all = a_terminal (items_productive raw lits xs all)
+items_productive raw lits (raw_item.Class c ∷ xs) all = a_terminal (items_productive raw lits xs all)
 
 pub follows_productive : (raw : RawGrammar) (s : ℕ) → Follows (clauses raw) [] s → IsProductive (numbered raw) s
 follows_productive raw = follows_in (clauses raw) [] (IsProductive (numbered raw)) (λ t none. absurd (omega (arith, none.1))) (λ p c e all.
@@ -96,11 +96,11 @@ abbrev pub start : RawGrammar → ℕ
 start raw = number_in (names raw) raw.start.name
 
 abbrev pub edges : RawGrammar → List Edge
-edges raw = reaching (clauses raw)
+edges raw = reach_edges (clauses raw)
 
 -- a number follows from the start symbol
 abbrev pub FollowsStart : RawGrammar → ℕ → Type 0
-FollowsStart raw = Follows (map along (edges raw)) (start raw ∷ [])
+FollowsStart raw = Follows (map clause_of_edge (edges raw)) (start raw ∷ [])
 
 -- a symbol on a right side is in the body, and the converse
 symbol_body : (ns lits : List (List ℕ)) (xs : List RawItem) (i s : ℕ) → slice_get (map (item_of ns lits) xs) i ≡ Some (item.Symbol s) → Has (body_of ns xs) s

@@ -3,7 +3,7 @@ use Rattle.std.proofs.Common.{ℕ, zero, suc, ◌≡◌, ◌+◌, Bool, true, fa
 use Rattle.std.specs.Option.{option_or}
 use Rattle.ag_grammar.specs.Lists.{Has}
 use Rattle.normalform.specs.declared.fault.NormalFault.{NormalFault}
-use Rattle.normalform.specs.faults.Faults.{Check, first_wrong, checks_along, after}
+use Rattle.normalform.specs.faults.Faults.{Check, first_wrong, checks_along, next_index}
 use Rattle.normalform.proofs.found.Wrong.{wrong-append}
 
 pub both_right : (xs ys : List Check) → first_wrong (xs ++ ys) ≡ None → (first_wrong xs ≡ None) × (first_wrong ys ≡ None)
@@ -44,21 +44,21 @@ pub each_map : {X : Type 0} (f : X → Check) (xs : List X) → ((i : ℕ) (x : 
 each_map f [] h = refl
 each_map f (y ∷ ys) h = together (f y ∷ []) (map f ys) (right_is (f y) (h zero y refl)) (each_map f ys (λ i. h (suc i)))
 
-pub along_each : {X : Type 0} (f : ℕ → X → List Check) (n : ℕ) (xs : List X) → first_wrong (checks_along f after n xs) ≡ None → (i : ℕ) (x : X) → slice_get xs i ≡ Some x → first_wrong (f (n + i) x) ≡ None
+pub along_each : {X : Type 0} (f : ℕ → X → List Check) (n : ℕ) (xs : List X) → first_wrong (checks_along f next_index n xs) ≡ None → (i : ℕ) (x : X) → slice_get xs i ≡ Some x → first_wrong (f (n + i) x) ≡ None
 along_each f n [] h i x e = absurd (cc)
 along_each f n (y ∷ ys) h zero x e =
     let same : y ≡ x = cc in
     let here : n + 0 ≡ n = omega arith in
-    rw (here, ← same) (both_right (f n y) (checks_along f after (n + 1) ys) h).0
+    rw (here, ← same) (both_right (f n y) (checks_along f next_index (n + 1) ys) h).0
 along_each f n (y ∷ ys) h (suc i) x e =
     let there : n + suc i ≡ (n + 1) + i = omega arith in
-    rw there (along_each f (n + 1) ys (both_right (f n y) (checks_along f after (n + 1) ys) h).1 i x e)
+    rw there (along_each f (n + 1) ys (both_right (f n y) (checks_along f next_index (n + 1) ys) h).1 i x e)
 
-pub each_along : {X : Type 0} (f : ℕ → X → List Check) (n : ℕ) (xs : List X) → ((i : ℕ) (x : X) → slice_get xs i ≡ Some x → first_wrong (f (n + i) x) ≡ None) → first_wrong (checks_along f after n xs) ≡ None
+pub each_along : {X : Type 0} (f : ℕ → X → List Check) (n : ℕ) (xs : List X) → ((i : ℕ) (x : X) → slice_get xs i ≡ Some x → first_wrong (f (n + i) x) ≡ None) → first_wrong (checks_along f next_index n xs) ≡ None
 each_along f n [] h = refl
 each_along f n (y ∷ ys) h =
     let here : n + 0 ≡ n = omega arith in
-    together (f n y) (checks_along f after (n + 1) ys) (rw here at (h zero y refl))
+    together (f n y) (checks_along f next_index (n + 1) ys) (rw here at (h zero y refl))
     (each_along f (n + 1) ys (λ i x e. let there : n + suc i ≡ (n + 1) + i = omega arith in rw there at (h (suc i) x e)))
 
 -- an element of concatenated lists is in one of them

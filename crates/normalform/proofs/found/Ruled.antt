@@ -16,7 +16,7 @@ use Rattle.ag_grammar.specs.declared.raw.RawGrammar.{RawGrammar}
 use Rattle.ag_grammar.specs.declared.raw.RawProduction.{RawProduction}
 use Rattle.ag_grammar.specs.declared.raw.RawRule.{RawRule}
 use Rattle.normalform.specs.declared.fault.NormalFault.TheVariants as fault
-use Rattle.normalform.specs.faults.Faults.{first_wrong, given_at, numbers_given, same_target, with_target, with_rule, targets_of, missing_check, missing_at, missing_in, doubled_in, is_kind, has_kind, given_check, not_given_in, found_check, not_found_in}
+use Rattle.normalform.specs.faults.Faults.{first_wrong, defined_at, numbers_defined, same_target, with_target, with_rule, targets_of, missing_check, missing_at, missing_in, doubled_in, is_kind, has_kind, defined_check, not_defined_in, used_check, not_normal_in}
 use Rattle.normalform.specs.numbers.Numbers.{declared, placed, target_of, rule_of, numbered}
 use Rattle.normalform.proofs.found.Apart.{DecidesBy, none_apart, apart_along, along_apart, apart_differ, differ_apart}
 use Rattle.normalform.proofs.numbered.KindAt.{synthesized_at, inherited_at}
@@ -121,7 +121,7 @@ has_range a (suc n) zero k e = let z : a ≡ k = cc in (omega arith, omega arith
 has_range a (suc n) (suc i) k e = let w = has_range (a + 1) n i k e in (omega (arith, w.0), omega (arith, w.1))
 
 -- the attributes that rules define at a symbol's place are those of the kind
-numbers_has : (place a : ℕ) (s : Symbol) → slice_get (symbol_kinds (Some s)) a ≡ Some (defined_kind place) → Has (numbers_given place s) a
+numbers_has : (place a : ℕ) (s : Symbol) → slice_get (symbol_kinds (Some s)) a ≡ Some (defined_kind place) → Has (numbers_defined place s) a
 numbers_has zero a s k =
     let h : nat_lt a (length s.syn) ≡ true = sym (synthesized_at s.syn s.inh a) ∙ is_its_kind Synthesized (slice_get (symbol_kinds (Some s)) a) k in
     range_has 0 (length s.syn) a (omega arith) (omega (arith, ltb-true a (length s.syn) h))
@@ -132,7 +132,7 @@ numbers_has (suc i) a s k =
     let high = ltb-true (a - length s.syn) (length s.inh) w.1 in
     range_has (length s.syn) (length s.inh) a low (omega arith)
 
-has_numbers : (place a i : ℕ) (s : Symbol) → slice_get (numbers_given place s) i ≡ Some a → is_kind (defined_kind place) (slice_get (symbol_kinds (Some s)) a) ≡ true
+has_numbers : (place a i : ℕ) (s : Symbol) → slice_get (numbers_defined place s) i ≡ Some a → is_kind (defined_kind place) (slice_get (symbol_kinds (Some s)) a) ≡ true
 has_numbers zero a i s e = let w = has_range 0 (length s.syn) i a e in synthesized_at s.syn s.inh a ∙ lt-ltb a (length s.syn) (omega (arith, w.1))
 has_numbers (suc n) a i s e =
     let w = has_range (length s.syn) (length s.inh) i a e in
@@ -141,10 +141,10 @@ has_numbers (suc n) a i s e =
     let high = lt-ltb (a - length s.syn) (length s.inh) lt in
     inherited_at s.syn s.inh a ∙ rw (low, high) refl
 
-given_has : (ss : List Symbol) (q : RawProduction) (place : ℕ) (x : Item) (a : ℕ) → slice_get (placed ss q) place ≡ Some x → slice_get (item_kinds (declared ss) (Some x)) a ≡ Some (defined_kind place) → Has (given_at ss place x) a
+given_has : (ss : List Symbol) (q : RawProduction) (place : ℕ) (x : Item) (a : ℕ) → slice_get (placed ss q) place ≡ Some x → slice_get (item_kinds (declared ss) (Some x)) a ≡ Some (defined_kind place) → Has (defined_at ss place x) a
 given_has ss q place (item.Symbol s) a e k = go (slice_get ss s) k
   where
-    go : (o : Option Symbol) → slice_get (symbol_kinds o) a ≡ Some (defined_kind place) → Has (elim o [ Some x ↦ numbers_given place x | None ↦ [] ]) a
+    go : (o : Option Symbol) → slice_get (symbol_kinds o) a ≡ Some (defined_kind place) → Has (elim o [ Some x ↦ numbers_defined place x | None ↦ [] ]) a
     go None k = absurd (cc)
     go (Some y) k = numbers_has place a y k
 given_has ss q zero (item.Terminal t) a e k = absurd (cc)
@@ -152,10 +152,10 @@ given_has ss q (suc i) (item.Terminal (Class c)) zero e k = absurd (cc)
 given_has ss q (suc i) (item.Terminal (Class c)) (suc a) e k = absurd (cc)
 given_has ss q (suc i) (item.Terminal (Literal l)) a e k = absurd (cc)
 
-has_given : (ss : List Symbol) (place i : ℕ) (x : Item) (a : ℕ) → slice_get (given_at ss place x) i ≡ Some a → is_kind (defined_kind place) (slice_get (item_kinds (declared ss) (Some x)) a) ≡ true
+has_given : (ss : List Symbol) (place i : ℕ) (x : Item) (a : ℕ) → slice_get (defined_at ss place x) i ≡ Some a → is_kind (defined_kind place) (slice_get (item_kinds (declared ss) (Some x)) a) ≡ true
 has_given ss place i (item.Symbol s) a e = go (slice_get ss s) e
   where
-    go : (o : Option Symbol) → slice_get (elim o [ Some x ↦ numbers_given place x | None ↦ [] ]) i ≡ Some a → is_kind (defined_kind place) (slice_get (symbol_kinds o) a) ≡ true
+    go : (o : Option Symbol) → slice_get (elim o [ Some x ↦ numbers_defined place x | None ↦ [] ]) i ≡ Some a → is_kind (defined_kind place) (slice_get (symbol_kinds o) a) ≡ true
     go None e = absurd (cc)
     go (Some y) e = has_numbers place a i y e
 has_given ss place i (item.Terminal t) a e = absurd (cc)
@@ -176,7 +176,7 @@ all_ruled raw p q h o k =
         let there : 0 + o.place ≡ o.place = omega arith in
         let here : first_wrong (missing_at ss ts p o.place x) ≡ None = rw there at (along_each (missing_at ss ts p) 0 items h o.place x e) in
         let has = given_has ss q o.place x o.attr e kind in
-        let right = map_each (missing_check ts p o.place) (given_at ss o.place x) here has.0 o.attr has.1 in
+        let right = map_each (missing_check ts p o.place) (defined_at ss o.place x) here has.0 o.attr has.1 in
         elim (among_from ss items o q.rules [] right) [
           | inl none ↦ absurd (cc)
           | inr w ↦ (rule_of ss items w.1, (w.0, at_mapped (rule_of ss items) q.rules w.0 w.1 w.2), w.3)
@@ -191,9 +191,9 @@ ruled_all raw p q all =
     let ss = symbols raw in
     let items = placed ss q in
     let ts = targets_of ss items q.rules in
-    each_along (missing_at ss ts p) 0 items (λ place x e. each_map (missing_check ts p (0 + place)) (given_at ss (0 + place) x) (λ i a f. place_right place x e i a f))
+    each_along (missing_at ss ts p) 0 items (λ place x e. each_map (missing_check ts p (0 + place)) (defined_at ss (0 + place) x) (λ i a f. place_right place x e i a f))
   where
-    place_right : (place : ℕ) (x : Item) → slice_get (placed (symbols raw) q) place ≡ Some x → (i a : ℕ) → slice_get (given_at (symbols raw) (0 + place) x) i ≡ Some a
+    place_right : (place : ℕ) (x : Item) → slice_get (placed (symbols raw) q) place ≡ Some x → (i a : ℕ) → slice_get (defined_at (symbols raw) (0 + place) x) i ≡ Some a
         → list_any (same_target (record { place = 0 + place; attr = a })) (targets_of (symbols raw) (placed (symbols raw) q) q.rules) ≡ true
     place_right place x e i a f =
         let ss = symbols raw in
@@ -236,27 +236,27 @@ single_rules raw q h =
     (differ_apart key q.rules (mapped_differ (rule_of (symbols raw) (placed (symbols raw) q)) (λ (r : Rule). r.target) q.rules h)) (λ i x e. refl)
 
 -- the rules define each target
-pub targets_given : (raw : RawGrammar) (q : RawProduction) → first_wrong (not_given_in (symbols raw) q) ≡ None → Each (λ r. HasKind (numbered raw) (produces raw q) r.target (defined_kind r.target.place)) (produces raw q).rules
+pub targets_given : (raw : RawGrammar) (q : RawProduction) → first_wrong (not_defined_in (symbols raw) q) ≡ None → Each (λ r. HasKind (numbered raw) (produces raw q) r.target (defined_kind r.target.place)) (produces raw q).rules
 targets_given raw q h = each_mapped (rule_of (symbols raw) (placed (symbols raw) q)) (λ r. HasKind (numbered raw) (produces raw q) r.target (defined_kind r.target.place)) q.rules (λ i r e.
     let t = target_of (symbols raw) (placed (symbols raw) q) r.target in
-    kind_has raw q t (defined_kind t.place) (map_each (given_check (symbols raw) (placed (symbols raw) q)) q.rules h i r e))
+    kind_has raw q t (defined_kind t.place) (map_each (defined_check (symbols raw) (placed (symbols raw) q)) q.rules h i r e))
 
-pub given_targets : (raw : RawGrammar) (q : RawProduction) → Each (λ r. HasKind (numbered raw) (produces raw q) r.target (defined_kind r.target.place)) (produces raw q).rules → first_wrong (not_given_in (symbols raw) q) ≡ None
-given_targets raw q h = each_map (given_check (symbols raw) (placed (symbols raw) q)) q.rules (λ i r e.
+pub given_targets : (raw : RawGrammar) (q : RawProduction) → Each (λ r. HasKind (numbered raw) (produces raw q) r.target (defined_kind r.target.place)) (produces raw q).rules → first_wrong (not_defined_in (symbols raw) q) ≡ None
+given_targets raw q h = each_map (defined_check (symbols raw) (placed (symbols raw) q)) q.rules (λ i r e.
     let t = target_of (symbols raw) (placed (symbols raw) q) r.target in
     has_its_kind raw q t (defined_kind t.place) (mapped_each (rule_of (symbols raw) (placed (symbols raw) q)) (λ r. HasKind (numbered raw) (produces raw q) r.target (defined_kind r.target.place)) q.rules h i r e))
 
 -- the rules use each argument
-pub arguments_found : (raw : RawGrammar) (q : RawProduction) → first_wrong (not_found_in (symbols raw) q) ≡ None → IsNormal (numbered raw) (produces raw q)
+pub arguments_found : (raw : RawGrammar) (q : RawProduction) → first_wrong (not_normal_in (symbols raw) q) ≡ None → IsNormal (numbered raw) (produces raw q)
 arguments_found raw q h = each_mapped (rule_of (symbols raw) (placed (symbols raw) q)) (λ r. Each (λ o. HasKind (numbered raw) (produces raw q) o (used_kind o.place)) r.args) q.rules (λ i r e.
     each_mapped (target_of (symbols raw) (placed (symbols raw) q)) (λ o. HasKind (numbered raw) (produces raw q) o (used_kind o.place)) r.expr.1 (λ j o f.
     let t = target_of (symbols raw) (placed (symbols raw) q) o in
-    kind_has raw q t (used_kind t.place) (map_each (found_check (symbols raw) (placed (symbols raw) q)) r.expr.1
-    (flat_each (λ (s : RawRule). map (found_check (symbols raw) (placed (symbols raw) q)) s.expr.1) q.rules h i r e) j o f)))
+    kind_has raw q t (used_kind t.place) (map_each (used_check (symbols raw) (placed (symbols raw) q)) r.expr.1
+    (flat_each (λ (s : RawRule). map (used_check (symbols raw) (placed (symbols raw) q)) s.expr.1) q.rules h i r e) j o f)))
 
-pub found_arguments : (raw : RawGrammar) (q : RawProduction) → IsNormal (numbered raw) (produces raw q) → first_wrong (not_found_in (symbols raw) q) ≡ None
-found_arguments raw q h = each_flat (λ (s : RawRule). map (found_check (symbols raw) (placed (symbols raw) q)) s.expr.1) q.rules (λ i r e.
-    each_map (found_check (symbols raw) (placed (symbols raw) q)) r.expr.1 (λ j o f.
+pub found_arguments : (raw : RawGrammar) (q : RawProduction) → IsNormal (numbered raw) (produces raw q) → first_wrong (not_normal_in (symbols raw) q) ≡ None
+found_arguments raw q h = each_flat (λ (s : RawRule). map (used_check (symbols raw) (placed (symbols raw) q)) s.expr.1) q.rules (λ i r e.
+    each_map (used_check (symbols raw) (placed (symbols raw) q)) r.expr.1 (λ j o f.
     let t = target_of (symbols raw) (placed (symbols raw) q) o in
     has_its_kind raw q t (used_kind t.place)
     (mapped_each (target_of (symbols raw) (placed (symbols raw) q)) (λ o. HasKind (numbered raw) (produces raw q) o (used_kind o.place)) r.expr.1

@@ -9,7 +9,7 @@ use Rattle.ag_grammar.specs.declared.raw.RawItem.TheVariants as raw_item
 use Rattle.ag_grammar.specs.declared.raw.RawProduction.{RawProduction}
 use Rattle.normalform.specs.faults.Faults.{IsReadableItem}
 use Rattle.normalform.specs.faults.Readable.{is_separator, readable_item, readable_in}
-use Rattle.normalform.proofs.numbered.Accepting.{all_pass}
+use Rattle.normalform.proofs.numbered.Accepting.{all_hold}
 use Rattle.normalform.proofs.numbered.Small.{passes_at}
 
 both : (a b : Bool) → (a && b) ≡ true → (a ≡ true) × (b ≡ true)
@@ -57,11 +57,11 @@ item_readable (raw_item.Class c) h = ltb-true c 3 h
 
 readable_is : (x : RawItem) → IsReadableItem x → readable_item x ≡ true
 readable_is (raw_item.Name name) h = refl
-readable_is (raw_item.Literal text) h = rw (le-leb 1 (length text) h.0) (all_pass (λ b. not (is_separator b)) text (λ i b e. none_separator b (h.1 i b e)))
+readable_is (raw_item.Literal text) h = rw (le-leb 1 (length text) h.0) (all_hold (λ b. not (is_separator b)) text (λ i b e. none_separator b (h.1 i b e)))
 readable_is (raw_item.Class c) h = lt-ltb c 3 h
 
 pub readable_decides : (qs : List RawProduction) → (list_all readable_in qs ≡ true) ↔ Each (λ q. Each IsReadableItem q.items) qs
 readable_decides qs = (
   λ h p q e i x f. item_readable x (passes_at readable_item q.items i x (passes_at readable_in qs p q h e) f),
-  λ h. all_pass readable_in qs (λ p q e. all_pass readable_item q.items (λ i x f. readable_is x (h p q e i x f))),
+  λ h. all_hold readable_in qs (λ p q e. all_hold readable_item q.items (λ i x f. readable_is x (h p q e i x f))),
 )

@@ -8,9 +8,9 @@ use Rattle.normalform.specs.declared.fault.NormalFault.{NormalFault}
 use Rattle.ag_grammar.specs.declared.raw.Named.{Named}
 use Rattle.ag_grammar.specs.declared.grammar.Symbol.{Symbol}
 use Rattle.ag_grammar.specs.declared.raw.RawProduction.{RawProduction}
-use Rattle.normalform.specs.declared.faults.reference_checks.RuleCheck.TheVariants as question
+use Rattle.normalform.specs.declared.faults.reference_checks.RuleCheck.TheVariants as rule_check
 use Rattle.normalform.specs.faults.ReferenceChecks.{checks_of}
-use Rattle.normalform.specs.faults.Faults.{Check, first_wrong, checks_along, doubled_names, new_check, with_name, given_check, not_defined_here}
+use Rattle.normalform.specs.faults.Faults.{Check, first_wrong, checks_along, doubled_names, new_check, with_name, defined_check, not_defined_here}
 use Rattle.normalform.specs.numbers.Numbers.{placed}
 
 map_or : {X Y : Type 0} (f : X → Y) (a b : Option X) → option_map f (option_or a b) ≡ option_or (option_map f a) (option_map f b)
@@ -119,6 +119,6 @@ each_alone f [] = refl
 each_alone f (x ∷ xs) = ap (λ ys. f x ∷ ys) (each_alone f xs)
 
 -- the checks of targets
-pub defined_checks : (ss : List Symbol) (qs : List RawProduction) → checks_of question.Given ss qs ≡ not_defined_here ss qs
+pub defined_checks : (ss : List Symbol) (qs : List RawProduction) → checks_of rule_check.Defined ss qs ≡ not_defined_here ss qs
 defined_checks ss [] = refl
-defined_checks ss (q ∷ qs) = ap (λ xs. xs ++ checks_of question.Given ss qs) (each_alone (given_check ss (placed ss q)) q.rules) ∙ ap (λ ys. map (given_check ss (placed ss q)) q.rules ++ ys) (defined_checks ss qs)
+defined_checks ss (q ∷ qs) = ap (λ xs. xs ++ checks_of rule_check.Defined ss qs) (each_alone (defined_check ss (placed ss q)) q.rules) ∙ ap (λ ys. map (defined_check ss (placed ss q)) q.rules ++ ys) (defined_checks ss qs)

@@ -11,7 +11,7 @@ use Rattle.ag_grammar.specs.declared.grammar.Item.TheVariants as item
 use Rattle.ag_grammar.specs.declared.grammar.Production.{Production}
 use Rattle.ag_grammar.specs.declared.grammar.Symbol.{Symbol}
 use Rattle.ag_grammar.specs.declared.grammar.Terminal.TheVariants.{Literal, Class}
-use Rattle.ag_grammar.specs.grammars.Accepted.{IsAccepted, IsNamed, IsNamedItem, IsInUse, IsStart, IsComplete, IsNormal, IsWithinGrammarLimits, IsSeparator, out_name, max_symbols, max_attributes, max_productions, max_items, max_stored, max_literals, max_literal_bytes}
+use Rattle.ag_grammar.specs.grammars.Accepted.{IsAccepted, IsNamed, IsNamedItem, IsInUse, IsStart, IsComplete, IsNormal, IsWithinGrammarLimits, IsSeparator, out_name, max_symbols, max_attributes, max_productions, max_items, max_children, max_literals, max_literal_bytes}
 use Rattle.ag_grammar.specs.grammars.AttributeGrammar.{attribute_names, stored_items}
 use Rattle.ag_grammar.specs.expressions.Trees.{is_below}
 use Rattle.ag_grammar.specs.declared.raw.RawGrammar.{RawGrammar}
@@ -21,7 +21,7 @@ use Rattle.ag_grammar.specs.declared.raw.RawProduction.{RawProduction}
 use Rattle.normalform.specs.declared.fault.LimitKind.TheVariants as limit
 use Rattle.normalform.specs.declared.fault.NormalFault.{NormalFault}
 use Rattle.normalform.specs.declared.fault.NormalFault.TheVariants as fault
-use Rattle.normalform.specs.faults.Faults.{first_wrong, unknown_in, item_checks, unknown_checks, doubled_checks, is_start, start_checks, missing_in, missing_checks, doubled_in, doubled_rules, not_given_in, not_defined_here, not_found_in, not_found, few_attributes, few_items, few_stored, is_short, symbol_limits, production_limits, literal_limits, limit_checks, rule_kinds, naming_checks, HasNoFault, IsReadable, IsReadableItem, IsSmall, IsListed, AreListedIn, IsFirstFault, in_names, in_productive, in_reached, in_rules, IsTrueOf}
+use Rattle.normalform.specs.faults.Faults.{first_wrong, unknown_in, item_checks, unknown_checks, doubled_checks, is_start, start_checks, missing_in, missing_checks, doubled_in, doubled_rules, not_defined_in, not_defined_here, not_normal_in, not_normal, few_attributes, few_items, few_children, is_short, symbol_limits, production_limits, literal_limits, limit_checks, rule_kinds, naming_checks, HasNoFault, IsReadable, IsReadableItem, IsSmall, IsListed, AreListedIn, IsFirstFault, in_names, in_productive, in_reached, in_rules, IsTrueOf}
 use Rattle.normalform.specs.numbers.Numbers.{number_in, symbol_of, symbol_names, item_of, placed, is_class, classes_of, literals_of, numbered}
 use Rattle.normalform.proofs.found.Apart.{Apart}
 use Rattle.normalform.proofs.found.Founds.{naming_parts}
@@ -149,13 +149,13 @@ start_right raw start = right_is (fault.BadStart, is_start (slice_get (symbols r
 -- the kinds about rules
 abbrev Rules : RawGrammar → Type 0
 Rules raw = (first_wrong (missing_checks (symbols raw) raw.productions) ≡ None) × (first_wrong (doubled_rules (symbols raw) raw.productions) ≡ None)
-    × (first_wrong (not_defined_here (symbols raw) raw.productions) ≡ None) × (first_wrong (not_found (symbols raw) raw.productions) ≡ None)
+    × (first_wrong (not_defined_here (symbols raw) raw.productions) ≡ None) × (first_wrong (not_normal (symbols raw) raw.productions) ≡ None)
 
 rule_parts : (raw : RawGrammar) → first_wrong (rule_kinds (symbols raw) raw.productions) ≡ None → Rules raw
 rule_parts raw h =
     let ss = symbols raw in
     let qs = raw.productions in
-    let a = both_right ((missing_checks ss qs ++ doubled_rules ss qs) ++ not_defined_here ss qs) (not_found ss qs) h in
+    let a = both_right ((missing_checks ss qs ++ doubled_rules ss qs) ++ not_defined_here ss qs) (not_normal ss qs) h in
     let b = both_right (missing_checks ss qs ++ doubled_rules ss qs) (not_defined_here ss qs) a.0 in
     let c = both_right (missing_checks ss qs) (doubled_rules ss qs) b.0 in (c.0, c.1, b.1, a.1)
 
@@ -163,7 +163,7 @@ parts_rule : (raw : RawGrammar) → Rules raw → first_wrong (rule_kinds (symbo
 parts_rule raw r =
     let ss = symbols raw in
     let qs = raw.productions in
-    together ((missing_checks ss qs ++ doubled_rules ss qs) ++ not_defined_here ss qs) (not_found ss qs)
+    together ((missing_checks ss qs ++ doubled_rules ss qs) ++ not_defined_here ss qs) (not_normal ss qs)
     (together (missing_checks ss qs ++ doubled_rules ss qs) (not_defined_here ss qs) (together (missing_checks ss qs) (doubled_rules ss qs) r.0 r.1) r.2) r.3
 
 missing_at_index : (raw : RawGrammar) → first_wrong (missing_checks (symbols raw) raw.productions) ≡ None → (p : ℕ) (q : RawProduction) → slice_get raw.productions p ≡ Some q → first_wrong (missing_in (symbols raw) p q) ≡ None
@@ -173,25 +173,25 @@ complete : (raw : RawGrammar) → Rules raw → Each (IsComplete (numbered raw))
 complete raw r = each_mapped (produces raw) (IsComplete (numbered raw)) raw.productions (λ p q e. record {
   all = all_ruled raw p q (missing_at_index raw r.0 p q e);
   single = rules_single raw q (flat_each (doubled_in (symbols raw)) raw.productions r.1 p q e);
-  no_other = targets_given raw q (flat_each (not_given_in (symbols raw)) raw.productions r.2 p q e);
+  no_other = targets_given raw q (flat_each (not_defined_in (symbols raw)) raw.productions r.2 p q e);
 })
 
 normal : (raw : RawGrammar) → Rules raw → Each (IsNormal (numbered raw)) (numbered raw).productions
-normal raw r = each_mapped (produces raw) (IsNormal (numbered raw)) raw.productions (λ p q e. arguments_found raw q (flat_each (not_found_in (symbols raw)) raw.productions r.3 p q e))
+normal raw r = each_mapped (produces raw) (IsNormal (numbered raw)) raw.productions (λ p q e. arguments_found raw q (flat_each (not_normal_in (symbols raw)) raw.productions r.3 p q e))
 
 rules_of : (raw : RawGrammar) → Each (IsComplete (numbered raw)) (numbered raw).productions → Each (IsNormal (numbered raw)) (numbered raw).productions → Rules raw
 rules_of raw complete normal =
     let whole = mapped_each (produces raw) (IsComplete (numbered raw)) raw.productions complete in (
       each_along (missing_in (symbols raw)) 0 raw.productions (λ p q e. ruled_all raw (0 + p) q (whole p q e).all),
       each_flat (doubled_in (symbols raw)) raw.productions (λ p q e. single_rules raw q (whole p q e).single),
-      each_flat (not_given_in (symbols raw)) raw.productions (λ p q e. given_targets raw q (whole p q e).no_other),
-      each_flat (not_found_in (symbols raw)) raw.productions (λ p q e. found_arguments raw q (mapped_each (produces raw) (IsNormal (numbered raw)) raw.productions normal p q e)),
+      each_flat (not_defined_in (symbols raw)) raw.productions (λ p q e. given_targets raw q (whole p q e).no_other),
+      each_flat (not_normal_in (symbols raw)) raw.productions (λ p q e. found_arguments raw q (mapped_each (produces raw) (IsNormal (numbered raw)) raw.productions normal p q e)),
     )
 
 -- the limits
-pub all_pass : {X : Type 0} (test : X → Bool) (xs : List X) → ((i : ℕ) (x : X) → slice_get xs i ≡ Some x → test x ≡ true) → list_all test xs ≡ true
-all_pass test [] h = refl
-all_pass test (x ∷ xs) h = rw (h zero x refl) (all_pass test xs (λ i. h (suc i)))
+pub all_hold : {X : Type 0} (test : X → Bool) (xs : List X) → ((i : ℕ) (x : X) → slice_get xs i ≡ Some x → test x ≡ true) → list_all test xs ≡ true
+all_hold test [] h = refl
+all_hold test (x ∷ xs) h = rw (h zero x refl) (all_hold test xs (λ i. h (suc i)))
 
 stored_long : (raw : RawGrammar) (q : RawProduction) → length (placed (symbols raw) q) ≡ 1 + length (stored_items (produces raw q).items)
 stored_long raw q = let e = ap length (stored_same (symbol_names (symbols raw)) (literals raw) q.items) in omega (arith, e)
@@ -203,19 +203,19 @@ limits raw readable h =
     let a = both_right (symbol_limits ss ++ production_limits ss qs) (literal_limits (literals raw)) h in
     let b = both_right (symbol_limits ss) (production_limits ss qs) a.0 in
     let s = both_right ((fault.Limit limit.Symbols, nat_le (length ss) max_symbols) ∷ []) ((fault.Limit limit.Attributes, list_all few_attributes ss) ∷ []) b.0 in
-    let p = both_right ((fault.Limit limit.Productions, nat_le (length qs) max_productions) ∷ []) ((fault.Limit limit.Items, list_all few_items qs) ∷ (fault.Limit limit.Stored, list_all (few_stored ss) qs) ∷ []) b.1 in
-    let r = both_right ((fault.Limit limit.Items, list_all few_items qs) ∷ []) ((fault.Limit limit.Stored, list_all (few_stored ss) qs) ∷ []) p.1 in
+    let p = both_right ((fault.Limit limit.Productions, nat_le (length qs) max_productions) ∷ []) ((fault.Limit limit.Items, list_all few_items qs) ∷ (fault.Limit limit.Stored, list_all (few_children ss) qs) ∷ []) b.1 in
+    let r = both_right ((fault.Limit limit.Items, list_all few_items qs) ∷ []) ((fault.Limit limit.Stored, list_all (few_children ss) qs) ∷ []) p.1 in
     let l = both_right ((fault.Limit limit.LiteralLength, list_all is_short (literals raw)) ∷ []) ((fault.Limit limit.Literals, nat_le (length (literals raw)) max_literals) ∷ []) a.1 in
     let attributes = is_right (fault.Limit limit.Attributes, list_all few_attributes ss) s.1 in
     let items = is_right (fault.Limit limit.Items, list_all few_items qs) r.0 in
-    let stored = is_right (fault.Limit limit.Stored, list_all (few_stored ss) qs) r.1 in
+    let stored = is_right (fault.Limit limit.Stored, list_all (few_children ss) qs) r.1 in
     let short = is_right (fault.Limit limit.LiteralLength, list_all is_short (literals raw)) l.0 in
     record {
       symbol_count = leb-true (length ss) max_symbols (is_right (fault.Limit limit.Symbols, nat_le (length ss) max_symbols) s.0);
       attribute_count = λ i x e. leb-true (length (attribute_names x)) max_attributes (passes_at few_attributes ss i x attributes e);
       production_count = rw (length-map qs (produces raw)) (leb-true (length qs) max_productions (is_right (fault.Limit limit.Productions, nat_le (length qs) max_productions) p.0));
       item_count = each_mapped (produces raw) (λ q. length q.items ≤ max_items) qs (λ i q e. rw (length-map q.items (item_in raw)) (leb-true (length q.items) max_items (passes_at few_items qs i q items e)));
-      stored_count = each_mapped (produces raw) (λ q. length (stored_items q.items) ≤ max_stored) qs (λ i q e. omega (arith, stored_long raw q, leb-true (length (placed ss q)) (1 + max_stored) (passes_at (few_stored ss) qs i q stored e)));
+      stored_count = each_mapped (produces raw) (λ q. length (stored_items q.items) ≤ max_children) qs (λ i q e. omega (arith, stored_long raw q, leb-true (length (placed ss q)) (1 + max_children) (passes_at (few_children ss) qs i q stored e)));
       literal_count = leb-true (length (literals raw)) max_literals (is_right (fault.Limit limit.Literals, nat_le (length (literals raw)) max_literals) l.1);
       literal_bytes = λ i x e. ((literal_readable raw readable i x e).0, leb-true (length x) max_literal_bytes (passes_at is_short (literals raw) i x short e));
     }
@@ -228,14 +228,14 @@ within_limits raw within =
     (together (symbol_limits ss) (production_limits ss qs)
     (together ((fault.Limit limit.Symbols, nat_le (length ss) max_symbols) ∷ []) ((fault.Limit limit.Attributes, list_all few_attributes ss) ∷ [])
     (right_is (fault.Limit limit.Symbols, nat_le (length ss) max_symbols) (le-leb (length ss) max_symbols within.symbol_count))
-    (right_is (fault.Limit limit.Attributes, list_all few_attributes ss) (all_pass few_attributes ss (λ i x e. le-leb (length (attribute_names x)) max_attributes (within.attribute_count i x e)))))
-    (together ((fault.Limit limit.Productions, nat_le (length qs) max_productions) ∷ []) ((fault.Limit limit.Items, list_all few_items qs) ∷ (fault.Limit limit.Stored, list_all (few_stored ss) qs) ∷ [])
+    (right_is (fault.Limit limit.Attributes, list_all few_attributes ss) (all_hold few_attributes ss (λ i x e. le-leb (length (attribute_names x)) max_attributes (within.attribute_count i x e)))))
+    (together ((fault.Limit limit.Productions, nat_le (length qs) max_productions) ∷ []) ((fault.Limit limit.Items, list_all few_items qs) ∷ (fault.Limit limit.Stored, list_all (few_children ss) qs) ∷ [])
     (right_is (fault.Limit limit.Productions, nat_le (length qs) max_productions) (le-leb (length qs) max_productions (rw (← length-map qs (produces raw)) within.production_count)))
-    (together ((fault.Limit limit.Items, list_all few_items qs) ∷ []) ((fault.Limit limit.Stored, list_all (few_stored ss) qs) ∷ [])
-    (right_is (fault.Limit limit.Items, list_all few_items qs) (all_pass few_items qs (λ i q e. le-leb (length q.items) max_items (rw (← length-map q.items (item_in raw)) (mapped_each (produces raw) (λ r. length r.items ≤ max_items) qs within.item_count i q e)))))
-    (right_is (fault.Limit limit.Stored, list_all (few_stored ss) qs) (all_pass (few_stored ss) qs (λ i q e. le-leb (length (placed ss q)) (1 + max_stored) (omega (arith, stored_long raw q, mapped_each (produces raw) (λ r. length (stored_items r.items) ≤ max_stored) qs within.stored_count i q e))))))))
+    (together ((fault.Limit limit.Items, list_all few_items qs) ∷ []) ((fault.Limit limit.Stored, list_all (few_children ss) qs) ∷ [])
+    (right_is (fault.Limit limit.Items, list_all few_items qs) (all_hold few_items qs (λ i q e. le-leb (length q.items) max_items (rw (← length-map q.items (item_in raw)) (mapped_each (produces raw) (λ r. length r.items ≤ max_items) qs within.item_count i q e)))))
+    (right_is (fault.Limit limit.Stored, list_all (few_children ss) qs) (all_hold (few_children ss) qs (λ i q e. le-leb (length (placed ss q)) (1 + max_children) (omega (arith, stored_long raw q, mapped_each (produces raw) (λ r. length (stored_items r.items) ≤ max_children) qs within.stored_count i q e))))))))
     (together ((fault.Limit limit.LiteralLength, list_all is_short (literals raw)) ∷ []) ((fault.Limit limit.Literals, nat_le (length (literals raw)) max_literals) ∷ [])
-    (right_is (fault.Limit limit.LiteralLength, list_all is_short (literals raw)) (all_pass is_short (literals raw) (λ i x e. le-leb (length x) max_literal_bytes (within.literal_bytes i x e).1)))
+    (right_is (fault.Limit limit.LiteralLength, list_all is_short (literals raw)) (all_hold is_short (literals raw) (λ i x e. le-leb (length x) max_literal_bytes (within.literal_bytes i x e).1)))
     (right_is (fault.Limit limit.Literals, nat_le (length (literals raw)) max_literals) (le-leb (length (literals raw)) max_literals within.literal_count)))
 
 -- without a fault the numbered grammar is accepted

@@ -29,5 +29,5 @@ edge left t = record { from = left; to = t }
 abbrev pub edges_of : Clause → List Edge
 edges_of q = map (edge q.head) q.body
 
-abbrev pub reaching : List Clause → List Edge
-reaching clauses = flat_map edges_of clauses
+abbrev pub reach_edges : List Clause → List Edge
+reach_edges clauses = flat_map edges_of clauses

@@ -11,7 +11,7 @@ use Rattle.ag_grammar.specs.declared.grammar.Rule.{Rule}
 use Rattle.ag_grammar.specs.declared.grammar.Symbol.{Symbol}
 use Rattle.ag_grammar.specs.declared.grammar.Target.{Target}
 use Rattle.ag_grammar.specs.declared.syntax.occurrence.Occ.{Occ}
-use Rattle.ag_grammar.specs.grammars.Accepted.{IsAccepted, IsProductive, IsReached, IsSeparator, class_count, out_name, max_symbols, max_attributes, max_productions, max_items, max_stored, max_literals, max_literal_bytes}
+use Rattle.ag_grammar.specs.grammars.Accepted.{IsAccepted, IsProductive, IsReached, IsSeparator, class_count, out_name, max_symbols, max_attributes, max_productions, max_items, max_children, max_literals, max_literal_bytes}
 use Rattle.ag_grammar.specs.grammars.AttributeGrammar.{Kind, Synthesized, Inherited, attribute_names, item_kinds, defined_kind, used_kind}
 use Rattle.ag_grammar.specs.expressions.Trees.{is_below}
 use Rattle.ag_grammar.specs.declared.raw.Named.{Named}
@@ -100,17 +100,17 @@ pub record IsFirstNot (P : ℕ → Type 0) (ss : List RawSymbol) (name : Named) 
   pub wrong : P number → ⊥
   pub before : (t : ℕ) → t < number → P t
 
--- N6. The numbers of the attributes that rules define at a place: the synthesized ones on the left side, the
--- inherited ones on the right side.
-abbrev pub numbers_given : ℕ → Symbol → List ℕ
-numbers_given zero s = range_with_len 0 (length s.syn)
-numbers_given (suc i) s = range_with_len (length s.syn) (length s.inh)
+-- N6. The numbers of the attributes that the rules of a production define at a place: the synthesized ones at
+-- place 0, the inherited ones at a later place.
+abbrev pub numbers_defined : ℕ → Symbol → List ℕ
+numbers_defined zero s = range_with_len 0 (length s.syn)
+numbers_defined (suc i) s = range_with_len (length s.syn) (length s.inh)
 
-abbrev pub given_at : List Symbol → ℕ → Item → List ℕ
-given_at ss place (item.Symbol s) = elim (slice_get ss s) [ Some x ↦ numbers_given place x | None ↦ [] ]
-given_at ss place (item.Terminal a) = []
+abbrev pub defined_at : List Symbol → ℕ → Item → List ℕ
+defined_at ss place (item.Symbol s) = elim (slice_get ss s) [ Some x ↦ numbers_defined place x | None ↦ [] ]
+defined_at ss place (item.Terminal a) = []
 
--- targets are the same
+-- whether two targets are the same
 abbrev pub same_target : Target → Target → Bool
 same_target a b = nat_eq a.place b.place && nat_eq a.attr b.attr
 
@@ -131,17 +131,17 @@ missing_check ts p place a = (fault.RuleMissing p place a, list_any (same_target
 
 -- the checks of the attributes that rules define at a place of production p
 abbrev pub missing_at : List Symbol → List Target → ℕ → ℕ → Item → List Check
-missing_at ss ts p place x = map (missing_check ts p place) (given_at ss place x)
+missing_at ss ts p place x = map (missing_check ts p place) (defined_at ss place x)
 
--- the index after that of an element
-abbrev pub after : {X : Type 0} → ℕ → X → ℕ
-after n x = n + 1
+-- the next index; the element at this one does not matter
+abbrev pub next_index : {X : Type 0} → ℕ → X → ℕ
+next_index n x = n + 1
 
 abbrev pub missing_in : List Symbol → ℕ → RawProduction → List Check
-missing_in ss p q = checks_along (missing_at ss (targets_of ss (placed ss q) q.rules) p) after 0 (placed ss q)
+missing_in ss p q = checks_along (missing_at ss (targets_of ss (placed ss q) q.rules) p) next_index 0 (placed ss q)
 
 abbrev pub missing_checks : List Symbol → List RawProduction → List Check
-missing_checks ss qs = checks_along (missing_in ss) after 0 qs
+missing_checks ss qs = checks_along (missing_in ss) next_index 0 qs
 
 -- N7. The check of a rule's target: it is not one of those of the earlier rules of the production.
 abbrev pub new_target : List Symbol → List Item → List Target → RawRule → List Check
@@ -153,7 +153,7 @@ doubled_in ss q = checks_along (new_target ss (placed ss q)) (with_rule ss (plac
 abbrev pub doubled_rules : List Symbol → List RawProduction → List Check
 doubled_rules ss qs = flat_map (doubled_in ss) qs
 
--- an attribute exists and is of the kind
+-- whether an attribute, by its kind if it exists, is of this kind
 abbrev pub is_kind : Kind → Option Kind → Bool
 is_kind k None = false
 is_kind Synthesized (Some Synthesized) = true
@@ -164,25 +164,25 @@ is_kind Inherited (Some Inherited) = true
 abbrev pub has_kind : List Symbol → List Item → Target → Kind → Bool
 has_kind ss items t k = is_kind k (slice_get (item_kinds (declared ss) (slice_get items t.place)) t.attr)
 
--- N8. The check of a rule's target: the rules of the production define it.
-abbrev pub given_check : List Symbol → List Item → RawRule → Check
-given_check ss items r = let t = target_of ss items r.target in (fault.NotDefinedHere r.target.at, has_kind ss items t (defined_kind t.place))
+-- N8. The check of a rule's target: the rules of the production define attributes of its kind at its place.
+abbrev pub defined_check : List Symbol → List Item → RawRule → Check
+defined_check ss items r = let t = target_of ss items r.target in (fault.NotDefinedHere r.target.at, has_kind ss items t (defined_kind t.place))
 
-abbrev pub not_given_in : List Symbol → RawProduction → List Check
-not_given_in ss q = map (given_check ss (placed ss q)) q.rules
+abbrev pub not_defined_in : List Symbol → RawProduction → List Check
+not_defined_in ss q = map (defined_check ss (placed ss q)) q.rules
 
 abbrev pub not_defined_here : List Symbol → List RawProduction → List Check
-not_defined_here ss qs = flat_map (not_given_in ss) qs
+not_defined_here ss qs = flat_map (not_defined_in ss) qs
 
--- N9. The check of an occurrence: the rules of the production use it.
-abbrev pub found_check : List Symbol → List Item → Occ → Check
-found_check ss items o = let t = target_of ss items o in (fault.NotNormal o.at, has_kind ss items t (used_kind t.place))
+-- N9. The check of an occurrence: the rules of the production may use attributes of its kind at its place.
+abbrev pub used_check : List Symbol → List Item → Occ → Check
+used_check ss items o = let t = target_of ss items o in (fault.NotNormal o.at, has_kind ss items t (used_kind t.place))
 
-abbrev pub not_found_in : List Symbol → RawProduction → List Check
-not_found_in ss q = flat_map (λ r. map (found_check ss (placed ss q)) r.expr.1) q.rules
+abbrev pub not_normal_in : List Symbol → RawProduction → List Check
+not_normal_in ss q = flat_map (λ r. map (used_check ss (placed ss q)) r.expr.1) q.rules
 
-abbrev pub not_found : List Symbol → List RawProduction → List Check
-not_found ss qs = flat_map (not_found_in ss) qs
+abbrev pub not_normal : List Symbol → List RawProduction → List Check
+not_normal ss qs = flat_map (not_normal_in ss) qs
 
 -- N10. The limits of symbols, productions and different literals.
 abbrev pub few_attributes : Symbol → Bool
@@ -191,9 +191,9 @@ few_attributes s = nat_le (length (attribute_names s)) max_attributes
 abbrev pub few_items : RawProduction → Bool
 few_items q = nat_le (length q.items) max_items
 
--- the limit of the items with a place: the left side is one more
-abbrev pub few_stored : List Symbol → RawProduction → Bool
-few_stored ss q = nat_le (length (placed ss q)) (1 + max_stored)
+-- the limit of the places: those of the children, and one for the left side
+abbrev pub few_children : List Symbol → RawProduction → Bool
+few_children ss q = nat_le (length (placed ss q)) (1 + max_children)
 
 abbrev pub is_short : List ℕ → Bool
 is_short text = nat_le (length text) max_literal_bytes
@@ -205,7 +205,7 @@ abbrev pub production_limits : List Symbol → List RawProduction → List Check
 production_limits ss qs =
     (fault.Limit limit.Productions, nat_le (length qs) max_productions)
     ∷ (fault.Limit limit.Items, list_all few_items qs)
-    ∷ (fault.Limit limit.Stored, list_all (few_stored ss) qs)
+    ∷ (fault.Limit limit.Stored, list_all (few_children ss) qs)
     ∷ []
 
 abbrev pub literal_limits : List (List ℕ) → List Check
@@ -221,7 +221,7 @@ naming_checks raw = let ss = map symbol_of raw.symbols in
 
 -- the checks of the kinds about rules
 abbrev pub rule_kinds : List Symbol → List RawProduction → List Check
-rule_kinds ss qs = missing_checks ss qs ++ doubled_rules ss qs ++ not_defined_here ss qs ++ not_found ss qs
+rule_kinds ss qs = missing_checks ss qs ++ doubled_rules ss qs ++ not_defined_here ss qs ++ not_normal ss qs
 
 -- the checks of N6 to N10
 abbrev pub further_checks : RawGrammar → List Check
@@ -275,6 +275,6 @@ pub record IsSmall (ss : List Symbol) (literals : List (List ℕ)) : Type 0 wher
 abbrev pub IsNameAt : List RawSymbol → ℕ → Named → Type 0
 IsNameAt ss number name = (s : RawSymbol) × (slice_get ss number ≡ Some s) × (s.name ≡ name)
 
--- a fault is justified
+-- a fault that `check` may return: it is the first one and the numbered grammar is not accepted, or it is `NoMemory`
 abbrev pub IsTrueOf : RawGrammar → NormalFault → Type 0
 IsTrueOf raw f = (f ≡ fault.NoMemory) ⊎ (IsFirstFault raw f × (IsAccepted (numbered raw) → ⊥))

@@ -9,19 +9,19 @@ use Rattle.ag_grammar.specs.declared.raw.RawRule.{RawRule}
 use Rattle.ag_grammar.specs.grammars.AttributeGrammar.{defined_kind}
 use Rattle.normalform.specs.declared.fault.NormalFault.TheVariants as fault
 use Rattle.normalform.specs.declared.faults.reference_checks.RuleCheck.{RuleCheck}
-use Rattle.normalform.specs.declared.faults.reference_checks.RuleCheck.TheVariants as question
-use Rattle.normalform.specs.faults.Faults.{Check, occurrence_check, rule_checks, given_check, found_check, has_kind}
+use Rattle.normalform.specs.declared.faults.reference_checks.RuleCheck.TheVariants as rule_check
+use Rattle.normalform.specs.faults.Faults.{Check, occurrence_check, rule_checks, defined_check, used_check, has_kind}
 use Rattle.normalform.specs.numbers.Numbers.{placed, target_of}
 
 abbrev pub check_of_occurrence : RuleCheck → List Symbol → List Item → Occ → Check
-check_of_occurrence question.Known ss items o = occurrence_check ss items o
-check_of_occurrence question.Given ss items o = let t = target_of ss items o in (fault.NotDefinedHere o.at, has_kind ss items t (defined_kind t.place))
-check_of_occurrence question.Found ss items o = found_check ss items o
+check_of_occurrence rule_check.Known ss items o = occurrence_check ss items o
+check_of_occurrence rule_check.Defined ss items o = let t = target_of ss items o in (fault.NotDefinedHere o.at, has_kind ss items t (defined_kind t.place))
+check_of_occurrence rule_check.Used ss items o = used_check ss items o
 
 abbrev pub checks_of_rule : RuleCheck → List Symbol → List Item → RawRule → List Check
-checks_of_rule question.Known ss items r = rule_checks ss items r
-checks_of_rule question.Given ss items r = given_check ss items r ∷ []
-checks_of_rule question.Found ss items r = map (found_check ss items) r.expr.1
+checks_of_rule rule_check.Known ss items r = rule_checks ss items r
+checks_of_rule rule_check.Defined ss items r = defined_check ss items r ∷ []
+checks_of_rule rule_check.Used ss items r = map (used_check ss items) r.expr.1
 
 abbrev pub checks_of_production : RuleCheck → List Symbol → RawProduction → List Check
 checks_of_production x ss q = flat_map (checks_of_rule x ss (placed ss q)) q.rules

@@ -1,4 +1,5 @@
-//! The clauses by which symbols are productive, and the edges by which they are reached.
+//! The clauses by which symbols are productive, and the edges by which they are reached. A clause
+//! says that its head follows if all numbers of its body do.
 ghost use Rattle.std.specs.Prelude.{◌≡◌, ◌++◌, IfOk, OnOk};
 ghost use Rattle.normalform.specs.faults.Clauses as spec;
 ghost use Rattle.normalform.specs.faults.Clauses.{body_of, edges_of};
@@ -10,7 +11,7 @@ use ag_value::{Items, NoMemory};
 use closure::{Clause, Edge};
 use std::alloc::Global;
 
-/// Returns the symbols on a right side.
+/// Returns the numbers of the symbols on a right side.
 fn body_of(
     alloc: Global,
     declared: &Declared<'_>,
@@ -27,7 +28,8 @@ fn body_of(
     Ok(Items::from_vec(body))
 }
 
-/// Returns the clause of a production: its left side follows if each symbol of the right side does.
+/// Returns the clause of a production: its left side is productive if each symbol of the right side
+/// is.
 fn clause_of(
     alloc: Global,
     declared: &Declared<'_>,
@@ -70,8 +72,8 @@ fn push_edges(edges: &mut Vec<Edge>, clause: &Clause) -> Result<(), NoMemory>
 }
 
 /// Returns the edges by which symbols are reached: from each head to each number of its body.
-pub fn reaching(alloc: Global, clauses: &[Clause]) -> Result<Vec<Edge>, NoMemory>
-    ensures { IfOk result (λ edges. edges.items ≡ spec.reaching clauses.now) }
+pub fn reach_edges(alloc: Global, clauses: &[Clause]) -> Result<Vec<Edge>, NoMemory>
+    ensures { IfOk result (λ edges. edges.items ≡ spec.reach_edges clauses.now) }
 {
     let mut edges = Vec::new(alloc);
     for clause in clauses {

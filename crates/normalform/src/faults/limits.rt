@@ -2,7 +2,7 @@
 ghost use Rattle.std.specs.Prelude.{◌≡◌, ◌++◌, ◌+◌, ◌≤◌, nat_le, length, fold, map, IfOk, OnOk};
 ghost use Rattle.std.specs.List.{list_all};
 ghost use Rattle.normalform.specs.faults.Faults.{first_wrong, limit_checks, few_attributes, few_items};
-ghost use Rattle.normalform.specs.faults.Faults.{few_stored, is_short, symbol_limits};
+ghost use Rattle.normalform.specs.faults.Faults.{few_children, is_short, symbol_limits};
 ghost use Rattle.normalform.specs.faults.Faults.{production_limits, literal_limits};
 ghost use Rattle.normalform.specs.numbers.Numbers as spec;
 ghost use Rattle.normalform.specs.numbers.Numbers.{symbol_of, with_item};
@@ -12,7 +12,7 @@ use crate::faults::placed::places_of;
 use crate::numbers::declared::Declared;
 use crate::numbers::names::Names;
 use ag_grammar::limits::{
-    MAX_ATTRIBUTES, MAX_ITEMS, MAX_LITERAL_BYTES, MAX_LITERALS, MAX_PRODUCTIONS, MAX_STORED,
+    MAX_ATTRIBUTES, MAX_ITEMS, MAX_LITERAL_BYTES, MAX_LITERALS, MAX_PRODUCTIONS, MAX_CHILDREN,
     MAX_SYMBOLS,
 };
 use ag_grammar::{RawItem, RawProduction, RawSymbol};
@@ -31,7 +31,8 @@ fn list_literals<'t>(texts: &mut Names<'t>, items: &'t [RawItem]) -> Result<(), 
     Ok(())
 }
 
-/// Returns the literals of productions, each once, in the order of first appearance.
+/// Returns the literals of productions, each once, in the order of first appearance. Fails with
+/// `NoMemory` if memory is refused.
 pub fn literals_of<'t>(
     alloc: Global,
     productions: &'t [RawProduction],
@@ -80,28 +81,28 @@ fn all_have_few_items(productions: &[RawProduction]) -> bool
         .all(|production| has_few_items(production))
 }
 
-/// Returns whether a right side has at most `MAX_STORED` symbols and classes.
-fn has_few_stored(
+/// Returns whether a right side has at most `MAX_CHILDREN` symbols and classes.
+fn has_few_children(
     alloc: Global,
     declared: &Declared<'_>,
     production: &RawProduction,
 ) -> Result<bool, NoMemory>
-    ensures { IfOk result (λ b. b ≡ few_stored declared.now production.now) }
+    ensures { IfOk result (λ b. b ≡ few_children declared.now production.now) }
 {
     let items = places_of(alloc, declared, production)?;
-    Ok(items.len() <= 1 + MAX_STORED)
+    Ok(items.len() <= 1 + MAX_CHILDREN)
 }
 
-/// Returns whether each right side has at most `MAX_STORED` symbols and classes.
-fn all_have_few_stored(
+/// Returns whether each right side has at most `MAX_CHILDREN` symbols and classes.
+fn all_have_few_children(
     alloc: Global,
     declared: &Declared<'_>,
     productions: &[RawProduction],
 ) -> Result<bool, NoMemory>
-    ensures { IfOk result (λ b. b ≡ list_all (few_stored declared.now) productions.now) }
+    ensures { IfOk result (λ b. b ≡ list_all (few_children declared.now) productions.now) }
 {
     for production in productions {
-        if !has_few_stored(alloc, declared, production)? {
+        if !has_few_children(alloc, declared, production)? {
             return Ok(false);
         }
     }
@@ -148,7 +149,7 @@ fn production_limit(
     if !all_have_few_items(productions) {
         return Ok(Some(NormalFault::Limit(LimitKind::Items)));
     }
-    if !all_have_few_stored(alloc, declared, productions)? {
+    if !all_have_few_children(alloc, declared, productions)? {
         return Ok(Some(NormalFault::Limit(LimitKind::Stored)));
     }
     Ok(None)
@@ -167,8 +168,9 @@ fn literal_limit(literals: &Names<'_>) -> Option<NormalFault>
     None
 }
 
-/// Returns the first limit that is exceeded (N10).
-pub fn exceeded(
+/// Returns N10 with the first limit that is exceeded, in the order of `LimitKind`; `None` if there
+/// is none. Fails with `NoMemory` if memory is refused.
+pub fn first_limit(
     alloc: Global,
     declared: &Declared<'_>,
     symbols: &[RawSymbol],

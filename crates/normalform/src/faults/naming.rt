@@ -1,4 +1,4 @@
-//! Names that are not declared, and names that are declared twice.
+//! The faults N1 and N2: names that are not declared, and names that are declared twice.
 ghost use Rattle.std.specs.Prelude.{◌≡◌, ◌++◌, ◌∷◌, [], fold, None, IfOk, OnOk, flat_map};
 ghost use Rattle.normalform.specs.faults.Faults as spec;
 ghost use Rattle.normalform.specs.faults.Faults.{first_wrong, name_check, item_checks, new_check};
@@ -14,7 +14,7 @@ use ag_grammar::{Named, RawItem, RawProduction, RawSymbol};
 use ag_value::NoMemory;
 use std::alloc::Global;
 
-/// Returns the fault of a symbol's name that is not declared.
+/// Returns N1 if a symbol's name is not declared.
 fn unknown_name(declared: &Declared<'_>, name: &Named) -> Option<NormalFault>
     ensures { result ≡ first_wrong (name_check (symbol_names declared.now) name.now ∷ []) }
 {
@@ -25,7 +25,7 @@ fn unknown_name(declared: &Declared<'_>, name: &Named) -> Option<NormalFault>
     }
 }
 
-/// Returns the fault of an item that is an undeclared symbol.
+/// Returns N1 if an item is an undeclared symbol.
 fn unknown_in_item(declared: &Declared<'_>, item: &RawItem) -> Option<NormalFault>
     ensures { result ≡ first_wrong (item_checks (symbol_names declared.now) item.now) }
 {
@@ -35,7 +35,7 @@ fn unknown_in_item(declared: &Declared<'_>, item: &RawItem) -> Option<NormalFaul
     }
 }
 
-/// Returns the first fault of a right side.
+/// Returns N1 for the first undeclared symbol of a right side.
 fn unknown_in_items(declared: &Declared<'_>, items: &[RawItem]) -> Option<NormalFault>
     ensures { result
         ≡ first_wrong (flat_map (item_checks (symbol_names declared.now)) items.now) }
@@ -48,7 +48,7 @@ fn unknown_in_items(declared: &Declared<'_>, items: &[RawItem]) -> Option<Normal
     None
 }
 
-/// Returns the first fault of a production.
+/// Returns the first fault N1 of a production.
 fn unknown_in_production(
     alloc: Global,
     declared: &Declared<'_>,
@@ -67,7 +67,7 @@ fn unknown_in_production(
 
 /// Returns the first fault N1: an undeclared symbol of a production, or an occurrence whose place
 /// or attribute does not exist.
-pub fn unknown_checks(
+pub fn first_unknown(
     alloc: Global,
     declared: &Declared<'_>,
     productions: &[RawProduction],
@@ -82,7 +82,7 @@ pub fn unknown_checks(
     Ok(None)
 }
 
-/// Returns the fault of a name that was seen before, and marks it as seen.
+/// Returns N2 if a name was seen before, and marks it as seen.
 fn doubled_name<'t>(seen: &mut Names<'t>, name: &'t Named) -> Result<Option<NormalFault>, NoMemory>
     ensures fault { IfOk result (λ f. f ≡ first_wrong (new_check seen.old name.now)) }
     ensures seen { OnOk result (seen.new ≡ with_text seen.old name.now.name) }
@@ -94,7 +94,8 @@ fn doubled_name<'t>(seen: &mut Names<'t>, name: &'t Named) -> Result<Option<Norm
     }
 }
 
-/// Returns the first fault of names that are declared one after the other.
+/// Returns N2 for the first of these names that was seen before or is among the earlier ones; marks
+/// the names up to it as seen.
 fn doubled_names<'t>(
     seen: &mut Names<'t>,
     names: &'t [Named],
@@ -110,7 +111,7 @@ fn doubled_names<'t>(
     Ok(None)
 }
 
-/// Returns the fault of the first attribute that is declared again in its symbol.
+/// Returns N2 for the first attribute that is declared again in its symbol.
 fn doubled_attributes(alloc: Global, symbol: &RawSymbol) -> Result<Option<NormalFault>, NoMemory>
     ensures { IfOk result (λ f. f
         ≡ first_wrong (spec.doubled_names [] (symbol.now.syn ++ symbol.now.inh))) }
@@ -122,7 +123,7 @@ fn doubled_attributes(alloc: Global, symbol: &RawSymbol) -> Result<Option<Normal
     doubled_names(&mut seen, symbol.inh.as_slice())
 }
 
-/// Returns the first fault of a symbol.
+/// Returns the first fault N2 of a symbol, and marks its name as seen.
 fn doubled_in_symbol<'t>(
     alloc: Global,
     seen: &mut Names<'t>,
@@ -139,7 +140,7 @@ fn doubled_in_symbol<'t>(
 
 /// Returns the first fault N2: a symbol that is declared again, or an attribute that is declared
 /// again in its symbol.
-pub fn doubled_checks<'t>(
+pub fn first_doubled<'t>(
     alloc: Global,
     symbols: &'t [RawSymbol],
 ) -> Result<Option<NormalFault>, NoMemory>

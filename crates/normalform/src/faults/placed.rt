@@ -1,4 +1,6 @@
-//! The items at the places of a production. Numbers are not yet known to be small.
+//! The items at the places of a production: place 0 is the left side, and each symbol and class of
+//! the right side has the next place; a literal has none. Numbers are not yet known to have 16
+//! bits.
 ghost use Rattle.std.specs.Prelude.{◌≡◌, ◌++◌, ◌∷◌, [], map, IfOk, OnOk};
 ghost use Rattle.normalform.specs.numbers.Numbers.{stored_of, symbol_names};
 ghost use Rattle.normalform.specs.numbers.Numbers.{placed};
@@ -35,7 +37,8 @@ fn place_item(
     Ok(())
 }
 
-/// Returns the items at the places of a production, from the left side on.
+/// Returns the items at the places of a production, from the left side on. Fails with `NoMemory` if
+/// memory is refused.
 pub fn places_of(
     alloc: Global,
     declared: &Declared<'_>,

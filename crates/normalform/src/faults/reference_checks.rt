@@ -11,15 +11,16 @@ use ag_grammar::{Occ, RawProduction, RawRule, occurrences};
 use ag_value::NoMemory;
 use std::alloc::Global;
 
-/// A check of the attributes that rules name.
+/// A check of the attributes that the rules of a production name. The target of a rule is the
+/// attribute that it defines; its arguments are the attributes that its expression uses.
 #[derive(Clone, Copy, Debug, PartialEq, Eq)]
 pub enum RuleCheck {
-    /// Targets and arguments exist.
+    /// N1: targets and arguments exist.
     Known,
-    /// Targets are attributes that the rules of their production define.
-    Given,
-    /// Arguments are attributes that the rules of their production use.
-    Found,
+    /// N8: targets are synthesized at place 0, or inherited at a later place.
+    Defined,
+    /// N9: arguments are inherited at place 0, or synthesized at a later place.
+    Used,
 }
 
 /// Returns the fault, unless `holds`.
@@ -31,101 +32,103 @@ fn fault_unless(holds: bool, fault: NormalFault) -> Option<NormalFault>
 
 /// Returns the fault of an occurrence, if there is one.
 fn fault_of(
-    question: RuleCheck,
+    rule_check: RuleCheck,
     declared: &Declared<'_>,
     items: &[PlacedItem],
     occurrence: &Occ,
 ) -> Option<NormalFault>
-    ensures { result ≡ first_wrong (check_of_occurrence question declared.now (map item_placed items.now)
+    ensures { result ≡ first_wrong (check_of_occurrence rule_check declared.now (map item_placed items.now)
         occurrence.now ∷ []) }
 {
     let at = occurrence.at;
-    match question {
+    match rule_check {
         RuleCheck::Known => fault_unless(
             declared.has_attribute(items, occurrence),
             NormalFault::UnknownName(at),
         ),
-        RuleCheck::Given => fault_unless(
-            declared.is_given(items, occurrence),
+        RuleCheck::Defined => fault_unless(
+            declared.is_defined_here(items, occurrence),
             NormalFault::NotDefinedHere(at),
         ),
-        RuleCheck::Found => fault_unless(
-            declared.is_found(items, occurrence),
+        RuleCheck::Used => fault_unless(
+            declared.is_used_here(items, occurrence),
             NormalFault::NotNormal(at),
         ),
     }
 }
 
-/// Returns the first fault of occurrences.
+/// Returns the first fault of occurrences, if there is one.
 fn first_among(
-    question: RuleCheck,
+    rule_check: RuleCheck,
     declared: &Declared<'_>,
     items: &[PlacedItem],
     occurrences: &[Occ],
 ) -> Option<NormalFault>
-    ensures { result ≡ first_wrong (map (check_of_occurrence question declared.now
+    ensures { result ≡ first_wrong (map (check_of_occurrence rule_check declared.now
         (map item_placed items.now)) occurrences.now) }
 {
     for occurrence in occurrences {
-        if let Some(fault) = fault_of(question, declared, items, occurrence) {
+        if let Some(fault) = fault_of(rule_check, declared, items, occurrence) {
             return Some(fault);
         }
     }
     None
 }
 
-/// Returns the first fault of a rule: of its target, and then of its arguments.
+/// Returns the first fault of a rule, if there is one: of its target, and then of its arguments.
 fn first_in_rule(
-    question: RuleCheck,
+    rule_check: RuleCheck,
     declared: &Declared<'_>,
     items: &[PlacedItem],
     rule: &RawRule,
 ) -> Option<NormalFault>
-    ensures { result ≡ first_wrong (checks_of_rule question declared.now (map item_placed items.now)
+    ensures { result ≡ first_wrong (checks_of_rule rule_check declared.now (map item_placed items.now)
         rule.now) }
 {
-    match question {
+    match rule_check {
         RuleCheck::Known => {
-            if let Some(fault) = fault_of(question, declared, items, &rule.target) {
+            if let Some(fault) = fault_of(rule_check, declared, items, &rule.target) {
                 return Some(fault);
             }
-            first_among(question, declared, items, occurrences(&rule.expr))
+            first_among(rule_check, declared, items, occurrences(&rule.expr))
         }
-        RuleCheck::Given => fault_of(question, declared, items, &rule.target),
-        RuleCheck::Found => first_among(question, declared, items, occurrences(&rule.expr)),
+        RuleCheck::Defined => fault_of(rule_check, declared, items, &rule.target),
+        RuleCheck::Used => first_among(rule_check, declared, items, occurrences(&rule.expr)),
     }
 }
 
-/// Returns the first fault of the rules of a production.
+/// Returns the first fault of the rules of a production, if there is one. Fails with `NoMemory` if
+/// memory is refused.
 pub fn first_in_production(
     alloc: Global,
-    question: RuleCheck,
+    rule_check: RuleCheck,
     declared: &Declared<'_>,
     production: &RawProduction,
 ) -> Result<Option<NormalFault>, NoMemory>
     ensures { IfOk result (λ f. f
-        ≡ first_wrong (checks_of_production question declared.now production.now)) }
+        ≡ first_wrong (checks_of_production rule_check declared.now production.now)) }
 {
     let items = places_of(alloc, declared, production)?;
     for rule in production.rules.as_slice() {
-        if let Some(fault) = first_in_rule(question, declared, items.as_slice(), rule) {
+        if let Some(fault) = first_in_rule(rule_check, declared, items.as_slice(), rule) {
             return Ok(Some(fault));
         }
     }
     Ok(None)
 }
 
-/// Returns the first fault of the rules of productions.
+/// Returns the first fault of the rules of productions, if there is one. Fails with `NoMemory` if
+/// memory is refused.
 pub fn first_in_productions(
     alloc: Global,
-    question: RuleCheck,
+    rule_check: RuleCheck,
     declared: &Declared<'_>,
     productions: &[RawProduction],
 ) -> Result<Option<NormalFault>, NoMemory>
-    ensures { IfOk result (λ f. f ≡ first_wrong (checks_of question declared.now productions.now)) }
+    ensures { IfOk result (λ f. f ≡ first_wrong (checks_of rule_check declared.now productions.now)) }
 {
     for production in productions {
-        if let Some(fault) = first_in_production(alloc, question, declared, production)? {
+        if let Some(fault) = first_in_production(alloc, rule_check, declared, production)? {
             return Ok(Some(fault));
         }
     }

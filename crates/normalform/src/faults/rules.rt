@@ -1,8 +1,9 @@
-//! Rules that are missing, duplicate or not allowed, and arguments that are not normal.
+//! The faults N6 to N9: rules that are missing or duplicate, targets that a production's rules do
+//! not define, and arguments that they may not use.
 ghost use Rattle.std.specs.Prelude.{◌≡◌, [], map, IfOk, OnOk, not};
 ghost use Rattle.std.specs.List.{list_any};
 ghost use Rattle.normalform.specs.faults.Faults as spec;
-ghost use Rattle.normalform.specs.faults.Faults.{first_wrong, checks_along, after, with_rule, new_target};
+ghost use Rattle.normalform.specs.faults.Faults.{first_wrong, checks_along, next_index, with_rule, new_target};
 ghost use Rattle.normalform.specs.faults.Faults.{same_target, doubled_in};
 ghost use Rattle.normalform.specs.numbers.Numbers.{target_of};
 ghost use Rattle.normalform.specs.faults.PlacedItem.{item_placed};
@@ -49,7 +50,8 @@ fn targets_of(
     Ok(targets)
 }
 
-/// Returns the fault of the first attribute without a rule at a place of a production.
+/// Returns the fault of the first attribute at a place of a production that needs a rule and has
+/// none.
 fn missing_at(
     declared: &Declared<'_>,
     targets: &Targets,
@@ -63,7 +65,7 @@ fn missing_at(
     let PlacedItem::Symbol(symbol) = item else {
         return None;
     };
-    let (first, end) = declared.given(place, symbol);
+    let (first, end) = declared.defined_here(place, symbol);
     for attr in first..end {
         if !targets.has(place, attr) {
             return Some(NormalFault::RuleMissing(production, place, attr));
@@ -72,7 +74,8 @@ fn missing_at(
     None
 }
 
-/// Returns the fault of the first attribute without a rule at the places of a production.
+/// Returns the fault of the first attribute at the places of a production that needs a rule and has
+/// none.
 fn missing_among(
     declared: &Declared<'_>,
     targets: &Targets,
@@ -80,7 +83,7 @@ fn missing_among(
     items: &[PlacedItem],
 ) -> Option<NormalFault>
     ensures { result ≡ first_wrong (checks_along (spec.missing_at declared.now targets.now
-        production) after 0 (map item_placed items.now)) }
+        production) next_index 0 (map item_placed items.now)) }
 {
     for place in 0..items.len() {
         if let Some(fault) = missing_at(declared, targets, production, place, items[place]) {
@@ -90,7 +93,7 @@ fn missing_among(
     None
 }
 
-/// Returns the fault of the first attribute without a rule in a production.
+/// Returns the fault of the first attribute in a production that needs a rule and has none.
 fn missing_in(
     alloc: Global,
     declared: &Declared<'_>,
@@ -112,7 +115,7 @@ fn missing_in(
 
 /// Returns the first fault N6: an attribute that needs a rule and has none, by production, then
 /// place, then attribute.
-pub fn missing_checks(
+pub fn first_missing(
     alloc: Global,
     declared: &Declared<'_>,
     productions: &[RawProduction],
@@ -167,7 +170,7 @@ fn doubled_among(
     Ok(None)
 }
 
-/// Returns the first duplicate target of a production.
+/// Returns the fault of the first rule of a production with the target of an earlier one.
 fn doubled_in_production(
     alloc: Global,
     declared: &Declared<'_>,
@@ -185,7 +188,7 @@ fn doubled_in_production(
 }
 
 /// Returns the first fault N7: a second rule for a target of a production.
-pub fn doubled_rules(
+pub fn first_doubled_rule(
     alloc: Global,
     declared: &Declared<'_>,
     productions: &[RawProduction],
@@ -203,24 +206,24 @@ pub fn doubled_rules(
 
 /// Returns the first fault N8: a target that is inherited at place 0, or synthesized at a later
 /// place.
-pub fn not_defined_here(
+pub fn first_not_defined(
     alloc: Global,
     declared: &Declared<'_>,
     productions: &[RawProduction],
 ) -> Result<Option<NormalFault>, NoMemory>
     ensures { IfOk result (λ f. f ≡ first_wrong (spec.not_defined_here declared.now productions.now)) }
 {
-    first_in_productions(alloc, RuleCheck::Given, declared, productions)
+    first_in_productions(alloc, RuleCheck::Defined, declared, productions)
 }
 
 /// Returns the first fault N9: an argument that is synthesized at place 0, or inherited at a later
 /// place.
-pub fn not_found(
+pub fn first_not_normal(
     alloc: Global,
     declared: &Declared<'_>,
     productions: &[RawProduction],
 ) -> Result<Option<NormalFault>, NoMemory>
-    ensures { IfOk result (λ f. f ≡ first_wrong (spec.not_found declared.now productions.now)) }
+    ensures { IfOk result (λ f. f ≡ first_wrong (spec.not_normal declared.now productions.now)) }
 {
-    first_in_productions(alloc, RuleCheck::Found, declared, productions)
+    first_in_productions(alloc, RuleCheck::Used, declared, productions)
 }

@@ -9,7 +9,8 @@ use indexmap::IndexSet;
 use std::alloc::Global;
 use std::marker::Model;
 
-/// Different targets. Contracts see the list of them, in the order in which they were added.
+/// Different targets: attributes at places of a production, each as its place and its number.
+/// Contracts see the list of them, in the order in which they were added.
 #[derive(Drop)]
 pub struct Targets {
     set: IndexSet<(usize, usize)>,

@@ -1,4 +1,5 @@
-//! The first number that does not follow from clauses.
+//! The first number that does not follow from clauses: of a symbol that is not productive or not
+//! reached.
 ghost use Rattle.std.specs.Prelude.{◌≡◌, ◌<◌, ℕ, true, length, All, None, IfOk, IfSome};
 ghost use Rattle.closure.specs.Following.{is_marked, Follows};
 ghost use Rattle.normalform.specs.faults.Underivable.{IsFirstUnmarked, IsFirstUnderivable};
@@ -21,7 +22,8 @@ fn first_false(marks: &[bool]) -> Option<usize>
     None
 }
 
-/// Returns the first number that does not follow from clauses and seeds.
+/// Returns the first number that does not follow from clauses and seeds, if there is one. Fails
+/// with `NoMemory` if memory is refused.
 pub fn first_underivable(
     alloc: Global,
     clauses: &Clauses,

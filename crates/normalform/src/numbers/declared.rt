@@ -12,7 +12,7 @@ ghost use Rattle.ag_grammar.specs.grammars.AttributeGrammar.{symbol_kinds, item_
 ghost use Rattle.ag_grammar.specs.grammars.AttributeGrammar.{defined_kind, used_kind};
 ghost use Rattle.ag_grammar.specs.grammars.Raw.{texts_of};
 ghost use Rattle.normalform.specs.faults.Faults as spec;
-ghost use Rattle.normalform.specs.faults.Faults.{has_kind, is_kind, given_at};
+ghost use Rattle.normalform.specs.faults.Faults.{has_kind, is_kind, defined_at};
 ghost use Rattle.normalform.specs.numbers.Numbers.{declared};
 ghost use Rattle.normalform.specs.numbers.Numbers.{number_in, symbol_of, symbol_names, names_at};
 ghost use Rattle.normalform.specs.numbers.Numbers.{target_of};
@@ -25,7 +25,7 @@ use ag_value::NoMemory;
 use std::alloc::Global;
 use std::marker::Model;
 
-/// Appends names.
+/// Appends the texts of declared names.
 fn push_names<'t>(names: &mut Names<'t>, added: &'t [Named]) -> Result<(), NoMemory>
     ensures { OnOk result (names.new ≡ names.old ++ texts_of added.now) }
 {
@@ -236,8 +236,9 @@ impl<'t> Declared<'t> {
         }
     }
 
-    /// Returns whether the rules of its production define an occurrence.
-    pub fn is_given(&self, items: &[PlacedItem], occurrence: &Occ) -> bool
+    /// Returns whether the rules of its production define an occurrence's attribute: it is
+    /// synthesized at place 0, or inherited at a later place.
+    pub fn is_defined_here(&self, items: &[PlacedItem], occurrence: &Occ) -> bool
         ensures { let t = target_of self.now (map item_placed items.now) occurrence.now in
             result ≡ has_kind self.now (map item_placed items.now) t (defined_kind t.place) }
     {
@@ -250,8 +251,9 @@ impl<'t> Declared<'t> {
         }
     }
 
-    /// Returns whether the rules of its production can use an occurrence.
-    pub fn is_found(&self, items: &[PlacedItem], occurrence: &Occ) -> bool
+    /// Returns whether the rules of its production may use an occurrence's attribute: it is
+    /// inherited at place 0, or synthesized at a later place.
+    pub fn is_used_here(&self, items: &[PlacedItem], occurrence: &Occ) -> bool
         ensures { let t = target_of self.now (map item_placed items.now) occurrence.now in
             result ≡ has_kind self.now (map item_placed items.now) t (used_kind t.place) }
     {
@@ -266,10 +268,10 @@ impl<'t> Declared<'t> {
 
     /// Returns the range of the numbers (the end is exclusive) of the attributes that the rules of
     /// a production define at the place of a symbol.
-    pub fn given(&self, place: usize, symbol: usize) -> (usize, usize)
+    pub fn defined_here(&self, place: usize, symbol: usize) -> (usize, usize)
         ensures ordered { result.0 ≤ result.1 }
         ensures numbers { range_with_len result.0 (result.1 - result.0)
-            ≡ given_at self.now place (Item.Symbol symbol) }
+            ≡ defined_at self.now place (Item.Symbol symbol) }
     {
         let Some(raw) = self.symbol(symbol) else {
             return (0, 0);

@@ -1,4 +1,5 @@
-//! Numbering a raw grammar within the limits.
+//! Numbering a raw grammar that is within the limits, so that numbers have 16 bits. The functions
+//! that allocate fail with `NoMemory` if memory is refused.
 ghost use Rattle.std.specs.Prelude.{◌≡◌, ◌<◌, ◌≤◌, length, map, filter, All, IfOk};
 ghost use Rattle.std.specs.List.{list_any};
 ghost use Rattle.ag_grammar.specs.grammars.Accepted.{max_symbols};
@@ -57,7 +58,7 @@ fn items_of(
     Ok(Items::from_vec(numbered))
 }
 
-/// Returns the attribute that an occurrence names.
+/// Returns the place and the number of the attribute that an occurrence names.
 fn target_of(
     declared: &Declared<'_>,
     literals: &Names<'_>,
@@ -73,7 +74,7 @@ fn target_of(
     }
 }
 
-/// Returns the attributes that occurrences name.
+/// Returns the places and the numbers of the attributes that occurrences name.
 fn targets_of(
     alloc: Global,
     declared: &Declared<'_>,
@@ -170,7 +171,7 @@ pub fn productions_of(
     Ok(Items::from_vec(numbered))
 }
 
-/// Returns the number of a symbol within the limits.
+/// Returns the number of the start symbol.
 pub fn start_of(declared: &Declared<'_>, name: &str) -> u16
     requires { length declared.now ≤ max_symbols }
     ensures { result ≡ spec.number_in (symbol_names declared.now) name.now }

@@ -88,7 +88,7 @@ last_pass rules m k h quiet = record {
   good = tt;
   finished = quiet;
   kept = λ s a p e. let bad : None ≡ Some p = e in let worse : ⊥ = cc in absurd worse;
-  given = λ s a p e f. let is = all_given rules m k h s a p f in (is.0, is.1, λ i. i);
+  gained = λ s a p e f. let is = all_given rules m k h s a p f in (is.0, is.1, λ i. i);
   left = λ s a gap e. each_attribute rules (λ s a. partial_of m s a ≡ None → IsStruckBy [] s a) (some_given (m 0) (k ∷ []) 0 k h.first refl) (some_given (m 1) (k ∷ k ∷ []) 0 k h.second refl) (some_given (m 1) (k ∷ k ∷ []) 1 k h.second refl) s a gap.0 e;
 }
 
@@ -130,7 +130,7 @@ first_right = record {
   good = right_good;
   finished = λ x gap is. all_struck x.symbol x.attr gap.0;
   kept = λ s a p e. cc;
-  given = λ s a p e f. let bad : None ≡ Some p = f in let worse : ⊥ = cc in absurd worse;
+  gained = λ s a p e f. let bad : None ≡ Some p = f in let worse : ⊥ = cc in absurd worse;
   left = λ s a gap e. all_struck s a gap.0;
 }
 

@@ -9,15 +9,15 @@ use Rattle.ag_grammar.specs.grammars.AttributeGrammar.{Grammar, Kind, symbol_kin
 use Rattle.passassign.specs.Dependencies.{AreDependencies}
 use Rattle.passassign.specs.Least.{partial_of, IsLeast}
 use Rattle.passassign.specs.Making.{IsMade, start}
-use Rattle.passassign.specs.PassesSoFar.{IsWith, IsProgress, open_count}
+use Rattle.passassign.specs.PassesSoFar.{IsAcceptedWith, IsProgress, open_count}
 use Rattle.ag_grammar.specs.grammars.Accepted.{max_passes}
-use Rattle.passassign.specs.Rows.{passes_of, AreFew}
-use Rattle.passassign.specs.Searching.{AreOf}
-use Rattle.passassign.specs.Tables.{slot_of, state_at, state_of, given, first_state, attribute_count, table_passes, IsFirstTable, IsTable, IsDeclared, AreRowsOfTable}
+use Rattle.passassign.specs.Rows.{passes_of, AreWithinMaxPasses}
+use Rattle.passassign.specs.Searching.{BelongTo}
+use Rattle.passassign.specs.Tables.{slot_of, state_at, state_of, pass_of_state, first_state, attribute_count, table_passes, IsFirstTable, IsTable, IsDeclared, AreRowsOfTable}
 use Rattle.passassign.specs.declared.assigning.PassesSoFar.{PassesSoFar}
 use Rattle.passassign.specs.declared.dependency.Dependency.{Dependency}
 use Rattle.passassign.specs.declared.table.State.{State}
-use Rattle.passassign.specs.declared.table.State.TheVariants.{Absent, Open, Given}
+use Rattle.passassign.specs.declared.table.State.TheVariants.{Absent, Open, Assigned}
 use Rattle.passassign.proofs.slots.Linked.{kinds_names, attribute_within, state_in, parts, target_is}
 use Rattle.passassign.proofs.making.Made.{made_before}
 use Rattle.passassign.proofs.making.Refusing.{open_step}
@@ -44,10 +44,10 @@ first_state_there n a there = go (nat_lt a n) refl
     go true e = ltb-true a n e
     go false e = absurd (there (ap (λ b. cond b Open Absent) e))
 
-first_state_none : (n a : ℕ) → given (first_state n a) ≡ None
+first_state_none : (n a : ℕ) → pass_of_state (first_state n a) ≡ None
 first_state_none n a = go (nat_lt a n)
   where
-    go : (b : Bool) → given (cond b Open Absent) ≡ None
+    go : (b : Bool) → pass_of_state (cond b Open Absent) ≡ None
     go true = refl
     go false = refl
 
@@ -70,8 +70,8 @@ module _ (symbols : List Symbol) (states : List State) (first : IsFirstTable sym
 
   pub first_none : (s a : ℕ) → table_passes states s a ≡ None
   first_none s a = elim (first_of s a) [
-    | inl e ↦ ap given e
-    | inr e ↦ ap given e.1 ∙ first_state_none (attribute_count (slice_get symbols s)) a
+    | inl e ↦ ap pass_of_state e
+    | inr e ↦ ap pass_of_state e.1 ∙ first_state_none (attribute_count (slice_get symbols s)) a
   ]
 
   pub first_is_table : (small : (s a : ℕ) → IsDeclared symbols s a → (a < 16) × (s < length symbols)) → IsTable symbols states
@@ -89,7 +89,7 @@ module _ (symbols : List Symbol) (states : List State) (first : IsFirstTable sym
     );
   }
 
-pub with_of : (symbols : List Symbol) (productions : List Production) (g : Grammar) (all : List Dependency) (states : List State) → IsWith symbols productions g → AreDependencies productions all → IsFirstTable symbols states → AreOf g all states
+pub with_of : (symbols : List Symbol) (productions : List Production) (g : Grammar) (all : List Dependency) (states : List State) → IsAcceptedWith symbols productions g → AreDependencies productions all → IsFirstTable symbols states → BelongTo g all states
 with_of symbols productions g all states w are first =
     let f : IsFirstTable g.symbols states = subst (λ symbols. IsFirstTable symbols states) (sym w.symbols_are) first in
     let of_g : AreDependencies g.productions all = subst (λ productions. AreDependencies productions all) (sym w.productions_are) are in
@@ -110,26 +110,26 @@ none_open : (states : List State) → open_count states ≡ 0 → (k : ℕ) → 
 none_open [] e k o = let bad : ⊥ = cc in bad
 none_open (Open ∷ states) e k o = omega (arith, open_step Open states, e)
 none_open (Absent ∷ states) e zero o = let bad : ⊥ = cc in bad
-none_open (Given p ∷ states) e zero o = let bad : ⊥ = cc in bad
+none_open (Assigned p ∷ states) e zero o = let bad : ⊥ = cc in bad
 none_open (Absent ∷ states) e (suc k) o = none_open states (omega (arith, open_step Absent states, e)) k o
-none_open (Given p ∷ states) e (suc k) o = none_open states (omega (arith, open_step (Given p) states, e)) k o
+none_open (Assigned p ∷ states) e (suc k) o = none_open states (omega (arith, open_step (Assigned p) states, e)) k o
 
-given_pass : (x : State) → (x ≡ Absent → ⊥) → (x ≡ Open → ⊥) → Some (unwrap_or (given x) 0) ≡ given x
+given_pass : (x : State) → (x ≡ Absent → ⊥) → (x ≡ Open → ⊥) → Some (unwrap_or (pass_of_state x) 0) ≡ pass_of_state x
 given_pass Absent there o = absurd (there refl)
 given_pass Open there o = absurd (o refl)
-given_pass (Given p) there o = refl
+given_pass (Assigned p) there o = refl
 
 -- the rows of a table without open attributes agree with the table
-module _ (g : Grammar) (all : List Dependency) (p : PassesSoFar) (symbols : List Symbol) (productions : List Production) (rows : List (List ℕ)) (w : IsWith symbols productions g) (progress : IsProgress g all p) (none : open_count p.states.items ≡ 0)
+module _ (g : Grammar) (all : List Dependency) (p : PassesSoFar) (symbols : List Symbol) (productions : List Production) (rows : List (List ℕ)) (w : IsAcceptedWith symbols productions g) (progress : IsProgress g all p) (none : open_count p.states.items ≡ 0)
     (rows_are : AreRowsOfTable symbols p.states.items rows) where
   are : AreRowsOfTable g.symbols p.states.items rows
   are = subst (λ symbols. AreRowsOfTable symbols p.states.items rows) (sym w.symbols_are) rows_are
 
-  none_there : (s a : ℕ) → attribute_count (slice_get g.symbols s) ≤ a → (x : State) → state_of p.states.items s a ≡ x → given x ≡ None
+  none_there : (s a : ℕ) → attribute_count (slice_get g.symbols s) ≤ a → (x : State) → state_of p.states.items s a ≡ x → pass_of_state x ≡ None
   none_there s a le Absent e = refl
   none_there s a le Open e = refl
-  none_there s a le (Given q) e =
-      let is = (progress.of.table.there s a).0 (λ f. let bad : Given q ≡ Absent = sym e ∙ f in cc) in
+  none_there s a le (Assigned q) e =
+      let is = (progress.of.table.there s a).0 (λ f. let bad : Assigned q ≡ Absent = sym e ∙ f in cc) in
       let l = declared_within g.symbols s a is in absurd (omega arith)
 
   pub is_table : (s a : ℕ) → partial_of (passes_of rows) s a ≡ table_passes p.states.items s a
@@ -138,12 +138,12 @@ module _ (g : Grammar) (all : List Dependency) (p : PassesSoFar) (symbols : List
         let d = declared_at g.symbols s a lt in
         let l = (attribute_within g s a w.accepted d).0 in
         let e = state_in p.states.items s a l in
-        are.passes s a lt ∙ given_pass (state_at p.states.items (slot_of s a)) (λ f. (progress.of.table.there s a).1 d (e ∙ f)) (none_open p.states.items none (slot_of s a)) ∙ ap given (sym e))
+        are.passes s a lt ∙ given_pass (state_at p.states.items (slot_of s a)) (λ f. (progress.of.table.there s a).1 d (e ∙ f)) (none_open p.states.items none (slot_of s a)) ∙ ap pass_of_state (sym e))
     | inr le ↦ slice_get_past (passes_of rows s) a (let n = are.len s in omega arith) ∙ sym (none_there s a le (state_of p.states.items s a) refl)
   ]
 
   pub least : IsLeast g (passes_of rows)
   least = whole_least g p.next (table_passes p.states.items) (passes_of rows) w.accepted.complete w.accepted.normal progress.made (λ s. are.len s ∙ sym (kinds_names (slice_get g.symbols s))) is_table
 
-  pub few : p.next ≤ max_passes + 1 → AreFew rows
+  pub few : p.next ≤ max_passes + 1 → AreWithinMaxPasses rows
   few next s a k e = let lt : k < p.next = made_before progress.made s a k (sym (is_table s a) ∙ e) in omega (arith, lt, next)

@@ -15,8 +15,8 @@ use Rattle.ag_grammar.specs.declared.direction.Direction.{Direction}
 use Rattle.ag_grammar.specs.declared.direction.Direction.TheVariants.{LeftToRight, RightToLeft}
 use Rattle.ag_grammar.specs.grammars.Passes.{direction_of, IsBefore, MayUse, IsLegalFor}
 use Rattle.passassign.specs.declared.stuck.Strike.{Strike}
-use Rattle.passassign.specs.Certificate.{IsStruckBy, IsOneOf, IsAhead, IsReason}
-use Rattle.passassign.specs.Least.{Partial, pass_at, GivesPass, IsAttribute, IsLegalPartial}
+use Rattle.passassign.specs.Certificate.{IsStruckBy, IsOneOf, IsSameOrLater, IsReason}
+use Rattle.passassign.specs.Least.{Partial, pass_at, HasPassIn, IsAttribute, IsLegalPartial}
 use Rattle.passassign.specs.Making.{IsOpen, IsPass, IsMade, start, passed}
 use Rattle.passassign.proofs.slots.Options.{some_none, one_pass, none_of}
 
@@ -25,7 +25,7 @@ in_order LeftToRight i j = cases_order i j
 in_order RightToLeft i j = elim (cases_order i j) [ inl e ↦ inl e | inr h ↦ elim h [ inl l ↦ inr (inr l) | inr l ↦ inr (inl l) ] ]
 
 -- an argument may be used unless it is of the target's pass at the target's own child or at a later one
-may_use : (k j i p : ℕ) → p ≤ k → (IsAhead (direction_of k) j i → p ≡ k → ⊥) → MayUse k j i p
+may_use : (k j i p : ℕ) → p ≤ k → (IsSameOrLater (direction_of k) j i → p ≡ k → ⊥) → MayUse k j i p
 may_use k zero i p le ahead = le
 may_use k (suc j) zero p le ahead = inl (refl, le)
 may_use k (suc j) (suc i) p le ahead = go (in_order (direction_of k) (suc i) (suc j))
@@ -58,7 +58,7 @@ module _ (g : Grammar) (complete : Each (IsComplete g) g.productions) (normal : 
     where
       go : (x : Option ℕ) → m s a ≡ x → p ≤ k
       go (Some j) f = let same : j ≡ p = one_pass (after s a) j p (pass.kept s a j f) e in let low : suc j ≤ k = below s a j f in omega arith
-      go None f = let same : p ≡ k = (pass.given s a p f e).1 in omega arith
+      go None f = let same : p ≡ k = (pass.gained s a p f e).1 in omega arith
 
   -- an attribute of pass k had no pass before
   new : (s a : ℕ) → after s a ≡ Some k → m s a ≡ None
@@ -75,7 +75,7 @@ module _ (g : Grammar) (complete : Each (IsComplete g) g.productions) (normal : 
 
   -- the argument of a rule of an attribute that gets pass k
   argument : (i : ℕ) (q : Production) → IsProduction g i q → (r : Rule) (o : Target) → IsRule q r → IsArgument r o → (s : ℕ) → item_at q r.target.place ≡ Some (item.Symbol s) → IsOpen g m s r.target.attr
-      → (IsStruckBy strikes s r.target.attr → ⊥) → HasKind g q o (used_kind o.place) → (p : ℕ) × GivesPass after q o p × MayUse k r.target.place o.place p
+      → (IsStruckBy strikes s r.target.attr → ⊥) → HasKind g q o (used_kind o.place) → (p : ℕ) × HasPassIn after q o p × MayUse k r.target.place o.place p
   argument i q get r o rule arg s target gap safe named = go (item_at q o.place) refl
     where
       free : IsReason (direction_of k) (IsOpen g m) strikes q r.target.place o → ⊥
@@ -86,7 +86,7 @@ module _ (g : Grammar) (complete : Each (IsComplete g) g.productions) (normal : 
       kind : (x : Option Item) → item_at q o.place ≡ x → slice_get (item_kinds g x) o.attr ≡ Some (used_kind o.place)
       kind x e = subst (λ y. slice_get (item_kinds g y) o.attr ≡ Some (used_kind o.place)) e named
 
-      of_symbol : (u : ℕ) → item_at q o.place ≡ Some (item.Symbol u) → (y : Option ℕ) → after u o.attr ≡ y → (p : ℕ) × GivesPass after q o p × MayUse k r.target.place o.place p
+      of_symbol : (u : ℕ) → item_at q o.place ≡ Some (item.Symbol u) → (y : Option ℕ) → after u o.attr ≡ y → (p : ℕ) × HasPassIn after q o p × MayUse k r.target.place o.place p
       of_symbol u e (Some p) f = (
         p,
         ap (λ y. pass_at after y o.attr) e ∙ f,
@@ -96,7 +96,7 @@ module _ (g : Grammar) (complete : Each (IsComplete g) g.productions) (normal : 
       of_symbol u e None f =
           absurd (free (inl (subst (λ y. IsOneOf (IsStruckBy strikes) y o.attr) (sym e) (pass.left u o.attr ((used_kind o.place, kind (Some (item.Symbol u)) e), old_none u o.attr f) f))))
 
-      go : (x : Option Item) → item_at q o.place ≡ x → (p : ℕ) × GivesPass after q o p × MayUse k r.target.place o.place p
+      go : (x : Option Item) → item_at q o.place ≡ x → (p : ℕ) × HasPassIn after q o p × MayUse k r.target.place o.place p
       go None e = let bad = kind None e in cc
       go (Some (item.Terminal (Literal l))) e = let bad = kind (Some (item.Terminal (Literal l))) e in cc
       go (Some (item.Terminal (Class c))) e = (
@@ -114,32 +114,32 @@ module _ (g : Grammar) (complete : Each (IsComplete g) g.productions) (normal : 
         where
           go : (x : Option ℕ) → m s a ≡ x → IsAttribute g s a
           go (Some j) f = legal.known s a j f
-          go None f = (pass.given s a p f e).0
+          go None f = (pass.gained s a p f e).0
 
       positive : (s a p : ℕ) → after s a ≡ Some p → 1 ≤ p
       positive s a p e = go (m s a) refl
         where
           go : (x : Option ℕ) → m s a ≡ x → 1 ≤ p
           go (Some j) f = let same : j ≡ p = one_pass (after s a) j p (pass.kept s a j f) e in let low : 1 ≤ j = legal.positive s a j f in omega arith
-          go None f = let same : p ≡ k = (pass.given s a p f e).1 in omega arith
+          go None f = let same : p ≡ k = (pass.gained s a p f e).1 in omega arith
 
-      allowed : (i : ℕ) (q : Production) → IsProduction g i q → IsLegalFor (GivesPass after) q
+      allowed : (i : ℕ) (q : Production) → IsProduction g i q → IsLegalFor (HasPassIn after) q
       allowed i q get r o p rule arg has = go (item_at q r.target.place) refl
         where
           has_at : (x : Option Item) → item_at q r.target.place ≡ x → pass_at after x r.target.attr ≡ Some p
           has_at x e = subst (λ y. pass_at after y r.target.attr ≡ Some p) e has
 
-          of_symbol : (s : ℕ) → item_at q r.target.place ≡ Some (item.Symbol s) → (y : Option ℕ) → m s r.target.attr ≡ y → (n : ℕ) × GivesPass after q o n × MayUse p r.target.place o.place n
+          of_symbol : (s : ℕ) → item_at q r.target.place ≡ Some (item.Symbol s) → (y : Option ℕ) → m s r.target.attr ≡ y → (n : ℕ) × HasPassIn after q o n × MayUse p r.target.place o.place n
           of_symbol s e (Some j) f =
               let same : j ≡ p = one_pass (after s r.target.attr) j p (pass.kept s r.target.attr j f) (has_at (Some (item.Symbol s)) e) in
               let old = legal.allowed i q get r o j rule arg (ap (λ y. pass_at m y r.target.attr) e ∙ f) in
               (old.0, pass_kept (item_at q o.place) o.attr old.0 old.1, subst (λ z. MayUse z r.target.place o.place old.0) same old.2)
           of_symbol s e None f =
-              let given = pass.given s r.target.attr p f (has_at (Some (item.Symbol s)) e) in
-              let made = argument i q get r o rule arg s e (given.0, f) given.2 (normal i q get rule.0 r rule.1 arg.0 o arg.1) in
-              (made.0, made.1, subst (λ z. MayUse z r.target.place o.place made.0) (sym given.1) made.2)
+              let gained = pass.gained s r.target.attr p f (has_at (Some (item.Symbol s)) e) in
+              let made = argument i q get r o rule arg s e (gained.0, f) gained.2 (normal i q get rule.0 r rule.1 arg.0 o arg.1) in
+              (made.0, made.1, subst (λ z. MayUse z r.target.place o.place made.0) (sym gained.1) made.2)
 
-          go : (x : Option Item) → item_at q r.target.place ≡ x → (n : ℕ) × GivesPass after q o n × MayUse p r.target.place o.place n
+          go : (x : Option Item) → item_at q r.target.place ≡ x → (n : ℕ) × HasPassIn after q o n × MayUse p r.target.place o.place n
           go None e = let bad = has_at None e in cc
           go (Some (item.Terminal (Literal l))) e = let bad = has_at (Some (item.Terminal (Literal l))) e in cc
           go (Some (item.Terminal (Class c))) e = absurd (no_token_target g q c r.target e ((complete i q get).no_other rule.0 r rule.1))
@@ -154,13 +154,13 @@ record Sound (g : Grammar) (k : ℕ) (m : Partial) : Type 0 where
 nothing_legal : (g : Grammar) → Each (IsComplete g) g.productions → (m : Partial) → ((s a : ℕ) → m s a ≡ None) → IsLegalPartial g m
 nothing_legal g complete m none = record { known = λ s a p e. some_none (m s a) p e (none s a); positive = λ s a p e. some_none (m s a) p e (none s a); allowed = allowed }
   where
-    allowed : (i : ℕ) (q : Production) → IsProduction g i q → IsLegalFor (GivesPass m) q
+    allowed : (i : ℕ) (q : Production) → IsProduction g i q → IsLegalFor (HasPassIn m) q
     allowed i q get r o p rule arg has = go (item_at q r.target.place) refl
       where
         has_at : (x : Option Item) → item_at q r.target.place ≡ x → pass_at m x r.target.attr ≡ Some p
         has_at x e = subst (λ y. pass_at m y r.target.attr ≡ Some p) e has
 
-        go : (x : Option Item) → item_at q r.target.place ≡ x → (n : ℕ) × GivesPass m q o n × MayUse p r.target.place o.place n
+        go : (x : Option Item) → item_at q r.target.place ≡ x → (n : ℕ) × HasPassIn m q o n × MayUse p r.target.place o.place n
         go None e = let bad = has_at None e in cc
         go (Some (item.Terminal (Literal l))) e = let bad = has_at (Some (item.Terminal (Literal l))) e in cc
         go (Some (item.Terminal (Class c))) e = absurd (no_token_target g q c r.target e ((complete i q get).no_other rule.0 r rule.1))

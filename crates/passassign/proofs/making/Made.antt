@@ -24,7 +24,7 @@ module _ (g : Grammar) (n : Partial) (legal : IsLegalPartial g n) where
     where
       go : (x : Option ℕ) → m s a ≡ x → ((i : ℕ) → m s a ≡ Some i → i ≤ p) → j ≤ p
       go (Some i) h least = let same : i ≡ j = one_pass (after s a) i j (pass.kept s a i h) f in let le : i ≤ p = least i h in omega arith
-      go None h least = let new : j ≡ k = (pass.given s a j h f).1 in let le : k ≤ p = not_before made s a p e h in omega arith
+      go None h least = let new : j ≡ k = (pass.gained s a j h f).1 in let le : k ≤ p = not_before made s a p e h in omega arith
 
 pub made_at_most : (g : Grammar) (k : ℕ) (m n : Partial) → IsMade g k m → IsLegalPartial g n → (s a p q : ℕ) → m s a ≡ Some p → n s a ≡ Some q → p ≤ q
 made_at_most g k m n made legal s a p q e f = not_above g n legal made s a q p f e
@@ -38,4 +38,4 @@ made_before (passed k m after strikes made pass) s a p e = go (m s a) refl (λ i
   where
     go : (x : Option ℕ) → m s a ≡ x → ((i : ℕ) → m s a ≡ Some i → i < k) → p < suc k
     go (Some i) f before = let same : i ≡ p = one_pass (after s a) i p (pass.kept s a i f) e in let lt : i < k = before i f in omega arith
-    go None f before = let new : p ≡ k = (pass.given s a p f e).1 in omega arith
+    go None f before = let new : p ≡ k = (pass.gained s a p f e).1 in omega arith

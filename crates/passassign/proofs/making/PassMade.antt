@@ -3,16 +3,16 @@ use Rattle.std.proofs.Common.{ℕ, suc, ◌≡◌, ◌<◌, ◌+◌, ◌↔◌, 
 use Rattle.std.proofs.lemmas.Bool.{lt-ltb, ltb-true, false≢true}
 use Rattle.ag_grammar.specs.grammars.AttributeGrammar.{Grammar}
 use Rattle.ag_grammar.specs.grammars.Passes.{direction_of, other}
-use Rattle.passassign.specs.Least.{IsOver}
-use Rattle.passassign.specs.Making.{IsOpen, IsMade, IsPass, AreMarks, given_by, passed}
-use Rattle.passassign.specs.PassesSoFar.{IsProgress, IsNext, AreOpenIn}
-use Rattle.passassign.specs.Searching.{AreOf, IsSearch, target_of}
-use Rattle.passassign.specs.Tables.{slot_of, state_at, state_of, given, after_pass, is_marked, table_passes}
+use Rattle.passassign.specs.Least.{AssignsOnlyAttributes}
+use Rattle.passassign.specs.Making.{IsOpen, IsMade, IsPass, AreMarks, pass_after, passed}
+use Rattle.passassign.specs.PassesSoFar.{IsProgress, IsNext, KeepPasses}
+use Rattle.passassign.specs.Searching.{BelongTo, IsSearch, target_of}
+use Rattle.passassign.specs.Tables.{slot_of, state_at, state_of, pass_of_state, after_pass, is_marked, table_passes}
 use Rattle.passassign.specs.declared.assigning.PassesSoFar.{PassesSoFar}
 use Rattle.passassign.specs.declared.dependency.Dependency.{Dependency}
 use Rattle.passassign.specs.declared.stuck.Strike.{Strike}
 use Rattle.passassign.specs.declared.table.State.{State}
-use Rattle.passassign.specs.declared.table.State.TheVariants.{Absent, Open, Given}
+use Rattle.passassign.specs.declared.table.State.TheVariants.{Absent, Open, Assigned}
 use Rattle.passassign.proofs.strikes.Following.{struck_at, at_struck, strikes_open}
 use Rattle.passassign.proofs.slots.Linked.{attribute_within, open_state}
 use Rattle.passassign.proofs.making.Marked.{pass_by_marks}
@@ -21,31 +21,31 @@ absent_after : (k : ℕ) (x : State) (b : Bool) → (after_pass k x b ≡ Absent
 absent_after k Absent b = ((λ e. refl), (λ e. refl))
 absent_after k Open true = ((λ e. e), (λ e. e))
 absent_after k Open false = ((λ e. absurd (let bad : ⊥ = cc in bad)), (λ e. absurd (let bad : ⊥ = cc in bad)))
-absent_after k (Given p) b = ((λ e. e), (λ e. e))
+absent_after k (Assigned p) b = ((λ e. e), (λ e. e))
 
-given_after : (k : ℕ) (x : State) (b : Bool) → (x ≡ Absent → ⊥) → given (after_pass k x b) ≡ given_by k (given x) b
+given_after : (k : ℕ) (x : State) (b : Bool) → (x ≡ Absent → ⊥) → pass_of_state (after_pass k x b) ≡ pass_after k (pass_of_state x) b
 given_after k Absent b there = absurd (there refl)
 given_after k Open true there = refl
 given_after k Open false there = refl
-given_after k (Given p) true there = refl
-given_after k (Given p) false there = refl
+given_after k (Assigned p) true there = refl
+given_after k (Assigned p) false there = refl
 
 open_after : (k : ℕ) (x : State) (b : Bool) → after_pass k x b ≡ Open → x ≡ Open
 open_after k Absent b e = e
 open_after k Open b e = refl
-open_after k (Given p) b e = e
+open_after k (Assigned p) b e = e
 
 -- only marked attributes are left open
 marked_after : (k : ℕ) (x : State) (b : Bool) → after_pass k x b ≡ Open → b ≡ true
 marked_after k Absent b e = absurd (let bad : ⊥ = cc in bad)
 marked_after k Open true e = refl
 marked_after k Open false e = absurd (let bad : ⊥ = cc in bad)
-marked_after k (Given p) b e = absurd (let bad : ⊥ = cc in bad)
+marked_after k (Assigned p) b e = absurd (let bad : ⊥ = cc in bad)
 
-given_there : (x : State) (p : ℕ) → given x ≡ Some p → x ≡ Absent → ⊥
-given_there x p e f = let bad : Some p ≡ None = sym e ∙ ap given f in cc
+given_there : (x : State) (p : ℕ) → pass_of_state x ≡ Some p → x ≡ Absent → ⊥
+given_there x p e f = let bad : Some p ≡ None = sym e ∙ ap pass_of_state f in cc
 
-pub over : (g : Grammar) (all : List Dependency) (states : List State) → AreOf g all states → IsOver g (table_passes states)
+pub over : (g : Grammar) (all : List Dependency) (states : List State) → BelongTo g all states → AssignsOnlyAttributes g (table_passes states)
 over g all states of s a p e = (of.table.there s a).0 (given_there (state_of states s a) p e)
 
 module _ (old new : List State) (marks : List Bool) (k : ℕ) (after : (i : ℕ) → state_at new i ≡ after_pass k (state_at old i) (is_marked marks i)) where
@@ -57,11 +57,11 @@ module _ (old new : List State) (marks : List Bool) (k : ℕ) (after : (i : ℕ)
       go true = after (slot_of s a)
       go false = refl
 
-  pub open_in : AreOpenIn new old
+  pub open_in : KeepPasses new old
   open_in i e = open_after k (state_at old i) (is_marked marks i) (sym (after i) ∙ e)
 
-  module _ (g : Grammar) (all : List Dependency) (of : AreOf g all old) (len : length new ≡ length old) (xs : List Strike) (s : IsSearch all (direction_of k) old xs marks) where
-    pub of_new : AreOf g all new
+  module _ (g : Grammar) (all : List Dependency) (of : BelongTo g all old) (len : length new ≡ length old) (xs : List Strike) (s : IsSearch all (direction_of k) old xs marks) where
+    pub of_new : BelongTo g all new
     of_new = record {
       accepted = of.accepted;
       dependencies = of.dependencies;
@@ -100,7 +100,7 @@ module _ (old new : List State) (marks : List Bool) (k : ℕ) (after : (i : ℕ)
         pass_by_marks g k (table_passes old) (table_passes new) xs (λ s a. nat_lt a 16 && is_marked marks (slot_of s a)) (over g all old of) (over g all new of_new) (s.good g of) (s.finished g of) are_marks
         (λ u a i.
         let lt = (attribute_within g u a of.accepted i).0 in
-        ap given (after_of u a) ∙ given_after k (state_of old u a) (is_marked marks (slot_of u a)) ((of.table.there u a).1 i) ∙ ap (given_by k (given (state_of old u a))) (sym (hit_in u a lt)))
+        ap pass_of_state (after_of u a) ∙ given_after k (state_of old u a) (is_marked marks (slot_of u a)) ((of.table.there u a).1 i) ∙ ap (pass_after k (pass_of_state (state_of old u a))) (sym (hit_in u a lt)))
 
 pub next_made : (g : Grammar) (all : List Dependency) (old new : PassesSoFar) (xs : List Strike) (marks : List Bool) → ((i : ℕ) → state_at new.states.items i ≡ after_pass old.next (state_at old.states.items i) (is_marked marks i)) → length new.states.items ≡ length old.states.items → new.next ≡ old.next + 1
     → new.direction ≡ other old.direction → IsSearch all old.direction old.states.items xs marks → IsProgress g all old → IsNext g all old new xs
@@ -109,7 +109,7 @@ next_made g all old new xs marks after len next turned s p = record { progress =
     found : IsSearch all (direction_of old.next) old.states.items xs marks
     found = subst (λ d. IsSearch all d old.states.items xs marks) p.turned s
 
-    now : AreOf g all new.states.items
+    now : BelongTo g all new.states.items
     now = of_new old.states.items new.states.items marks old.next after g all p.of len xs found
 
     pass : IsPass g old.next (table_passes old.states.items) (table_passes new.states.items) xs

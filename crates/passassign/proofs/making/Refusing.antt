@@ -10,14 +10,14 @@ use Rattle.ag_grammar.specs.grammars.Passes.{direction_of, other}
 use Rattle.passassign.specs.Answer.{IsInDeclaredOrder, IsRefused}
 use Rattle.passassign.specs.Certificate.{Members, IsCertificate, stuck_of}
 use Rattle.passassign.specs.Making.{IsOpen, IsPass, AreIdle}
-use Rattle.passassign.specs.PassesSoFar.{IsProgress, IsNext, AreOpenIn, open_count}
-use Rattle.passassign.specs.Tables.{slot_of, state_at, state_of, given, is_open, table_passes}
+use Rattle.passassign.specs.PassesSoFar.{IsProgress, IsNext, KeepPasses, open_count}
+use Rattle.passassign.specs.Tables.{slot_of, state_at, state_of, pass_of_state, is_open, table_passes}
 use Rattle.passassign.specs.declared.assigning.PassesSoFar.{PassesSoFar}
 use Rattle.passassign.specs.declared.dependency.Dependency.{Dependency}
 use Rattle.passassign.specs.declared.stuck.Strike.{Strike}
 use Rattle.passassign.specs.declared.stuck.Stuck.{Stuck}
 use Rattle.passassign.specs.declared.table.State.{State}
-use Rattle.passassign.specs.declared.table.State.TheVariants.{Absent, Open, Given}
+use Rattle.passassign.specs.declared.table.State.TheVariants.{Absent, Open, Assigned}
 use Rattle.passassign.proofs.slots.Linked.{open_state, open_there}
 use Rattle.passassign.proofs.making.Rest.{rest_certified, rest_stuck}
 use Rattle.passassign.proofs.making.Whole.{certified_refused, stuck_left}
@@ -43,22 +43,22 @@ open_step x xs = sum_by-cons (λ x. cond (is_open x) 1 0) x xs
 
 bit_le : (x y : State) → (y ≡ Open → x ≡ Open) → bit y ≤ bit x
 bit_le x Absent h = omega arith
-bit_le x (Given p) h = omega arith
+bit_le x (Assigned p) h = omega arith
 bit_le x Open h = let e : bit x ≡ 1 = bit_open x (h refl) in omega (arith, e)
 
 bit_same : (x y : State) → x ≡ Open → bit x ≤ bit y → y ≡ Open
 bit_same x Absent e le = let f : bit x ≡ 1 = bit_open x e in absurd (omega (arith, f, le))
-bit_same x (Given p) e le = let f : bit x ≡ 1 = bit_open x e in absurd (omega (arith, f, le))
+bit_same x (Assigned p) e le = let f : bit x ≡ 1 = bit_open x e in absurd (omega (arith, f, le))
 bit_same x Open e le = refl
 
-count_le : (xs ys : List State) → length ys ≡ length xs → AreOpenIn ys xs → open_count ys ≤ open_count xs
+count_le : (xs ys : List State) → length ys ≡ length xs → KeepPasses ys xs → open_count ys ≤ open_count xs
 count_le [] [] len h = omega arith
 count_le [] (y ∷ ys) len h = absurd (omega arith)
 count_le (x ∷ xs) [] len h = absurd (omega arith)
 count_le (x ∷ xs) (y ∷ ys) len h = let a = bit_le x y (h zero) in let b = count_le xs ys (omega arith) (λ k. h (suc k)) in omega (arith, open_step x xs, open_step y ys, a, b)
 
 -- if as many are left open, each that was open is
-same_open : (xs ys : List State) → length ys ≡ length xs → AreOpenIn ys xs → open_count xs ≤ open_count ys → AreOpenIn xs ys
+same_open : (xs ys : List State) → length ys ≡ length xs → KeepPasses ys xs → open_count xs ≤ open_count ys → KeepPasses xs ys
 same_open [] [] len h le k e = e
 same_open [] (y ∷ ys) len h le k e = absurd (omega arith)
 same_open (x ∷ xs) [] len h le k e = absurd (omega arith)
@@ -69,14 +69,14 @@ some_open : (xs : List State) → 0 < open_count xs → (k : ℕ) × (state_at x
 some_open [] lt = absurd (omega arith)
 some_open (Open ∷ xs) lt = (0, refl)
 some_open (Absent ∷ xs) lt = let o = some_open xs (omega (arith, open_step Absent xs, lt)) in (suc o.0, o.1)
-some_open (Given p ∷ xs) lt = let o = some_open xs (omega (arith, open_step (Given p) xs, lt)) in (suc o.0, o.1)
+some_open (Assigned p ∷ xs) lt = let o = some_open xs (omega (arith, open_step (Assigned p) xs, lt)) in (suc o.0, o.1)
 
 turned_twice : (d : Direction) → other (other d) ≡ d
 turned_twice LeftToRight = refl
 turned_twice RightToLeft = refl
 
-module _ (g : Grammar) (all : List Dependency) (old new last : PassesSoFar) (first second : List Strike) (one : IsNext g all old new first) (two : IsNext g all new last second) (before : IsProgress g all old) (next : new.next ≡ old.next + 1) (next_two : last.next ≡ new.next + 1) (len : length last.states.items ≡ length old.states.items) (kept : AreOpenIn last.states.items old.states.items) (most : open_count old.states.items ≤ open_count last.states.items) where
-  still : AreOpenIn old.states.items last.states.items
+module _ (g : Grammar) (all : List Dependency) (old new last : PassesSoFar) (first second : List Strike) (one : IsNext g all old new first) (two : IsNext g all new last second) (before : IsProgress g all old) (next : new.next ≡ old.next + 1) (next_two : last.next ≡ new.next + 1) (len : length last.states.items ≡ length old.states.items) (kept : KeepPasses last.states.items old.states.items) (most : open_count old.states.items ≤ open_count last.states.items) where
+  still : KeepPasses old.states.items last.states.items
   still = same_open old.states.items last.states.items len kept most
 
   -- an attribute without a pass has none after the two passes
@@ -84,10 +84,10 @@ module _ (g : Grammar) (all : List Dependency) (old new last : PassesSoFar) (fir
   none_given s a e = go (state_of last.states.items s a) refl
     where
       go : (x : State) → state_of last.states.items s a ≡ x → table_passes last.states.items s a ≡ None
-      go Absent f = ap given f
-      go Open f = ap given f
-      go (Given p) f =
-          let is = (two.progress.of.table.there s a).0 (λ h. let bad : Given p ≡ Absent = sym f ∙ h in cc) in
+      go Absent f = ap pass_of_state f
+      go Open f = ap pass_of_state f
+      go (Assigned p) f =
+          let is = (two.progress.of.table.there s a).0 (λ h. let bad : Assigned p ≡ Absent = sym f ∙ h in cc) in
           let o = open_state g all old.states.items before.of s a (is, e) in
           (open_there g all last.states.items two.progress.of s a o.0 (still (slot_of s a) o.1)).1
 

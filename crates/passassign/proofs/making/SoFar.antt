@@ -12,14 +12,14 @@ use Rattle.passassign.specs.declared.assigning.PassesSoFar.{PassesSoFar}
 use Rattle.passassign.specs.declared.dependency.Dependency.{Dependency}
 use Rattle.passassign.specs.declared.stuck.Strike.{Strike}
 use Rattle.passassign.specs.declared.table.State.{State}
-use Rattle.passassign.specs.declared.table.State.TheVariants.{Absent, Open, Given}
+use Rattle.passassign.specs.declared.table.State.TheVariants.{Absent, Open, Assigned}
 use Rattle.passassign.specs.Certificate.{IsStruckBy, StrikesExactly}
 use Rattle.passassign.specs.Least.{Partial, partial_of, IsAttribute}
 use Rattle.passassign.specs.Making.{IsOpen, IsPass, IsMade}
 use Rattle.passassign.specs.PassStrikes.{HasPassFrom, HasPassAfter, AreStrikesAt, AreStrikesOf, HasNoPassBelow, HasNoPassUpTo, AreStrikesSoFar, IsLastInUse}
 use Rattle.passassign.specs.PassesSoFar.{IsProgress, IsNext, open_count}
 use Rattle.passassign.specs.Rows.{passes_of}
-use Rattle.passassign.specs.Tables.{slot_of, state_at, state_of, given, table_passes}
+use Rattle.passassign.specs.Tables.{slot_of, state_at, state_of, pass_of_state, table_passes}
 use Rattle.passassign.proofs.slots.Linked.{open_there, state_in}
 use Rattle.passassign.proofs.slots.Lists.{get_push_cases}
 use Rattle.passassign.proofs.slots.Options.{one_pass, none_of}
@@ -33,14 +33,14 @@ module _ (g : Grammar) (k : ℕ) (m after : Partial) (strikes : List Strike) (ma
   below_more j le s a i = (i.0, λ p e. go p e (m s a) refl)
     where
       go : (p : ℕ) → after s a ≡ Some p → (x : Option ℕ) → m s a ≡ x → j ≤ p
-      go p e None f = let same : p ≡ k = (pass.given s a p f e).1 in omega arith
+      go p e None f = let same : p ≡ k = (pass.gained s a p f e).1 in omega arith
       go p e (Some b) f = let same : b ≡ p = one_pass (after s a) b p (pass.kept s a b f) e in let low : j ≤ b = i.1 b f in omega arith
 
   up_to_more : (j : ℕ) → j < k → (s a : ℕ) → HasNoPassUpTo g m j s a → HasNoPassUpTo g after j s a
   up_to_more j lt s a i = (i.0, λ p e. go p e (m s a) refl)
     where
       go : (p : ℕ) → after s a ≡ Some p → (x : Option ℕ) → m s a ≡ x → j < p
-      go p e None f = let same : p ≡ k = (pass.given s a p f e).1 in omega arith
+      go p e None f = let same : p ≡ k = (pass.gained s a p f e).1 in omega arith
       go p e (Some b) f = let same : b ≡ p = one_pass (after s a) b p (pass.kept s a b f) e in let low : j < b = i.1 b f in omega arith
 
   up_to_less : (j s a : ℕ) → HasNoPassUpTo g after j s a → HasNoPassUpTo g m j s a
@@ -48,7 +48,7 @@ module _ (g : Grammar) (k : ℕ) (m after : Partial) (strikes : List Strike) (ma
 
   -- a candidate has no pass before this one
   candidate : (s a : ℕ) → IsOpen g m s a → HasNoPassBelow g after k s a
-  candidate s a i = (i.0, λ p e. let same : p ≡ k = (pass.given s a p i.1 e).1 in omega arith)
+  candidate s a i = (i.0, λ p e. let same : p ≡ k = (pass.gained s a p i.1 e).1 in omega arith)
 
   none_before : (s a : ℕ) → HasNoPassUpTo g after k s a → m s a ≡ None
   none_before s a i = none_of (m s a) (λ p e. let lt : p < k = made_before made s a p e in let low : k < p = i.1 p (pass.kept s a p e) in omega arith)
@@ -57,12 +57,12 @@ module _ (g : Grammar) (k : ℕ) (m after : Partial) (strikes : List Strike) (ma
   left : (s a : ℕ) → IsStruckBy strikes s a → HasNoPassUpTo g after k s a
   left s a hit =
       let i = strikes_open g (direction_of k) (IsOpen g m) [] strikes pass.good s a hit in
-      (i.0, λ p e. absurd ((pass.given s a p i.1 e).2 hit))
+      (i.0, λ p e. absurd ((pass.gained s a p i.1 e).2 hit))
 
   struck : (s a : ℕ) → HasNoPassUpTo g after k s a → IsStruckBy strikes s a
   struck s a i =
       let none = none_before s a i in
-      pass.left s a (i.0, none) (none_of (after s a) (λ p e. let same : p ≡ k = (pass.given s a p none e).1 in let low : k < p = i.1 p e in omega arith))
+      pass.left s a (i.0, none) (none_of (after s a) (λ p e. let same : p ≡ k = (pass.gained s a p none e).1 in let low : k < p = i.1 p e in omega arith))
 
   new_list : StrikesExactly g (direction_of k) (HasNoPassBelow g after k) (HasNoPassUpTo g after k) strikes
   new_list = record { good = are_good_more g (direction_of k) (IsOpen g m) (HasNoPassBelow g after k) candidate [] strikes pass.good; all = struck; only = left }
@@ -100,9 +100,9 @@ so_far_next g all old new strikes lists more before next one e h =
 first_given : (x y : State) (m n : ℕ) → bit y + n < bit x + m → ((x ≡ Open) × (y ≡ Open → ⊥)) ⊎ (n < m)
 first_given Open Open m n lt = inr (omega arith)
 first_given Open Absent m n lt = inl (refl, λ o. cc)
-first_given Open (Given p) m n lt = inl (refl, λ o. cc)
+first_given Open (Assigned p) m n lt = inl (refl, λ o. cc)
 first_given Absent y m n lt = inr (omega arith)
-first_given (Given p) y m n lt = inr (omega arith)
+first_given (Assigned p) y m n lt = inr (omega arith)
 
 -- an attribute is open before a pass and not after it
 some_given : (xs ys : List State) → length ys ≡ length xs → open_count ys < open_count xs → (i : ℕ) × (state_at xs i ≡ Open) × (state_at ys i ≡ Open → ⊥)
@@ -119,9 +119,9 @@ module _ (g : Grammar) (all : List Dependency) (old new : PassesSoFar) (strikes 
   given_here : (s a : ℕ) → IsOpen g (table_passes old.states.items) s a → a < 16 → (state_at new.states.items (slot_of s a) ≡ Open → ⊥) → (x : State) → state_of new.states.items s a ≡ x → IsLastInUse new.next (table_passes new.states.items)
   given_here s a i lt shut Absent e = absurd ((next.progress.of.table.there s a).1 i.0 e)
   given_here s a i lt shut Open e = absurd (shut (sym (state_in new.states.items s a lt) ∙ e))
-  given_here s a i lt shut (Given p) e =
-      let has : table_passes new.states.items s a ≡ Some p = ap given e in
-      let same : p ≡ old.next = (next.pass.given s a p i.1 has).1 in
+  given_here s a i lt shut (Assigned p) e =
+      let has : table_passes new.states.items s a ≡ Some p = ap pass_of_state e in
+      let same : p ≡ old.next = (next.pass.gained s a p i.1 has).1 in
       (p, s, a, ap (λ n. n + 1) same ∙ sym one, has)
 
   pub last_in_use : IsLastInUse new.next (table_passes new.states.items)

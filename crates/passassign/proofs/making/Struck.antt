@@ -12,7 +12,7 @@ use Rattle.ag_grammar.specs.grammars.Passes.{direction_of, IsBefore, MayUse}
 use Rattle.ag_grammar.proofs.grammars.OneSolution.{may_le}
 use Rattle.passassign.specs.declared.stuck.Strike.{Strike}
 use Rattle.passassign.specs.Certificate.{Attributes, IsStruckBy, IsOneOf, IsReason, IsGood, AreGood}
-use Rattle.passassign.specs.Least.{Partial, pass_at, GivesPass, IsLegalPartial}
+use Rattle.passassign.specs.Least.{Partial, pass_at, HasPassIn, IsLegalPartial}
 
 -- of two places each is not before the other
 not_both : (d : Direction) (i j : ℕ) → IsBefore d i j → IsBefore d j i → ⊥
@@ -35,7 +35,7 @@ module _ (g : Grammar) (n : Partial) (legal : IsLegalPartial g n) where
 
   -- an argument that may be used is not a reason
   no_reason : (k : ℕ) (candidate : Attributes) (struck : List Strike) → AtLeast k candidate → AtLeast (suc k) (IsStruckBy struck) → (q : Production) (j : ℕ) (o : Target) (p : ℕ)
-      → GivesPass n q o p → MayUse k j o.place p → IsReason (direction_of k) candidate struck q j o → ⊥
+      → HasPassIn n q o p → MayUse k j o.place p → IsReason (direction_of k) candidate struck q j o → ⊥
   no_reason k candidate struck low high q j o p e may (inl i) =
       let h = one_at (suc k) (IsStruckBy struck) high (item_at q o.place) o.attr p i e in
       let l = may_le k j o.place p may in omega arith
@@ -49,7 +49,7 @@ module _ (g : Grammar) (n : Partial) (legal : IsLegalPartial g n) where
       → (p : ℕ) → n x.symbol x.attr ≡ Some p → suc k ≤ p
   not_here k candidate struck low high x is good p e = lt_of_le-ne (low x.symbol x.attr p is e) (λ same. here (sym same))
     where
-      gives : GivesPass n good.production good.rule.target p
+      gives : HasPassIn n good.production good.rule.target p
       gives = ap (λ y. pass_at n y good.rule.target.attr) good.symbol ∙ ap (n x.symbol) good.attr ∙ e
 
       here : p ≡ k → ⊥

@@ -14,7 +14,7 @@ use Rattle.ag_grammar.proofs.grammars.OneSolution.{counterpart}
 use Rattle.passassign.specs.declared.stuck.Strike.{Strike}
 use Rattle.passassign.specs.declared.stuck.Stuck.{Stuck}
 use Rattle.passassign.specs.Certificate.{Attributes, Members, IsStruckBy, AreGood, IsCertificate}
-use Rattle.passassign.specs.Least.{Partial, partial_of, pass_at, GivesPass, IsAttribute, IsLegalPartial, IsStuck, IsLeast, IsAlternating}
+use Rattle.passassign.specs.Least.{Partial, partial_of, pass_at, HasPassIn, IsAttribute, IsLegalPartial, IsStuck, IsLeast, IsAlternating}
 use Rattle.passassign.specs.Making.{IsMade, AreIdle}
 use Rattle.passassign.proofs.slots.Options.{some_none}
 use Rattle.passassign.proofs.making.Made.{made_at_most}
@@ -38,7 +38,7 @@ partial_legal g m legal = record { known = known; positive = λ s a p e. legal.p
     known : (s a p : ℕ) → partial_of m s a ≡ Some p → IsAttribute g s a
     known s a p e = counterpart (m s) (symbol_kinds (slice_get g.symbols s)) a p (legal.whole s) e
 
-    allowed : (i : ℕ) (q : Production) → IsProduction g i q → IsLegalFor (GivesPass (partial_of m)) q
+    allowed : (i : ℕ) (q : Production) → IsProduction g i q → IsLegalFor (HasPassIn (partial_of m)) q
     allowed i q get r o k rule arg has =
         let l = legal.allowed i q get r o k rule arg (sym (same (item_at q r.target.place) r.target.attr) ∙ has) in
         (l.0, same (item_at q o.place) o.attr ∙ l.1, l.2)

@@ -16,11 +16,11 @@ use Rattle.ag_grammar.specs.grammars.AttributeGrammar.{Grammar, Synthesized, Inh
 use Rattle.passassign.specs.Dependencies.{symbol_of, table_slot, IsDependency, AreDependencies}
 use Rattle.passassign.specs.Least.{IsAttribute}
 use Rattle.passassign.specs.Making.{IsOpen}
-use Rattle.passassign.specs.Searching.{AreOf, target_of}
-use Rattle.passassign.specs.Tables.{slot_of, state_at, state_of, given, table_passes}
+use Rattle.passassign.specs.Searching.{BelongTo, target_of}
+use Rattle.passassign.specs.Tables.{slot_of, state_at, state_of, pass_of_state, table_passes}
 use Rattle.passassign.specs.declared.dependency.Dependency.{Dependency}
 use Rattle.passassign.specs.declared.table.State.{State}
-use Rattle.passassign.specs.declared.table.State.TheVariants.{Absent, Open, Given}
+use Rattle.passassign.specs.declared.table.State.TheVariants.{Absent, Open, Assigned}
 
 -- a symbol has as many kinds as names
 pub kinds_names : (s : Option Symbol) → length (symbol_kinds s) ≡ length (symbol_names s)
@@ -53,24 +53,24 @@ slot_same s a t b la lb e = (omega arith, omega arith)
 pub state_in : (states : List State) (s a : ℕ) → a < 16 → state_of states s a ≡ state_at states (slot_of s a)
 state_in states s a lt = ap (λ b. cond b (state_at states (slot_of s a)) Absent) (lt-ltb a 16 lt)
 
-open_given : (x : State) → x ≡ Open → given x ≡ None
-open_given x e = ap given e
+open_given : (x : State) → x ≡ Open → pass_of_state x ≡ None
+open_given x e = ap pass_of_state e
 
-is_open_state : (x : State) → given x ≡ None → (x ≡ Absent → ⊥) → x ≡ Open
+is_open_state : (x : State) → pass_of_state x ≡ None → (x ≡ Absent → ⊥) → x ≡ Open
 is_open_state Absent e there = absurd (there refl)
 is_open_state Open e there = refl
-is_open_state (Given p) e there = absurd (let bad : ⊥ = cc in bad)
+is_open_state (Assigned p) e there = absurd (let bad : ⊥ = cc in bad)
 
 not_absent : (x : State) → x ≡ Open → x ≡ Absent → ⊥
 not_absent x e f = let bad : Open ≡ Absent = sym e ∙ f in cc
 
 -- an attribute has no pass if the table has it as open
-pub open_there : (g : Grammar) (all : List Dependency) (states : List State) → AreOf g all states → (s a : ℕ) → a < 16 → state_at states (slot_of s a) ≡ Open → IsOpen g (table_passes states) s a
+pub open_there : (g : Grammar) (all : List Dependency) (states : List State) → BelongTo g all states → (s a : ℕ) → a < 16 → state_at states (slot_of s a) ≡ Open → IsOpen g (table_passes states) s a
 open_there g all states of s a lt e =
     let f : state_of states s a ≡ Open = state_in states s a lt ∙ e in
     ((of.table.there s a).0 (not_absent (state_of states s a) f), open_given (state_of states s a) f)
 
-pub open_state : (g : Grammar) (all : List Dependency) (states : List State) → AreOf g all states → (s a : ℕ) → IsOpen g (table_passes states) s a → (a < 16) × (state_at states (slot_of s a) ≡ Open)
+pub open_state : (g : Grammar) (all : List Dependency) (states : List State) → BelongTo g all states → (s a : ℕ) → IsOpen g (table_passes states) s a → (a < 16) × (state_at states (slot_of s a) ≡ Open)
 open_state g all states of s a i =
     let lt = (attribute_within g s a of.accepted i.0).0 in
     (lt, sym (state_in states s a lt) ∙ is_open_state (state_of states s a) i.1 ((of.table.there s a).1 i.0))

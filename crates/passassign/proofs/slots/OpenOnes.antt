@@ -5,7 +5,7 @@ use Rattle.ag_grammar.specs.Lists.{Has}
 use Rattle.passassign.specs.Answer.{IsInDeclaredOrder}
 use Rattle.passassign.specs.Tables.{state_at, slot_of, is_open}
 use Rattle.passassign.specs.declared.table.State.{State}
-use Rattle.passassign.specs.declared.table.State.TheVariants.{Absent, Open, Given}
+use Rattle.passassign.specs.declared.table.State.TheVariants.{Absent, Open, Assigned}
 use Rattle.std.proofs.lemmas.Option.{slice_get_within}
 use Rattle.std.proofs.Math.ListN.{get_or-eq_default}
 use Rattle.passassign.proofs.slots.Lists.{get_push_cases, has_kept, has_put, has_cases}
@@ -13,12 +13,12 @@ use Rattle.passassign.proofs.slots.Lists.{get_push_cases, has_kept, has_put, has
 pub open_is : (x : State) → is_open x ≡ true → x ≡ Open
 open_is Absent e = absurd (let bad : ⊥ = cc in bad)
 open_is Open e = refl
-open_is (Given p) e = absurd (let bad : ⊥ = cc in bad)
+open_is (Assigned p) e = absurd (let bad : ⊥ = cc in bad)
 
 pub is_no_open : (x : State) → is_open x ≡ false → x ≡ Open → ⊥
 is_no_open Absent e f = cc
 is_no_open Open e f = cc
-is_no_open (Given p) e f = cc
+is_no_open (Assigned p) e f = cc
 
 -- a list has the attributes without a pass before slot i of a table
 pub record AreOpenOnes (states : List State) (i : ℕ) (xs : List (ℕ × ℕ)) : Type 0 where

@@ -8,7 +8,7 @@ use Rattle.std.specs.Global.{Vec}
 use Rattle.ag_grammar.specs.declared.grammar.Symbol.{Symbol}
 use Rattle.ag_grammar.specs.grammars.AttributeGrammar.{attribute_names}
 use Rattle.passassign.specs.Rows.{numbers_of, passes_of}
-use Rattle.passassign.specs.Tables.{state_at, slot_of, given, attribute_count, AreRowsOfTable}
+use Rattle.passassign.specs.Tables.{state_at, slot_of, pass_of_state, attribute_count, AreRowsOfTable}
 use Rattle.passassign.specs.declared.table.State.{State}
 
 -- the rows of the first n symbols
@@ -16,9 +16,9 @@ pub record AreRowsBelow (symbols : List Symbol) (states : List State) (n : ℕ) 
   pub count : length rows ≡ n
   pub within : n ≤ length symbols
   pub len : (s : ℕ) → s < n → length (passes_of rows s) ≡ attribute_count (slice_get symbols s)
-  pub passes : (s a : ℕ) → s < n → a < attribute_count (slice_get symbols s) → slice_get (passes_of rows s) a ≡ Some (unwrap_or (given (state_at states (slot_of s a))) 0)
+  pub passes : (s a : ℕ) → s < n → a < attribute_count (slice_get symbols s) → slice_get (passes_of rows s) a ≡ Some (unwrap_or (pass_of_state (state_at states (slot_of s a))) 0)
 
-rows_push : (rows : List (List ℕ)) (row : List ℕ) (symbols : List Symbol) (states : List State) (n : ℕ) (symbol : Symbol) → slice_get symbols n ≡ Some symbol → length row ≡ length (attribute_names symbol) → ((a : ℕ) → a < length (attribute_names symbol) → slice_get row a ≡ Some (unwrap_or (given (state_at states (n * 16 + a))) 0)) → AreRowsBelow symbols states n rows
+rows_push : (rows : List (List ℕ)) (row : List ℕ) (symbols : List Symbol) (states : List State) (n : ℕ) (symbol : Symbol) → slice_get symbols n ≡ Some symbol → length row ≡ length (attribute_names symbol) → ((a : ℕ) → a < length (attribute_names symbol) → slice_get row a ≡ Some (unwrap_or (pass_of_state (state_at states (n * 16 + a))) 0)) → AreRowsBelow symbols states n rows
     → AreRowsBelow symbols states (n + 1) (rows ++ row ∷ [])
 rows_push rows row symbols states n symbol is count has h = record { count = more; within = let w = slice_get_within symbols n symbol is in omega arith; len = len; passes = passes }
   where
@@ -40,13 +40,13 @@ rows_push rows row symbols states n symbol is count has h = record { count = mor
       | inr ne ↦ (let l : s < n = omega arith in ap length (same s l) ∙ h.len s l)
     ]
 
-    passes : (s a : ℕ) → s < n + 1 → a < attribute_count (slice_get symbols s) → slice_get (passes_of (rows ++ row ∷ []) s) a ≡ Some (unwrap_or (given (state_at states (slot_of s a))) 0)
+    passes : (s a : ℕ) → s < n + 1 → a < attribute_count (slice_get symbols s) → slice_get (passes_of (rows ++ row ∷ []) s) a ≡ Some (unwrap_or (pass_of_state (state_at states (slot_of s a))) 0)
     passes s a lt less = elim (cases_eq s n) [
-      | inl e ↦ ap (λ r. slice_get r a) (here s e) ∙ has a (subst (λ m. a < m) (symbol_here s e) less) ∙ ap (λ s. Some (unwrap_or (given (state_at states (s * 16 + a))) 0)) (sym e)
+      | inl e ↦ ap (λ r. slice_get r a) (here s e) ∙ has a (subst (λ m. a < m) (symbol_here s e) less) ∙ ap (λ s. Some (unwrap_or (pass_of_state (state_at states (s * 16 + a))) 0)) (sym e)
       | inr ne ↦ (let l : s < n = omega arith in ap (λ r. slice_get r a) (same s l) ∙ h.passes s a l less)
     ]
 
-pub rows_more : (table rest : List (Vec ℕ)) (row : Vec ℕ) (symbols : List Symbol) (states : List State) (n : ℕ) (symbol : Symbol) → rest ≡ table ++ row ∷ [] → slice_get symbols n ≡ Some symbol → length row.items ≡ length (attribute_names symbol) → ((a : ℕ) → a < length (attribute_names symbol) → slice_get row.items a ≡ Some (unwrap_or (given (state_at states (n * 16 + a))) 0)) → AreRowsBelow symbols states n (numbers_of table)
+pub rows_more : (table rest : List (Vec ℕ)) (row : Vec ℕ) (symbols : List Symbol) (states : List State) (n : ℕ) (symbol : Symbol) → rest ≡ table ++ row ∷ [] → slice_get symbols n ≡ Some symbol → length row.items ≡ length (attribute_names symbol) → ((a : ℕ) → a < length (attribute_names symbol) → slice_get row.items a ≡ Some (unwrap_or (pass_of_state (state_at states (n * 16 + a))) 0)) → AreRowsBelow symbols states n (numbers_of table)
     → AreRowsBelow symbols states (n + 1) (numbers_of rest)
 rows_more table rest row symbols states n symbol e is count has h =
     subst (AreRowsBelow symbols states (n + 1)) (sym (ap numbers_of e ∙ map-append (λ (v : Vec ℕ). v.items) table (row ∷ []))) (rows_push (numbers_of table) row.items symbols states n symbol is count has h)
@@ -63,7 +63,7 @@ rows_end symbols states n rows most h = record { count = let e = h.count in let 
       | inr le ↦ ap length (get_or-eq_default rows [] (let e = h.count in omega arith)) ∙ sym (none s le)
     ]
 
-    passes : (s a : ℕ) → a < attribute_count (slice_get symbols s) → slice_get (passes_of rows s) a ≡ Some (unwrap_or (given (state_at states (slot_of s a))) 0)
+    passes : (s a : ℕ) → a < attribute_count (slice_get symbols s) → slice_get (passes_of rows s) a ≡ Some (unwrap_or (pass_of_state (state_at states (slot_of s a))) 0)
     passes s a less = elim (cases_lt s n) [
       | inl lt ↦ h.passes s a lt less
       | inr le ↦ absurd (let e = none s le in omega arith)

@@ -10,7 +10,7 @@ use Rattle.ag_grammar.specs.grammars.AttributeGrammar.{Grammar, item_at}
 use Rattle.ag_grammar.specs.declared.direction.Direction.{Direction}
 use Rattle.ag_grammar.specs.grammars.Passes.{direction_of}
 use Rattle.passassign.specs.declared.stuck.Strike.{Strike}
-use Rattle.passassign.specs.Certificate.{Attributes, IsStruckBy, IsAhead, IsOneOf, IsReason, IsGood, AreGood}
+use Rattle.passassign.specs.Certificate.{Attributes, IsStruckBy, IsSameOrLater, IsOneOf, IsReason, IsGood, AreGood}
 use Rattle.passassign.specs.Chains.{first_only, AreAwaitedBefore, AreLinked, IsAwaited, IsChain, IsChainOf, IsWait, Names, WaitsFor, WaitsForNone}
 use Rattle.passassign.specs.Least.{Partial, IsLegalPartial}
 use Rattle.passassign.proofs.making.Struck.{AtLeast, not_here}
@@ -117,8 +117,8 @@ module _ (g : Grammar) (d : Direction) (candidate : Attributes) (xs : List Strik
     own_attr : good.argument.attr ≡ a
     own_attr = ap (λ (o : Target). o.attr) (sym same_argument) ∙ waits.attr
 
-    not_ahead : IsAhead d good.rule.target.place good.argument.place → ⊥
-    not_ahead h = waits.not_ahead (subst (λ (o : Target). IsAhead d waits.rule.target.place o.place) (sym same_argument) (subst (λ (u : Rule). IsAhead d u.target.place good.argument.place) (sym same_rule) h))
+    not_same_or_later : IsSameOrLater d good.rule.target.place good.argument.place → ⊥
+    not_same_or_later h = waits.not_same_or_later (subst (λ (o : Target). IsSameOrLater d waits.rule.target.place o.place) (sym same_argument) (subst (λ (u : Rule). IsSameOrLater d u.target.place good.argument.place) (sym same_rule) h))
 
     -- the attribute that it waits for is struck
     pub awaited_struck : IsStruckBy xs s a
@@ -126,7 +126,7 @@ module _ (g : Grammar) (d : Direction) (candidate : Attributes) (xs : List Strik
       where
         go : IsReason d candidate xs good.production good.rule.target.place good.argument → IsStruckBy xs s a
         go (inl i) = subst (IsStruckBy xs s) own_attr (subst (λ y. IsOneOf (IsStruckBy xs) y good.argument.attr) at_place i)
-        go (inr (ahead, i)) = absurd (not_ahead ahead)
+        go (inr (ahead, i)) = absurd (not_same_or_later ahead)
 
     -- and it is good after a strike of only that one
     pub link_good : (y : Strike) → y.symbol ≡ s → y.attr ≡ a → IsGood g d candidate (y ∷ []) x
@@ -144,11 +144,11 @@ same_names g x q p u r o t h n =
     (first, second, third)
 
 pub wait_of : (g : Grammar) (d : Direction) (x : Strike) (q : Production) (u : Rule) (o : Target) (r : Option (ℕ × ℕ)) → Names g x q u o → IsAwaited d q u o r → IsWait g d x r
-wait_of g d x q u o (Some w) names h = record { production = q; rule = u; argument = o; named = names; not_ahead = h.0; symbol = h.1; attr = h.2 }
+wait_of g d x q u o (Some w) names h = record { production = q; rule = u; argument = o; named = names; not_same_or_later = h.0; symbol = h.1; attr = h.2 }
 wait_of g d x q u o None names h = λ p r t s n e.
     let same = same_names g x q p u r o t names n in
     let here : item_at q o.place ≡ Some (item.Symbol s) = subst (λ (p : Production). item_at p o.place ≡ Some (item.Symbol s)) (sym same.0) (subst (λ (t : Target). item_at p t.place ≡ Some (item.Symbol s)) (sym same.2) e) in
-    subst (λ (t : Target). IsAhead d r.target.place t.place) same.2 (subst (λ (r : Rule). IsAhead d r.target.place o.place) same.1 (h s here))
+    subst (λ (t : Target). IsSameOrLater d r.target.place t.place) same.2 (subst (λ (r : Rule). IsSameOrLater d r.target.place o.place) same.1 (h s here))
 
 take_hit : (n : ℕ) (xs : List Strike) (s a : ℕ) → IsStruckBy (take n xs) s a → IsStruckBy xs s a
 take_hit zero xs s a h = absurd h

@@ -3,9 +3,9 @@ use Rattle.std.proofs.Common.{ℕ, zero, suc, ◌≡◌, ◌<◌, ◌⊎◌, Lis
 use Rattle.ag_grammar.specs.Lists.{Has}
 use Rattle.ag_grammar.specs.grammars.AttributeGrammar.{Grammar, item_at}
 use Rattle.ag_grammar.specs.declared.direction.Direction.{Direction}
-use Rattle.passassign.specs.Certificate.{Attributes, IsStruckBy, IsOneOf, IsAhead, IsReason, IsGood, AreGood}
+use Rattle.passassign.specs.Certificate.{Attributes, IsStruckBy, IsOneOf, IsSameOrLater, IsReason, IsGood, AreGood}
 use Rattle.passassign.specs.Making.{IsOpen}
-use Rattle.passassign.specs.Searching.{IsBarred, IsStruckAt, AreOf}
+use Rattle.passassign.specs.Searching.{IsBarred, IsStruckAt, BelongTo}
 use Rattle.passassign.specs.Tables.{slot_of, state_at, table_passes}
 use Rattle.passassign.specs.declared.dependency.Dependency.{Dependency}
 use Rattle.passassign.specs.declared.stuck.Strike.{Strike}
@@ -37,7 +37,7 @@ strikes_open g d candidate struck (x ∷ xs) (is, new, one, more) s a h = go h (
     go (inr m) later = later m
 
 -- the attributes that a search has struck, by attributes and by slots
-module _ (g : Grammar) (all : List Dependency) (d : Direction) (states : List State) (xs : List Strike) (of : AreOf g all states) (good : AreGood g d (IsOpen g (table_passes states)) [] xs) where
+module _ (g : Grammar) (all : List Dependency) (d : Direction) (states : List State) (xs : List Strike) (of : BelongTo g all states) (good : AreGood g d (IsOpen g (table_passes states)) [] xs) where
   pub struck_within : (x : Strike) → Has xs x → x.attr < 16
   struck_within x h = (open_state g all states of x.symbol x.attr (strikes_open g d (IsOpen g (table_passes states)) [] xs good x.symbol x.attr (has_strikes xs x h))).0
 
@@ -61,6 +61,6 @@ module _ (g : Grammar) (all : List Dependency) (d : Direction) (states : List St
 
       reason : IsReason d (IsOpen g (table_passes states)) xs p.production p.rule.target.place p.argument
       reason = elim why [
-        | inl b ↦ inr (subst (λ j. IsAhead d j p.argument.place) p.place (subst (IsAhead d u.place) p.from b.0), is_one (IsOpen g (table_passes states)) (open_there g all states of p.of p.argument.attr lt (subst (λ k. state_at states k ≡ Open) p.at b.1)))
+        | inl b ↦ inr (subst (λ j. IsSameOrLater d j p.argument.place) p.place (subst (IsSameOrLater d u.place) p.from b.0), is_one (IsOpen g (table_passes states)) (open_there g all states of p.of p.argument.attr lt (subst (λ k. state_at states k ≡ Open) p.at b.1)))
         | inr h ↦ inl (is_one (IsStruckBy xs) (at_struck p.of p.argument.attr lt (subst (IsStruckAt xs) p.at h)))
       ]

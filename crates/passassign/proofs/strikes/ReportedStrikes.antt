@@ -10,7 +10,7 @@ use Rattle.ag_grammar.specs.declared.grammar.Item.{Item}
 use Rattle.ag_grammar.specs.grammars.AttributeGrammar.{Grammar, item_at}
 use Rattle.ag_grammar.specs.declared.direction.Direction.{Direction}
 use Rattle.closure.specs.Additions.{IsAdded, IsAddedBefore, IsReason as IsReasonOf, AreInOrder}
-use Rattle.closure.specs.Edges.{along, IsEdgeBelow}
+use Rattle.closure.specs.Edges.{clause_of_edge, IsEdgeBelow}
 use Rattle.closure.specs.Following.{AreClosure, seed}
 use Rattle.closure.specs.declared.addition.Addition.{Addition}
 use Rattle.closure.specs.declared.addition.Reason.{Reason}
@@ -18,10 +18,10 @@ use Rattle.closure.specs.declared.addition.Reason.TheVariants as reason
 use Rattle.closure.specs.declared.clause.Clause.{Clause}
 use Rattle.closure.proofs.Positions.{at_mapped, element_at, mapped_at}
 use Rattle.closure.proofs.Reached.{step}
-use Rattle.passassign.specs.Certificate.{IsStruckBy, IsAhead, IsOneOf, IsGood, AreGood}
+use Rattle.passassign.specs.Certificate.{IsStruckBy, IsSameOrLater, IsOneOf, IsGood, AreGood}
 use Rattle.passassign.specs.Dependencies.{symbol_of, table_slot, dependency_of, head_of}
 use Rattle.passassign.specs.Making.{IsOpen}
-use Rattle.passassign.specs.Searching.{struck_slot, target_of, edge_of, dependency_by, IsBarred, AreBarred, IsStrikeOf, AreStrikesOf, IsStruckAt, AreOf, IsSearch}
+use Rattle.passassign.specs.Searching.{struck_slot, target_of, edge_of, dependency_by, IsBarred, AreBarred, IsStrikeOf, AreStrikesBy, IsStruckAt, BelongTo, IsSearch}
 use Rattle.passassign.specs.Tables.{slot_of, state_at, is_marked, table_passes}
 use Rattle.passassign.specs.declared.dependency.Dependency.{Dependency}
 use Rattle.passassign.specs.declared.stuck.Strike.{Strike}
@@ -47,7 +47,7 @@ take_has (suc n) (y ∷ xs) (suc i) x lt e = take_has n xs i x (omega arith) e
 
 -- the clauses of dependencies
 abbrev pub clauses_of : List Dependency → List Clause
-clauses_of all = map along (map edge_of all)
+clauses_of all = map clause_of_edge (map edge_of all)
 
 pub edges_below : (all : List Dependency) (count : ℕ) → ((u : Dependency) → Has all u → (u.argument < count) × (target_of u < count)) → All (IsEdgeBelow count) (map edge_of all)
 edges_below all count within = All-map (IsEdgeBelow count) edge_of all (λ k d lt. let w = within (get_or all k d) (k, slice_get-get_or all k d lt) in record { from = w.0; to = w.1 })
@@ -69,7 +69,7 @@ strike_more all barred added xs n o u len by before i x lt e = elim (cases_eq i 
 pub named : (all barred : List Dependency) (there : ℕ → Type 0) (n : ℕ) (r : Reason) → IsReasonOf (clauses_of all) (map target_of barred) there n r → (u : Dependency) × (dependency_by all barred r ≡ Some u)
 named all barred there n (reason.Seed i) h = let w = mapped_at target_of barred i n h in (w.0, w.1)
 named all barred there n (reason.Clause p) h =
-    let c = mapped_at along (map edge_of all) p h.0 h.1 in
+    let c = mapped_at clause_of_edge (map edge_of all) p h.0 h.1 in
     let w = mapped_at edge_of all p c.0 c.1 in
     (w.0, w.1)
 
@@ -89,11 +89,11 @@ module _ (all barred : List Dependency) (d : Direction) (states : List State) (b
       let b = (bars u).0 (i, is) in
       (b.0, cc, inl b.1)
   by_name there n (reason.Clause p) u is h =
-      let e : Some (along (edge_of u)) ≡ Some h.0 = sym (at_mapped along (map edge_of all) p (edge_of u) (at_mapped edge_of all p u is)) ∙ h.1 in
-      let f : along (edge_of u) ≡ h.0 = cc in
+      let e : Some (clause_of_edge (edge_of u)) ≡ Some h.0 = sym (at_mapped clause_of_edge (map edge_of all) p (edge_of u) (at_mapped edge_of all p u is)) ∙ h.1 in
+      let f : clause_of_edge (edge_of u) ≡ h.0 = cc in
       ((p, is), ap (λ (q : Clause). q.head) f ∙ h.2, inr (All-head there u.argument [] (subst (λ (q : Clause). All there q.body) (sym f) h.3)))
 
-  module _ (added : List Addition) (order : AreInOrder (clauses_of all) (map target_of barred) added) (xs : List Strike) (exact : AreStrikesOf all barred added xs) where
+  module _ (added : List Addition) (order : AreInOrder (clauses_of all) (map target_of barred) added) (xs : List Strike) (exact : AreStrikesBy all barred added xs) where
     reported_at : (i : ℕ) (x : Addition) → slice_get added i ≡ Some x → IsReportedAt all d states added xs i x
     reported_at i x e =
         let t = exact.exact i x e in
@@ -116,7 +116,7 @@ module _ (all barred : List Dependency) (d : Direction) (states : List State) (b
         let same : y ≡ t.u.strike = cc in
         (i, get_or added i none, w.0, here, sym t.target ∙ ap struck_slot (sym same) ∙ is)
 
-    module _ (g : Grammar) (of : AreOf g all states) where
+    module _ (g : Grammar) (of : BelongTo g all states) where
       -- the next strike is a good one
       good_next : (n : ℕ) (y : Strike) → slice_get xs n ≡ Some y → AreGood g d (IsOpen g (table_passes states)) [] (take n xs) → AreGood g d (IsOpen g (table_passes states)) [] (take n xs ++ y ∷ [])
       good_next n y e before =
@@ -170,7 +170,7 @@ module _ (all barred : List Dependency) (d : Direction) (states : List State) (b
       kept_out u h b = let w = (bars u).1 (h, b) in (closure (target_of u)).1 (seed (element_at (map target_of barred) w.0 (target_of u) (at_mapped target_of barred w.0 u w.1)))
 
       -- if there is a reason to strike an attribute, it is struck
-      module _ (g : Grammar) (of : AreOf g all states) (x : Strike) (is : IsOpen g (table_passes states) x.symbol x.attr) (good : IsGood g d (IsOpen g (table_passes states)) xs x) where
+      module _ (g : Grammar) (of : BelongTo g all states) (x : Strike) (is : IsOpen g (table_passes states) x.symbol x.attr) (good : IsGood g d (IsOpen g (table_passes states)) xs x) where
         one : ℕ → Dependency
         one s = dependency_of (head_of x.production x.rule good.rule x.symbol) good.rule.target.place x.arg (slot_of s good.argument.attr) good.argument.place
 
@@ -180,7 +180,7 @@ module _ (all barred : List Dependency) (d : Direction) (states : List State) (b
             (of.dependencies (dependency_of (head_of x.production x.rule good.rule x.symbol) good.rule.target.place x.arg (slot_of s good.argument.attr) good.argument.place)).1
             (x.production, good.production, good.is_production, (x.rule, good.rule, good.is_rule, (x.symbol, ap symbol_of (places_item good.production good.rule.target.place ∙ good.symbol), (x.arg, good.argument, good.is_argument, (slot_of s good.argument.attr, ap (λ y. table_slot (symbol_of y) good.argument.attr) (places_item good.production good.argument.place ∙ e), refl)))))
 
-        settled : (y : Option Item) → item_at good.production good.argument.place ≡ y → IsOneOf (IsStruckBy xs) y good.argument.attr ⊎ (IsAhead d good.rule.target.place good.argument.place × IsOneOf (IsOpen g (table_passes states)) y good.argument.attr) → is_marked marks (slot_of x.symbol good.rule.target.attr) ≡ true
+        settled : (y : Option Item) → item_at good.production good.argument.place ≡ y → IsOneOf (IsStruckBy xs) y good.argument.attr ⊎ (IsSameOrLater d good.rule.target.place good.argument.place × IsOneOf (IsOpen g (table_passes states)) y good.argument.attr) → is_marked marks (slot_of x.symbol good.rule.target.attr) ≡ true
         unfolding one
         settled None e why = elim why [ inl bad ↦ absurd bad | inr bad ↦ absurd bad.1 ]
         settled (Some (item.Terminal t)) e why = elim why [ inl bad ↦ absurd bad | inr bad ↦ absurd bad.1 ]

@@ -11,12 +11,12 @@ use Rattle.ag_grammar.specs.grammars.AttributeGrammar.{Grammar}
 use Rattle.ag_grammar.specs.grammars.Passes.{Passes}
 use Rattle.passassign.proofs.slots.Lists.{get_push_cases}
 use Rattle.passcode.specs.declared.instr.Instr.{Instr}
-use Rattle.passcode.specs.Listing.{AreLists, list_of}
-use Rattle.passcode.specs.Rows.{Lists, IsListOf, row_of, rows_of}
+use Rattle.passcode.specs.Listing.{AreGeneratedLists, generated_list}
+use Rattle.passcode.specs.Rows.{Lists, IsListAt, row_of, rows_of}
 
 -- the list of a production and a pass
 abbrev pub IsGenerated : Passes → Production → ℕ → List Instr → Type 0
-IsGenerated m q k xs = xs ≡ list_of m q k
+IsGenerated m q k xs = xs ≡ generated_list m q k
 
 -- a list more is collected
 pub lists_more : (m : Passes) (q : Production) (n : ℕ) (lists new : List (Vec Instr)) (one : Vec Instr) → new ≡ lists ++ one ∷ []
@@ -78,7 +78,7 @@ rows_more m passes n productions q rows new one put len this many here before = 
 module _ (g : Grammar) (m : Passes) (passes : ℕ) (code : Lists) (many : length code ≡ length g.productions)
     (all : AreCollected m passes g.productions code) where
   -- a list of code is that of a production
-  of_production : (p k : ℕ) (xs : List Instr) → IsListOf code p k xs → (q : Production) × (slice_get g.productions p ≡ Some q)
+  of_production : (p k : ℕ) (xs : List Instr) → IsListAt code p k xs → (q : Production) × (slice_get g.productions p ≡ Some q)
       × IsGenerated m q k xs
   of_production p k xs is = elim (cases_lt p (length code)) [
     | inl less ↦ elim (slice_get_cases g.productions p).1 [
@@ -95,7 +95,7 @@ module _ (g : Grammar) (m : Passes) (passes : ℕ) (code : Lists) (many : length
         ap (λ r. slice_get r (k - 1)) (sym (get_or_past code p [] past)) ∙ is.1 in let worse : ⊥ = cc in worse)
   ]
 
-  pub collected_lists : AreLists g m code
+  pub collected_lists : AreGeneratedLists g m code
   collected_lists p k q xs at is =
       let found = of_production p k xs is in
       let both : Some found.0 ≡ Some q = sym found.1 ∙ at in

@@ -12,8 +12,8 @@ use Rattle.ag_grammar.specs.grammars.Passes.{Passes, HasPass}
 use Rattle.ag_grammar.proofs.grammars.Counting.{count_more}
 use Rattle.passcode.specs.declared.instr.Instr.{Instr}
 use Rattle.passcode.specs.declared.instr.Instr.TheVariants as instr
-use Rattle.passcode.specs.Agreement.{IsGiving, IsListFor, IsRuleAt, OccursOnceIf, def_of, instruction_of}
-use Rattle.passcode.specs.Counts.{is_giving}
+use Rattle.passcode.specs.Agreement.{IsComputation, ListAgrees, IsRuleAt, OccursOnceIf, set_or_def, instruction_of}
+use Rattle.passcode.specs.Counts.{is_computation}
 use Rattle.passcode.specs.Laws.{ListsEvaluateRules}
 
 -- an instruction evaluates the rule of a number
@@ -70,7 +70,7 @@ by_one n r (u ∷ us) i is from to = elim (cases_lt n r) [
 abbrev IsNumberBelow : ℕ → Instr → Type 0
 IsNumberBelow n i = (r : ℕ) → ((k : ℕ) → evaluates k i ≡ nat_eq r k) → r < n
 
-by_instr : (us : List Rule) (i : Instr) → IsNumberBelow (length us) i → evaluated_by 0 us i ≡ cond (is_giving i) 1 0
+by_instr : (us : List Rule) (i : Instr) → IsNumberBelow (length us) i → evaluated_by 0 us i ≡ cond (is_computation i) 1 0
 by_instr us (instr.Get j) is = by_none 0 us (instr.Get j) (λ k le. refl)
 by_instr us (instr.Set j a r) is = by_one 0 r us (instr.Set j a r) (λ k. refl) (omega arith)
     (let less = is r (λ k. refl) in omega arith)
@@ -81,11 +81,11 @@ by_instr us (instr.Def a r) is = by_one 0 r us (instr.Def a r) (λ k. refl) (ome
 by_instr us instr.End is = by_none 0 us instr.End (λ k le. refl)
 
 all_evaluated : (us : List Rule) (xs : List Instr) → ((n : ℕ) (i : Instr) → slice_get xs n ≡ Some i → IsNumberBelow (length us) i)
-    → count_by is_giving xs ≡ evaluated 0 us xs
+    → count_by is_computation xs ≡ evaluated 0 us xs
 all_evaluated us [] is = sym (evaluated_none 0 us)
 all_evaluated us (i ∷ xs) is = omega (
   arith,
-  count_more is_giving i xs,
+  count_more is_computation i xs,
   evaluated_more 0 us i xs,
   by_instr us i (is 0 i refl),
   all_evaluated us xs (λ n j e. is (suc n) j e),
@@ -110,11 +110,11 @@ count_one f (i ∷ xs) (suc at) x e is only =
     omega (arith, first, count_more f i xs, count_one f xs at x e is (λ n j h ne. only (suc n) j h (λ z. ne (omega arith))))
 
 -- what evaluates a rule of a number in a list that agrees is that rule's own instruction
-own_number : (place attr r k : ℕ) → evaluates k (def_of place attr r) ≡ nat_eq r k
+own_number : (place attr r k : ℕ) → evaluates k (set_or_def place attr r) ≡ nat_eq r k
 own_number zero a r k = refl
 own_number (suc j) a r k = refl
 
-is_given : (i : Instr) (k : ℕ) → evaluates k i ≡ true → IsGiving i
+is_given : (i : Instr) (k : ℕ) → evaluates k i ≡ true → IsComputation i
 is_given (instr.Get j) k e = absurd cc
 is_given (instr.Set j a r) k e = (j, a, r, inl refl)
 is_given (instr.Go j) k e = absurd cc
@@ -126,11 +126,11 @@ by_bool : (b : Bool) → (b ≡ true → ⊥) → b ≡ false
 by_bool true never = absurd (never refl)
 by_bool false never = refl
 
-module _ (m : Passes) (q : Production) (k : ℕ) (xs : List Instr) (is : IsListFor m q k xs) where
+module _ (m : Passes) (q : Production) (k : ℕ) (xs : List Instr) (is : ListAgrees m q k xs) where
   own : (n r : ℕ) (u : Rule) (i : Instr) → IsRuleAt q r u → slice_get xs n ≡ Some i → evaluates r i ≡ true
       → i ≡ instruction_of u r
   own n r u i at occurs e =
-      let o = is.gives.own i (is_given i r e) (n, occurs) in
+      let o = is.computes.own i (is_given i r e) (n, occurs) in
       let same_number : o.0 ≡ r = eqb-true o.0 r
       (sym (own_number o.1.target.place o.1.target.attr o.0 r) ∙ ap (evaluates r) (sym o.3) ∙ e) in
       let z : Some o.1 ≡ Some u = sym o.2 ∙ ap (slice_get q.rules) same_number ∙ at in
@@ -141,7 +141,7 @@ module _ (m : Passes) (q : Production) (k : ℕ) (xs : List Instr) (is : IsListF
   one_rule r u at = go (pass_at m q u.target) refl
     where
       once : OccursOnceIf (HasPass m q u.target k) xs (instruction_of u r)
-      once = is.gives.given r u at
+      once = is.computes.computed r u at
 
       here : evaluates r (instruction_of u r) ≡ true
       here = own_number u.target.place u.target.attr r r ∙ eq-eqb r r refl
@@ -182,13 +182,13 @@ module _ (m : Passes) (q : Production) (k : ℕ) (xs : List Instr) (is : IsListF
   numbered : (n : ℕ) (i : Instr) → slice_get xs n ≡ Some i → (r : ℕ) → ((k : ℕ) → evaluates k i ≡ nat_eq r k) → r < length q.rules
   numbered n i occurs r e =
       let there : evaluates r i ≡ true = e r ∙ eq-eqb r r refl in
-      let o = is.gives.own i (is_given i r there) (n, occurs) in
+      let o = is.computes.own i (is_given i r there) (n, occurs) in
       let same : o.0 ≡ r = eqb-true o.0 r
       (sym (own_number o.1.target.place o.1.target.attr o.0 r) ∙ ap (evaluates r) (sym o.3) ∙ there) in
       let w = slice_get_within q.rules o.0 o.1 o.2 in
       omega arith
 
-  counted : count_by is_giving xs ≡ pass_rule_count m k (Some q)
+  counted : count_by is_computation xs ≡ pass_rule_count m k (Some q)
   counted =
       all_evaluated q.rules xs numbered ∙ each_rule 0 q.rules
       (λ i u e. subst (λ j. IsRuleAt q j u) (let z : i ≡ 0 + i = omega arith in z) e)

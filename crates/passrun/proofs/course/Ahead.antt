@@ -25,11 +25,11 @@ use Rattle.treefile.proofs.records.Fitting.{fits_version_two}
 use Rattle.treefile.proofs.records.Spelled.{one_token, same_node}
 use Rattle.backreader.specs.BackState.{BackState}
 use Rattle.passcode.specs.Course.{arity, place_of}
-use Rattle.planchecker.specs.courses.Settings.{Setting, way}
+use Rattle.planchecker.specs.courses.Settings.{Setting, pass_direction}
 use Rattle.planchecker.specs.courses.Sound.{IsSound}
 use Rattle.passrun.specs.declared.run_fault.RunFault.{RunFault}
 use Rattle.passrun.specs.declared.run_fault.RunFault.TheVariants as fault
-use Rattle.passrun.specs.passing.Ahead.{IsRunFault, following, children_of, records_of_node}
+use Rattle.passrun.specs.passing.Ahead.{IsRunFault, following, children_of, pending_of_child}
 use Rattle.passrun.specs.Damage.{ArrivesAt, IsDamaged, IsReadable, source}
 use Rattle.passrun.specs.Faults.{run_fault_of_frame}
 use Rattle.passrun.specs.reading.Fetching.{IsMissing, IsUnfetched}
@@ -87,26 +87,26 @@ pub behind_next : (c : Setting) (q : Production) (e : Table) (i level : ℕ) (ot
 behind_next c q e i level others x within occurs =
     let long = copies_length c c.read (stored_items q.items) (copies c c.read (stored_items q.items) (in_children e)) in
     let copy = values_up_to c.read (copied_passes c x) (e (place_of q c.write i)) in
-    let child = copies_at c c.read (stored_items q.items) (in_children e) (nth (way c) (arity q) i) x occurs in
-    next_pending (way c) level i (children_of c q e) (x, Some copy) others (omega arith) (subst (λ n. slice_get (children_of c q e) (nth (way c) n i) ≡ Some (x, Some copy)) (sym long) child)
+    let child = copies_at c c.read (stored_items q.items) (in_children e) (nth (pass_direction c) (arity q) i) x occurs in
+    next_pending (pass_direction c) level i (children_of c q e) (x, Some copy) others (omega arith) (subst (λ n. slice_get (children_of c q e) (nth (pass_direction c) n i) ≡ Some (x, Some copy)) (sym long) child)
 
 pub after_last : (c : Setting) (q : Production) (e : Table) (i level : ℕ) (others : Pending) → i ≡ arity q → following c q e i level others ≡ others
 after_last c q e i level others full =
     let long = copies_length c c.read (stored_items q.items) (copies c c.read (stored_items q.items) (in_children e)) in
-    ap (λ n. following c q e n level others) (full ∙ sym long) ∙ (all_pending (way c) level (children_of c q e) others).1
+    ap (λ n. following c q e n level others) (full ∙ sym long) ∙ (all_pending (pass_direction c) level (children_of c q e) others).1
 
 -- They are the same for a table with the same copies of earlier passes.
 pub after_same : (c : Setting) (q : Production) (e h : Table) (i level : ℕ) (others : Pending) → copies c c.read (stored_items q.items) (in_children e) ≡ copies c c.read (stored_items q.items) (in_children h) → following c q e i level others ≡ following c q h i level others
-after_same c q e h i level others same = ap (λ cs. before_others (way c) level (expected.remaining_of (way c) (children_with_copies true c.grammar c.passes c.read (stored_items q.items) cs) i) others) same
+after_same c q e h i level others same = ap (λ cs. before_others (pass_direction c) level (expected.remaining_of (pass_direction c) (children_with_copies true c.grammar c.passes c.read (stored_items q.items) cs) i) others) same
 
 module _ (c : Setting) (sound : IsSound c) where
-  dir : way c ≡ other (direction_of c.read)
+  dir : pass_direction c ≡ other (direction_of c.read)
   dir = ap direction_of sound.next
 
   -- All children of a node whose record was read.
-  pub of_node_is : (p : ℕ) (q : Production) (e : Table) (level : ℕ) (others : Pending) → IsProduction c.grammar p q → records_of_node c (slice_get c.grammar.productions p) e level others ≡ before_others (other (direction_of c.read)) level (children_of c q e) others
+  pub of_node_is : (p : ℕ) (q : Production) (e : Table) (level : ℕ) (others : Pending) → IsProduction c.grammar p q → pending_of_child c (slice_get c.grammar.productions p) e level others ≡ before_others (other (direction_of c.read)) level (children_of c q e) others
   of_node_is p q e level others there =
-      ap (λ o. records_of_node c o e level others) there ∙ ap (λ (xs : List Child). before_others (way c) level xs others) (all_pending (way c) level (children_of c q e) others).0
+      ap (λ o. pending_of_child c o e level others) there ∙ ap (λ (xs : List Child). before_others (pass_direction c) level xs others) (all_pending (pass_direction c) level (children_of c q e) others).0
       ∙ ap (λ d. before_others d level (children_of c q e) others) dir
 
   -- A record that does not agree with the copy in its parent's record is not a record of that child.
@@ -141,10 +141,10 @@ module _ (c : Setting) (sound : IsSound c) where
   unfetched x copy n content state todo (fault.Damaged at) readable h count (same, missing, deep, few) =
       subst (IsDamaged (source c) content) (sym same) (broken (source c) (decidable c sound) content state.progress.at readable ((suc n, (x, copy)) ∷ todo, h, (omega arith, omega arith), missing_breaks x copy (suc n) todo (next_before version_two content state.progress.at) missing))
   unfetched x copy n content state todo fault.TooDeep readable h count deep =
-      too_deep (source c) (decidable c sound) content (record { readable = readable; at = state.progress.at; level = suc n; next = (x, copy); others = todo; way = h; deep = omega arith })
+      too_deep (source c) (decidable c sound) content (record { readable = readable; at = state.progress.at; level = suc n; next = (x, copy); others = todo; arrival = h; deep = omega arith })
   unfetched x copy n content state todo fault.TooManyNodes readable h count (many, deep) =
       let most = h.few in
-      too_many (source c) (decidable c sound) content (record { readable = readable; at = state.progress.at; level = suc n; next = (x, copy); others = todo; way = h; within = omega arith; full = omega arith })
+      too_many (source c) (decidable c sound) content (record { readable = readable; at = state.progress.at; level = suc n; next = (x, copy); others = todo; arrival = h; within = omega arith; full = omega arith })
   unfetched x copy n content state todo fault.Device readable h count u = tt
   unfetched x copy n content state todo fault.NoMemory readable h count u = tt
 

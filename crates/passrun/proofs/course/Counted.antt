@@ -17,11 +17,11 @@ use Rattle.treefile.specs.records.TreeFile.{version_two}
 use Rattle.passcode.specs.declared.phase.Phase.{Phase}
 use Rattle.passcode.specs.declared.phase.Phase.TheVariants.{Between, Got, Gone, Ended}
 use Rattle.passcode.specs.Course.{State, place_of}
-use Rattle.planchecker.specs.courses.Settings.{Setting, way}
+use Rattle.planchecker.specs.courses.Settings.{Setting, pass_direction}
 use Rattle.planchecker.specs.courses.Sound.{IsSound}
 use Rattle.passassign.proofs.slots.Few.{few_rules}
 use Rattle.passrun.specs.declared.passing.open_node.OpenNode.{OpenNode}
-use Rattle.passrun.specs.passing.NodeInvariant.{Transcript, Expects, IsCurrent, NodeInvariant, IsRootReady, Preserves, below, after_reading, put_of, rules_at, state_of}
+use Rattle.passrun.specs.passing.RunInvariant.{Transcript, Expects, IsCurrent, RunInvariant, IsRootReady, IsOpenNode, below, after_reading, put_of, rules_at, state_of}
 use Rattle.passrun.specs.passing.Places.{Table, copies, in_children}
 use Rattle.treefile.proofs.records.Orders.{length-postfix, length-postfix_all, length-prefix_all}
 use Rattle.treefile.proofs.records.Records.{bodies_count, bodies_counts}
@@ -64,19 +64,19 @@ module _ (c : Setting) (sound : IsSound c) where
 
   -- The counts after the visited children of a node whose record was read.
   stays_counted : (s : ℕ) (f : ℕ → Value) (level p : ℕ) (q : Production) (state : State) (e : Table) (ts : Forest) (ws : ℕ → Valuation) (old new : Transcript) (before opened : ℕ)
-      → Preserves c s f level p q state e ts ws old new
+      → IsOpenNode c s f level p q state e ts ws old new
       → length old.put + opened ≡ length old.read → before ≤ 65536 * length old.read
       → (length new.put + suc opened ≡ length new.read) × (before + rules_at c q ts ≤ 65536 * length new.read)
-  stays_counted s f level p q state e ts ws old new before opened stays balanced few =
-      let pre = count_of_all (way c) c.grammar c.passes c.read ts ws in
-      let post = post_of_all (way c) c.grammar c.passes c.write ts ws in
-      let a = ap length stays.visits.read in
-      let b = length-append (after_reading c p f (copies c c.read (stored_items q.items) (in_children e)) old).read (prefix_all (way c) (bodies_of_all version_two c.grammar c.passes c.read ts ws)) in
+  stays_counted s f level p q state e ts ws old new before opened is_open balanced few =
+      let pre = count_of_all (pass_direction c) c.grammar c.passes c.read ts ws in
+      let post = post_of_all (pass_direction c) c.grammar c.passes c.write ts ws in
+      let a = ap length is_open.visits.read in
+      let b = length-append (after_reading c p f (copies c c.read (stored_items q.items) (in_children e)) old).read (prefix_all (pass_direction c) (bodies_of_all version_two c.grammar c.passes c.read ts ws)) in
       let d = length-append old.read (node_body version_two c.grammar c.passes c.read p f (copies c c.read (stored_items q.items) (in_children e)) ∷ []) in
-      let e' = ap length stays.visits.put in
-      let f' = length-append old.put (postfix_all (way c) (bodies_of_all version_two c.grammar c.passes c.write ts ws)) in
+      let e' = ap length is_open.visits.put in
+      let f' = length-append old.put (postfix_all (pass_direction c) (bodies_of_all version_two c.grammar c.passes c.write ts ws)) in
       let rules = rules_bound_all ts in
-      let most = few_of p (Some q) stays.there in
+      let most = few_of p (Some q) is_open.there in
       (omega arith, omega arith)
 
   waits_counted : (root : ℕ) (xs : List OpenNode) (s p : ℕ) (f : ℕ → Value) (under : List Value) (old : Transcript) (before : ℕ) (others : Pending) → Expects c root xs s p f under old before others → (length old.put + length xs ≡ length old.read) × (before ≤ 65536 * length old.read)
@@ -87,7 +87,7 @@ module _ (c : Setting) (sound : IsSound c) where
       (omega arith, omega arith)
   waits_counted root (x ∷ xs) s p f under old before others (s', f', under', old', before', others', waits, z) =
       let h = waits_counted root xs s' x.production f' under' old' before' others' waits in
-      let k = stays_counted s' f' (suc (length xs)) x.production z.production (state_of Got z.i z.done) z.table z.trees z.values old' old before' (length xs) z.stays h.0 h.1 in
+      let k = stays_counted s' f' (suc (length xs)) x.production z.production (state_of Got z.i z.done) z.table z.trees z.values old' old before' (length xs) z.is_open h.0 h.1 in
       let n = z.counted in
       let m = k.1 in
       (k.0, omega arith)
@@ -101,17 +101,17 @@ module _ (c : Setting) (sound : IsSound c) where
   current_counted q Ended i level p e of_child row old new count h = absurd h
   current_counted q Got i level p e of_child row old new count h =
       let body = node_body version_two c.grammar c.passes c.read p (e (place_of q c.write i)) (copies c c.read (stored_items h.0.production.items) (in_children of_child)) in
-      let a = ap (λ z. length z.put) h.0.tapes in
-      let b = ap (λ z. length z.read) h.0.tapes in
+      let a = ap (λ z. length z.put) h.0.transcript in
+      let b = ap (λ z. length z.read) h.0.transcript in
       let d = length-append old.read (body ∷ []) in
       let n = h.1 in
       (omega arith, omega arith)
   current_counted q Gone i level p e of_child row old new count (h, nothing) =
       let t = h.tree in
       let a = ap length h.read in
-      let b = length-append old.read (prefix (way c) (bodies_of version_two c.grammar c.passes c.read t h.values)) in
-      let d = count_of (way c) c.grammar c.passes c.read t h.values in
-      let put = put_of (way c) t (bodies_of version_two c.grammar c.passes c.write t h.values) in
+      let b = length-append old.read (prefix (pass_direction c) (bodies_of version_two c.grammar c.passes c.read t h.values)) in
+      let d = count_of (pass_direction c) c.grammar c.passes c.read t h.values in
+      let put = put_of (pass_direction c) t (bodies_of version_two c.grammar c.passes c.write t h.values) in
       let e' = ap length h.put in
       let f' = length-append old.put put in
       let g' = put_few t h.values in
@@ -119,16 +119,16 @@ module _ (c : Setting) (sound : IsSound c) where
       let n = h.counted in
       (omega arith, omega arith)
     where
-      put_few : (t : Tree) (w : Valuation) → length (put_of (way c) t (bodies_of version_two c.grammar c.passes c.write t w)) ≤ node_count t
+      put_few : (t : Tree) (w : Valuation) → length (put_of (pass_direction c) t (bodies_of version_two c.grammar c.passes c.write t w)) ≤ node_count t
       put_few (leaf d text) w = omega arith
-      put_few (node p ts) w = let n = post_of (way c) c.grammar c.passes c.write (node p ts) w in omega arith
+      put_few (node p ts) w = let n = post_of (pass_direction c) c.grammar c.passes c.write (node p ts) w in omega arith
 
   -- While nodes are open, fewer bodies were written than read, and no more rules were run than the bodies
   -- that were read allow.
-  pub passing_counted : (root : ℕ) (x : OpenNode) (xs : List OpenNode) (values : List Value) (t : Transcript) (now : ℕ) (todo : Pending) → NodeInvariant c root (x ∷ xs) values t now todo → (length t.put < length t.read) × (now ≤ 65536 * length t.read)
+  pub passing_counted : (root : ℕ) (x : OpenNode) (xs : List OpenNode) (values : List Value) (t : Transcript) (now : ℕ) (todo : Pending) → RunInvariant c root (x ∷ xs) values t now todo → (length t.put < length t.read) × (now ≤ 65536 * length t.read)
   passing_counted root x xs values t now todo (s, f, under, old, before, others, waits, ph, o) =
       let h = waits_counted root xs s x.production f under old before others waits in
-      let m = stays_counted s f (suc (length xs)) x.production o.production (state_of ph o.i o.done) o.table o.trees o.valuations old o.mid before (length xs) o.stays h.0 h.1 in
+      let m = stays_counted s f (suc (length xs)) x.production o.production (state_of ph o.i o.done) o.table o.trees o.valuations old o.mid before (length xs) o.is_open h.0 h.1 in
       let k = current_counted o.production ph o.i (suc (length xs)) x.child o.table o.of_child o.row o.mid t o.count o.current in
       let n = o.counted in
       let a = m.0 in
@@ -140,7 +140,7 @@ module _ (c : Setting) (sound : IsSound c) where
   pub ready_counted : (root : ℕ) (values : List Value) (t : Transcript) (now : ℕ) (todo : Pending) → IsRootReady c root values t now todo → suc (length t.put) ≡ length t.read
   ready_counted root values t now todo h =
       let a = ap length h.ready.read in
-      let b = count_of (way c) c.grammar c.passes c.read h.tree h.valuation in
+      let b = count_of (pass_direction c) c.grammar c.passes c.read h.tree h.valuation in
       let d = ap length h.ready.put in
-      let e = below_count (way c) c.grammar c.passes c.write h.tree h.valuation in
+      let e = below_count (pass_direction c) c.grammar c.passes c.write h.tree h.valuation in
       omega arith

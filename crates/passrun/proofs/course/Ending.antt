@@ -8,7 +8,7 @@ use Rattle.std.proofs.lemmas.List.Elements.{All-append}
 use Rattle.ag_grammar.specs.declared.grammar.Item.TheVariants as item
 use Rattle.ag_grammar.specs.grammars.AttributeGrammar.{stored_items}
 use Rattle.ag_grammar.specs.grammars.Passes.{direction_of, other}
-use Rattle.passrun.specs.passing.Ahead.{following, children_of, records_of_node}
+use Rattle.passrun.specs.passing.Ahead.{following, children_of, pending_of_child}
 use Rattle.ag_grammar.specs.grammars.Tree.{max_nodes}
 use Rattle.treefile.specs.declared.reading.FrameFault.{FrameFault}
 use Rattle.treefile.specs.framing.Backward.{ReadsTo, before_frame, next_before}
@@ -33,7 +33,7 @@ use Rattle.passrun.specs.passing.Nodes.{first_at}
 use Rattle.passrun.specs.passing.Places.{copies, stored}
 use Rattle.passrun.specs.reading.Fetching.{HasFetched}
 use Rattle.passrun.specs.Passed.{IsPassed, IsRunning}
-use Rattle.passrun.specs.passing.NodeInvariant.{NodeInvariant, Transcript, after_reading}
+use Rattle.passrun.specs.passing.RunInvariant.{RunInvariant, Transcript, after_reading}
 use Rattle.passrun.specs.passing.Putting.{HasPut}
 use Rattle.passrun.specs.passing.Running.{Runs}
 use Rattle.passrun.proofs.course.Ahead.{is_record, of_node_is}
@@ -74,19 +74,19 @@ module _ (c : Setting) (sound : IsSound c) where
       let row : values.items ≡ stored c q f e = t.row ∙ ap (λ vs. vs ++ (own ++ kept)) none ∙ ap (λ s. values_up_to c.write (c.passes s) f ++ kept) (sym t.left) in
       let todo = following c q e 0 2 [] in
       let node = opened c sound p start q f e 1 0 [] empty 0 [] t.there t.left (omega arith) refl in
-      let passing : NodeInvariant c p (first_at p 0 ∷ []) (stored c q f e) (after_reading c p f cs empty) 0 todo = (start, f, [], empty, 0, [], (refl, refl, refl, refl, refl, refl), Between, node) in
+      let passing : RunInvariant c p (first_at p 0 ∷ []) (stored c q f e) (after_reading c p f cs empty) 0 todo = (start, f, [], empty, 0, [], (refl, refl, refl, refl, refl, refl), Between, node) in
       let tape : after_reading c p f cs empty ≡ record { read = [] ++ h.body ∷ []; put = [] } = ap (λ b. record { read = b ∷ []; put = [] }) (sym t.same) in
-      let passing' : NodeInvariant c p (first_at p 0 ∷ []) values.items (record { read = [] ++ h.body ∷ []; put = [] }) 0 todo = subst (λ z. NodeInvariant c p (first_at p 0 ∷ []) values.items z 0 todo) tape (subst (λ vs. NodeInvariant c p (first_at p 0 ∷ []) vs (after_reading c p f cs empty) 0 todo) (sym row) passing) in
+      let passing' : RunInvariant c p (first_at p 0 ∷ []) values.items (record { read = [] ++ h.body ∷ []; put = [] }) 0 todo = subst (λ z. RunInvariant c p (first_at p 0 ∷ []) values.items z 0 todo) tape (subst (λ vs. RunInvariant c p (first_at p 0 ∷ []) vs (after_reading c p f cs empty) 0 todo) (sym row) passing) in
       let children = children_of c q e in
-      let come : todo ≡ before_others (other (direction_of c.read)) 2 children [] = ap (λ o. records_of_node c o e 2 []) (sym t.there) ∙ of_node_is c sound p q e 2 [] t.there in
+      let come : todo ≡ before_others (other (direction_of c.read)) 2 children [] = ap (λ o. pending_of_child c o e 2 []) (sym t.there) ∙ of_node_is c sound p q e 2 [] t.there in
       let zero' : 0 ≡ meter - began = omega arith in
       let at = ap (λ g. g.at) h.progress in
       let records = ap (λ g. g.records) h.progress in
       record {
         running = subst (λ xs. IsRunning c p honest' content' to_honest to back out values.items (first_at p 0 ∷ reverse xs) (meter - began)) (sym single_value) (subst (λ n. IsRunning c p honest' content' to_honest to back out values.items (first_at p 0 ∷ []) n) zero' (record {
-          tapes = record { read = [] ++ h.body ∷ []; put = [] };
+          transcript = record { read = [] ++ h.body ∷ []; put = [] };
           todo = todo;
-          passing = passing';
+          invariant = passing';
           over = λ z. let w = sym same ∙ z in subst (λ bytes. IsOver bytes back) (sym (leaves w)) (h.over w);
           read = λ z.
               let w = sym same ∙ z in
@@ -112,8 +112,8 @@ module _ (c : Setting) (sound : IsSound c) where
   pub ready_of : (honest : Bool) (content : List ℕ) (to_honest : Bool) (to : List ℕ) (m : Machine) → RunsBetween c honest content to_honest to m None
       → (length m.values.items ≤ version_two.max_values) × (All IsWell m.values.items) × (m.writer.written < 2 ^ 64 - 1) × (m.writer.is_broken ≡ false)
   ready_of honest content to_honest to m (meter, r) =
-      let h = r.running.passing in
-      let k = ready_counted c sound m.root m.values.items r.running.tapes (meter - m.begun) r.running.todo h in
+      let h = r.running.invariant in
+      let k = ready_counted c sound m.root m.values.items r.running.transcript (meter - m.begun) r.running.todo h in
       let few = r.running.few in
       let w = r.running.written in
       (h.few, r.running.well, omega arith, r.running.whole)
@@ -121,7 +121,7 @@ module _ (c : Setting) (sound : IsSound c) where
   -- The number of records written is the number of records read.
   pub as_many : (honest : Bool) (content : List ℕ) (to_honest : Bool) (to : List ℕ) (m : Machine) → RunsBetween c honest content to_honest to m None → (m.writer.written + 1 ≡ m.back.progress.records) × (m.back.progress.records ≤ max_nodes)
   as_many honest content to_honest to m (meter, r) =
-      let k = ready_counted c sound m.root m.values.items r.running.tapes (meter - m.begun) r.running.todo r.running.passing in
+      let k = ready_counted c sound m.root m.values.items r.running.transcript (meter - m.begun) r.running.todo r.running.invariant in
       let few = r.running.few in
       let w = r.running.written in
       let n = r.running.records in
@@ -133,9 +133,9 @@ module _ (c : Setting) (sound : IsSound c) where
       → IsPassed c content to' count (meter - m.begun)
   passed honest content to_honest to to' m out values meter count r is to_is vs put end counted =
       let run = r.running in
-      let h = run.passing in
+      let h = run.invariant in
       let put' = subst (λ vs. HasPut Node m.root vs to_honest to to' m.writer out) vs put in
-      let bytes = put_more c sound to_honest to_honest to to' m.writer out Node m.root m.values.items run.tapes.put put' refl run.put to_is in
+      let bytes = put_more c sound to_honest to_honest to to' m.writer out Node m.root m.values.items run.transcript.put put' refl run.put to_is in
       let file = run.readable is in
       let bytes' = all_bytes content m.back (run.over is) (none_at_header version_two content m.back.progress.at end) in
-      finished c sound m.root content to' m.values.items run.tapes m.back.progress.at count (meter - m.begun) (body_of Node m.root m.values.items) run.todo h (sym h.record_is) bytes' file.begins file.number (run.read is) end bytes (counted ∙ run.records) run.few
+      finished c sound m.root content to' m.values.items run.transcript m.back.progress.at count (meter - m.begun) (body_of Node m.root m.values.items) run.todo h (sym h.record_is) bytes' file.begins file.number (run.read is) end bytes (counted ∙ run.records) run.few

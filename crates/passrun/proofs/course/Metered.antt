@@ -1,7 +1,7 @@
 -- A finished pass ran no more rules than its records allow, for any devices.
 use Rattle.std.proofs.Common.{ℕ, ◌+◌, ◌^◌, ◌≤◌, Bool, List, None, Result, Ok, Err, length, ap, arith}
 use Rattle.std.specs.Prelude.{IfErr, OnErr, OnOk}
-use Rattle.planchecker.specs.courses.Settings.{Setting, way}
+use Rattle.planchecker.specs.courses.Settings.{Setting, pass_direction}
 use Rattle.planchecker.specs.courses.Sound.{IsSound}
 use Rattle.passrun.specs.declared.passing.ends.Passed.{Passed}
 use Rattle.passrun.specs.declared.passing.machine.Machine.{Machine}
@@ -12,9 +12,9 @@ use Rattle.passrun.proofs.course.Finish.{count_of}
 
 pub meter_few : (c : Setting) → IsSound c → (honest : Bool) (content : List ℕ) (to_honest : Bool) (to : List ℕ) (meter : ℕ) (m : Machine) → Runs c honest content to_honest to meter m None → (m.begun ≤ meter) × (meter ≤ m.begun + 2 ^ 36)
 meter_few c sound honest content to_honest to meter m r =
-    let h = r.running.passing in
+    let h = r.running.invariant in
     let read = ap length h.ready.read in
-    let nodes = count_of (way c) c.grammar c.passes c.read h.tree h.valuation in
+    let nodes = count_of (pass_direction c) c.grammar c.passes c.read h.tree h.valuation in
     let rules = rules_bound c sound h.tree in
     let counted = h.counted in
     let few = r.running.few in

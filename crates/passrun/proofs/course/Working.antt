@@ -19,15 +19,15 @@ use Rattle.passrun.specs.declared.passing.open_node.OpenNode.{OpenNode}
 use Rattle.passrun.specs.passing.Ahead.{goes_next}
 use Rattle.passrun.specs.reading.Fetching.{HasFetched}
 use Rattle.passrun.specs.passing.Places.{rest_of}
-use Rattle.passrun.specs.passing.Running.{GivesNext, RunsSomehow, stack_of}
+use Rattle.passrun.specs.passing.Running.{RunsRuleNext, RunsSomehow, stack_of}
 use Rattle.passrun.specs.passing.Working.{all_of, node_cost, reserved_work, remaining_work, measure}
 use Rattle.passrun.proofs.steps.Facts.{put_stays, waits_stay}
 use Rattle.passrun.proofs.steps.Going.{child_of}
 use Rattle.passcode.specs.Course.{start}
-use Rattle.passrun.proofs.steps.Preserves.{goes_nowhere}
+use Rattle.passrun.proofs.steps.EntersNone.{goes_nowhere}
 use Rattle.passrun.specs.passing.Nodes.{left_at, after_step}
 use Rattle.passrun.proofs.steps.Steps.{next_is}
-use Rattle.passrun.proofs.steps.Turning.{popped}
+use Rattle.passrun.proofs.steps.MachineSteps.{popped}
 
 -- No list is longer than all lists together.
 list_within : (rows : Lists) (p k : ℕ) → length (slice_index_or (slice_index_or rows p []) k []) ≤ all_of rows k
@@ -79,10 +79,10 @@ module _ (c : Setting) (sound : IsSound c) where
   put_less m out x next j (honest, content, to_honest, to, meter, r) at on =
       let l = fewer c x (instr.Put j) at in
       let k = ap (λ next. length (rest_of c next)) on in
-      let g = going_none c next (ap (λ next. goes_next (rest_of c next)) on ∙ put_stays c sound m.root x (reverse m.waiting.items) m.values.items r.running.tapes (meter - m.begun) r.running.todo j at r.running.passing) in
+      let g = going_none c next (ap (λ next. goes_next (rest_of c next)) on ∙ put_stays c sound m.root x (reverse m.waiting.items) m.values.items r.running.transcript (meter - m.begun) r.running.todo j at r.running.invariant) in
       omega arith
 
-  pub given_less : (m : Machine) (values : Vec Value) (x next : OpenNode) (rule : ℕ) → GivesNext c x rule → next ≡ after_step x x.child
+  pub given_less : (m : Machine) (values : Vec Value) (x next : OpenNode) (rule : ℕ) → RunsRuleNext c x rule → next ≡ after_step x x.child
       → measure c (record { back = m.back; writer = m.writer; values = values; waiting = m.waiting; root = m.root; begun = m.begun }) (Some next) < measure c m (Some x)
   given_less m values x next rule (j, a, z, giving, at) on =
       let l = fewer c x z at in
@@ -103,7 +103,7 @@ module _ (c : Setting) (sound : IsSound c) where
       let stack : reverse waiting.items ≡ left_at x j ∷ reverse m.waiting.items = ap reverse pushed ∙ reverse-append m.waiting.items (left_at x j ∷ []) in
       let n = ap (remaining_work c) stack in
       let here : reserved_work c (Some x) ≡ node_cost c = ap (λ xs. if goes_next xs then node_cost c else 0) (next_is (list_at c x.production) x.at (instr.Go j) at) in
-      let h = child_of c sound x (reverse m.waiting.items) m.values.items j at (m.root, r.running.tapes, meter - m.begun, r.running.todo, r.running.passing) in
+      let h = child_of c sound x (reverse m.waiting.items) m.values.items j at (m.root, r.running.transcript, meter - m.begun, r.running.todo, r.running.invariant) in
       let rest : rest_of c child ≡ list_at c x.child = ap (λ p. drop child.at (list_at c p)) is ∙ ap (λ n. drop n (list_at c x.child)) first in
       let g = going_none c child (ap goes_next rest ∙ goes_nowhere c h.production start (list_at c x.child) (λ e. let bad : ⊥ = cc in bad) (sound.course x.child h.production h.there)) in
       let w = list_within c.code x.child c.read in
@@ -116,9 +116,9 @@ module _ (c : Setting) (sound : IsSound c) where
   ended_less m values waiting out x result (honest, content, to_honest, to, meter, r) popped_is none =
       let stack = popped result m.waiting.items waiting.items popped_is none in
       let n = ap (remaining_work c) stack in
-      let g = stays result stack in
+      let g = is_open result stack in
       omega arith
     where
-      stays : (result : Option OpenNode) → reverse m.waiting.items ≡ stack_of result waiting.items → reserved_work c result ≡ 0
-      stays None e = refl
-      stays (Some y) e = going_none c y (waits_stay c sound m.root x (reverse m.waiting.items) m.values.items r.running.tapes (meter - m.begun) r.running.todo y (reverse waiting.items) e r.running.passing)
+      is_open : (result : Option OpenNode) → reverse m.waiting.items ≡ stack_of result waiting.items → reserved_work c result ≡ 0
+      is_open None e = refl
+      is_open (Some y) e = going_none c y (waits_stay c sound m.root x (reverse m.waiting.items) m.values.items r.running.transcript (meter - m.begun) r.running.todo y (reverse waiting.items) e r.running.invariant)

@@ -17,7 +17,7 @@ use Rattle.treefile.specs.records.Records.{copies_of, copy_of, left_synthesized,
 use Rattle.treefile.proofs.records.Values.{count_of_values}
 use Rattle.planchecker.specs.courses.Settings.{Setting}
 use Rattle.passrun.specs.passing.Change.{set, with_row}
-use Rattle.passrun.specs.passing.Places.{IsKnown, IsShown, Table, copied_passes, copies, in_children}
+use Rattle.passrun.specs.passing.Places.{IsReached, AgreesSoFar, Table, copied_passes, copies, in_children}
 use Rattle.passrun.specs.reading.Reading.{AgreeAt}
 use Rattle.passrun.proofs.Recorded.{count_copied}
 use Rattle.passrun.proofs.places.Slots.{copied_is, copies_same, same_at}
@@ -91,35 +91,35 @@ copies_row c q e j x h at agree = copies_same c c.read (stored_items q.items) (i
     ]
 
 -- A rule whose value is not known in the copies yet does not change the known copies.
-pub shown_set : (c : Setting) (q : Production) (n : ℕ) (e s : Table) (j a : ℕ) (v : Value) → HasPass c.passes q (record { place = j; attr = a }) c.write → (IsKnown c q n j → j ≡ 0) → IsShown c q n e s → IsShown c q n (set e j a v) s
+pub shown_set : (c : Setting) (q : Production) (n : ℕ) (e s : Table) (j a : ℕ) (v : Value) → HasPass c.passes q (record { place = j; attr = a }) c.write → (IsReached c q n j → j ≡ 0) → AgreesSoFar c q n e s → AgreesSoFar c q n (set e j a v) s
 shown_set c q n e s j a v pass fault_unless shown b m p x at is le when = shown b m p x at is le when ∙ sym (set_other e j a v (suc b) m (λ both.
     let w = written_there c q b m p j a x pass at is both.0 both.1 in
     elim when [
       | inl less ↦ omega arith
-      | inr known ↦ (let z = fault_unless (subst (IsKnown c q n) both.0 known) in let bj = both.0 in omega arith)
+      | inr known ↦ (let z = fault_unless (subst (IsReached c q n) both.0 known) in let bj = both.0 in omega arith)
     ]))
 
 -- Reading a child's record that agrees with the copies does not change the known copies.
 pub shown_row : (c : Setting) (q : Production) (n n' : ℕ) (e s : Table) (j : ℕ) (x : Item) (h : ℕ → Value) → slice_get (stored_items q.items) j ≡ Some x → AgreeAt c x (s (suc j)) h → c.write ≡ suc c.read
-    → ((b : ℕ) → b ≢ j → IsKnown c q n' (suc b) → IsKnown c q n (suc b)) → ((a p : ℕ) → slice_get (copied_passes c x) a ≡ Some p → IsKnown c q n' (suc j) → p < c.write)
-    → IsShown c q n e s → IsShown c q n' (with_row e (suc j) h) s
+    → ((b : ℕ) → b ≢ j → IsReached c q n' (suc b) → IsReached c q n (suc b)) → ((a p : ℕ) → slice_get (copied_passes c x) a ≡ Some p → IsReached c q n' (suc j) → p < c.write)
+    → AgreesSoFar c q n e s → AgreesSoFar c q n' (with_row e (suc j) h) s
 shown_row c q n n' e s j x h at agree next others never shown b m p y at' is le when = elim (cases_eq b j) [
   | inl here ↦ (
       let items : Some y ≡ Some x = sym at' ∙ ap (slice_get (stored_items q.items)) here ∙ at in
       let yx : y ≡ x = cc in
       let is' = subst (λ y. slice_get (copied_passes c y) m ≡ Some p) yx is in
-      let less : p < c.write = elim when [ inl l ↦ l | inr k ↦ never m p is' (subst (λ b. IsKnown c q n' (suc b)) here k) ] in
+      let less : p < c.write = elim when [ inl l ↦ l | inr k ↦ never m p is' (subst (λ b. IsReached c q n' (suc b)) here k) ] in
       ap (λ b. s (suc b) m) here ∙ same_at c.read (copied_passes c x) (s (suc j)) h agree m p is' (omega arith) ∙ sym (ap (λ b. with_row e (suc j) h (suc b) m) here ∙ with_here e (suc j) h m))
   | inr apart ↦ shown b m p y at' is le (elim when [ inl l ↦ inl l | inr k ↦ inr (others b apart k) ]) ∙ sym (with_other e (suc j) h (suc b) m (λ z. apart (omega arith)))
 ]
 
 -- The known copies stay known if both tables have the values that the pass computed at a child.
-pub shown_both : (c : Setting) (q : Production) (n n' : ℕ) (e s : Table) (j : ℕ) (h : ℕ → Value) → ((b : ℕ) → b ≢ j → IsKnown c q n' (suc b) → IsKnown c q n (suc b)) → IsShown c q n e s → IsShown c q n' (with_row e (suc j) h) (with_row s (suc j) h)
+pub shown_both : (c : Setting) (q : Production) (n n' : ℕ) (e s : Table) (j : ℕ) (h : ℕ → Value) → ((b : ℕ) → b ≢ j → IsReached c q n' (suc b) → IsReached c q n (suc b)) → AgreesSoFar c q n e s → AgreesSoFar c q n' (with_row e (suc j) h) (with_row s (suc j) h)
 shown_both c q n n' e s j h others shown b m p y at is le when = elim (cases_eq b j) [
   | inl here ↦ ap (λ b. with_row s (suc j) h (suc b) m) here ∙ with_here s (suc j) h m ∙ sym (ap (λ b. with_row e (suc j) h (suc b) m) here ∙ with_here e (suc j) h m)
   | inr apart ↦ with_other s (suc j) h (suc b) m (λ z. apart (omega arith)) ∙ shown b m p y at is le (elim when [ inl l ↦ inl l | inr k ↦ inr (others b apart k) ]) ∙ sym (with_other e (suc j) h (suc b) m (λ z. apart (omega arith)))
 ]
 
 -- Values that agree with the copy agree with the table.
-pub agree_table : (c : Setting) (q : Production) (n : ℕ) (e s : Table) (j : ℕ) (x : Item) (h : ℕ → Value) → slice_get (stored_items q.items) j ≡ Some x → c.write ≡ suc c.read → IsShown c q n e s → AgreeAt c x (s (suc j)) h → AgreeAt c x (e (suc j)) h
+pub agree_table : (c : Setting) (q : Production) (n : ℕ) (e s : Table) (j : ℕ) (x : Item) (h : ℕ → Value) → slice_get (stored_items q.items) j ≡ Some x → c.write ≡ suc c.read → AgreesSoFar c q n e s → AgreeAt c x (s (suc j)) h → AgreeAt c x (e (suc j)) h
 agree_table c q n e s j x h at next shown agree = same_values c.read (copied_passes c x) (e (suc j)) (s (suc j)) (λ a p is le. sym (shown j a p x at is (omega arith) (inl (omega arith)))) ∙ agree

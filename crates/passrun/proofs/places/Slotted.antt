@@ -7,7 +7,7 @@ use Rattle.ag_grammar.specs.declared.grammar.Rule.{Rule}
 use Rattle.ag_grammar.specs.declared.grammar.Target.{Target}
 use Rattle.ag_grammar.specs.declared.grammar.Terminal.TheVariants.{Literal, Class}
 use Rattle.ag_grammar.specs.Lists.{Each}
-use Rattle.ag_grammar.specs.grammars.Accepted.{max_attributes, max_stored}
+use Rattle.ag_grammar.specs.grammars.Accepted.{max_attributes, max_children}
 use Rattle.ag_grammar.specs.grammars.Passes.{item_passes}
 use Rattle.ag_grammar.specs.grammars.AttributeGrammar.{item_at, places_of, stored_items}
 use Rattle.treefile.specs.records.Records.{synthesized_count}
@@ -64,7 +64,7 @@ starts_low c start (x ∷ xs) (suc b) small =
     let h = starts_low c (start + copied_width c x) xs b small in
     omega arith
 
-pub rows_low : (c : Setting) (q : Production) → AreSmall c.passes → length (places_of q) ≤ max_stored + 1 → AreLow (place_rows c q)
+pub rows_low : (c : Setting) (q : Production) → AreSmall c.passes → length (places_of q) ≤ max_children + 1 → AreLow (place_rows c q)
 rows_low c q small few zero = omega arith
 rows_low c q small few (suc b) =
     let a = few_counted c.write (c.passes q.left) in

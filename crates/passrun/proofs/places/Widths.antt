@@ -6,7 +6,7 @@ use Rattle.ag_grammar.specs.declared.grammar.Item.TheVariants as item
 use Rattle.ag_grammar.specs.declared.grammar.Production.{Production}
 use Rattle.ag_grammar.specs.declared.grammar.Target.{Target}
 use Rattle.ag_grammar.specs.declared.grammar.Terminal.TheVariants.{Literal, Class}
-use Rattle.ag_grammar.specs.grammars.Accepted.{IsAccepted, max_stored}
+use Rattle.ag_grammar.specs.grammars.Accepted.{IsAccepted, max_children}
 use Rattle.ag_grammar.specs.grammars.AttributeGrammar.{Grammar, HasKind, IsProduction, Kind, used_kind, defined_kind, item_at, item_kinds, stored_items, places_of}
 use Rattle.ag_grammar.specs.grammars.Passes.{IsLegal, Passes}
 use Rattle.treefile.specs.records.Records.{max_copied, max_copies}
@@ -24,7 +24,7 @@ use Rattle.passrun.specs.layouts.Starts.{AreSmall}
 pub are_small : (g : Grammar) (m : Passes) → IsAccepted g → IsLegal g m → AreSmall m
 are_small g m accepted legal s = few_passes g m s accepted legal
 
-pub few_places : (g : Grammar) (p : ℕ) (q : Production) → IsAccepted g → IsProduction g p q → length (places_of q) ≤ max_stored + 1
+pub few_places : (g : Grammar) (p : ℕ) (q : Production) → IsAccepted g → IsProduction g p q → length (places_of q) ≤ max_children + 1
 few_places g p q accepted is = let few = accepted.limits.stored_count p q is in omega arith
 
 -- An existing attribute is at an existing place.

@@ -15,18 +15,18 @@ use Rattle.passcode.specs.declared.instr.Instr.{Instr}
 use Rattle.passcode.specs.declared.instr.Instr.TheVariants as instr
 use Rattle.passcode.specs.declared.phase.Phase.{Phase}
 use Rattle.passcode.specs.declared.phase.Phase.TheVariants.{Between, Gone}
-use Rattle.passcode.specs.Course.{MayGive, Runs, arity, place_of}
+use Rattle.passcode.specs.Course.{MayCompute, Runs, arity, place_of}
 use Rattle.passcode.proofs.Turns.{is_stored_child}
-use Rattle.planchecker.specs.courses.Settings.{Setting, list_at, way}
+use Rattle.planchecker.specs.courses.Settings.{Setting, list_at, pass_direction}
 use Rattle.planchecker.specs.courses.Sound.{IsSound}
 use Rattle.passrun.specs.declared.passing.open_node.OpenNode.{OpenNode}
 use Rattle.passrun.specs.passing.Ahead.{goes_next}
-use Rattle.passrun.specs.passing.NodeInvariant.{IsCurrent, Transcript, NodeInvariant, state_of}
+use Rattle.passrun.specs.passing.RunInvariant.{IsCurrent, Transcript, RunInvariant, state_of}
 use Rattle.passrun.specs.passing.Places.{Table, copied_passes, rest_of, stored}
 use Rattle.passrun.specs.layouts.Slots.{copied_all, copied_before, copied_width, copy_start, rank, stored_width, target_slot}
 use Rattle.passrun.proofs.places.Slots.{begins_with_copy, length_row, length_stored, row_at}
-use Rattle.passrun.proofs.steps.Giving.{IsPlaced}
-use Rattle.passrun.proofs.steps.Preserves.{goes_nowhere}
+use Rattle.passrun.proofs.steps.RuleRuns.{IsPlaced}
+use Rattle.passrun.proofs.steps.EntersNone.{goes_nowhere}
 use Rattle.passrun.proofs.steps.Steps.{IsGivingOf, at_end, at_get, at_put, give_next, runs_next}
 
 -- An open node has a next instruction.
@@ -79,11 +79,11 @@ row_within : (c : Setting) (q : Production) (b : ℕ) (x : Item) → slice_get (
 row_within c q b x at = let n = copies_within c (stored_items q.items) b x at in omega arith
 
 module _ (c : Setting) (sound : IsSound c) where
-  pub here : (root : ℕ) (x : OpenNode) (xs : List OpenNode) (values : List Value) (t : Transcript) (now : ℕ) (todo : Pending) → NodeInvariant c root (x ∷ xs) values t now todo → IsHere c x
+  pub here : (root : ℕ) (x : OpenNode) (xs : List OpenNode) (values : List Value) (t : Transcript) (now : ℕ) (todo : Pending) → RunInvariant c root (x ∷ xs) values t now todo → IsHere c x
   here root x xs values t now todo (s, f, under, old, before, others, waits, ph, o) =
       let some = some_left ph (rest_of c x) o.runs o.current in
       let n = length-drop x.at (list_at c x.production) in
-      record { production = o.production; there = o.stays.there; next = omega arith }
+      record { production = o.production; there = o.is_open.there; next = omega arith }
     where
       some_left : (ph : Phase) (zs : List Instr) → Runs c.passes o.production c.write (state_of ph o.i o.done) zs → IsCurrent c o.production ph o.i (suc (length xs)) x.child o.table o.of_child o.row o.mid t o.count → 0 < length zs
       some_left ph [] ended current = elim (subst (λ ph. IsCurrent c o.production ph o.i (suc (length xs)) x.child o.table o.of_child o.row o.mid t o.count) ended current) [ ]
@@ -93,34 +93,34 @@ module _ (c : Setting) (sound : IsSound c) where
   copies_in : (x : OpenNode) (q : Production) (i : ℕ) (under row values : List Value) (f : ℕ → Value) (e : Table) (x' : Item) → IsProduction c.grammar x.production q → item_at q (place_of q c.write i) ≡ Some x' → x.base ≡ length under → values ≡ under ++ (stored c q f e ++ row)
       → x.base + (copy_start c q (place_of q c.write i) + copied_width c x') ≤ length values
   copies_in x q i under row values f e x' there occurs base is =
-      let n = row_within c q (nth (way c) (arity q) i) x' occurs in
+      let n = row_within c q (nth (pass_direction c) (arity q) i) x' occurs in
       let m = length_stored c q f e in
       let a = length-append under (stored c q f e ++ row) in
       let b = length-append (stored c q f e) row in
       let d = ap length is in
       omega arith
 
-  pub put_place : (root : ℕ) (x : OpenNode) (xs : List OpenNode) (values : List Value) (t : Transcript) (now : ℕ) (todo : Pending) (j : ℕ) → slice_get (list_at c x.production) x.at ≡ Some (instr.Put j) → NodeInvariant c root (x ∷ xs) values t now todo → HasPlace c x j values
+  pub put_place : (root : ℕ) (x : OpenNode) (xs : List OpenNode) (values : List Value) (t : Transcript) (now : ℕ) (todo : Pending) (j : ℕ) → slice_get (list_at c x.production) x.at ≡ Some (instr.Put j) → RunInvariant c root (x ∷ xs) values t now todo → HasPlace c x j values
   put_place root x xs values t now todo j at (s, f, under, old, before, others, waits, ph, here) =
       let o = at_put here j at in
       let q = o.production in
       let place = (runs_next c x (instr.Put j) at q Gone o.i o.done o.runs).0.place in
       let g = o.current.0 in
-      let within = copies_in x q o.i under o.row values (o.table 0) o.copied g.item o.stays.there g.occurs o.base o.values_are in
-      record { production = q; there = o.stays.there; item = g.item; occurs = ap (item_at q) place ∙ g.occurs; some = omega arith; within = subst (λ j. x.base + (copy_start c q j + copied_width c g.item) ≤ length values) (sym place) within }
+      let within = copies_in x q o.i under o.row values (o.table 0) o.copied g.item o.is_open.there g.occurs o.base o.values_are in
+      record { production = q; there = o.is_open.there; item = g.item; occurs = ap (item_at q) place ∙ g.occurs; some = omega arith; within = subst (λ j. x.base + (copy_start c q j + copied_width c g.item) ≤ length values) (sym place) within }
 
-  pub get_place : (root : ℕ) (x : OpenNode) (xs : List OpenNode) (values : List Value) (t : Transcript) (now : ℕ) (todo : Pending) (j : ℕ) → slice_get (list_at c x.production) x.at ≡ Some (instr.Get j) → NodeInvariant c root (x ∷ xs) values t now todo → HasPlace c x j values
+  pub get_place : (root : ℕ) (x : OpenNode) (xs : List OpenNode) (values : List Value) (t : Transcript) (now : ℕ) (todo : Pending) (j : ℕ) → slice_get (list_at c x.production) x.at ≡ Some (instr.Get j) → RunInvariant c root (x ∷ xs) values t now todo → HasPlace c x j values
   get_place root x xs values t now todo j at (s, f, under, old, before, others, waits, ph, here) =
       let o = at_get here j at in
       let q = o.production in
       let turn = (runs_next c x (instr.Get j) at q Between o.i o.done o.runs).0 in
       let place = turn.place in
       let item = is_stored_child q c.write o.i turn.within in
-      let within = copies_in x q o.i under o.row values (o.table 0) o.copied item.0 o.stays.there item.1.1 o.base o.values_are in
-      record { production = q; there = o.stays.there; item = item.0; occurs = ap (item_at q) place ∙ item.1.1; some = omega arith; within = subst (λ j. x.base + (copy_start c q j + copied_width c item.0) ≤ length values) (sym place) within }
+      let within = copies_in x q o.i under o.row values (o.table 0) o.copied item.0 o.is_open.there item.1.1 o.base o.values_are in
+      record { production = q; there = o.is_open.there; item = item.0; occurs = ap (item_at q) place ∙ item.1.1; some = omega arith; within = subst (λ j. x.base + (copy_start c q j + copied_width c item.0) ≤ length values) (sym place) within }
 
   -- When a node ends, its row is the last one.
-  pub own_row : (root : ℕ) (x : OpenNode) (xs : List OpenNode) (values : List Value) (t : Transcript) (now : ℕ) (todo : Pending) → slice_get (list_at c x.production) x.at ≡ Some instr.End → NodeInvariant c root (x ∷ xs) values t now todo → HasOwn c x values
+  pub own_row : (root : ℕ) (x : OpenNode) (xs : List OpenNode) (values : List Value) (t : Transcript) (now : ℕ) (todo : Pending) → slice_get (list_at c x.production) x.at ≡ Some instr.End → RunInvariant c root (x ∷ xs) values t now todo → HasOwn c x values
   own_row root x xs values t now todo at (s, f, under, old, before, others, waits, ph, here) =
       let o = at_end here at in
       let q = o.production in
@@ -130,20 +130,20 @@ module _ (c : Setting) (sound : IsSound c) where
       let d = ap length o.current.2 in
       let e = ap length o.values_are in
       let k = o.base in
-      record { production = q; there = o.stays.there; within = omega arith }
+      record { production = q; there = o.is_open.there; within = omega arith }
 
   -- When a node ends, the copies for it come before its row.
-  pub waited : (root : ℕ) (x y : OpenNode) (ys : List OpenNode) (values : List Value) (t : Transcript) (now : ℕ) (todo : Pending) → slice_get (list_at c x.production) x.at ≡ Some instr.End → NodeInvariant c root (x ∷ y ∷ ys) values t now todo → HasWaited c y x.base values
+  pub waited : (root : ℕ) (x y : OpenNode) (ys : List OpenNode) (values : List Value) (t : Transcript) (now : ℕ) (todo : Pending) → slice_get (list_at c x.production) x.at ≡ Some instr.End → RunInvariant c root (x ∷ y ∷ ys) values t now todo → HasWaited c y x.base values
   waited root x y ys values t now todo at h =
       let own = own_row root x (y ∷ ys) values t now todo at h in
       go own h
     where
-      go : HasOwn c x values → NodeInvariant c root (x ∷ y ∷ ys) values t now todo → HasWaited c y x.base values
+      go : HasOwn c x values → RunInvariant c root (x ∷ y ∷ ys) values t now todo → HasWaited c y x.base values
       go own (s, f, under, old, before, others, (s', f', under', old', before', others', waits, z), ph, o) =
-          let same : Some o.production ≡ Some own.production = sym o.stays.there ∙ own.there in
+          let same : Some o.production ≡ Some own.production = sym o.is_open.there ∙ own.there in
           let one : o.production ≡ own.production = cc in
-          let left : own.production.left ≡ s = ap (λ q. q.left) (sym one) ∙ o.stays.left in
-          let within = copies_in y z.production z.i under' [] (under' ++ (stored c z.production (z.table 0) z.copied ++ [])) (z.table 0) z.copied (item.Symbol s) z.stays.there z.occurs z.base refl in
+          let left : own.production.left ≡ s = ap (λ q. q.left) (sym one) ∙ o.is_open.left in
+          let within = copies_in y z.production z.i under' [] (under' ++ (stored c z.production (z.table 0) z.copied ++ [])) (z.table 0) z.copied (item.Symbol s) z.is_open.there z.occurs z.base refl in
           let n = length-append under' (stored c z.production (z.table 0) z.copied ++ []) in
           let m = length-append under' (stored c z.production (z.table 0) z.copied) in
           let l = length-append (stored c z.production (z.table 0) z.copied) [] in
@@ -158,7 +158,7 @@ module _ (c : Setting) (sound : IsSound c) where
           let own_is = own.within in
           record {
             production = z.production;
-            there = z.stays.there;
+            there = z.is_open.there;
             item = item.Symbol s;
             occurs = ap (item_at z.production) z.place_is ∙ z.occurs;
             some = let p = z.place_is in omega arith;
@@ -166,14 +166,14 @@ module _ (c : Setting) (sound : IsSound c) where
             wide = omega arith;
           }
 
-  pub given_rule : (root : ℕ) (x : OpenNode) (xs : List OpenNode) (values : List Value) (t : Transcript) (now : ℕ) (todo : Pending) (j a r : ℕ) (z : Instr) → IsGivingOf j a r z → slice_get (list_at c x.production) x.at ≡ Some z → NodeInvariant c root (x ∷ xs) values t now todo → HasRule c x j a r values
+  pub given_rule : (root : ℕ) (x : OpenNode) (xs : List OpenNode) (values : List Value) (t : Transcript) (now : ℕ) (todo : Pending) (j a r : ℕ) (z : Instr) → IsGivingOf j a r z → slice_get (list_at c x.production) x.at ≡ Some z → RunInvariant c root (x ∷ xs) values t now todo → HasRule c x j a r values
   given_rule root x xs values t now todo j a r z giving at (s, f, under, old, before, others, waits, ph, o) =
-      record { production = q; there = o.stays.there; rule = next.0.rule; numbered = next.0.numbered; target = next.0.target; within = within next.1 }
+      record { production = q; there = o.is_open.there; rule = next.0.rule; numbered = next.0.numbered; target = next.0.target; within = within next.1 }
     where
       q : Production
       q = o.production
 
-      next : MayGive c.passes q c.write (state_of ph o.i o.done) j a r × IsPlaced c q (state_of ph o.i o.done) j
+      next : MayCompute c.passes q c.write (state_of ph o.i o.done) j a r × IsPlaced c q (state_of ph o.i o.done) j
       next = let g = give_next c q ph o.i o.done j a r z (drop (x.at + 1) (list_at c x.production)) giving (runs_next c x z at q ph o.i o.done o.runs) in (g.0, g.1)
 
       pass : slice_get (item_passes c.passes (item_at q j)) a ≡ Some c.write
@@ -215,12 +215,12 @@ module _ (c : Setting) (sound : IsSound c) where
           omega arith
 
   -- After a `Put`, and in the node that waits, the pass does not enter a child next.
-  pub put_stays : (root : ℕ) (x : OpenNode) (xs : List OpenNode) (values : List Value) (t : Transcript) (now : ℕ) (todo : Pending) (j : ℕ) → slice_get (list_at c x.production) x.at ≡ Some (instr.Put j) → NodeInvariant c root (x ∷ xs) values t now todo → goes_next (drop (x.at + 1) (list_at c x.production)) ≡ false
+  pub put_stays : (root : ℕ) (x : OpenNode) (xs : List OpenNode) (values : List Value) (t : Transcript) (now : ℕ) (todo : Pending) (j : ℕ) → slice_get (list_at c x.production) x.at ≡ Some (instr.Put j) → RunInvariant c root (x ∷ xs) values t now todo → goes_next (drop (x.at + 1) (list_at c x.production)) ≡ false
   put_stays root x xs values t now todo j at (s, f, under, old, before, others, waits, ph, o) =
       let next = runs_next c x (instr.Put j) at o.production ph o.i o.done o.runs in
       goes_nowhere c o.production (state_of Between (suc o.i) o.done) (drop (x.at + 1) (list_at c x.production)) (λ e. let bad : ⊥ = cc in bad) next.1
 
-  pub waits_stay : (root : ℕ) (x : OpenNode) (xs : List OpenNode) (values : List Value) (t : Transcript) (now : ℕ) (todo : Pending) (y : OpenNode) (ys : List OpenNode) → xs ≡ y ∷ ys → NodeInvariant c root (x ∷ xs) values t now todo → goes_next (rest_of c y) ≡ false
+  pub waits_stay : (root : ℕ) (x : OpenNode) (xs : List OpenNode) (values : List Value) (t : Transcript) (now : ℕ) (todo : Pending) (y : OpenNode) (ys : List OpenNode) → xs ≡ y ∷ ys → RunInvariant c root (x ∷ xs) values t now todo → goes_next (rest_of c y) ≡ false
   waits_stay root x [] values t now todo y ys e p = absurd (cc)
   waits_stay root x (w ∷ ws) values t now todo y ys e (s, f, under, old, before, others, (s', f', under', old', before', others', waits, z), ph, o) =
       let same : w ≡ y = cc in

@@ -10,7 +10,7 @@ use Rattle.planchecker.specs.courses.Settings.{Setting, list_at}
 use Rattle.planchecker.specs.courses.Sound.{IsSound}
 use Rattle.passrun.specs.declared.passing.open_node.OpenNode.{OpenNode}
 use Rattle.passrun.specs.passing.Nodes.{first_at, left_at}
-use Rattle.passrun.specs.passing.NodeInvariant.{NodeInvariant, IsConsistent, ContinuesAs}
+use Rattle.passrun.specs.passing.RunInvariant.{RunInvariant, IsConsistent, ContinuesAs}
 use Rattle.passrun.specs.passing.Places.{stored}
 use Rattle.passrun.specs.layouts.Slots.{stored_width}
 use Rattle.passrun.proofs.places.Slots.{length_stored}
@@ -40,7 +40,7 @@ pub goes : (c : Setting) → IsSound c → (x : OpenNode) (old new : List OpenNo
     → ContinuesAs c (x ∷ reverse old) values (first_at x.child (length values - width) ∷ reverse new) values
 goes c sound x old new values j width at is pushed root t now todo h =
     let child = child_of c sound x (reverse old) values j at (root, t, now, todo, h) in
-    subst (λ ys. NodeInvariant c root (first_at x.child (length values - width) ∷ ys) values t now todo) (sym (ap reverse pushed ∙ reverse-append old (left_at x j ∷ [])))
+    subst (λ ys. RunInvariant c root (first_at x.child (length values - width) ∷ ys) values t now todo) (sym (ap reverse pushed ∙ reverse-append old (left_at x j ∷ [])))
     (step_go c sound root x (reverse old) values t now todo j (length values - width) at (λ q there.
     let same : Some child.production ≡ Some q = sym child.there ∙ there in
     let one : child.production ≡ q = cc in

@@ -12,7 +12,7 @@ use Rattle.ag_grammar.specs.declared.grammar.Rule.{Rule}
 use Rattle.ag_grammar.specs.declared.grammar.Target.{Target}
 use Rattle.ag_grammar.specs.grammars.AttributeGrammar.{IsArgument, IsProduction, Synthesized, used_kind, item_at, item_kinds, stored_items}
 use Rattle.ag_grammar.specs.grammars.Passes.{HasPass, item_passes}
-use Rattle.ag_grammar.specs.grammars.Solution.{Lends, left_passes}
+use Rattle.ag_grammar.specs.grammars.Solution.{Supplies, left_passes}
 use Rattle.ag_grammar.specs.expressions.Evaluation.{value_of}
 use Rattle.ag_grammar.proofs.expressions.Depending.{rule_has_one_value}
 use Rattle.treefile.specs.framing.ExpectedRecords.{Pending}
@@ -20,27 +20,27 @@ use Rattle.treefile.specs.records.Records.{values_up_to}
 use Rattle.treefile.specs.framing.Writing as writing
 use Rattle.backreader.specs.BackState.{BackState}
 use Rattle.passcode.specs.declared.instr.Instr.{Instr}
-use Rattle.passcode.specs.Counts.{is_giving}
+use Rattle.passcode.specs.Counts.{is_computation}
 use Rattle.passcode.specs.declared.phase.Phase.{Phase}
 use Rattle.passcode.specs.declared.phase.Phase.TheVariants.{Between, Got, Gone, Ended}
-use Rattle.passcode.specs.Course.{IsAvailable, IsFinal, MayGive, Runs, State, place_of, run_count}
+use Rattle.passcode.specs.Course.{IsAvailable, IsFinal, MayCompute, Runs, State, place_of, run_count}
 use Rattle.planchecker.specs.courses.Settings.{Setting, list_at}
 use Rattle.planchecker.specs.courses.Sound.{IsSound}
 use Rattle.passrun.specs.declared.layouts.building.RuleSlots.{RuleSlots}
 use Rattle.passrun.specs.declared.passing.open_node.OpenNode.{OpenNode}
-use Rattle.passrun.specs.passing.Ahead.{pending, records_of_node}
+use Rattle.passrun.specs.passing.Ahead.{pending, pending_of_child}
 use Rattle.passrun.specs.passing.Change as change
 use Rattle.passrun.specs.layouts.Layouts.{AreSlotsOf}
 use Rattle.passrun.specs.passing.Nodes.{after_step}
 use Rattle.passrun.specs.Passed.{IsRunning}
-use Rattle.passrun.specs.passing.NodeInvariant.{IsCurrent, Activates, NodeInvariant, Transcript, state_of}
-use Rattle.passrun.specs.passing.Places.{IsKnown, IsShown, Table, copies, in_children, place_passes, stored}
+use Rattle.passrun.specs.passing.RunInvariant.{IsCurrent, IsActive, RunInvariant, Transcript, state_of}
+use Rattle.passrun.specs.passing.Places.{IsReached, AgreesSoFar, Table, copies, in_children, place_passes, stored}
 use Rattle.passrun.specs.layouts.Slots.{argument_slot, rank, stored_width, target_slot}
 use Rattle.passrun.proofs.course.Ahead.{after_same}
 use Rattle.passrun.proofs.places.Copies.{copies_set, shown_set}
 use Rattle.passrun.proofs.places.Entries.{some_at}
-use Rattle.passrun.proofs.steps.Given.{argument_kind}
-use Rattle.passrun.proofs.steps.Giving.{IsPlaced, given}
+use Rattle.passrun.proofs.steps.RuleTargets.{argument_kind}
+use Rattle.passrun.proofs.steps.RuleRuns.{IsPlaced, open_after_rule}
 use Rattle.passrun.proofs.steps.Moves.{known_differs}
 use Rattle.passrun.proofs.places.Slots.{argument_at, has_copy, length_row, length_stored, own_at, own_set, row_at}
 use Rattle.passrun.proofs.steps.Steps.{IsGivingOf, give_next, rules_next, runs_next, same_production, stored_same}
@@ -71,7 +71,7 @@ current_stays c q Gone i done level p e of_child row now j a v old new count nex
     occurs = g.occurs;
     tree = g.tree;
     values = g.values;
-    took = g.took;
+    evaluated = g.evaluated;
     number = g.number;
     root = λ b. g.root b ∙ sym (set_other e j a v (place_of q c.write i) b (λ both. let x = both.0 in let y = k.0 in omega arith));
     read = g.read;
@@ -89,7 +89,7 @@ current_stays c q Got i done level p e of_child row now j a v old new count next
     production = g.production;
     there = g.there;
     left = g.left;
-    tapes = g.tapes ∙ ap (λ b. record { read = old.read ++ b ∷ []; put = old.put }) (body_same c.read c.grammar c.passes p g.symbol (e pl) (change.set e j a v pl) (copies c c.read (stored_items g.production.items) (in_children of_child))
+    transcript = g.transcript ∙ ap (λ b. record { read = old.read ++ b ∷ []; put = old.put }) (body_same c.read c.grammar c.passes p g.symbol (e pl) (change.set e j a v pl) (copies c c.read (stored_items g.production.items) (in_children of_child))
         (ap (left_passes c.passes) g.there ∙ ap c.passes g.left)
         (λ b n is le. sym (set_other e j a v pl b (λ both. let w = of_pass b n both.0 both.1 is in absurd (omega arith)))));
     deep = g.deep;
@@ -121,7 +121,7 @@ current_stays c q Got i done level p e of_child row now j a v old new count next
 
 module _ (c : Setting) (sound : IsSound c) where
   -- An argument is in its slot.
-  argument_there : (p : ℕ) (q : Production) (state : State) (r : ℕ) (u : Rule) (e s : Table) (row : List Value) → IsProduction c.grammar p q → slice_get q.rules r ≡ Some u → IsShown c q (run_count state.phase state.turn) e s → (o : Target) → IsArgument u o → IsAvailable c.passes q c.write state o
+  argument_there : (p : ℕ) (q : Production) (state : State) (r : ℕ) (u : Rule) (e s : Table) (row : List Value) → IsProduction c.grammar p q → slice_get q.rules r ≡ Some u → AgreesSoFar c q (run_count state.phase state.turn) e s → (o : Target) → IsArgument u o → IsAvailable c.passes q c.write state o
       → slice_get (stored c q (e 0) s ++ row) (argument_slot c q o.place o.attr) ≡ Some (e o.place o.attr)
   argument_there p q state r u e s row there num shown o arg (n, pass, le, final) = go o.place pass final (argument_kind c.grammar sound.accepted p q there r u o num arg)
     where
@@ -136,7 +136,7 @@ module _ (c : Setting) (sound : IsSound c) where
               argument_at c q (e 0) s row b o.attr n x is copy le ∙ ap Some (shown b o.attr n x is copy le final)
 
   -- The values that are lent are those of the occurrences.
-  lent_is : (p : ℕ) (q : Production) (state : State) (r : ℕ) (u : Rule) (e s : Table) (row : List Value) (slots : RuleSlots) (spare : Value) → IsProduction c.grammar p q → slice_get q.rules r ≡ Some u → IsShown c q (run_count state.phase state.turn) e s → AreSlotsOf c q u slots
+  lent_is : (p : ℕ) (q : Production) (state : State) (r : ℕ) (u : Rule) (e s : Table) (row : List Value) (slots : RuleSlots) (spare : Value) → IsProduction c.grammar p q → slice_get q.rules r ≡ Some u → AgreesSoFar c q (run_count state.phase state.turn) e s → AreSlotsOf c q u slots
       → ((o : Target) → IsArgument u o → IsAvailable c.passes q c.write state o) → (k : ℕ) (o : Target) → slice_get u.args k ≡ Some o → get_or (stored c q (e 0) s ++ row) (slice_index slots.args k) spare ≡ e o.place o.attr
   lent_is p q state r u e s row slots spare there num shown are available k o at =
       let less : k < length slots.args = let l = slice_get_within u.args k o at in let m = are.args.equally_long in omega arith in
@@ -169,7 +169,7 @@ module _ (c : Setting) (sound : IsSound c) where
   given_in : (s : ℕ) (f : ℕ → Value) (level : ℕ) (x : OpenNode) (under : List Value) (old : Transcript) (before : ℕ) (others : Pending) (ph : Phase) (values new : List Value) (t : Transcript) (now : ℕ) (todo : Pending) (j a r : ℕ) (v spare : Value) (z : Instr) (q0 : Production) (u0 : Rule) (slots : RuleSlots)
       → IsGivingOf j a r z → slice_get (list_at c x.production) x.at ≡ Some z → IsProduction c.grammar x.production q0 → slice_get q0.rules r ≡ Some u0 → AreSlotsOf c q0 u0 slots
       → v ≡ value_of u0.expr.0 (λ k. get_or (drop x.base values) (slice_index slots.args k) spare) → new ≡ set values (x.base + slots.target) v
-      → Activates c s f level x under old before others ph values t now todo → Activates c s f level (after_step x x.child) under old before others ph new t (now + 1) todo
+      → IsActive c s f level x under old before others ph values t now todo → IsActive c s f level (after_step x x.child) under old before others ph new t (now + 1) todo
   given_in s f level x under old before others ph values new t now todo j a r v spare z q0 u0 slots giving at there0 num0 are0 is0 written o =
       record {
         production = q;
@@ -183,11 +183,11 @@ module _ (c : Setting) (sound : IsSound c) where
         valuations = o.valuations;
         mid = o.mid;
         count = o.count;
-        stays = given c sound s f level x.production q (state_of ph o.i o.done) e o.trees o.valuations old o.mid j a r v g value_is next.1 o.stays;
+        is_open = open_after_rule c sound s f level x.production q (state_of ph o.i o.done) e o.trees o.valuations old o.mid j a r v g value_is next.1 o.is_open;
         runs = next.3;
-        shown = shown_set c q (run_count ph o.i) e o.copied j a v pass (fault_unless next.1) o.shown;
+        agreement = shown_set c q (run_count ph o.i) e o.copied j a v pass (fault_unless next.1) o.agreement;
         current = current_stays c q ph o.i o.done level x.child e o.of_child o.row row_now j a v o.mid t o.count sound.next pass next.1 (both j refl).1 o.current;
-        counted = let n = o.counted in let l = rules_next c x z at in let one : ◌≡◌ {A = ℕ} (cond (is_giving z) 1 0) 1 = ap (λ b. cond b 1 0) next.2 in omega arith;
+        counted = let n = o.counted in let l = rules_next c x z at in let one : ◌≡◌ {A = ℕ} (cond (is_computation z) 1 0) 1 = ap (λ b. cond b 1 0) next.2 in omega arith;
         values_are =
             written ∙ ap (λ vs. set vs (x.base + slots.target) v) o.values_are ∙ ap (λ i. set (under ++ prefix) i v) sum ∙ set-append_right under prefix (length under) (length under + target_slot c q j a) v refl (omega arith)
             ∙ ap (λ i. under ++ set prefix i v) (let minus : length under + target_slot c q j a - length under ≡ target_slot c q j a = omega arith in minus) ∙ ap (λ vs. under ++ vs) (both j refl).0;
@@ -204,17 +204,17 @@ module _ (c : Setting) (sound : IsSound c) where
       prefix : List Value
       prefix = stored c q (e 0) o.copied ++ o.row
 
-      next : MayGive c.passes q c.write (state_of ph o.i o.done) j a r × IsPlaced c q (state_of ph o.i o.done) j × (is_giving z ≡ true) × Runs c.passes q c.write (state_of ph o.i (r ∷ o.done)) (drop (x.at + 1) (list_at c x.production))
+      next : MayCompute c.passes q c.write (state_of ph o.i o.done) j a r × IsPlaced c q (state_of ph o.i o.done) j × (is_computation z ≡ true) × Runs c.passes q c.write (state_of ph o.i (r ∷ o.done)) (drop (x.at + 1) (list_at c x.production))
       next = give_next c q ph o.i o.done j a r z (drop (x.at + 1) (list_at c x.production)) giving (runs_next c x z at q ph o.i o.done o.runs)
 
-      g : MayGive c.passes q c.write (state_of ph o.i o.done) j a r
+      g : MayCompute c.passes q c.write (state_of ph o.i o.done) j a r
       g = next.0
 
       pass : HasPass c.passes q (record { place = j; attr = a }) c.write
       pass = passed_at c q j a g.rule g.target g.passed
 
       qs : q0 ≡ q
-      qs = same_production c x.production q0 q there0 o.stays.there
+      qs = same_production c x.production q0 q there0 o.is_open.there
 
       rules_same : u0 ≡ g.rule
       rules_same =
@@ -230,12 +230,12 @@ module _ (c : Setting) (sound : IsSound c) where
           let b = o.base in
           omega arith
 
-      value_is : (env : ℕ → Value) → Lends g.rule e env → v ≡ value_of g.rule.expr.0 env
+      value_is : (env : ℕ → Value) → Supplies g.rule e env → v ≡ value_of g.rule.expr.0 env
       value_is env lends =
           let lent : ℕ → Value = λ k. get_or prefix (slice_index slots.args k) spare in
           let dropped : drop x.base values ≡ prefix = ap (drop x.base) o.values_are ∙ drop_at under prefix x.base (sym o.base) in
           is0 ∙ ap (λ u. value_of u.expr.0 (λ k. get_or (drop x.base values) (slice_index slots.args k) spare)) rules_same ∙ ap (λ vs. value_of g.rule.expr.0 (λ k. get_or vs (slice_index slots.args k) spare)) dropped
-          ∙ rule_has_one_value c.grammar q g.rule e lent env (sound.accepted.named.rules_named x.production q o.stays.there r g.rule g.numbered) (λ k o' at'. lent_is x.production q (state_of ph o.i o.done) r g.rule e o.copied o.row slots spare o.stays.there g.numbered o.shown are g.available k o' at') lends
+          ∙ rule_has_one_value c.grammar q g.rule e lent env (sound.accepted.named.rules_named x.production q o.is_open.there r g.rule g.numbered) (λ k o' at'. lent_is x.production q (state_of ph o.i o.done) r g.rule e o.copied o.row slots spare o.is_open.there g.numbered o.agreement are g.available k o' at') lends
 
       row_of : ℕ → List Value
       row_of zero = o.row
@@ -254,23 +254,23 @@ module _ (c : Setting) (sound : IsSound c) where
         inr ((λ none. omega arith), ap row_of (sym is) ∙ ap (λ n. set o.row (rank c.write (place_passes c q n) a) v) is),
       )
 
-      fault_unless : IsPlaced c q (state_of ph o.i o.done) j → IsKnown c q (run_count ph o.i) j → j ≡ 0
+      fault_unless : IsPlaced c q (state_of ph o.i o.done) j → IsReached c q (run_count ph o.i) j → j ≡ 0
       fault_unless (inl own) k = own
-      fault_unless (inr turn) k = absurd (known_differs c q o.i j turn.within (subst (λ ph. IsKnown c q (run_count ph o.i) j) turn.phase_is k) turn.place)
+      fault_unless (inr turn) k = absurd (known_differs c q o.i j turn.within (subst (λ ph. IsReached c q (run_count ph o.i) j) turn.phase_is k) turn.place)
 
       copied_same : copies c c.read (stored_items q.items) (in_children e) ≡ copies c c.read (stored_items q.items) (in_children (change.set e j a v))
       copied_same = sym (copies_set c q e j a v sound.next pass)
 
       coming_same : (ph : Phase) → pending c q ph o.i x.child e o.of_child (suc level) others ≡ pending c q ph o.i x.child (change.set e j a v) o.of_child (suc level) others
       coming_same Between = after_same c q e (change.set e j a v) o.i (suc level) others copied_same
-      coming_same Got = ap (records_of_node c (slice_get c.grammar.productions x.child) o.of_child (suc (suc level))) (after_same c q e (change.set e j a v) (suc o.i) (suc level) others copied_same)
+      coming_same Got = ap (pending_of_child c (slice_get c.grammar.productions x.child) o.of_child (suc (suc level))) (after_same c q e (change.set e j a v) (suc o.i) (suc level) others copied_same)
       coming_same Gone = after_same c q e (change.set e j a v) (suc o.i) (suc level) others copied_same
       coming_same Ended = refl
 
   pub step_give : (root : ℕ) (x : OpenNode) (xs : List OpenNode) (values new : List Value) (t : Transcript) (now : ℕ) (todo : Pending) (j a r : ℕ) (v spare : Value) (z : Instr) (q : Production) (u : Rule) (slots : RuleSlots)
       → IsGivingOf j a r z → slice_get (list_at c x.production) x.at ≡ Some z → IsProduction c.grammar x.production q → slice_get q.rules r ≡ Some u → AreSlotsOf c q u slots
       → v ≡ value_of u.expr.0 (λ k. get_or (drop x.base values) (slice_index slots.args k) spare) → new ≡ set values (x.base + slots.target) v
-      → NodeInvariant c root (x ∷ xs) values t now todo → NodeInvariant c root (after_step x x.child ∷ xs) new t (now + 1) todo
+      → RunInvariant c root (x ∷ xs) values t now todo → RunInvariant c root (after_step x x.child ∷ xs) new t (now + 1) todo
   step_give root x xs values new t now todo j a r v spare z q u slots giving at there num are is written (s, f, under, old, before, others, waits, ph, o) =
       (s, f, under, old, before, others, waits, ph, given_in s f (suc (length xs)) x under old before others ph values new t now todo j a r v spare z q u slots giving at there num are is written o)
 
@@ -281,9 +281,9 @@ module _ (c : Setting) (sound : IsSound c) where
       → IsRunning c root honest content to_honest to state out new (after_step x x.child ∷ xs) (evals + 1)
   given_runs root honest to_honest content to state out values new x xs evals j a r z q u slots spare v giving at there num are is well written run =
       record {
-        tapes = run.tapes;
+        transcript = run.transcript;
         todo = run.todo;
-        passing = step_give root x xs values new run.tapes evals run.todo j a r v spare z q u slots giving at there num are is written run.passing;
+        invariant = step_give root x xs values new run.transcript evals run.todo j a r v spare z q u slots giving at there num are is written run.invariant;
         over = run.over;
         read = run.read;
         records = run.records;

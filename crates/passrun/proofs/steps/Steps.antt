@@ -24,20 +24,20 @@ use Rattle.treefile.specs.records.Records.{bodies_of, values_up_to}
 use Rattle.treefile.specs.records.TreeFile.{body_of, version_two}
 use Rattle.passcode.specs.declared.instr.Instr.{Instr}
 use Rattle.passcode.specs.declared.instr.Instr.TheVariants as instr
-use Rattle.passcode.specs.Counts.{is_giving}
+use Rattle.passcode.specs.Counts.{is_computation}
 use Rattle.passcode.specs.declared.phase.Phase.{Phase}
 use Rattle.passcode.specs.declared.phase.Phase.TheVariants.{Between, Got, Gone}
-use Rattle.passcode.specs.Course.{MayGive, MayRun, Runs, after_get, arity, place_of}
+use Rattle.passcode.specs.Course.{MayCompute, MayRun, Runs, after_get, arity, place_of}
 use Rattle.passcode.proofs.Agreeing.{agrees}
 use Rattle.passcode.proofs.lists.Counting.{lists_evaluate_rules}
-use Rattle.planchecker.specs.courses.Settings.{Setting, way, list_at}
+use Rattle.planchecker.specs.courses.Settings.{Setting, pass_direction, list_at}
 use Rattle.planchecker.specs.courses.Sound.{IsSound}
 use Rattle.passrun.specs.declared.passing.open_node.OpenNode.{OpenNode}
-use Rattle.passrun.specs.passing.Ahead.{following, children_of, records_of_node}
-use Rattle.passrun.specs.passing.Change.{over, with_row}
+use Rattle.passrun.specs.passing.Ahead.{following, children_of, pending_of_child}
+use Rattle.passrun.specs.passing.Change.{node_table, with_row}
 use Rattle.passrun.specs.Damage.{AreRecords, source}
 use Rattle.passrun.specs.passing.Nodes.{first_at, left_at, after_step}
-use Rattle.passrun.specs.passing.NodeInvariant.{Transcript, Keeps, AfterRule, Preserves, IsReady, Activates, Expects, NodeInvariant, below, after_reading, put_of, root_body, root_number, rules_left, state_of}
+use Rattle.passrun.specs.passing.RunInvariant.{Transcript, Keeps, IsEvaluatedTree, IsOpenNode, IsReady, IsActive, Expects, RunInvariant, below, after_reading, put_of, root_body, root_number, rules_left, state_of}
 use Rattle.passrun.specs.passing.Places.{Table, copied_passes, copies, in_children, rest_of, stored}
 use Rattle.passrun.specs.reading.Reading.{AgreeAt, IsNodeRead, IsTokenRead}
 use Rattle.passrun.specs.layouts.Slots.{copied_width, copy_start, stored_width}
@@ -47,7 +47,7 @@ use Rattle.passrun.proofs.Damage.{leaves_on}
 use Rattle.passrun.proofs.course.Forests.{add_tree, add_values, fits_none, rules_add}
 use Rattle.passrun.proofs.steps.Moves.{met_child, returned, put_child, ended, kept_copy, known_last, known_more, known_differs}
 use Rattle.passrun.proofs.Recorded.{first_row}
-use Rattle.passrun.proofs.steps.Giving.{IsPlaced, known_here}
+use Rattle.passrun.proofs.steps.RuleRuns.{IsPlaced, known_here}
 use Rattle.passrun.proofs.places.Slots.{begins_with_copy, length_row, length_stored, share_at, shares}
 use Rattle.passrun.proofs.places.Widths.{few_values}
 use Rattle.passrun.proofs.places.Tables.{with_is, with_here, with_other, same_values, All-before, All-after}
@@ -79,7 +79,7 @@ HasAgreed c q x j x' values h = (f : ℕ → Value) (rest : List Value) → drop
 pub record ArrivesAtNode (c : Setting) (s : ℕ) (f : ℕ → Value) (level : ℕ) (x : OpenNode) (under : List Value) (old : Transcript) (before : ℕ) (others : Pending) (phase : Phase) (values : List Value) (t : Transcript) (body : List ℕ) (now : ℕ) (todo : Pending) : Type 0 where
   pub next : Pending
   pub records : AreRecords (source c) t.read todo → AreRecords (source c) (t.read ++ body ∷ []) next
-  pub opens : Activates c s f level x under old before others phase values (record { read = t.read ++ body ∷ []; put = t.put }) now next
+  pub opens : IsActive c s f level x under old before others phase values (record { read = t.read ++ body ∷ []; put = t.put }) now next
 
 -- The copies at a place, in a row that comes after other values.
 pub copies_there : (c : Setting) (q : Production) (f : ℕ → Value) (s : Table) (under row : List Value) (b base : ℕ) (x : Item) → base ≡ length under → slice_get (stored_items q.items) b ≡ Some x
@@ -101,14 +101,14 @@ module _ (c : Setting) (x : OpenNode) (z : Instr) (at : slice_get (list_at c x.p
   runs_next q ph i done runs = subst (Runs c.passes q c.write (state_of ph i done)) (next_is (list_at c x.production) x.at z at) runs
 
   -- If the instruction runs a rule, one rule fewer is left after it.
-  pub rules_next : rules_left c x ≡ cond (is_giving z) 1 0 + count_by is_giving (drop (x.at + 1) (list_at c x.production))
-  rules_next = ap (count_by is_giving) (next_is (list_at c x.production) x.at z at) ∙ count_more is_giving z (drop (x.at + 1) (list_at c x.production))
+  pub rules_next : rules_left c x ≡ cond (is_computation z) 1 0 + count_by is_computation (drop (x.at + 1) (list_at c x.production))
+  rules_next = ap (count_by is_computation) (next_is (list_at c x.production) x.at z at) ∙ count_more is_computation z (drop (x.at + 1) (list_at c x.production))
 
 -- The innermost open node is in the phase in which its next instruction may run.
 module _ {c : Setting} {s : ℕ} {f : ℕ → Value} {level : ℕ} {x : OpenNode} {under : List Value} {old : Transcript} {before : ℕ} {others : Pending} {ph : Phase} {values : List Value} {t : Transcript} {now : ℕ} {todo : Pending}
-    (o : Activates c s f level x under old before others ph values t now todo) where
+    (o : IsActive c s f level x under old before others ph values t now todo) where
   abbrev pub IsIn : Phase → Type 0
-  IsIn ph = Activates c s f level x under old before others ph values t now todo
+  IsIn ph = IsActive c s f level x under old before others ph values t now todo
 
   may_run : (z : Instr) → slice_get (list_at c x.production) x.at ≡ Some z → MayRun c.passes o.production c.write (state_of ph o.i o.done) z
   may_run z at = (runs_next c x z at o.production ph o.i o.done o.runs).0
@@ -137,17 +137,17 @@ module _ {c : Setting} {s : ℕ} {f : ℕ → Value} {level : ℕ} {x : OpenNode
 
 -- The target of an instruction that runs a rule is at the node itself, or at the child whose record was read.
 pub give_next : (c : Setting) (q : Production) (ph : Phase) (i : ℕ) (done : List ℕ) (j a r : ℕ) (z : Instr) (xs : List Instr) → IsGivingOf j a r z → Runs c.passes q c.write (state_of ph i done) (z ∷ xs)
-    → MayGive c.passes q c.write (state_of ph i done) j a r × IsPlaced c q (state_of ph i done) j × (is_giving z ≡ true) × Runs c.passes q c.write (state_of ph i (r ∷ done)) xs
+    → MayCompute c.passes q c.write (state_of ph i done) j a r × IsPlaced c q (state_of ph i done) j × (is_computation z ≡ true) × Runs c.passes q c.write (state_of ph i (r ∷ done)) xs
 give_next c q ph i done j a r z xs giving runs = elim giving [
-  | inl is ↦ let g = subst (λ z. Runs c.passes q c.write (state_of ph i done) (z ∷ xs)) is runs in (g.0.1, inr g.0.0, ap is_giving is, g.1)
+  | inl is ↦ let g = subst (λ z. Runs c.passes q c.write (state_of ph i done) (z ∷ xs)) is runs in (g.0.1, inr g.0.0, ap is_computation is, g.1)
   | inr is ↦ (
       let g = subst (λ z. Runs c.passes q c.write (state_of ph i done) (z ∷ xs)) is.0 runs in
-      (subst (λ j. MayGive c.passes q c.write (state_of ph i done) j a r) (sym is.1) g.0.1, inl is.1, ap is_giving is.0, g.1))
+      (subst (λ j. MayCompute c.passes q c.write (state_of ph i done) j a r) (sym is.1) g.0.1, inl is.1, ap is_computation is.0, g.1))
 ]
 
 module _ (c : Setting) (sound : IsSound c) where
   -- The list of a production has an instruction for each of its rules of the pass.
-  rules_first : (p : ℕ) (q : Production) → IsProduction c.grammar p q → count_by is_giving (list_at c p) ≡ pass_rule_count c.passes c.write (Some q)
+  rules_first : (p : ℕ) (q : Production) → IsProduction c.grammar p q → count_by is_computation (list_at c p) ≡ pass_rule_count c.passes c.write (Some q)
   rules_first p q there =
       let n = sound.next in
       lists_evaluate_rules c.passes q c.write (list_at c p) (agrees c.passes q c.write (list_at c p) (omega arith) (sound.course p q there))
@@ -158,26 +158,26 @@ module _ (c : Setting) (sound : IsSound c) where
       let n = sound.next in
       let xs = list_at c x.production in
       let last = (agrees c.passes q c.write xs (omega arith) (sound.course x.production q there)).ends.last x.at at in
-      let none = ap (count_by is_giving) (drop_all (x.at + 1) xs (omega arith)) in
+      let none = ap (count_by is_computation) (drop_all (x.at + 1) xs (omega arith)) in
       let rest = rules_next c x instr.End at in
       omega arith
 
   -- The record of a node was read.
   got_in : (s : ℕ) (f : ℕ → Value) (level : ℕ) (x : OpenNode) (under : List Value) (old : Transcript) (before : ℕ) (others : Pending) (ph : Phase) (values new : List Value) (t : Transcript) (now : ℕ) (todo : Pending) (j p s' : ℕ) (q0 : Production) (body : List ℕ) (read : IsNodeRead c s' p body values new)
       → slice_get (list_at c x.production) x.at ≡ Some (instr.Get j) → IsProduction c.grammar x.production q0 → item_at q0 j ≡ Some (item.Symbol s') → level < max_depth → HasAgreed c q0 x j (item.Symbol s') new read.values
-      → Activates c s f level x under old before others ph values t now todo → ArrivesAtNode c s f level (after_step x p) under old before others Got new t body now todo
+      → IsActive c s f level x under old before others ph values t now todo → ArrivesAtNode c s f level (after_step x p) under old before others Got new t body now todo
   got_in s f level x under old before others ph values new t now todo j p s' q0 body read at there0 occurs0 deep agreed here =
       let o = at_get here j at in
       let q = o.production in
       let next = runs_next c x (instr.Get j) at q Between o.i o.done o.runs in
       let within = next.0.within in
       let place = next.0.place in
-      let b = nth (way c) (arity q) o.i in
+      let b = nth (pass_direction c) (arity q) o.i in
       let pl = place_of q c.write o.i in
       let h = read.values in
       let e = with_row o.table pl h in
       let of_child = first_row h read.table in
-      let same : q0 ≡ q = same_production c x.production q0 q there0 o.stays.there in
+      let same : q0 ≡ q = same_production c x.production q0 q there0 o.is_open.there in
       let item_is : item_at q j ≡ Some (item.Symbol s') = ap (λ q. item_at q j) (sym same) ∙ occurs0 in
       let occurs : item_at q pl ≡ Some (item.Symbol s') = ap (item_at q) (sym place) ∙ item_is in
       let child_row = stored c read.production h of_child in
@@ -188,7 +188,7 @@ module _ (c : Setting) (sound : IsSound c) where
       let found = copies_there c q (o.table 0) o.copied under child_row b x.base (item.Symbol s') o.base occurs in
       let slot : copy_start c q0 j ≡ copy_start c q pl = ap (λ q. copy_start c q j) same ∙ ap (copy_start c q) place in
       let agree = agreed (o.copied pl) found.0 (ap (λ n. drop (x.base + n) new) slot ∙ ap (drop (x.base + copy_start c q pl)) whole ∙ found.1) in
-      let agree' = agree_table c q o.i o.table o.copied b (item.Symbol s') h occurs sound.next o.shown agree in
+      let agree' = agree_table c q o.i o.table o.copied b (item.Symbol s') h occurs sound.next o.agreement agree in
       let copied = copies_row c q o.table b (item.Symbol s') h occurs agree' in
       let copy = values_up_to c.read (copied_passes c (item.Symbol s')) (o.table pl) in
       let rest = following c q o.table (suc o.i) (suc level) others in
@@ -210,9 +210,9 @@ module _ (c : Setting) (sound : IsSound c) where
           valuations = o.valuations;
           mid = o.mid;
           count = 0;
-          stays = met_child c sound s f level x.production q Got o.i o.done o.table o.trees o.valuations old o.mid (item.Symbol s') h within occurs agree' refl (λ j n k. k) o.stays;
+          is_open = met_child c sound s f level x.production q Got o.i o.done o.table o.trees o.valuations old o.mid (item.Symbol s') h within occurs agree' refl (λ j n k. k) o.is_open;
           runs = subst (λ x'. Runs c.passes q c.write (state_of (after_get x') o.i o.done) (drop (x.at + 1) (list_at c x.production))) item_is next.1;
-          shown = shown_row c q o.i o.i o.table o.copied b (item.Symbol s') h occurs agree sound.next (λ b apart k. k) (λ a n at k. absurd (known_differs c q o.i pl within k refl)) o.shown;
+          agreement = shown_row c q o.i o.i o.table o.copied b (item.Symbol s') h occurs agree sound.next (λ b apart k. k) (λ a n at k. absurd (known_differs c q o.i pl within k refl)) o.agreement;
           current = (
             record {
               symbol = s';
@@ -220,7 +220,7 @@ module _ (c : Setting) (sound : IsSound c) where
               production = read.production;
               there = read.there;
               left = read.left;
-              tapes = ap (λ bs. record { read = t.read ++ bs ∷ []; put = t.put }) read.same ∙ ap (after_reading c p h (copies c c.read (stored_items read.production.items) read.table)) o.current.0 ∙ sym (ap (λ f. after_reading c p f (copies c c.read (stored_items read.production.items) read.table) o.mid) (with_is o.table pl h));
+              transcript = ap (λ bs. record { read = t.read ++ bs ∷ []; put = t.put }) read.same ∙ ap (after_reading c p h (copies c c.read (stored_items read.production.items) read.table)) o.current.0 ∙ sym (ap (λ f. after_reading c p f (copies c c.read (stored_items read.production.items) read.table) o.mid) (with_is o.table pl h));
               deep = deep;
             },
             refl,
@@ -236,19 +236,19 @@ module _ (c : Setting) (sound : IsSound c) where
   -- The record of a token was read.
   leaf_in : (s : ℕ) (f : ℕ → Value) (level : ℕ) (x : OpenNode) (under : List Value) (old : Transcript) (before : ℕ) (others : Pending) (ph : Phase) (values new : List Value) (t : Transcript) (now : ℕ) (todo : Pending) (j d : ℕ) (q0 : Production) (body : List ℕ) (read : IsTokenRead d body values new)
       → slice_get (list_at c x.production) x.at ≡ Some (instr.Get j) → IsProduction c.grammar x.production q0 → item_at q0 j ≡ Some (item.Terminal (Class d)) → level < max_depth → HasAgreed c q0 x j (item.Terminal (Class d)) new (λ a. Text read.text)
-      → Activates c s f level x under old before others ph values t now todo → ArrivesAtNode c s f level (after_step x d) under old before others Gone values t body now todo
+      → IsActive c s f level x under old before others ph values t now todo → ArrivesAtNode c s f level (after_step x d) under old before others Gone values t body now todo
   leaf_in s f level x under old before others ph values new t now todo j d q0 body read at there0 occurs0 deep agreed here =
       let o = at_get here j at in
       let q = o.production in
       let next = runs_next c x (instr.Get j) at q Between o.i o.done o.runs in
       let within = next.0.within in
       let place = next.0.place in
-      let b = nth (way c) (arity q) o.i in
+      let b = nth (pass_direction c) (arity q) o.i in
       let pl = place_of q c.write o.i in
       let x' = item.Terminal (Class d) in
       let h : ℕ → Value = λ a. Text read.text in
       let e = with_row o.table pl h in
-      let same : q0 ≡ q = same_production c x.production q0 q there0 o.stays.there in
+      let same : q0 ≡ q = same_production c x.production q0 q there0 o.is_open.there in
       let item_is : item_at q j ≡ Some x' = ap (λ q. item_at q j) (sym same) ∙ occurs0 in
       let occurs : item_at q pl ≡ Some x' = ap (item_at q) (sym place) ∙ item_is in
       let whole : new ≡ under ++ (stored c q (o.table 0) o.copied ++ Text read.text ∷ []) =
@@ -256,7 +256,7 @@ module _ (c : Setting) (sound : IsSound c) where
       let found = copies_there c q (o.table 0) o.copied under (Text read.text ∷ []) b x.base x' o.base occurs in
       let slot : copy_start c q0 j ≡ copy_start c q pl = ap (λ q. copy_start c q j) same ∙ ap (copy_start c q) place in
       let agree = agreed (o.copied pl) found.0 (ap (λ n. drop (x.base + n) new) slot ∙ ap (drop (x.base + copy_start c q pl)) whole ∙ found.1) in
-      let agree' = agree_table c q o.i o.table o.copied b x' h occurs sound.next o.shown agree in
+      let agree' = agree_table c q o.i o.table o.copied b x' h occurs sound.next o.agreement agree in
       let copied = copies_row c q o.table b x' h occurs agree' in
       let copy = values_up_to c.read (copied_passes c x') (o.table pl) in
       let rest = following c q o.table (suc o.i) (suc level) others in
@@ -276,16 +276,16 @@ module _ (c : Setting) (sound : IsSound c) where
           valuations = o.valuations;
           mid = o.mid;
           count = 0;
-          stays = met_child c sound s f level x.production q Gone o.i o.done o.table o.trees o.valuations old o.mid x' h within occurs agree' refl (λ j n k. elim k [ inl l ↦ inl l | inr l ↦ inr (known_more c q o.i j l) ]) o.stays;
+          is_open = met_child c sound s f level x.production q Gone o.i o.done o.table o.trees o.valuations old o.mid x' h within occurs agree' refl (λ j n k. elim k [ inl l ↦ inl l | inr l ↦ inr (known_more c q o.i j l) ]) o.is_open;
           runs = subst (λ x'. Runs c.passes q c.write (state_of (after_get x') o.i o.done) (drop (x.at + 1) (list_at c x.production))) item_is next.1;
-          shown = shown_row c q o.i (suc o.i) o.table o.copied b x' h occurs agree sound.next (λ b' apart k. elim (known_last c q o.i (suc b') k) [ inl l ↦ l | inr here ↦ absurd (apart (omega arith)) ]) (λ a n at k. zero_pass a n at) o.shown;
+          agreement = shown_row c q o.i (suc o.i) o.table o.copied b x' h occurs agree sound.next (λ b' apart k. elim (known_last c q o.i (suc b') k) [ inl l ↦ l | inr here ↦ absurd (apart (omega arith)) ]) (λ a n at k. zero_pass a n at) o.agreement;
           current = (
             record {
               item = x';
               occurs = occurs;
               tree = leaf d read.text;
               values = λ path. h;
-              took = record { fits = (refl, read.fits); solved = refl; well = λ a p at le. read.well };
+              evaluated = record { fits = (refl, read.fits); solved = refl; well = λ a p at le. read.well };
               number = refl;
               root = λ a. sym (with_here o.table pl h a);
               read = ap (λ z. z.read ++ body ∷ []) o.current.0 ∙ ap (λ bs. o.mid.read ++ bs ∷ []) read.same;
@@ -308,27 +308,27 @@ module _ (c : Setting) (sound : IsSound c) where
 
   pub step_got : (root : ℕ) (x : OpenNode) (xs : List OpenNode) (values new : List Value) (t : Transcript) (now : ℕ) (todo : Pending) (j p s' : ℕ) (q0 : Production) (body : List ℕ) (read : IsNodeRead c s' p body values new)
       → slice_get (list_at c x.production) x.at ≡ Some (instr.Get j) → IsProduction c.grammar x.production q0 → item_at q0 j ≡ Some (item.Symbol s') → suc (length xs) < max_depth → HasAgreed c q0 x j (item.Symbol s') new read.values
-      → NodeInvariant c root (x ∷ xs) values t now todo → (next : Pending) × (AreRecords (source c) t.read todo → AreRecords (source c) (t.read ++ body ∷ []) next) × NodeInvariant c root (after_step x p ∷ xs) new (record { read = t.read ++ body ∷ []; put = t.put }) now next
+      → RunInvariant c root (x ∷ xs) values t now todo → (next : Pending) × (AreRecords (source c) t.read todo → AreRecords (source c) (t.read ++ body ∷ []) next) × RunInvariant c root (after_step x p ∷ xs) new (record { read = t.read ++ body ∷ []; put = t.put }) now next
   step_got root x xs values new t now todo j p s' q0 body read at there0 occurs0 deep agreed (s, f, under, old, before, others, waits, ph, o) =
       let on = got_in s f (suc (length xs)) x under old before others ph values new t now todo j p s' q0 body read at there0 occurs0 deep agreed o in
       (on.next, on.records, (s, f, under, old, before, others, waits, Got, on.opens))
 
   pub step_leaf : (root : ℕ) (x : OpenNode) (xs : List OpenNode) (values new : List Value) (t : Transcript) (now : ℕ) (todo : Pending) (j d : ℕ) (q0 : Production) (body : List ℕ) (read : IsTokenRead d body values new)
       → slice_get (list_at c x.production) x.at ≡ Some (instr.Get j) → IsProduction c.grammar x.production q0 → item_at q0 j ≡ Some (item.Terminal (Class d)) → suc (length xs) < max_depth → HasAgreed c q0 x j (item.Terminal (Class d)) new (λ a. Text read.text)
-      → NodeInvariant c root (x ∷ xs) values t now todo → (next : Pending) × (AreRecords (source c) t.read todo → AreRecords (source c) (t.read ++ body ∷ []) next) × NodeInvariant c root (after_step x d ∷ xs) values (record { read = t.read ++ body ∷ []; put = t.put }) now next
+      → RunInvariant c root (x ∷ xs) values t now todo → (next : Pending) × (AreRecords (source c) t.read todo → AreRecords (source c) (t.read ++ body ∷ []) next) × RunInvariant c root (after_step x d ∷ xs) values (record { read = t.read ++ body ∷ []; put = t.put }) now next
   step_leaf root x xs values new t now todo j d q0 body read at there0 occurs0 deep agreed (s, f, under, old, before, others, waits, ph, o) =
       let on = leaf_in s f (suc (length xs)) x under old before others ph values new t now todo j d q0 body read at there0 occurs0 deep agreed o in
       (on.next, on.records, (s, f, under, old, before, others, waits, Gone, on.opens))
 
   -- A node whose record was just read.
   pub opened : (p s : ℕ) (q : Production) (f : ℕ → Value) (e : Table) (level base : ℕ) (under : List Value) (old : Transcript) (before : ℕ) (others : Pending) → IsProduction c.grammar p q → q.left ≡ s → level ≤ max_depth → base ≡ length under
-      → Activates c s f level (first_at p base) under old before others Between (under ++ stored c q f e) (after_reading c p f (copies c c.read (stored_items q.items) (in_children e)) old) before (following c q e 0 (suc level) others)
+      → IsActive c s f level (first_at p base) under old before others Between (under ++ stored c q f e) (after_reading c p f (copies c c.read (stored_items q.items) (in_children e)) old) before (following c q e 0 (suc level) others)
   opened p s q f e level base under old before others there left deep is =
       record {
         production = q;
         i = 0;
         done = [];
-        table = over f e;
+        table = node_table f e;
         copied = e;
         of_child = e;
         row = [];
@@ -336,12 +336,12 @@ module _ (c : Setting) (sound : IsSound c) where
         valuations = λ i path a. f a;
         mid = after_reading c p f (copies c c.read (stored_items q.items) (in_children e)) old;
         count = 0;
-        stays = record {
+        is_open = record {
           there = there;
           left = left;
           entered = λ a p at le other. refl;
           visits = record {
-            fits = fits_none (way c) c.grammar (stored_items q.items);
+            fits = fits_none (pass_direction c) c.grammar (stored_items q.items);
             solved = tt;
             well = tt;
             read = sym (append-nil (after_reading c p f (copies c c.read (stored_items q.items) (in_children e)) old).read);
@@ -352,7 +352,7 @@ module _ (c : Setting) (sound : IsSound c) where
           held = λ r u has num. let z = has.1 in absurd (cc);
         };
         runs = sound.course p q there;
-        shown = λ j a p x at is le when. refl;
+        agreement = λ j a p x at is le when. refl;
         current = (refl, refl, refl);
         counted = let n = rules_first p q there in omega arith;
         values_are = ap (λ vs. under ++ vs) (sym (append-nil (stored c q f e)));
@@ -361,9 +361,9 @@ module _ (c : Setting) (sound : IsSound c) where
       }
 
   gone_in : (root s : ℕ) (f : ℕ → Value) (x : OpenNode) (xs : List OpenNode) (under : List Value) (old : Transcript) (before : ℕ) (others : Pending) (ph : Phase) (values : List Value) (t : Transcript) (now : ℕ) (todo : Pending) (j base : ℕ)
-      → slice_get (list_at c x.production) x.at ≡ Some (instr.Go j) → Expects c root xs s x.production f under old before others → Activates c s f (suc (length xs)) x under old before others ph values t now todo
+      → slice_get (list_at c x.production) x.at ≡ Some (instr.Go j) → Expects c root xs s x.production f under old before others → IsActive c s f (suc (length xs)) x under old before others ph values t now todo
       → ((q : Production) → IsProduction c.grammar x.child q → base + stored_width c q ≡ length values)
-      → NodeInvariant c root (first_at x.child base ∷ left_at x j ∷ xs) values t now todo
+      → RunInvariant c root (first_at x.child base ∷ left_at x j ∷ xs) values t now todo
   gone_in root s f x xs under old before others ph values t now todo j base at waits here is =
       let o = at_go here j at in
       let q = o.production in
@@ -384,7 +384,7 @@ module _ (c : Setting) (sound : IsSound c) where
       let deep = g.deep in
       let following_it = following c q o.table (suc o.i) (suc level) others in
       let child = opened x.child g.symbol g.production h o.of_child (suc level) base rest o.mid now following_it g.there g.left (omega arith) base' in
-      let same_todo : todo ≡ following c g.production o.of_child 0 (suc (suc level)) following_it = o.todo_is ∙ ap (λ p. records_of_node c p o.of_child (suc (suc level)) following_it) g.there in (
+      let same_todo : todo ≡ following c g.production o.of_child 0 (suc (suc level)) following_it = o.todo_is ∙ ap (λ p. pending_of_child c p o.of_child (suc (suc level)) following_it) g.there in (
         g.symbol,
         h,
         rest,
@@ -407,10 +407,10 @@ module _ (c : Setting) (sound : IsSound c) where
             copied = o.copied;
             trees = o.trees;
             values = o.valuations;
-            stays = o.stays;
+            is_open = o.is_open;
             runs = next.1;
             counted = let n = o.counted in let m = o.current.1 in let l = rules_next c x (instr.Go j) at in omega arith;
-            shown = o.shown;
+            agreement = o.agreement;
             within = next.0.0.within;
             occurs = g.occurs;
             place_is = next.0.0.place;
@@ -423,21 +423,21 @@ module _ (c : Setting) (sound : IsSound c) where
           },
         ),
         Between,
-        subst (λ (z : Pending). Activates c g.symbol h (suc level) (first_at x.child base) rest o.mid now following_it Between values t now z) (sym same_todo)
-            (subst (λ t. Activates c g.symbol h (suc level) (first_at x.child base) rest o.mid now following_it Between values t now (following c g.production o.of_child 0 (suc (suc level)) following_it)) (sym g.tapes)
-            (subst (λ vs. Activates c g.symbol h (suc level) (first_at x.child base) rest o.mid now following_it Between vs (after_reading c x.child h (copies c c.read (stored_items g.production.items) (in_children o.of_child)) o.mid) now (following c g.production o.of_child 0 (suc (suc level)) following_it)) (sym vs) child)),
+        subst (λ (z : Pending). IsActive c g.symbol h (suc level) (first_at x.child base) rest o.mid now following_it Between values t now z) (sym same_todo)
+            (subst (λ t. IsActive c g.symbol h (suc level) (first_at x.child base) rest o.mid now following_it Between values t now (following c g.production o.of_child 0 (suc (suc level)) following_it)) (sym g.transcript)
+            (subst (λ vs. IsActive c g.symbol h (suc level) (first_at x.child base) rest o.mid now following_it Between vs (after_reading c x.child h (copies c c.read (stored_items g.production.items) (in_children o.of_child)) o.mid) now (following c g.production o.of_child 0 (suc (suc level)) following_it)) (sym vs) child)),
       )
 
   pub step_go : (root : ℕ) (x : OpenNode) (xs : List OpenNode) (values : List Value) (t : Transcript) (now : ℕ) (todo : Pending) (j base : ℕ) → slice_get (list_at c x.production) x.at ≡ Some (instr.Go j)
       → ((q : Production) → IsProduction c.grammar x.child q → base + stored_width c q ≡ length values)
-      → NodeInvariant c root (x ∷ xs) values t now todo → NodeInvariant c root (first_at x.child base ∷ left_at x j ∷ xs) values t now todo
+      → RunInvariant c root (x ∷ xs) values t now todo → RunInvariant c root (first_at x.child base ∷ left_at x j ∷ xs) values t now todo
   step_go root x xs values t now todo j base at is (s, f, under, old, before, others, waits, ph, o) = gone_in root s f x xs under old before others ph values t now todo j base at waits o is
 
   -- The pass leaves the tree at the next place, all of which was written.
   left_in : (s : ℕ) (f : ℕ → Value) (level : ℕ) (x : OpenNode) (under : List Value) (old : Transcript) (before : ℕ) (others : Pending) (values : List Value) (t new : Transcript) (now : ℕ) (todo : Pending) (j : ℕ)
-      → slice_get (list_at c x.production) x.at ≡ Some (instr.Put j) → (o : Activates c s f level x under old before others Gone values t now todo) → new.read ≡ t.read
-      → new.put ≡ o.mid.put ++ postfix (way c) (bodies_of version_two c.grammar c.passes c.write o.current.0.tree o.current.0.values)
-      → Activates c s f level (after_step x x.child) under old before others Between values new now todo
+      → slice_get (list_at c x.production) x.at ≡ Some (instr.Put j) → (o : IsActive c s f level x under old before others Gone values t now todo) → new.read ≡ t.read
+      → new.put ≡ o.mid.put ++ postfix (pass_direction c) (bodies_of version_two c.grammar c.passes c.write o.current.0.tree o.current.0.values)
+      → IsActive c s f level (after_step x x.child) under old before others Between values new now todo
   left_in s f level x under old before others values t new now todo j at o reads puts =
       let q = o.production in
       let next = runs_next c x (instr.Put j) at q Gone o.i o.done o.runs in
@@ -450,15 +450,15 @@ module _ (c : Setting) (sound : IsSound c) where
         copied = o.copied;
         of_child = o.of_child;
         row = [];
-        trees = add_tree (way c) o.trees g.tree;
-        valuations = add_values (way c) o.trees o.valuations g.values;
+        trees = add_tree (pass_direction c) o.trees g.tree;
+        valuations = add_values (pass_direction c) o.trees o.valuations g.values;
         mid = new;
         count = 0;
-        stays = put_child c sound s f level x.production x.child q o.i o.done o.table o.trees o.valuations old o.mid t new o.count next.0.within g reads puts o.stays;
+        is_open = put_child c sound s f level x.production x.child q o.i o.done o.table o.trees o.valuations old o.mid t new o.count next.0.within g reads puts o.is_open;
         runs = next.1;
-        shown = o.shown;
+        agreement = o.agreement;
         current = (refl, refl, refl);
-        counted = let n = o.counted in let m = g.counted in let k = rules_add (way c) c o.trees g.tree in let l = rules_next c x (instr.Put j) at in omega arith;
+        counted = let n = o.counted in let m = g.counted in let k = rules_add (pass_direction c) c o.trees g.tree in let l = rules_next c x (instr.Put j) at in omega arith;
         values_are = o.values_are ∙ ap (λ r. under ++ (stored c q (o.table 0) o.copied ++ r)) o.current.1;
         base = o.base;
         todo_is = o.todo_is;
@@ -467,65 +467,65 @@ module _ (c : Setting) (sound : IsSound c) where
   -- Nothing is written for a node, all of which was written.
   put_node_in : (s : ℕ) (f : ℕ → Value) (level : ℕ) (x : OpenNode) (under : List Value) (old : Transcript) (before : ℕ) (others : Pending) (ph : Phase) (values : List Value) (t : Transcript) (now : ℕ) (todo : Pending) (j s' : ℕ) (q0 : Production)
       → slice_get (list_at c x.production) x.at ≡ Some (instr.Put j) → IsProduction c.grammar x.production q0 → item_at q0 j ≡ Some (item.Symbol s')
-      → Activates c s f level x under old before others ph values t now todo → Activates c s f level (after_step x x.child) under old before others Between values t now todo
+      → IsActive c s f level x under old before others ph values t now todo → IsActive c s f level (after_step x x.child) under old before others Between values t now todo
   put_node_in s f level x under old before others ph values t now todo j s' q0 at there0 occurs0 here =
       let o = at_put here j at in
       let q = o.production in
       let place = (runs_next c x (instr.Put j) at q Gone o.i o.done o.runs).0.place in
       let g = o.current.0 in
-      let same : q0 ≡ q = same_production c x.production q0 q there0 o.stays.there in
+      let same : q0 ≡ q = same_production c x.production q0 q there0 o.is_open.there in
       let items : Some g.item ≡ Some (item.Symbol s') = sym (ap (item_at q) place ∙ g.occurs) ∙ ap (λ q. item_at q j) (sym same) ∙ occurs0 in
       let is : g.item ≡ item.Symbol s' = cc in
-      left_in s f level x under old before others values t t now todo j at o refl (g.put ∙ ap (λ xs. o.mid.put ++ xs) (whole g.tree g.values (subst (λ x. AfterRule c x g.tree g.values) is g.took)))
+      left_in s f level x under old before others values t t now todo j at o refl (g.put ∙ ap (λ xs. o.mid.put ++ xs) (whole g.tree g.values (subst (λ x. IsEvaluatedTree c x g.tree g.values) is g.evaluated)))
     where
-      whole : (u : Tree) (w : Valuation) → AfterRule c (item.Symbol s') u w → put_of (way c) u (bodies_of version_two c.grammar c.passes c.write u w) ≡ postfix (way c) (bodies_of version_two c.grammar c.passes c.write u w)
-      whole (leaf d text) w took = elim took.fits [ ]
-      whole (node p ts) w took = refl
+      whole : (u : Tree) (w : Valuation) → IsEvaluatedTree c (item.Symbol s') u w → put_of (pass_direction c) u (bodies_of version_two c.grammar c.passes c.write u w) ≡ postfix (pass_direction c) (bodies_of version_two c.grammar c.passes c.write u w)
+      whole (leaf d text) w evaluated = elim evaluated.fits [ ]
+      whole (node p ts) w evaluated = refl
 
   pub step_put_node : (root : ℕ) (x : OpenNode) (xs : List OpenNode) (values : List Value) (t : Transcript) (now : ℕ) (todo : Pending) (j s' : ℕ) (q0 : Production) → slice_get (list_at c x.production) x.at ≡ Some (instr.Put j) → IsProduction c.grammar x.production q0 → item_at q0 j ≡ Some (item.Symbol s')
-      → NodeInvariant c root (x ∷ xs) values t now todo → NodeInvariant c root (after_step x x.child ∷ xs) values t now todo
+      → RunInvariant c root (x ∷ xs) values t now todo → RunInvariant c root (after_step x x.child ∷ xs) values t now todo
   step_put_node root x xs values t now todo j s' q0 at there0 occurs0 (s, f, under, old, before, others, waits, ph, o) =
       (s, f, under, old, before, others, waits, Between, put_node_in s f (suc (length xs)) x under old before others ph values t now todo j s' q0 at there0 occurs0 o)
 
   -- The record of a token is written, whose text is among the copies.
   put_leaf_in : (s : ℕ) (f : ℕ → Value) (level : ℕ) (x : OpenNode) (under : List Value) (old : Transcript) (before : ℕ) (others : Pending) (ph : Phase) (values : List Value) (t : Transcript) (now : ℕ) (todo : Pending) (j d : ℕ) (q0 : Production) (text : List Value)
       → slice_get (list_at c x.production) x.at ≡ Some (instr.Put j) → IsProduction c.grammar x.production q0 → item_at q0 j ≡ Some (item.Terminal (Class d)) → text ≡ take 1 (drop (x.base + copy_start c q0 j) values)
-      → Activates c s f level x under old before others ph values t now todo → Activates c s f level (after_step x x.child) under old before others Between values (record { read = t.read; put = t.put ++ body_of Token x.child text ∷ [] }) now todo
+      → IsActive c s f level x under old before others ph values t now todo → IsActive c s f level (after_step x x.child) under old before others Between values (record { read = t.read; put = t.put ++ body_of Token x.child text ∷ [] }) now todo
   put_leaf_in s f level x under old before others ph values t now todo j d q0 text at there0 occurs0 is here =
       let o = at_put here j at in
       let q = o.production in
       let place = (runs_next c x (instr.Put j) at q Gone o.i o.done o.runs).0.place in
       let g = o.current.0 in
-      let b = nth (way c) (arity q) o.i in
+      let b = nth (pass_direction c) (arity q) o.i in
       let pl = place_of q c.write o.i in
       let x' = item.Terminal (Class d) in
-      let same : q0 ≡ q = same_production c x.production q0 q there0 o.stays.there in
+      let same : q0 ≡ q = same_production c x.production q0 q there0 o.is_open.there in
       let occurs : item_at q pl ≡ Some (item.Terminal (Class d)) = ap (item_at q) (sym place) ∙ ap (λ q. item_at q j) (sym same) ∙ occurs0 in
       let items : Some g.item ≡ Some (item.Terminal (Class d)) = sym g.occurs ∙ occurs in
       let item_is : g.item ≡ item.Terminal (Class d) = cc in
       let found = copies_there c q (o.table 0) o.copied under o.row b x.base x' o.base occurs in
       let slot : copy_start c q0 j ≡ copy_start c q pl = ap (λ q. copy_start c q j) same ∙ ap (copy_start c q) place in
       let first : text ≡ o.copied pl 0 ∷ [] = is ∙ ap (λ n. take 1 (drop (x.base + n) values)) slot ∙ ap (λ vs. take 1 (drop (x.base + copy_start c q pl) vs)) o.values_are ∙ ap (take 1) found.1 ∙ ap (λ b. take 1 (((if b then o.copied pl 0 ∷ [] else []) ++ []) ++ found.0)) (le-leb 0 c.write (omega arith)) in
-      let shown : o.copied pl 0 ≡ o.table pl 0 = o.shown b 0 0 x' occurs refl (omega arith) (inr (known_here c q o.i pl refl)) in
-      let took = subst (λ x. AfterRule c x g.tree g.values) item_is g.took in
+      let shown : o.copied pl 0 ≡ o.table pl 0 = o.agreement b 0 0 x' occurs refl (omega arith) (inr (known_here c q o.i pl refl)) in
+      let evaluated = subst (λ x. IsEvaluatedTree c x g.tree g.values) item_is g.evaluated in
       left_in s f level x under old before others values t (record { read = t.read; put = t.put ++ body_of Token x.child text ∷ [] }) now todo j at o refl
-      (put_all g.tree g.values (o.mid.put) t.put text took g.number g.put (first ∙ ap (λ v. v ∷ []) (shown ∙ sym (g.root 0))))
+      (put_all g.tree g.values (o.mid.put) t.put text evaluated g.number g.put (first ∙ ap (λ v. v ∷ []) (shown ∙ sym (g.root 0))))
     where
-      put_all : (u : Tree) (w : Valuation) (before_it put : List (List ℕ)) (text : List Value) → AfterRule c (item.Terminal (Class d)) u w → root_number u ≡ x.child → put ≡ before_it ++ put_of (way c) u (bodies_of version_two c.grammar c.passes c.write u w) → text ≡ w [] 0 ∷ []
-          → put ++ body_of Token x.child text ∷ [] ≡ before_it ++ postfix (way c) (bodies_of version_two c.grammar c.passes c.write u w)
-      put_all (node p ts) w before_it put text took number is same = elim took.fits [ ]
-      put_all (leaf e string) w before_it put text took number is same =
-          ap (λ xs. xs ++ body_of Token x.child text ∷ []) (is ∙ append-nil before_it) ∙ ap (λ n. before_it ++ body_of Token n text ∷ []) (sym number) ∙ ap (λ vs. before_it ++ body_of Token e vs ∷ []) (same ∙ ap (λ v. v ∷ []) took.solved)
+      put_all : (u : Tree) (w : Valuation) (before_it put : List (List ℕ)) (text : List Value) → IsEvaluatedTree c (item.Terminal (Class d)) u w → root_number u ≡ x.child → put ≡ before_it ++ put_of (pass_direction c) u (bodies_of version_two c.grammar c.passes c.write u w) → text ≡ w [] 0 ∷ []
+          → put ++ body_of Token x.child text ∷ [] ≡ before_it ++ postfix (pass_direction c) (bodies_of version_two c.grammar c.passes c.write u w)
+      put_all (node p ts) w before_it put text evaluated number is same = elim evaluated.fits [ ]
+      put_all (leaf e string) w before_it put text evaluated number is same =
+          ap (λ xs. xs ++ body_of Token x.child text ∷ []) (is ∙ append-nil before_it) ∙ ap (λ n. before_it ++ body_of Token n text ∷ []) (sym number) ∙ ap (λ vs. before_it ++ body_of Token e vs ∷ []) (same ∙ ap (λ v. v ∷ []) evaluated.solved)
 
   pub step_put_leaf : (root : ℕ) (x : OpenNode) (xs : List OpenNode) (values : List Value) (t : Transcript) (now : ℕ) (todo : Pending) (j d : ℕ) (q0 : Production) (text : List Value)
       → slice_get (list_at c x.production) x.at ≡ Some (instr.Put j) → IsProduction c.grammar x.production q0 → item_at q0 j ≡ Some (item.Terminal (Class d)) → text ≡ take 1 (drop (x.base + copy_start c q0 j) values)
-      → NodeInvariant c root (x ∷ xs) values t now todo → NodeInvariant c root (after_step x x.child ∷ xs) values (record { read = t.read; put = t.put ++ body_of Token x.child text ∷ [] }) now todo
+      → RunInvariant c root (x ∷ xs) values t now todo → RunInvariant c root (after_step x x.child ∷ xs) values (record { read = t.read; put = t.put ++ body_of Token x.child text ∷ [] }) now todo
   step_put_leaf root x xs values t now todo j d q0 text at there0 occurs0 is (s, f, under, old, before, others, waits, ph, o) =
       (s, f, under, old, before, others, waits, Between, put_leaf_in s f (suc (length xs)) x under old before others ph values t now todo j d q0 text at there0 occurs0 is o)
 
   -- A node is done, whose row is the last one.
   node_done : (s : ℕ) (f : ℕ → Value) (level : ℕ) (x : OpenNode) (under : List Value) (old : Transcript) (before : ℕ) (others : Pending) (values : List Value) (t : Transcript) (now : ℕ) (todo : Pending) → slice_get (list_at c x.production) x.at ≡ Some instr.End → All IsWell values
-      → (o : Activates c s f (suc level) x under old before others Between values t now todo)
+      → (o : IsActive c s f (suc level) x under old before others Between values t now todo)
       → IsDone o
   node_done s f level x under old before others values t now todo at well o =
       let q = o.production in
@@ -535,8 +535,8 @@ module _ (c : Setting) (sound : IsSound c) where
       let own = values_up_to c.write (c.passes q.left) (o.table 0) in
       let copied = copies c c.write (stored_items q.items) (in_children o.copied) in
       let own_well : All IsWell own = All-before IsWell own copied (All-after IsWell under (own ++ copied) (subst (All IsWell) whole well)) in
-      let done = ended c sound s f level x.production q o.i o.done o.table o.copied o.trees o.valuations old t next.1 next.2 own_well o.shown
-      (subst (λ t. Preserves c s f (suc level) x.production q (state_of Between o.i o.done) o.table o.trees o.valuations old t) (sym o.current.0) o.stays) in
+      let done = ended c sound s f level x.production q o.i o.done o.table o.copied o.trees o.valuations old t next.1 next.2 own_well o.agreement
+      (subst (λ t. IsOpenNode c s f (suc level) x.production q (state_of Between o.i o.done) o.table o.trees o.valuations old t) (sym o.current.0) o.is_open) in
       record {
         ready = done.0;
         deep = let d = done.1 in omega arith;
@@ -545,15 +545,15 @@ module _ (c : Setting) (sound : IsSound c) where
         counted =
             let n = o.counted in
             let m = o.current.1 in
-            let l = rules_last x q o.stays.there at in
-            let k = ap (pass_rule_count c.passes c.write) o.stays.there in
+            let l = rules_last x q o.is_open.there at in
+            let k = ap (pass_rule_count c.passes c.write) o.is_open.there in
             omega arith;
         todo_is = o.todo_is ∙ after_last c q o.table o.i (suc (suc level)) others next.1;
       }
 
   -- The root is done.
-  pub step_end_root : (root : ℕ) (x : OpenNode) (values : List Value) (t : Transcript) (now : ℕ) (todo : Pending) → slice_get (list_at c x.production) x.at ≡ Some instr.End → All IsWell values → NodeInvariant c root (x ∷ []) values t now todo → NodeInvariant c root [] values t now todo
-  step_end_root root x values t now todo at well (s, f, under, old, before, others, (first, number, none_under, tapes, none_before, none_left), ph, here) =
+  pub step_end_root : (root : ℕ) (x : OpenNode) (values : List Value) (t : Transcript) (now : ℕ) (todo : Pending) → slice_get (list_at c x.production) x.at ≡ Some instr.End → All IsWell values → RunInvariant c root (x ∷ []) values t now todo → RunInvariant c root [] values t now todo
+  step_end_root root x values t now todo at well (s, f, under, old, before, others, (first, number, none_under, transcript, none_before, none_left), ph, here) =
       let o = at_end here at in
       let q = o.production in
       let row = stored c q (o.table 0) o.copied in
@@ -564,11 +564,11 @@ module _ (c : Setting) (sound : IsSound c) where
       record {
         tree = tree;
         valuation = values_at;
-        ready = subst (λ z. IsReady c (item.Symbol c.grammar.start) root (o.table 0) tree values_at z t) tapes
+        ready = subst (λ z. IsReady c (item.Symbol c.grammar.start) root (o.table 0) tree values_at z t) transcript
             (subst (λ p. IsReady c (item.Symbol c.grammar.start) p (o.table 0) tree values_at old t) number (subst (λ s. IsReady c (item.Symbol s) x.production (o.table 0) tree values_at old t) first done.ready));
         counted = let n = done.counted in omega arith;
         deep = let d = done.deep in omega arith;
-        few = let w = few_values c sound x.production q o.stays.there in let n = length_stored c q (o.table 0) o.copied in let l = ap length single_value in omega arith;
+        few = let w = few_values c sound x.production q o.is_open.there in let n = length_stored c q (o.table 0) o.copied in let l = ap length single_value in omega arith;
         record_is = done.record_is ∙ ap (body_of Node x.production) (sym single_value) ∙ ap (λ n. body_of Node n values) number;
         nothing = done.todo_is ∙ none_left;
       }
@@ -607,25 +607,25 @@ module _ (c : Setting) (sound : IsSound c) where
   pub step_end : (root : ℕ) (x y : OpenNode) (ys : List OpenNode) (values result : List Value) (t : Transcript) (now : ℕ) (todo : Pending) (to count : ℕ) → slice_get (list_at c x.production) x.at ≡ Some instr.End → All IsWell values
       → ((q : Production) (x' : Item) → IsProduction c.grammar y.production q → item_at q y.place ≡ Some x' → (to ≡ y.base + copy_start c q y.place) × (count ≡ copied_width c x'))
       → result ≡ take to values ++ (take count (drop x.base values) ++ drop (to + count) (take x.base values))
-      → NodeInvariant c root (x ∷ y ∷ ys) values t now todo → NodeInvariant c root (y ∷ ys) result (record { read = t.read; put = t.put ++ body_of Node x.production (drop x.base values) ∷ [] }) now todo
+      → RunInvariant c root (x ∷ y ∷ ys) values t now todo → RunInvariant c root (y ∷ ys) result (record { read = t.read; put = t.put ++ body_of Node x.production (drop x.base values) ∷ [] }) now todo
   step_end root x y ys values result t now todo to count at well slots result_is (s, f, under, old, before, others, (s', f', under', old', before', others', waits, z), ph, here) =
       let o = at_end here at in
       let done = node_done s f (suc (length ys)) x under old before others values t now todo at well o in
       let h = o.table 0 in
       let q = z.production in
-      let b = nth (way c) (arity q) z.i in
+      let b = nth (pass_direction c) (arity q) z.i in
       let pl = place_of q c.write z.i in
       let e = with_row z.table pl h in
       let tape : Transcript = record { read = t.read; put = t.put ++ body_of Node x.production (drop x.base values) ∷ [] } in
       let at_place : item_at q y.place ≡ Some (item.Symbol s) = ap (item_at q) z.place_is ∙ z.occurs in
-      let slot = slots q (item.Symbol s) z.stays.there at_place in
+      let slot = slots q (item.Symbol s) z.is_open.there at_place in
       let begins = begins_with_copy c (item.Symbol s) h in
       let child_row = stored c o.production h o.copied in
       let copied_rest = copies c c.write (stored_items o.production.items) (in_children o.copied) in
       let share = values_up_to c.write (copied_passes c (item.Symbol s)) h in
-      let row : child_row ≡ share ++ (begins.0 ++ copied_rest) = ap (λ ps. values_up_to c.write ps h ++ copied_rest) (ap c.passes o.stays.left) ∙ ap (λ vs. vs ++ copied_rest) begins.1 ∙ append_assoc share begins.0 copied_rest in
+      let row : child_row ≡ share ++ (begins.0 ++ copied_rest) = ap (λ ps. values_up_to c.write ps h ++ copied_rest) (ap c.passes o.is_open.left) ∙ ap (λ vs. vs ++ copied_rest) begins.1 ∙ append_assoc share begins.0 copied_rest in
       let to_is : to ≡ length under' + copy_start c q pl = slot.0 ∙ ap (λ j. y.base + copy_start c q j) z.place_is ∙ ap (λ n. n + copy_start c q pl) z.base in
-      let keeps' : Keeps c s (z.table pl) h = λ a n is le other. o.stays.entered a n is le other ∙ sym (z.row_is a) in
+      let keeps' : Keeps c s (z.table pl) h = λ a n is le other. o.is_open.entered a n is le other ∙ sym (z.row_is a) in
       let agree = kept_copy c sound s (z.table pl) h keeps' in
       let record_is = ap (λ vs. body_of Node x.production vs) (ap (drop x.base) done.whole ∙ drop_at under child_row x.base (sym o.base)) ∙ sym done.record_is in
       let bt = bodies_of version_two c.grammar c.passes c.write (node x.production o.trees) (graft h o.valuations) in (
@@ -649,20 +649,20 @@ module _ (c : Setting) (sound : IsSound c) where
           valuations = z.values;
           mid = old;
           count = rules_of_pass c.passes c.write c.grammar (node x.production o.trees);
-          stays = returned c sound s' f' (suc (length ys)) y.production q z.i z.done z.table z.trees z.values old' old s h z.within z.occurs keeps' z.stays;
+          is_open = returned c sound s' f' (suc (length ys)) y.production q z.i z.done z.table z.trees z.values old' old s h z.within z.occurs keeps' z.is_open;
           runs = z.runs;
-          shown = shown_both c q z.i (suc z.i) z.table z.copied b h (λ b' apart k. elim (known_last c q z.i (suc b') k) [ inl l ↦ l | inr here ↦ absurd (apart (omega arith)) ]) z.shown;
+          agreement = shown_both c q z.i (suc z.i) z.table z.copied b h (λ b' apart k. elim (known_last c q z.i (suc b') k) [ inl l ↦ l | inr here ↦ absurd (apart (omega arith)) ]) z.agreement;
           current = (
             record {
               item = item.Symbol s;
               occurs = z.occurs;
               tree = node x.production o.trees;
               values = graft h o.valuations;
-              took = done.ready.took;
+              evaluated = done.ready.evaluated;
               number = sym z.number;
               root = λ a. sym (with_here z.table pl h a);
               read = done.ready.read;
-              put = ap (λ bs. t.put ++ bs ∷ []) record_is ∙ ap (λ bs. bs ++ root_body bt ∷ []) done.ready.put ∙ append_assoc old.put (below (way c) bt) (root_body bt ∷ []) ∙ ap (λ bs. old.put ++ bs) (whole (way c) bt);
+              put = ap (λ bs. t.put ++ bs ∷ []) record_is ∙ ap (λ bs. bs ++ root_body bt ∷ []) done.ready.put ∙ append_assoc old.put (below (pass_direction c) bt) (root_body bt ∷ []) ∙ ap (λ bs. old.put ++ bs) (whole (pass_direction c) bt);
               counted = refl;
               deep = let d = done.deep in omega arith;
             },
@@ -682,7 +682,7 @@ module _ (c : Setting) (sound : IsSound c) where
 
   -- The first child to be read at a `Get`, with the copy of its values in the row of the node.
   pub get_first : (root : ℕ) (x : OpenNode) (xs : List OpenNode) (values : List Value) (t : Transcript) (now : ℕ) (todo : Pending) (j : ℕ) (q0 : Production) (x' : Item)
-      → slice_get (list_at c x.production) x.at ≡ Some (instr.Get j) → IsProduction c.grammar x.production q0 → item_at q0 j ≡ Some x' → NodeInvariant c root (x ∷ xs) values t now todo
+      → slice_get (list_at c x.production) x.at ≡ Some (instr.Get j) → IsProduction c.grammar x.production q0 → item_at q0 j ≡ Some x' → RunInvariant c root (x ∷ xs) values t now todo
       → (f : ℕ → Value) × (left : Pending) × (todo ≡ (suc (suc (length xs)), (x', Some (values_up_to c.read (copied_passes c x') f))) ∷ left)
       × ((row : List Value) → (rest : List Value) × (drop (x.base + copy_start c q0 j) (values ++ row) ≡ values_up_to c.write (copied_passes c x') f ++ rest))
   get_first root x xs values t now todo j q0 x' at there0 occurs0 (s, f, under, old, before, others, waits, ph, here) =
@@ -690,13 +690,13 @@ module _ (c : Setting) (sound : IsSound c) where
       let q = o.production in
       let level = suc (suc (length xs)) in
       let turn = (runs_next c x (instr.Get j) at q Between o.i o.done o.runs).0 in
-      let b = nth (way c) (arity q) o.i in
+      let b = nth (pass_direction c) (arity q) o.i in
       let pl = place_of q c.write o.i in
-      let same : q0 ≡ q = same_production c x.production q0 q there0 o.stays.there in
+      let same : q0 ≡ q = same_production c x.production q0 q there0 o.is_open.there in
       let occurs : item_at q pl ≡ Some x' = ap (item_at q) (sym turn.place) ∙ ap (λ q. item_at q j) (sym same) ∙ occurs0 in
       let n = sound.next in
       let copies_same : values_up_to c.read (copied_passes c x') (o.table pl) ≡ values_up_to c.read (copied_passes c x') (o.copied pl) =
-      same_values c.read (copied_passes c x') (o.table pl) (o.copied pl) (λ a p is le. sym (o.shown b a p x' occurs is (omega arith) (inl (omega arith)))) in
+      same_values c.read (copied_passes c x') (o.table pl) (o.copied pl) (λ a p is le. sym (o.agreement b a p x' occurs is (omega arith) (inl (omega arith)))) in
       let slot : copy_start c q0 j ≡ copy_start c q pl = ap (λ q. copy_start c q j) same ∙ ap (copy_start c q) turn.place in
       let kept : values ≡ under ++ stored c q (o.table 0) o.copied = o.values_are ∙ ap (λ r. under ++ (stored c q (o.table 0) o.copied ++ r)) o.current.2 ∙ ap (λ vs. under ++ vs) (append-nil (stored c q (o.table 0) o.copied)) in (
         o.copied pl,

@@ -23,7 +23,7 @@ rule_slots c q u = record { target = target_slot c q u.target.place u.target.att
 abbrev pub production_slots : Setting → Production → List RuleSlots
 production_slots c q = map (rule_slots c q) q.rules
 
--- The rows of places of some items, whose copies begin at a number.
+-- The rows of the places of some items, whose copies begin at the index `start` of the node's row.
 abbrev pub rows_after : Setting → ℕ → List Item → List PlaceRow
 rows_after c start [] = []
 rows_after c start (x ∷ xs) = record { item = x; start = start; width = copied_width c x; known = known_width c x } ∷ rows_after c (start + copied_width c x) xs
@@ -32,7 +32,7 @@ rows_after c start (x ∷ xs) = record { item = x; start = start; width = copied
 abbrev pub place_rows : Setting → Production → List PlaceRow
 place_rows c q = record { item = item.Symbol q.left; start = 0; width = 0; known = 0 } ∷ rows_after c (own_width c q) (stored_items q.items)
 
--- The layout of a production of number p.
+-- The layout of production q, which has number p.
 abbrev pub production_row : Setting → ℕ → Production → ProductionRow
 production_row c p q = record { list = list_at c p; width = stored_width c q; passes = row_passes c q; places = place_rows c q; rules = production_slots c q }
 
@@ -45,26 +45,29 @@ rows_from c p (q ∷ qs) = production_row c p q ∷ rows_from c (suc p) qs
 abbrev pub layout_of : Setting → List ProductionRow
 layout_of c = rows_from c 0 c.grammar.productions
 
--- The target and the arguments of a rule are at places below a number.
+-- The target and the arguments of a rule are at places below `count`.
 pub record IsWithin (count : ℕ) (u : Rule) : Type 0 where
   pub target : u.target.place < count
   pub args : Each (λ (o : Target). o.place < count) u.args
 
+-- Each of these rules is so.
 abbrev pub AreWithin : ℕ → List Rule → Type 0
 AreWithin count rules = Each (IsWithin count) rules
 
--- The item at a place, and where its copies begin, according to the rows of the places.
+-- The item at a place, according to the rows of the places.
 abbrev pub item_in : List PlaceRow → ℕ → Option Item
 item_in [] j = None
 item_in (row ∷ rows) zero = Some row.item
 item_in (row ∷ rows) (suc j) = item_in rows j
 
+-- The index at which the copies of a place begin, according to the rows of the places.
 abbrev pub start_in : List PlaceRow → ℕ → ℕ
 start_in [] j = 0
 start_in (row ∷ rows) zero = row.start
 start_in (row ∷ rows) (suc j) = start_in rows j
 
--- The slots according to the rows of the places.
+-- The slots of an argument, of a target and of a rule, computed from the rows of the places (not from the
+-- production), for passes m of attributes in pass k.
 abbrev pub argument_slot_by : Passes → ℕ → List PlaceRow → Target → ℕ
 argument_slot_by m k rows o = start_in rows o.place + rank k (item_passes m (item_in rows o.place)) o.attr
 

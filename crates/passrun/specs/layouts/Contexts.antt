@@ -4,11 +4,11 @@ use Rattle.planchecker.specs.courses.Sound.{IsSound}
 use Rattle.passrun.specs.declared.layouts.context.PassContext.{PassContext}
 use Rattle.passrun.specs.layouts.Layouts.{IsLayout}
 
--- The setting in which a job's pass runs.
+-- The setting of a context: its grammar, its plan and its pass.
 abbrev pub setting : PassContext → Setting
 setting context = setting_of context.grammar.now context.plan.now context.pass
 
--- A job can run: its setting is sound, and its table has the slots of each rule.
+-- The pass of a context can run: its setting is sound, and its rows are the layouts of the productions.
 pub record CanRun (context : PassContext) : Type 0 where
   pub sound : IsSound (setting context)
   pub layout : IsLayout (setting context) context.rows.now

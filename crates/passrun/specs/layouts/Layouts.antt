@@ -16,7 +16,7 @@ pub record AreSlotsOf (c : Setting) (q : Production) (u : Rule) (slots : RuleSlo
   pub target : slots.target ≡ target_slot c q u.target.place u.target.attr
   pub args : AreRelated (λ o n. n ≡ argument_slot c q o.place o.attr) u.args slots.args
 
--- A row is the layout of a production of number p: its instructions, the number of values of its nodes and
+-- A row is the layout of production q, which has number p: its instructions, the number of values of its nodes and
 -- their passes, the item at each place with its copies, and the slots of each rule.
 pub record IsRowOf (c : Setting) (p : ℕ) (q : Production) (row : ProductionRow) : Type 0 where
   pub list : row.list ≡ list_at c p
@@ -25,10 +25,10 @@ pub record IsRowOf (c : Setting) (p : ℕ) (q : Production) (row : ProductionRow
   pub places : row.places ≡ place_rows c q
   pub slots : (r : ℕ) (u : Rule) → slice_get q.rules r ≡ Some u → (s : RuleSlots) × (slice_get row.rules r ≡ Some s) × AreSlotsOf c q u s
 
--- A row is that of the production of number p, if there is one.
+-- A row is the layout of the production with number p, if there is one.
 abbrev pub IsRowAt : Setting → ℕ → ProductionRow → Type 0
 IsRowAt c p row = (q : Production) → IsProduction c.grammar p q → IsRowOf c p q row
 
--- A table has such a row for each production.
+-- A list has such a row for each production, at the index of its number.
 abbrev pub IsLayout : Setting → List ProductionRow → Type 0
 IsLayout c rows = (p : ℕ) (q : Production) → IsProduction c.grammar p q → (row : ProductionRow) × (slice_get rows p ≡ Some row) × IsRowOf c p q row

@@ -7,17 +7,18 @@ use Rattle.treefile.specs.records.Listed.{count_up_to}
 use Rattle.planchecker.specs.courses.Settings.{Setting}
 use Rattle.passrun.specs.passing.Places.{copied_passes, place_passes}
 
--- The index of the value of an attribute in a row.
+-- The index of the value of attribute a in a row that has the values of passes up to k: the number of attributes
+-- before it that have a value there.
 abbrev pub rank : ℕ → List ℕ → ℕ → ℕ
 rank k [] a = 0
 rank k (p ∷ ps) zero = 0
 rank k (p ∷ ps) (suc a) = (if nat_le p k then 1 else 0) + rank k ps a
 
--- The number of values of a node's own attributes.
+-- The number of a node's own values in its row: those of attributes of passes up to the one that is written.
 abbrev pub own_width : Setting → Production → ℕ
 own_width c q = count_up_to c.write (c.passes q.left)
 
--- The number of copies of the values at an item.
+-- The number of copies that the parent's row has of the values at an item.
 abbrev pub copied_width : Setting → Item → ℕ
 copied_width c x = count_up_to c.write (copied_passes c x)
 
@@ -55,6 +56,6 @@ abbrev pub row_start : (width place : ℕ) → ℕ
 row_start width zero = 0
 row_start width (suc j) = width
 
--- The slot of a target: among the node's own values, or among those of the child.
+-- The slot of a target: among the node's own values, or among those of the row of the child, which comes after.
 abbrev pub target_slot : Setting → Production → ℕ → ℕ → ℕ
 target_slot c q j a = row_start (stored_width c q) j + rank c.write (place_passes c q j) a

@@ -1,4 +1,5 @@
--- The children that the open nodes still have to read. All definitions are this project's.
+-- The children whose records are still to be read at the open nodes, and the meaning of the faults of a pass. All
+-- definitions are this project's.
 use Rattle.std.specs.Prelude.{ℕ, suc, Bool, true, false, List, [], ◌∷◌, Option, Some, None, slice_get}
 use Rattle.ag_grammar.specs.declared.grammar.Production.{Production}
 use Rattle.ag_grammar.specs.grammars.AttributeGrammar.{stored_items}
@@ -7,14 +8,14 @@ use Rattle.passcode.specs.declared.instr.Instr.{Instr}
 use Rattle.passcode.specs.declared.instr.Instr.TheVariants as instr
 use Rattle.passcode.specs.declared.phase.Phase.{Phase}
 use Rattle.passcode.specs.declared.phase.Phase.TheVariants.{Between, Got, Gone, Ended}
-use Rattle.planchecker.specs.courses.Settings.{Setting, way}
+use Rattle.planchecker.specs.courses.Settings.{Setting, pass_direction}
 use Rattle.passrun.specs.declared.run_fault.RunFault.{RunFault}
 use Rattle.passrun.specs.declared.run_fault.RunFault.TheVariants as fault
 use Rattle.passrun.specs.Damage.{HasTooManyNodes, IsDamaged, IsTooDeep, source}
 use Rattle.passrun.specs.passing.Places.{Table, copies, in_children}
 
--- The first instruction that does not run a rule is `Go`: the child's record was read, and the child was not
--- entered yet.
+-- The first of these instructions that does not run a rule is `Go`. Then a child's record was read, and the child
+-- was not entered yet.
 abbrev pub goes_next : List Instr → Bool
 goes_next [] = false
 goes_next (instr.Get j ∷ xs) = false
@@ -24,24 +25,24 @@ goes_next (instr.Put j ∷ xs) = false
 goes_next (instr.Def a r ∷ xs) = goes_next xs
 goes_next (instr.End ∷ xs) = false
 
--- The children of a node, with what its record says of each: the copies of its values, taken from the table.
+-- The children of a node, each with the copies of its values that the node's record has, taken from the table.
 abbrev pub children_of : Setting → Production → Table → List Child
 children_of c q e = children_with_copies true c.grammar c.passes c.read (stored_items q.items) (copies c c.read (stored_items q.items) (in_children e))
 
--- The children still to be read after the first n, at a level, before others.
+-- The pending list of a node's children after the first n, at a level, followed by others.
 abbrev pub following : Setting → Production → Table → (n level : ℕ) → Pending → Pending
-following c q e n level others = before_others (way c) level (remaining_of (way c) (children_of c q e) n) others
+following c q e n level others = before_others (pass_direction c) level (remaining_of (pass_direction c) (children_of c q e) n) others
 
--- All children of the node whose record was read last.
-abbrev pub records_of_node : Setting → Option Production → Table → (level : ℕ) → Pending → Pending
-records_of_node c None e level others = others
-records_of_node c (Some q) e level others = following c q e 0 level others
+-- The pending list of all children of the node whose record was read last, followed by others. A token has none.
+abbrev pub pending_of_child : Setting → Option Production → Table → (level : ℕ) → Pending → Pending
+pending_of_child c None e level others = others
+pending_of_child c (Some q) e level others = following c q e 0 level others
 
--- The children still to be read at an open node: those of the child whose record was read last, then the
--- node's own that were not read, then the others.
+-- The pending list at an open node in a phase: the children of the child whose record was read last (in phase
+-- Got), then the node's own that were not read, then the others.
 abbrev pub pending : Setting → Production → Phase → (i child : ℕ) → Table → Table → (level : ℕ) → Pending → Pending
 pending c q Between i child e of_child level others = following c q e i level others
-pending c q Got i child e of_child level others = records_of_node c (slice_get c.grammar.productions child) of_child (suc level) (following c q e (suc i) level others)
+pending c q Got i child e of_child level others = pending_of_child c (slice_get c.grammar.productions child) of_child (suc level) (following c q e (suc i) level others)
 pending c q Gone i child e of_child level others = following c q e (suc i) level others
 pending c q Ended i child e of_child level others = others
 

@@ -11,7 +11,7 @@ set e j a v i b = cond (nat_eq i j && nat_eq b a) v (e i b)
 abbrev pub with_row : Table → ℕ → (ℕ → Value) → Table
 with_row e j f i = cond (nat_eq i j) f (e i)
 
--- The table of a node, from its own values and those of its children.
-abbrev pub over : (ℕ → Value) → Table → Table
-over f s zero = f
-over f s (suc j) = s (suc j)
+-- The table with the values f at the node itself (place 0), and those of the table s at its children.
+abbrev pub node_table : (ℕ → Value) → Table → Table
+node_table f s zero = f
+node_table f s (suc j) = s (suc j)

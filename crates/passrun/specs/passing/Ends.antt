@@ -1,4 +1,4 @@
--- How a pass begins and ends. All definitions are this project's.
+-- A pass that runs between two devices, for the beginning and the end. All definitions are this project's.
 use Rattle.std.specs.Prelude.{ℕ, Bool, List, Option}
 use Rattle.planchecker.specs.courses.Settings.{Setting}
 use Rattle.passrun.specs.declared.passing.machine.Machine.{Machine}

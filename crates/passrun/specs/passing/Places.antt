@@ -22,21 +22,21 @@ use Rattle.passrun.specs.declared.passing.open_node.OpenNode.{OpenNode}
 abbrev pub rest_of : Setting → OpenNode → List Instr
 rest_of c x = drop x.at (list_at c x.production)
 
--- The first i parts that are visited, from left to right.
+-- The i parts that are visited first, from left to right.
 abbrev pub visited {ℓ} : {X : Type ℓ} → Direction → List X → ℕ → List X
 visited LeftToRight xs i = take i xs
 visited RightToLeft xs i = drop (length xs - i) xs
 
--- The index of the leftmost of them.
+-- The index of the leftmost of these i parts among n.
 abbrev pub leftmost : Direction → ℕ → ℕ → ℕ
 leftmost LeftToRight n i = 0
 leftmost RightToLeft n i = n - i
 
--- The values at a node: those of the attributes at each place.
+-- The values at a node, by place and attribute. Place 0 is the node itself, place j + 1 its child j.
 abbrev pub Table : Type 0
 Table = ℕ → ℕ → Value
 
--- The values at the children only, from left to right.
+-- The values at the children only, by child (from 0, from left to right) and attribute.
 abbrev pub in_children : Table → Table
 in_children e j = e (suc j)
 
@@ -55,25 +55,26 @@ copied_passes c (item.Terminal (Literal l)) = []
 abbrev pub row_passes : Setting → Production → List ℕ
 row_passes c q = c.passes q.left ++ flat_map (copied_passes c) q.items
 
--- The copies of the values at some items, up to pass k, from left to right.
+-- The copies of the values at some items, of attributes of passes up to k, from left to right.
 abbrev pub copies : Setting → ℕ → List Item → Table → List Value
 copies c k [] e = []
 copies c k (x ∷ xs) e = values_up_to k (copied_passes c x) (e 0) ++ copies c k xs (λ j. e (suc j))
 
--- The row of a node: its own values up to the pass that is written, and the copies of its children's.
+-- The row of a node: its own values f of passes up to the one that is written, and the copies of its children's
+-- from the table s.
 abbrev pub stored : Setting → Production → (ℕ → Value) → Table → List Value
 stored c q f s = values_up_to c.write (c.passes q.left) f ++ copies c c.write (stored_items q.items) (in_children s)
 
--- A place is that of the left side, or of one of the first n visited children.
-abbrev pub IsKnown : Setting → Production → ℕ → ℕ → Type 0
-IsKnown c q n j = (j ≡ 0) ⊎ IsVisited q c.write n j
+-- The pass has reached a place: it is the left side, or one of the first n visited children.
+abbrev pub IsReached : Setting → Production → ℕ → ℕ → Type 0
+IsReached c q n j = (j ≡ 0) ⊎ IsVisited q c.write n j
 
--- The table s has the values of the copies in a node's row that are known in the table e: those that earlier
--- passes computed at each child, and those of this pass at the first n visited children.
-abbrev pub IsShown : Setting → Production → ℕ → Table → Table → Type 0
-IsShown c q n e s = (j a p : ℕ) (x : Item) → slice_get (stored_items q.items) j ≡ Some x → slice_get (copied_passes c x) a ≡ Some p → p ≤ c.write → (p < c.write) ⊎ IsKnown c q n (suc j) → s (suc j) a ≡ e (suc j) a
+-- The table s, of the copies in a node's row, agrees with the table e, of the values at the children, as far as
+-- these were computed: by earlier passes at each child, and by this pass at the first n visited children.
+abbrev pub AgreesSoFar : Setting → Production → ℕ → Table → Table → Type 0
+AgreesSoFar c q n e s = (j a p : ℕ) (x : Item) → slice_get (stored_items q.items) j ≡ Some x → slice_get (copied_passes c x) a ≡ Some p → p ≤ c.write → (p < c.write) ⊎ IsReached c q n (suc j) → s (suc j) a ≡ e (suc j) a
 
--- The roots of the visited children have the values in the table.
+-- The valuations of the trees of the first i visited children (of n) give their roots the values in the table.
 abbrev pub Roots : Direction → ℕ → ℕ → (ℕ → Valuation) → Table → Type 0
 Roots d n i ws e = (b a : ℕ) → b < i → ws b [] a ≡ e (suc (leftmost d n i + b)) a
 

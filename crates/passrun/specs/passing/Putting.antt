@@ -8,10 +8,10 @@ use Rattle.treefile.specs.records.TreeFile.{body_of, frame}
 use Rattle.treefile.specs.framing.Writing as writing
 use Rattle.passrun.specs.declared.run_fault.RunFault.{RunFault}
 
--- A record with these values was written.
-pub record HasPut (kind : Kind) (number : ℕ) (values : List Value) (honest : Bool) (old new : List ℕ) (out now : writing.Progress) : Type 0 where
+-- A record with these values was written to an honest device, and the writer counted it.
+pub record HasPut (kind : Kind) (number : ℕ) (values : List Value) (honest : Bool) (old new : List ℕ) (old_writer new_writer : writing.Progress) : Type 0 where
   pub there : WhenHonest honest (new ≡ old ++ frame (body_of kind number values))
-  pub counted : now ≡ record out { written = out.written + 1 }
+  pub counted : new_writer ≡ record old_writer { written = old_writer.written + 1 }
 
 -- Some frames were appended to the content of an honest device.
 abbrev pub AddsFrames : Bool → (old new : List ℕ) → Type 0

@@ -12,7 +12,8 @@ abbrev pub stack_of : Option OpenNode → List OpenNode → List OpenNode
 stack_of None waiting = []
 stack_of (Some node) waiting = node ∷ reverse waiting
 
--- A machine runs a pass between two devices. The node `next` continues, and the meter has this count.
+-- A machine runs a pass from a device with a content to a second one. The node `next` continues (none if the root
+-- is done), and the meter has this count.
 pub record Runs (c : Setting) (honest : Bool) (content : List ℕ) (to_honest : Bool) (to : List ℕ) (meter : ℕ) (m : Machine) (next : Option OpenNode) : Type 0 where
   pub running : IsRunning c m.root honest content to_honest to m.back m.writer m.values.items (stack_of next m.waiting.items) (meter - m.begun)
   pub begun : m.begun ≤ meter
@@ -34,22 +35,22 @@ RunsAt c meter m next = (honest : Bool) × (content : List ℕ) × (to_honest : 
 abbrev pub RunsSomehow : Setting → Machine → Option OpenNode → Type 0
 RunsSomehow c m next = (honest : Bool) × (content : List ℕ) × (to_honest : Bool) × (to : List ℕ) × (meter : ℕ) × Runs c honest content to_honest to meter m next
 
--- A step that reads leads from one machine to the next, for every second device and count of the meter.
-abbrev pub TurnsFrom : Setting → (old_honest new_honest : Bool) → (old_content new_content : List ℕ) → (old new : Machine) → (node next : Option OpenNode) → Type 0
-TurnsFrom c old_honest new_honest old_content new_content old new node next = (to_honest : Bool) (to : List ℕ) (meter : ℕ) → Runs c old_honest old_content to_honest to meter old node → Runs c new_honest new_content to_honest to meter new next
+-- A step that reads leads from one running machine to the next, for every second device and count of the meter.
+abbrev pub LeadsFrom : Setting → (old_honest new_honest : Bool) → (old_content new_content : List ℕ) → (old new : Machine) → (node next : Option OpenNode) → Type 0
+LeadsFrom c old_honest new_honest old_content new_content old new node next = (to_honest : Bool) (to : List ℕ) (meter : ℕ) → Runs c old_honest old_content to_honest to meter old node → Runs c new_honest new_content to_honest to meter new next
 
--- A step that writes leads from one machine to the next, for every first device and count of the meter.
-abbrev pub TurnsTo : Setting → (old_honest new_honest : Bool) → (old_content new_content : List ℕ) → (old new : Machine) → (node next : Option OpenNode) → Type 0
-TurnsTo c old_honest new_honest old_content new_content old new node next = (honest : Bool) (content : List ℕ) (meter : ℕ) → Runs c honest content old_honest old_content meter old node → Runs c honest content new_honest new_content meter new next
+-- A step that writes leads from one running machine to the next, for every first device and count of the meter.
+abbrev pub LeadsTo : Setting → (old_honest new_honest : Bool) → (old_content new_content : List ℕ) → (old new : Machine) → (node next : Option OpenNode) → Type 0
+LeadsTo c old_honest new_honest old_content new_content old new node next = (honest : Bool) (content : List ℕ) (meter : ℕ) → Runs c honest content old_honest old_content meter old node → Runs c honest content new_honest new_content meter new next
 
--- A step that uses no device leads from one machine and count of the meter to the next.
-abbrev pub TurnsAt : Setting → (old_meter new_meter : ℕ) → (old new : Machine) → (node next : Option OpenNode) → Type 0
-TurnsAt c old_meter new_meter old new node next = (honest : Bool) (content : List ℕ) (to_honest : Bool) (to : List ℕ) → Runs c honest content to_honest to old_meter old node → Runs c honest content to_honest to new_meter new next
+-- A step that uses no device leads from one running machine and count of the meter to the next.
+abbrev pub LeadsAt : Setting → (old_meter new_meter : ℕ) → (old new : Machine) → (node next : Option OpenNode) → Type 0
+LeadsAt c old_meter new_meter old new node next = (honest : Bool) (content : List ℕ) (to_honest : Bool) (to : List ℕ) → Runs c honest content to_honest to old_meter old node → Runs c honest content to_honest to new_meter new next
 
--- A step that uses no device leads from one machine to the next, for every count of the meter.
-abbrev pub Turns : Setting → (old new : Machine) → (node next : Option OpenNode) → Type 0
-Turns c old new node next = (meter : ℕ) → TurnsAt c meter meter old new node next
+-- A step that uses no device or meter leads from one running machine to the next, for every count of the meter.
+abbrev pub Leads : Setting → (old new : Machine) → (node next : Option OpenNode) → Type 0
+Leads c old new node next = (meter : ℕ) → LeadsAt c meter meter old new node next
 
--- The next instruction runs a rule, whose target is an attribute at a place.
-abbrev pub GivesNext : Setting → OpenNode → ℕ → Type 0
-GivesNext c x r = (j a : ℕ) × (z : Instr) × ((z ≡ instr.Set j a r) ⊎ ((z ≡ instr.Def a r) × (j ≡ 0))) × (slice_get (list_at c x.production) x.at ≡ Some z)
+-- The next instruction runs the rule with number r: `Set`, or `Def` for a target at the node itself.
+abbrev pub RunsRuleNext : Setting → OpenNode → ℕ → Type 0
+RunsRuleNext c x r = (j a : ℕ) × (z : Instr) × ((z ≡ instr.Set j a r) ⊎ ((z ≡ instr.Def a r) × (j ≡ 0))) × (slice_get (list_at c x.production) x.at ≡ Some z)

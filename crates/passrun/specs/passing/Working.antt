@@ -10,21 +10,22 @@ use Rattle.passrun.specs.passing.Ahead.{goes_next}
 use Rattle.passrun.specs.passing.Places.{rest_of}
 use Rattle.passrun.specs.passing.Running.{stack_of}
 
--- The number of remaining instructions of all open nodes, plus one for each node.
+-- The number of remaining instructions of some open nodes, plus one for each of them.
 abbrev pub remaining_work : Setting → List OpenNode → ℕ
 remaining_work c [] = 0
 remaining_work c (x ∷ xs) = suc (length (rest_of c x)) + remaining_work c xs
 
--- The number of instructions of a pass in all lists.
+-- The number of instructions in all lists of the pass with index k (pass k + 1).
 abbrev pub all_of : Lists → ℕ → ℕ
 all_of [] k = 0
 all_of (row ∷ rows) k = length (slice_index_or row k []) + all_of rows k
 
--- More than any node has: the number of instructions in all lists, plus two.
+-- A bound of the work at one node, which is greater than that of any node: the number of instructions in all
+-- lists of the pass, plus two.
 abbrev pub node_cost : Setting → ℕ
 node_cost c = suc (suc (all_of c.code c.read))
 
--- The amount reserved for the child that the innermost node enters next.
+-- The amount reserved for a child whose record the innermost node has read and that it has not entered yet.
 abbrev pub reserved_work : Setting → Option OpenNode → ℕ
 reserved_work c None = 0
 reserved_work c (Some x) = if goes_next (rest_of c x) then node_cost c else 0

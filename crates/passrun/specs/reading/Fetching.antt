@@ -13,12 +13,12 @@ use Rattle.passrun.specs.declared.run_fault.RunFault.{RunFault}
 use Rattle.passrun.specs.declared.run_fault.RunFault.TheVariants as fault
 use Rattle.passrun.specs.reading.Reading.{IsRead, IsNoRecord}
 
--- The record of an item was read below `open_count` open nodes: its body ends at the offset, and its row was
--- appended to the values.
-pub record HasFetched (c : Setting) (x : Item) (p open_count : ℕ) (honest : Bool) (content : List ℕ) (old new : BackState) (values now : List Value) : Type 0 where
+-- The record of an item was read below `open_count` open nodes: its frame ended where the reader was, and its row
+-- was appended to the values. p is the number in the record.
+pub record HasFetched (c : Setting) (x : Item) (p open_count : ℕ) (honest : Bool) (content : List ℕ) (old new : BackState) (old_values new_values : List Value) : Type 0 where
   pub body : List ℕ
   pub found : WhenHonest honest (next_before version_two content old.progress.at ≡ Ok (Some body))
-  pub taken : IsRead c x p body values now
+  pub taken : IsRead c x p body old_values new_values
   pub over : WhenHonest honest (IsOver content new)
   pub progress : new.progress ≡ record old.progress { at = before_frame old.progress.at body; records = old.progress.records + 1 }
   pub deep : open_count < max_depth

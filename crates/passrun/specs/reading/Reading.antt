@@ -24,8 +24,8 @@ one_value k pass value = if nat_le pass k then value ∷ [] else []
 abbrev pub PrependsTo : (old new : List Value) → Type 0
 PrependsTo old new = (more : List Value) × (new ≡ old ++ more)
 
--- A value was taken for an attribute of a pass: from the bytes if the pass is at most `read`. It is in the
--- row if the pass is at most `write`; if it was not read, it can be any value.
+-- A value was taken for an attribute of a pass: from the bytes if the pass is at most `read`. It was appended to the
+-- row if the pass is at most `write`; if it was not read, it can be any value. `only`: the bytes determine the rest.
 pub record IsTaken (read write pass : ℕ) (bytes rest : List ℕ) (old new : List Value) : Type 0 where
   pub value : Value
   pub well : IsWell value
@@ -33,12 +33,12 @@ pub record IsTaken (read write pass : ℕ) (bytes rest : List ℕ) (old new : Li
   pub spelled : bytes ≡ flat_map spelling_of (one_value read pass value) ++ rest
   pub only : (w : Value) (others : List ℕ) → IsWell w → bytes ≡ flat_map spelling_of (one_value read pass w) ++ others → others ≡ rest
 
--- No value can be taken.
+-- No value of an attribute of a pass can be taken from the bytes.
 abbrev pub IsUntaken : ℕ → ℕ → List ℕ → Type 0
 IsUntaken read pass bytes = (w : Value) (others : List ℕ) → IsWell w → bytes ≡ flat_map spelling_of (one_value read pass w) ++ others → ⊥
 
--- The values of attributes with these passes were taken from the beginning of the bytes, and appended to a
--- row.
+-- The values of attributes with these passes were taken from the beginning of the bytes, as `IsTaken` says of each,
+-- and appended to a row.
 pub record AreTaken (read write : ℕ) (passes : List ℕ) (bytes rest : List ℕ) (old new : List Value) : Type 0 where
   pub values : ℕ → Value
   pub well : (a : ℕ) → IsWell (values a)
@@ -46,7 +46,7 @@ pub record AreTaken (read write : ℕ) (passes : List ℕ) (bytes rest : List �
   pub spelled : bytes ≡ flat_map spelling_of (values_up_to read passes values) ++ rest
   pub only : (h : ℕ → Value) (others : List ℕ) → ((a : ℕ) → IsWell (h a)) → bytes ≡ flat_map spelling_of (values_up_to read passes h) ++ others → others ≡ rest
 
--- No values can be taken.
+-- No values of attributes with these passes can be taken from the bytes.
 abbrev pub AreUntaken : ℕ → List ℕ → List ℕ → Type 0
 AreUntaken read passes bytes = (h : ℕ → Value) (others : List ℕ) → ((a : ℕ) → IsWell (h a)) → bytes ≡ flat_map spelling_of (values_up_to read passes h) ++ others → ⊥
 
@@ -54,11 +54,11 @@ AreUntaken read passes bytes = (h : ℕ → Value) (others : List ℕ) → ((a :
 abbrev pub AllWell : Table → Type 0
 AllWell e = (j a : ℕ) → IsWell (e j a)
 
--- Bytes do not encode values of attributes with these passes.
+-- The bytes are not the encoded values of attributes with these passes, those up to pass `read`.
 abbrev pub IsNoRow : ℕ → List ℕ → List ℕ → Type 0
 IsNoRow read passes bytes = (h : ℕ → Value) → ((a : ℕ) → IsWell (h a)) → bytes ≡ flat_map spelling_of (values_up_to read passes h) → ⊥
 
--- A body has the number of a production of symbol s, and these bytes after it.
+-- A body has the number of a production of symbol s, and these bytes after it. It determines both.
 pub record IsNodeBody (g : Grammar) (s p : ℕ) (spellings body : List ℕ) : Type 0 where
   pub production : Production
   pub there : IsProduction g p production
@@ -66,7 +66,7 @@ pub record IsNodeBody (g : Grammar) (s p : ℕ) (spellings body : List ℕ) : Ty
   pub same : body ≡ body_from Node p spellings
   pub only : (r : ℕ) (others : List ℕ) → r < 2 ^ 16 → body ≡ body_from Node r others → (p ≡ r) × (spellings ≡ others)
 
--- A body has the number of a production of symbol s, and these bytes after it.
+-- The same, without the claim that the body determines both.
 pub record IsBodyOf (g : Grammar) (s p : ℕ) (spellings body : List ℕ) : Type 0 where
   pub production : Production
   pub there : IsProduction g p production
@@ -113,12 +113,13 @@ pub record IsTokenRead (d : ℕ) (body : List ℕ) (old new : List Value) : Type
 abbrev pub IsNoToken : ℕ → List ℕ → Type 0
 IsNoToken d body = (text : List ℕ) → IsTokenText text → body ≡ token_body d text → ⊥
 
--- The record of an item was read; a body is not a record of an item.
+-- The record of an item was read from a body. p is its number: that of the production, or that of the token's class.
 abbrev pub IsRead : Setting → Item → ℕ → List ℕ → List Value → List Value → Type 0
 IsRead c (item.Symbol s) p body old new = IsNodeRead c s p body old new
 IsRead c (item.Terminal (Class d)) p body old new = (p ≡ d) × IsTokenRead d body old new
 IsRead c (item.Terminal (Literal l)) p body old new = ⊥
 
+-- A body is not a record of an item. A literal has none.
 abbrev pub IsNoRecord : Setting → Item → List ℕ → Type 0
 IsNoRecord c (item.Symbol s) body = IsNoNode c s body
 IsNoRecord c (item.Terminal (Class d)) body = IsNoToken d body
@@ -130,10 +131,10 @@ read_values c (item.Symbol s) p body old new h = h.values
 read_values c (item.Terminal (Class d)) p body old new h = λ a. Text h.1.text
 read_values c (item.Terminal (Literal l)) p body old new h = elim h [ ]
 
--- Values agree with a table at an item: for the values that earlier passes computed and that have copies.
+-- The values f and h at an item agree, as far as earlier passes computed them and the parent's row has copies.
 abbrev pub AgreeAt : Setting → Item → (ℕ → Value) → (ℕ → Value) → Type 0
 AgreeAt c x f h = values_up_to c.read (copied_passes c x) f ≡ values_up_to c.read (copied_passes c x) h
 
--- The result says whether two rows agree so. Each row begins with the values at an item that have copies.
-abbrev pub Agrees : Setting → Item → (ours theirs : List Value) → Bool → Type 0
+-- The answer is whether two rows agree so. Each row begins with the values at the item that have copies.
+abbrev pub Agrees : Setting → Item → (ours theirs : List Value) → (answer : Bool) → Type 0
 Agrees c x ours theirs answer = (f h : ℕ → Value) (rest others : List Value) → ours ≡ values_up_to c.write (copied_passes c x) f ++ rest → theirs ≡ values_up_to c.write (copied_passes c x) h ++ others → IsTrue answer ↔ AgreeAt c x f h

@@ -5,7 +5,7 @@ ghost use Rattle.std.specs.Prelude.{◌≡◌, ◌+◌, ◌-◌, ◌≤◌, ◌<
 ghost use Rattle.std.specs.Prelude.{slice_index_or};
 ghost use Rattle.ag_grammar.specs.Lists.{Each};
 ghost use Rattle.ag_grammar.specs.declared.grammar.Target.{Target as TheTarget};
-ghost use Rattle.ag_grammar.specs.grammars.Accepted.{IsAccepted, max_stored};
+ghost use Rattle.ag_grammar.specs.grammars.Accepted.{IsAccepted, max_children};
 ghost use Rattle.ag_grammar.specs.grammars.AttributeGrammar.{Grammar as Plain, places_of};
 ghost use Rattle.passassign.specs.Rows.{passes_of};
 ghost use Rattle.passcode.specs.Rows.{row_of};
@@ -25,7 +25,7 @@ use planchecker::Plan;
 use std::alloc::Global;
 
 /// The slots of a rule: indices among the stored values, counted from the first value of the node's
-/// own row.
+/// own row. A slot beyond that row is in the row of the child whose record was read last.
 #[derive(Debug, Drop)]
 pub(crate) struct RuleSlots {
     /// The slot of the target.
@@ -55,7 +55,7 @@ pub(crate) struct ProductionRow {
     pub(crate) width: u16,
     /// The passes of these values, and of those that only later passes compute.
     pub(crate) passes: Items<u16>,
-    /// The places, beginning with that of the left side.
+    /// The places: that of the left side (0), and one for each child.
     pub(crate) places: Items<PlaceRow>,
     /// The slots of its rules, by the rule's number.
     pub(crate) rules: Items<RuleSlots>,
@@ -68,7 +68,8 @@ pub(crate) struct Layout {
     pub(crate) hints: Hints,
 }
 
-/// Returns the rows of the places of a production, and the number of values in the row of a node.
+/// Returns the rows of the places of a production in pass k, and the number of values in the row of
+/// its nodes.
 /// Fails with `NoMemory` if memory cannot be allocated.
 fn rows_of_places(
     alloc: Global,
@@ -79,7 +80,7 @@ fn rows_of_places(
 ) -> Result<(Items<PlaceRow>, u16), NoMemory>
     requires first { 1 ≤ k }
     requires small { AreSmall (passes_of plan.now.0) }
-    requires few { length (places_of production.now) ≤ max_stored + 1 }
+    requires few { length (places_of production.now) ≤ max_children + 1 }
     ensures rows { IfOk result (λ found. found.0
         ≡ place_rows (setting_of grammar.now plan.now k) production.now) }
     ensures width { IfOk result (λ found. found.1
@@ -109,7 +110,7 @@ fn rows_of_places(
     Ok((Items::from_vec(rows), start))
 }
 
-/// Returns the slot of an argument.
+/// Returns the slot of an argument in pass k: among the node's own values, or among the copies.
 #[tactic(auto, using(crate::proofs::places::Found::item_found, crate::proofs::places::Found::start_found))]
 fn argument_slot(plan: &Plan, k: u16, places: &[PlaceRow], argument: Target) -> u16
     requires small { AreSmall (passes_of plan.now.0) }
@@ -121,8 +122,8 @@ fn argument_slot(plan: &Plan, k: u16, places: &[PlaceRow], argument: Target) -> 
     row.start + rank_of(plan, k, row.item, argument.attr)
 }
 
-/// Returns the slot of a target. The row of a node has `width` values; the row of a child begins
-/// after them.
+/// Returns the slot of a target in pass k. The row of a node has `width` values; the row of a child
+/// begins after them.
 #[tactic(auto, using(crate::proofs::places::Found::item_found))]
 fn target_slot(plan: &Plan, k: u16, width: u16, places: &[PlaceRow], target: Target) -> u16
     requires small { AreSmall (passes_of plan.now.0) }
@@ -219,7 +220,7 @@ fn row_of_production(
 ) -> Result<ProductionRow, NoMemory>
     requires first { 1 ≤ k }
     requires small { AreSmall (passes_of plan.now.0) }
-    requires few { length (places_of production.now) ≤ max_stored + 1 }
+    requires few { length (places_of production.now) ≤ max_children + 1 }
     requires within { AreWithin (length (places_of production.now)) production.now.rules }
     ensures { IfOk result (λ row. row
         ≡ production_row (setting_of grammar.now plan.now k) number production.now) }

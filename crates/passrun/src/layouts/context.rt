@@ -72,8 +72,8 @@ impl PassContext<'_> {
         unreachable!()
     }
 
-    /// Returns the item at a place of an open node and the range of its copies, or `None` if the
-    /// production has fewer places. The node's production has this layout.
+    /// Returns the item at a place of an open node and the range of its copies; `None` if the
+    /// production has no such place. The node's production has this layout.
     pub(crate) fn place(
         &self,
         layout: &ProductionRow,

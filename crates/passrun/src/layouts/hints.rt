@@ -11,7 +11,7 @@
 //! | own inherited `a` | in the parent's row: `$i.b`, if the rule of `$j.a` is `$i.b` | always |
 //! | other own inherited `a` | in its own row: `b`, if a rule is `$0.b = $0.a` | always |
 //! | copy of `$i.b` | in its own row: `a`, if a rule is `$0.a = $i.b` | always |
-//! | other copy of `$i.b` | in its own row: what a rule passes to `$i` | if `$i` returns it |
+//! | other copy of `$i.b` | in its own row: the value that a rule assigns to an attribute of `$i` | if `$i` returns it as `b` |
 //!
 //! A rule also counts as `$i.b` if its expression is a `let`, an `if` or an `orelse` that may
 //! return that occurrence. Only rules of passes before k count: their values are in the file.
@@ -147,7 +147,8 @@ impl Hints {
         }
     }
 
-    /// Returns the hints for the row of the child at a site, by slot: slots of the parent's row.
+    /// Returns the hints for the row of the child at a location, by slot: slots of the parent's
+    /// row.
     fn child(&self, location: ChildLocation) -> &[Option<usize>] {
         let Some(row) = self.rows.get(location.production as usize) else {
             return &[];
@@ -230,7 +231,8 @@ pub(crate) struct ChildLocation {
     pub(crate) place: u16,
 }
 
-/// The row that a record is read into: that of a node of a production, read at a site.
+/// The row that a record is read into: that of a node of a production, whose record is read at the
+/// location `parent`.
 #[derive(Clone, Copy)]
 pub(crate) struct RowLocation<'a> {
     pub(crate) hints: &'a Hints,
@@ -240,7 +242,8 @@ pub(crate) struct RowLocation<'a> {
 
 impl<'a> RowLocation<'a> {
     /// Returns the context of the row. `unread` has the passes of its values that are still to be
-    /// read. `stored` is the number of all stored values, including those of the row that were read.
+    /// read. `stored` is the number of all stored values, including those of the row that were
+    /// read.
     pub(crate) fn row_context(self, stored: usize, unread: &[u16], k: u16) -> RowContext<'a> {
         let own = self.hints.own(self.production);
         let parent_width = self.hints.own(self.parent.production).len();

@@ -1,4 +1,5 @@
-//! The rows of values of nodes: which attributes have a value there, and at which index.
+//! The rows of values of nodes: which attributes have a value there, and at which index. Attributes
+//! are represented by the list of their passes, in the order of their numbers.
 
 ghost use Rattle.std.specs.Prelude.{◌≡◌, ◌≤◌, ℕ, IfOk, Some, length};
 ghost use Rattle.ag_grammar.specs.grammars.Accepted.{max_attributes};
@@ -41,8 +42,8 @@ pub(crate) fn synthesized_at<'a>(grammar: &Grammar, plan: &'a Plan, symbol: u16)
     &passes[..count.min(passes.len())]
 }
 
-/// Returns the number of values in a row in pass k of attributes with these passes: the number of
-/// passes up to k.
+/// Returns the number of values that attributes with these passes have in a row of pass k: the
+/// number of attributes whose pass is at most k.
 pub(crate) fn row_length(passes: &[u16], k: u16) -> usize
     ensures length { result ≡ count_up_to k passes.now }
     ensures room { result ≤ length passes.now }
@@ -59,8 +60,8 @@ pub(crate) fn row_length(passes: &[u16], k: u16) -> usize
     }
 }
 
-/// Returns the index of an attribute's value in such a row: the number of attributes before it that
-/// have a value there.
+/// Returns the index of the value of attribute `attr` in such a row: the number of attributes
+/// before it that have a value there.
 #[tactic(auto, using(crate::proofs::places::Ranks::rank_counted, crate::proofs::places::Ranks::rank_passed))]
 fn rank(passes: &[u16], k: u16, attr: u16) -> u16
     requires few { length passes.now ≤ max_attributes }
@@ -121,7 +122,7 @@ pub(crate) fn copied_width(grammar: &Grammar, plan: &Plan, k: u16, item: Item) -
     row_length(copied_passes(grammar, plan, item), k)
 }
 
-/// Returns the number of these copies that an earlier pass computed.
+/// Returns the number of these copies that a pass before k computed.
 pub(crate) fn known_width(grammar: &Grammar, plan: &Plan, k: u16, item: Item) -> usize
     requires { 1 ≤ k }
     ensures width { result ≡ known_width (setting_of grammar.now plan.now k) item }
@@ -130,7 +131,7 @@ pub(crate) fn known_width(grammar: &Grammar, plan: &Plan, k: u16, item: Item) ->
     row_length(copied_passes(grammar, plan, item), k - 1)
 }
 
-/// Returns the index of an attribute's value in the row of an item.
+/// Returns the index of an attribute's value in the row, in pass k, of an item's node or token.
 pub(crate) fn rank_of(plan: &Plan, k: u16, item: Item, attr: u16) -> u16
     requires small { AreSmall (passes_of plan.now.0) }
     ensures rank { result ≡ rank k (item_passes (passes_of plan.now.0) (Some item)) attr }

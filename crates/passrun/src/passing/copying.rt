@@ -16,8 +16,9 @@ use ag_eval::Scalar;
 use ag_grammar::Item;
 use std::mem::{replace, swap};
 
-/// Returns whether two rows begin with the same values of passes before k. Each row begins with the
-/// values, up to pass k, of attributes with these passes.
+/// Returns whether two rows have the same values of passes before k at their beginnings. Each row
+/// begins with the values of those of these attributes whose pass is at most k; `passes` has the
+/// passes of the attributes.
 #[tactic(auto)]
 pub(crate) fn agree(passes: &[u16], k: u16, ours: &[Carried], theirs: &[Carried]) -> bool
     requires { 1 ≤ k }
@@ -43,8 +44,9 @@ pub(crate) fn agree(passes: &[u16], k: u16, ours: &[Carried], theirs: &[Carried]
     }
 }
 
-/// Returns whether the row that begins at index `start` has the same values as the copies that
-/// begin at index `copied`, as far as earlier passes computed them.
+/// Returns whether the row of a child, which begins at index `start`, has the same values as their
+/// copies in the parent's row, which begin at index `copied`, as far as earlier passes computed
+/// them.
 #[inline(always)]
 pub(crate) fn matches_copy(
     context: &PassContext<'_>,
@@ -85,8 +87,8 @@ pub(crate) fn single_value(values: &[Carried], index: usize) -> &[Carried]
     &values[index..index + 1]
 }
 
-/// Truncates the values to `start` if a token was read, since its text is among the copies. Keeps
-/// the row of a node.
+/// Removes the row that was read for an item, which begins at `start`, if the item is a token: its
+/// text is among the copies. Keeps the row of a node.
 #[inline(always)]
 pub(crate) fn truncate_row(item: Item, values: &mut Vec<Carried>, start: usize)
     ensures { values.new.items ≡ kept_values item (take start values.old.items) values.old.items }
@@ -96,7 +98,7 @@ pub(crate) fn truncate_row(item: Item, values: &mut Vec<Carried>, start: usize)
     }
 }
 
-/// Replaces a value by a number.
+/// Replaces a value with a number.
 #[inline(always)]
 fn put_number(place: &mut Carried, number: i64)
     ensures { place.new ≡ Num number }
@@ -117,7 +119,7 @@ pub(crate) fn put_value(values: &mut Vec<Carried>, index: usize, value: Carried)
     old.release();
 }
 
-/// Replaces the value at an index by a number or an error.
+/// Replaces the value at an index with a number or an error value.
 #[inline(always)]
 pub(crate) fn put_scalar(values: &mut Vec<Carried>, index: usize, scalar: Scalar)
     requires { index < length values.old.items }
@@ -129,7 +131,8 @@ pub(crate) fn put_scalar(values: &mut Vec<Carried>, index: usize, scalar: Scalar
     }
 }
 
-/// Moves values into the place of as many others. What remains in `theirs` is unspecified.
+/// Moves the values of `theirs` to `ours`, which has the same length. Afterwards the values of
+/// `theirs` are unspecified.
 #[inline(always)]
 fn take_copies(ours: &mut [Carried], theirs: &mut [Carried])
     requires { length ours.old ≡ length theirs.old }

@@ -42,8 +42,10 @@ pub struct Passed {
     pub written: u64,
 }
 
-/// Begins a pass: writes the header, and reads the root's record. Fails with R1 and offset 4 if the
-/// file is that of another pass.
+/// Begins a pass: checks the header of the first device, writes the header to the second one, and
+/// reads the root's record. Fails with R1 and offset 4 if the file is that of another pass, with R1
+/// and offset 0 if it does not begin as a tree file, with D1 if a device fails, and as `fetch`
+/// does.
 pub(crate) fn begin<D: Device, E: Device>(
     alloc: Global,
     context: &PassContext<'_>,
@@ -98,7 +100,8 @@ pub(crate) fn begin<D: Device, E: Device>(
 }
 
 /// Ends a pass whose root is done: writes the root's record. Fails with R1 and the offset of the
-/// next frame's end if any frame is left to read.
+/// next frame's end if any frame is left to read, with D1 if a device fails, and with `NoMemory` if
+/// memory cannot be allocated.
 pub(crate) fn finish<D: Device, E: Device>(
     context: &PassContext<'_>,
     machine: &mut Machine,

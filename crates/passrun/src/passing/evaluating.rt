@@ -15,7 +15,8 @@ use ag_grammar::{Expr, Rule};
 use ag_value::NoMemory;
 use std::alloc::Global;
 
-/// The values of a rule's arguments: those in these slots of a node's values.
+/// The values of a rule's arguments: argument k has the value in slot `slots[k]` of `values`.
+/// `spare` is the value of a slot out of range, which no rule of a layout has.
 #[derive(Drop)]
 struct Lender<'a> {
     values: &'a [Carried],
@@ -75,8 +76,8 @@ pub(crate) fn put_rule_value(
     Ok(())
 }
 
-/// Computes the value of an expression that `eval_scalar` can compute. The value of each occurrence
-/// is in its slot among the values.
+/// Returns the value of an expression if `eval_scalar` can compute it, and `None` otherwise. The
+/// value of each occurrence is in its slot among the values.
 #[tactic(auto, using(crate::proofs::steps::Lending::are_well))]
 #[inline(always)]
 fn evaluate_scalar(

@@ -3,14 +3,14 @@
 ghost use Rattle.std.specs.Prelude.{◌≡◌, ◌+◌, ◌^◌, ◌<◌, ◌≤◌, ◌∷◌, ◌++◌, [], Some, IfErr, IfOk};
 ghost use Rattle.std.specs.Prelude.{IsErrOf, OnOk, length, reverse, slice_get};
 ghost use Rattle.passcode.specs.declared.instr.Instr.TheVariants as instr;
-ghost use Rattle.passrun.specs.passing.NodeInvariant.{IsConsistent, ContinuesAs};
+ghost use Rattle.passrun.specs.passing.RunInvariant.{IsConsistent, ContinuesAs};
 ghost use Rattle.passrun.specs.passing.Ahead.{IsRunFault, IsResourceFault};
 ghost use Rattle.passrun.specs.layouts.Contexts.{CanRun, setting};
 ghost use Rattle.passrun.specs.layouts.Layouts.{IsRowAt};
 ghost use Rattle.passrun.specs.passing.Nodes.{left_at};
 ghost use Rattle.passrun.specs.passing.Putting.{AddsFrames, LeavesFrames};
-ghost use Rattle.passrun.specs.passing.Running.{GivesNext, Runs, RunsAt, RunsFrom, RunsSomehow, RunsTo};
-ghost use Rattle.passrun.specs.passing.Running.{Turns, TurnsAt, TurnsFrom, TurnsTo};
+ghost use Rattle.passrun.specs.passing.Running.{RunsRuleNext, Runs, RunsAt, RunsFrom, RunsSomehow, RunsTo};
+ghost use Rattle.passrun.specs.passing.Running.{Leads, LeadsAt, LeadsFrom, LeadsTo};
 ghost use Rattle.passrun.specs.passing.Working.{measure};
 ghost use Rattle.planchecker.specs.courses.Settings.{list_at};
 ghost use Rattle.treefile.specs.devices.Device.{LeavesContent, Persists, WhenHonest};
@@ -34,9 +34,10 @@ use passcode::Instr;
 use std::alloc::Global;
 use treefile::{Device, Kind, Writer};
 
-/// The state of a running pass: the reader, the writer, the values of all open nodes, the open
-/// nodes that wait for the innermost one, the number in the root's record, and the meter's count
-/// when the pass began.
+/// The state of a running pass: the reader, the writer, the stored values (the rows of all open
+/// nodes, the outermost first, and then that of a child whose record was read and that was not
+/// entered yet), the open nodes that wait for the innermost one, the number in the root's record,
+/// and the meter's count when the pass began.
 #[derive(Drop)]
 pub(crate) struct Machine {
     pub(crate) back: Back,
@@ -47,8 +48,8 @@ pub(crate) struct Machine {
     pub(crate) begun: u64,
 }
 
-/// Enters the child at a place, whose record was read last. Returns the child's node, which is the
-/// innermost one now, and pushes the other one on `waiting`. Fails with `NoMemory` if memory cannot
+/// Enters the child at a place, whose record was read last. Returns the child's node, which becomes
+/// the innermost one, and pushes the parent on `waiting`. Fails with `NoMemory` if memory cannot
 /// be allocated.
 pub(crate) fn open_child(
     context: &PassContext<'_>,
@@ -76,8 +77,9 @@ pub(crate) fn open_child(
 }
 
 impl Machine {
-    /// Reads the record of the child at a place. Fails as `fetch` does, and with R1 and the end of
-    /// the record if its values differ from their copies in the node's row.
+    /// Reads the record of the child at a place, and returns the node after that instruction. Fails
+    /// as `fetch` does, and with R1 and the end of the record if its values differ from their
+    /// copies in the node's row.
     #[inline(always)]
     pub(crate) fn get<D: Device>(
         &mut self,
@@ -95,7 +97,7 @@ impl Machine {
         requires next { slice_get (list_at (setting context.now) node.production) node.at
             ≡ Some (instr.Get place) }
         requires room { node.at + 1 < 2 ^ 64 }
-        ensures runs { IfOk result (λ next. TurnsFrom (setting context.now)
+        ensures runs { IfOk result (λ next. LeadsFrom (setting context.now)
             (D.is_honest from.old) (D.is_honest from.new)
             (D.content from.old) (D.content from.new) self.old self.new (Some node) (Some next)) }
         ensures production { IfOk result (λ next. next.production ≡ node.production) }
@@ -138,9 +140,10 @@ impl Machine {
         Ok(node.after_step(number))
     }
 
-    /// Writes the record of the token at a place, whose text is among the copies. The record of a
-    /// node was written when the pass ended it. Fails with D1 if the device fails, and with
-    /// `NoMemory` if memory cannot be allocated.
+    /// Writes the record of the token at a place, whose text is among the copies, and returns the
+    /// node after that instruction. For a child that is a node it writes nothing: `finish_node` has
+    /// written its record. Fails with D1 if the device fails, and with `NoMemory` if memory cannot
+    /// be allocated.
     #[inline(always)]
     pub(crate) fn put<E: Device>(
         &mut self,
@@ -156,7 +159,7 @@ impl Machine {
         requires next { slice_get (list_at (setting context.now) node.production) node.at
             ≡ Some (instr.Put place) }
         requires room { node.at + 1 < 2 ^ 64 }
-        ensures runs { IfOk result (λ next. TurnsTo (setting context.now)
+        ensures runs { IfOk result (λ next. LeadsTo (setting context.now)
             (E.is_honest to.old) (E.is_honest to.new)
             (E.content to.old) (E.content to.new) self.old self.new (Some node) (Some next)) }
         ensures added { OnOk result (AddsFrames (E.is_honest to.new)
@@ -183,8 +186,8 @@ impl Machine {
         Ok(node.after_step(node.child))
     }
 
-    /// Runs a rule and puts its value into the slot of its target. Fails with `NoMemory` if memory
-    /// cannot be allocated.
+    /// Runs a rule, puts its value into the slot of its target, and returns the node after that
+    /// instruction. Fails with `NoMemory` if memory cannot be allocated.
     #[inline(always)]
     pub(crate) fn run_rule(
         &mut self,
@@ -198,9 +201,9 @@ impl Machine {
         requires context { CanRun context.now }
         requires layout { IsRowAt (setting context.now) node.production layout.now }
         requires runs { RunsAt (setting context.now) meter.old self.old (Some node) }
-        requires next { GivesNext (setting context.now) node rule }
+        requires next { RunsRuleNext (setting context.now) node rule }
         requires room { node.at + 1 < 2 ^ 64 }
-        ensures runs { IfOk result (λ next. TurnsAt (setting context.now) meter.old meter.new
+        ensures runs { IfOk result (λ next. LeadsAt (setting context.now) meter.old meter.new
             self.old self.new (Some node) (Some next)) }
         ensures production { IfOk result (λ next. next.production ≡ node.production) }
         ensures rises { meter.old ≤ meter.new }
@@ -216,8 +219,8 @@ impl Machine {
         Ok(node.after_step(node.child))
     }
 
-    /// Enters the child whose record was read last. Fails with `NoMemory` if memory cannot be
-    /// allocated.
+    /// Enters the child whose record was read last, and returns the child's node. Fails with
+    /// `NoMemory` if memory cannot be allocated.
     #[inline(always)]
     pub(crate) fn enter_child(
         &mut self,
@@ -230,7 +233,7 @@ impl Machine {
         requires next { slice_get (list_at (setting context.now) node.production) node.at
             ≡ Some (instr.Go place) }
         requires room { node.at + 1 < 2 ^ 64 }
-        ensures runs { IfOk result (λ next. Turns (setting context.now)
+        ensures runs { IfOk result (λ next. Leads (setting context.now)
             self.old self.new (Some node) (Some next)) }
         ensures less { IfOk result (λ next.
             measure (setting context.now) self.new (Some next)
@@ -243,8 +246,9 @@ impl Machine {
         Ok(child)
     }
 
-    /// Enters the child whose record was read last, if the next instruction does so, and otherwise
-    /// returns the node. Fails with `NoMemory` if memory cannot be allocated.
+    /// Enters the child whose record was read last and returns its node, if the next instruction is
+    /// a `Go`. Otherwise returns the same node. Fails with `NoMemory` if memory cannot be
+    /// allocated.
     #[inline(always)]
     pub(crate) fn enter_if_next(
         &mut self,
@@ -255,7 +259,7 @@ impl Machine {
         requires context { CanRun context.now }
         requires layout { IsRowAt (setting context.now) node.production layout.now }
         requires runs { RunsSomehow (setting context.now) self.old (Some node) }
-        ensures runs { IfOk result (λ next. Turns (setting context.now)
+        ensures runs { IfOk result (λ next. Leads (setting context.now)
             self.old self.new (Some node) (Some next)) }
         ensures most { IfOk result (λ next.
             measure (setting context.now) self.new (Some next)
@@ -269,8 +273,8 @@ impl Machine {
         Ok(child)
     }
 
-    /// Ends a node. If another one waits for it, writes the node's record, moves the values of its
-    /// synthesized attributes to their copies in the row of the other, and returns the other.
+    /// Ends a node. If its parent waits for it, writes the node's record, moves the values of its
+    /// synthesized attributes to their copies in the parent's row, and returns the parent.
     /// Returns `None` if the node is the root, whose record `finish` writes. Fails with D1 if the
     /// device fails, and with `NoMemory` if memory cannot be allocated.
     #[inline(always)]
@@ -284,7 +288,7 @@ impl Machine {
         requires runs { RunsSomehow (setting context.now) self.old (Some node) }
         requires next { slice_get (list_at (setting context.now) node.production) node.at
             ≡ Some instr.End }
-        ensures runs { IfOk result (λ next. TurnsTo (setting context.now)
+        ensures runs { IfOk result (λ next. LeadsTo (setting context.now)
             (E.is_honest to.old) (E.is_honest to.new)
             (E.content to.old) (E.content to.new) self.old self.new (Some node) next) }
         ensures added { OnOk result (AddsFrames (E.is_honest to.new)
@@ -313,13 +317,13 @@ impl Machine {
         Ok(Some(outer))
     }
 
-    /// Returns the node after its next instruction if that puts the record of a child node, which
-    /// was written already, and otherwise the node itself.
+    /// Returns the node after its next instruction if that is the `Put` of a child that is a node,
+    /// whose record was written already. Otherwise returns the same node.
     #[inline(always)]
     pub(crate) fn skip_put(&self, context: &PassContext<'_>, node: OpenNode) -> OpenNode
         requires context { CanRun context.now }
         requires runs { RunsSomehow (setting context.now) self.now (Some node) }
-        ensures runs { Turns (setting context.now) self.now self.now (Some node) (Some result) }
+        ensures runs { Leads (setting context.now) self.now self.now (Some node) (Some result) }
         ensures most { measure (setting context.now) self.now (Some result)
             ≤ measure (setting context.now) self.now (Some node) }
     {
@@ -336,8 +340,9 @@ impl Machine {
         node.after_step(node.child)
     }
 
-    /// Ends a node if its next instruction does so, and passes over the instruction that puts its
-    /// record. Returns the node that continues, or `None` if the root is done.
+    /// Ends a node if its next instruction is an `End`, and skips the `Put` of its record in the
+    /// parent. Returns the node that continues, or `None` if the root is done. Fails as
+    /// `finish_node` does.
     #[inline(always)]
     pub(crate) fn finish_if_ended<E: Device>(
         &mut self,
@@ -350,7 +355,7 @@ impl Machine {
         requires layout { IsRowAt (setting context.now) node.production layout.now }
         requires runs { RunsTo (setting context.now) (E.is_honest to.old) (E.content to.old)
             self.old (Some node) }
-        ensures runs { IfOk result (λ next. TurnsTo (setting context.now)
+        ensures runs { IfOk result (λ next. LeadsTo (setting context.now)
             (E.is_honest to.old) (E.is_honest to.new)
             (E.content to.old) (E.content to.new) self.old self.new (Some node) next) }
         ensures added { OnOk result (AddsFrames (E.is_honest to.new)
@@ -378,10 +383,10 @@ impl Machine {
         Ok(Some(self.skip_put(context, outer)))
     }
 
-    /// Executes the next instruction of the innermost open node: a `Get` with a `Go` that follows
-    /// it, a `Def` with an `End` that follows it, and an `End` with the `Put` of the node's record
-    /// that follows in the node that waits. Returns the node that continues, or `None` if the root
-    /// is done.
+    /// Executes the next instruction of the innermost open node, and in three cases the following
+    /// one in the same step: a `Go` after a `Get`, an `End` after a `Def`, and after an `End` the
+    /// `Put` of the ended node's record in its parent. Returns the node that continues, or `None`
+    /// if the root is done. Fails as the instructions do.
     #[inline(always)]
     pub(crate) fn step<D: Device, E: Device>(
         &mut self,
@@ -404,6 +409,7 @@ impl Machine {
             (E.content to.old) (E.content to.new)) }
         ensures refused { IfErr result (λ f. WhenHonest (D.is_honest from.new)
             (IsRunFault (setting context.now) (D.content from.old) f)) }
+        // each step lowers the measure, so the loop of a pass ends
         ensures less { IfOk result (λ next.
             measure (setting context.now) self.new next < measure (setting context.now) self.old (Some node)) }
         ensures begun { self.new.begun ≡ self.old.begun }

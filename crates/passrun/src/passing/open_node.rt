@@ -14,7 +14,7 @@ pub(crate) struct OpenNode {
     pub(crate) place: u16,
     /// The index of the next instruction in the node's list.
     pub(crate) at: usize,
-    /// The index of its own row among the values of all open nodes.
+    /// The index at which its row begins among the stored values.
     pub(crate) base: usize,
 }
 
@@ -26,7 +26,7 @@ impl OpenNode {
         OpenNode::begun(production, 0)
     }
 
-    /// Returns the node of a production whose record was just read, with its row at an index.
+    /// Returns the node of a production whose record was just read. Its row begins at index `base`.
     pub(crate) fn begun(production: u16, base: usize) -> OpenNode
         ensures { result ≡ first_at production base }
     {
@@ -54,7 +54,8 @@ impl OpenNode {
         }
     }
 
-    /// Returns the node after its next instruction, which enters the child at a place.
+    /// Returns the node after its next instruction, by which the pass leaves it for the child at a
+    /// place.
     pub(crate) fn left_at(self, place: u16) -> OpenNode
         requires { self.at + 1 < 2 ^ 64 }
         ensures { result ≡ left_at self place }

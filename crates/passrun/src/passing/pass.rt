@@ -28,8 +28,8 @@ use planchecker::Plan;
 use std::alloc::Global;
 use treefile::Device;
 
-/// Runs the pass of a job: reads the file of the previous pass backward, and writes the file of the
-/// pass.
+/// Runs the pass of a context: reads the file of the previous pass backward, and writes the file of
+/// the pass.
 pub(crate) fn run_in_context<D: Device, E: Device>(
     alloc: Global,
     context: &PassContext<'_>,
@@ -103,7 +103,7 @@ pub fn run_pass<D: Device, E: Device>(
     ensures passed { WhenHonest (D.is_honest from.new) (WhenHonest (E.is_honest to.new)
         (IfOk result (λ p. IsPassed (setting_of grammar.now plan.now pass) (D.content from.old)
         (E.content to.new) p.nodes (meter.new - meter.old)))) }
-    // for every tree and values that the file encodes: there is only one tree
+    // for every tree and all values that the first file encodes: there is only one such tree
     ensures exact { WhenHonest (D.is_honest from.new) (WhenHonest (E.is_honest to.new)
         (IfOk result (λ p. RunsPass version_two grammar.now (passes_of plan.now.0) (pass - 1)
         (D.content from.old) (E.content to.new)

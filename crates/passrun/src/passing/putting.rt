@@ -12,8 +12,9 @@ use crate::run_fault::RunFault;
 use ag_carried::Carried;
 use treefile::{Device, Kind, Writer};
 
-/// Writes a record with these values. Fails with D1 if the device fails, and with `NoMemory` if
-/// memory cannot be allocated.
+/// Writes the record of a node or a token with this number (of a production or of a class) and
+/// these values. Fails with D1 if the device fails, and with `NoMemory` if memory cannot be
+/// allocated.
 #[inline(always)]
 pub(crate) fn put_record<E: Device>(
     kind: Kind,

@@ -16,7 +16,7 @@ use ag_eval::Meter;
 use std::alloc::Global;
 use treefile::Device;
 
-/// Runs a pass from the node of its root until the root is done.
+/// Runs a pass from the node of its root until the root is done. Fails as `Machine::step` does.
 pub(crate) fn run<D: Device, E: Device>(
     alloc: Global,
     context: &PassContext<'_>,

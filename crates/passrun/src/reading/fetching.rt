@@ -1,4 +1,4 @@
-//! Reads the record of an item: the next body of the file, which a pass reads backward.
+//! Reads the next record of the file, which a pass reads backward, as that of an expected item.
 
 ghost use Rattle.std.specs.Prelude.{◌≡◌, ◌≤◌, None, IfErr, IfOk, IsErrOf};
 ghost use Rattle.backreader.specs.BackState.{IsOver};
@@ -19,8 +19,9 @@ use backreader::Back;
 use std::alloc::Global;
 use treefile::Device;
 
-/// Reads the record of an item below `open_count` open nodes, and appends its row to the values.
-/// Returns the number in the record: that of the production, or that of the token's class.
+/// Reads the next record as that of an item below `open_count` open nodes, and appends its row to
+/// the values. Returns the number in the record: that of the production, or that of the token's
+/// class.
 ///
 /// Fails with P2 if the record would be deeper than `MAX_DEPTH` levels, and with P3 if
 /// `MAX_NODES` records were read already. Fails with R1 and the offset at which the record should

@@ -18,9 +18,10 @@ use std::alloc::Global;
 /// The number of bytes of a body before its values.
 const HEAD_BYTES: u64 = 3;
 
-/// Takes the value of an attribute of a pass from the beginning of a body: from the body if an
-/// earlier pass computed it, and 0 in its place if pass k computes it. Returns the rest of the
-/// body, or `None` if the value can be read only from a copy of the body.
+/// Takes the value of an attribute, and appends it to the values: from the beginning of the body if
+/// its pass is before k, and 0 as a placeholder if its pass is k. Appends nothing for a later pass.
+/// Returns the rest of the body, or `None` if the value can be read only from a copy of the body.
+/// Fails with `NoMemory` if memory cannot be allocated.
 fn take_value<'b>(
     alloc: Global,
     pass: u16,
@@ -47,8 +48,9 @@ fn take_value<'b>(
     Ok(Some(rest))
 }
 
-/// Takes a row of values with these passes. Returns whether all of them were taken and no bytes of
-/// the body are left.
+/// Takes the values of a row, of attributes with these passes. Returns whether all of them were
+/// taken and no bytes of the body are left; some may have been appended even if not. Fails with
+/// `NoMemory` if memory cannot be allocated.
 fn take_row(
     alloc: Global,
     passes: &[u16],
@@ -71,7 +73,8 @@ fn take_row(
     Ok(rest.len() == 0)
 }
 
-/// Returns the number of the production of a symbol's node in a body, and the body after it.
+/// Returns the number of the production of a symbol's node in a body, and the body after it. Returns
+/// `None` if the body does not begin so, or if its first bytes cannot be lent as a slice.
 fn node_of<'b>(grammar: &Grammar, symbol: u16, body: Body<'b>) -> Option<(u16, Body<'b>)>
     ensures { IfSome result (λ found. IsBodyOf grammar.now symbol found.0 found.1 body.entry) }
 {
@@ -84,8 +87,8 @@ fn node_of<'b>(grammar: &Grammar, symbol: u16, body: Body<'b>) -> Option<(u16, B
 }
 
 /// Reads the body of a node of a symbol and appends its row to the values. Returns the number of
-/// the node's production, or `None` if its values can be read only from a copy of the body; some of
-/// them may have been appended then.
+/// the node's production, or `None` if it can be read only from a copy of the body (or not at all);
+/// some values may have been appended then. Fails with `NoMemory` if memory cannot be allocated.
 fn read_node(
     alloc: Global,
     context: &PassContext<'_>,

@@ -63,7 +63,8 @@ fn number_in(bytes: &[u8]) -> Option<(i64, &[u8])>
     Some((number.cast_signed(), rest))
 }
 
-/// Reads a value as `Carried::read` does. The candidate is a stored value that may be equal.
+/// Reads a value as `Carried::read` does, and returns it with its length in bytes. The candidate is
+/// a stored value that may be equal to it, which then saves a copy.
 fn read_beside(
     alloc: Global,
     candidate: Option<&Carried>,
@@ -84,9 +85,9 @@ fn read_beside(
     }
 }
 
-/// Takes the value of an attribute of a pass as `take_value` does, if it is a number. Returns
-/// `None` for a value of another kind and for bytes that do not encode a value; the values are
-/// unchanged then.
+/// Takes the value of an attribute of a pass as `take_value` does, unless it has to be read and is
+/// not a number. Returns `None` then, and also for bytes that do not encode a value; the values are
+/// unchanged in both cases.
 #[inline(always)]
 fn take_number<'b>(
     pass: u16,
@@ -117,7 +118,9 @@ fn take_number<'b>(
     Some(bytes)
 }
 
-/// Takes the value of an attribute of an earlier pass from the bytes.
+/// Takes the value of an attribute of an earlier pass from the bytes. Returns the rest of the
+/// bytes. Fails with `Damaged` if they do not begin with a value, and with `NoMemory` if memory
+/// cannot be allocated.
 fn read_value<'b>(
     alloc: Global,
     pass: u16,
@@ -140,8 +143,9 @@ fn read_value<'b>(
     Ok(&bytes[length..])
 }
 
-/// Takes the value of an attribute of a pass: from the bytes if an earlier pass computed it, and 0
-/// in its place if pass k computes it. Returns the rest of the bytes.
+/// Takes the value of an attribute, and appends it to the values: from the bytes if its pass is
+/// before k, and 0 as a placeholder if its pass is k. Appends nothing for a later pass. Returns the
+/// rest of the bytes. Fails as `read_value` does.
 fn take_value<'b>(
     alloc: Global,
     pass: u16,
@@ -177,8 +181,8 @@ fn check_end(rest: &[u8]) -> Result<(), RecordFault>
     Ok(())
 }
 
-/// Takes the last values of a row, which have these passes, from the bytes. Fails with `Damaged` if
-/// bytes are left after them.
+/// Takes the last values of a row, of attributes with these passes, from the bytes, as `take_value`
+/// does. Fails as it does, and with `Damaged` if bytes are left after them.
 #[inline(never)]
 fn take_values(
     alloc: Global,
@@ -202,8 +206,8 @@ fn take_values(
     check_end(rest)
 }
 
-/// Takes the values of a row as `take_values` does: numbers by `take_number`, up to the first value
-/// of another kind.
+/// Takes the values of a row as `take_values` does. Numbers, up to the first value of another kind,
+/// are taken by `take_number`, which is faster.
 #[inline(always)]
 fn take_row(
     alloc: Global,
@@ -294,9 +298,10 @@ pub fn read_node(
     Ok(number)
 }
 
-/// Reads a node as `read_node` does, with the passes that the layout of the pass contains.
+/// Reads the body of a node as `read_node` does, with the passes of the values from the layout of
+/// its production, and with hints for the values.
 #[inline(always)]
-fn read_laid_node(
+fn read_node_by_layout(
     alloc: Global,
     context: &PassContext<'_>,
     symbol: u16,
@@ -330,7 +335,8 @@ fn read_laid_node(
 }
 
 /// Returns the text in the body of a token of a class. Fails with `Damaged` if the body is not that
-/// of such a token, with a text of at most `MAX_TOKEN_BYTES` bytes.
+/// of such a token with a text of at most `MAX_TOKEN_BYTES` bytes, and with `NoMemory` if memory
+/// cannot be allocated.
 #[inline(always)]
 pub(crate) fn text_in(alloc: Global, class: u16, body: &[u8]) -> Result<Value, RecordFault>
     ensures text { IfOk result (λ v. IsTextOf class body.now v) }
@@ -352,7 +358,8 @@ pub(crate) fn text_in(alloc: Global, class: u16, body: &[u8]) -> Result<Value, R
     Ok(Value::Text(text))
 }
 
-/// Reads the body of a token of a class, and appends its text to the values.
+/// Reads the body of a token of a class, and appends its text to the values. Fails as `text_in`
+/// does, and with `NoMemory` if memory cannot be allocated.
 #[inline(always)]
 fn read_token(
     alloc: Global,
@@ -374,7 +381,8 @@ fn read_token(
 }
 
 /// Reads the record of an item, and appends its row to the values. Returns the number in the
-/// record: that of the production, or that of the token's class.
+/// record: that of the production, or that of the token's class. Fails with `Damaged` if the body
+/// is not a record of the item, and with `NoMemory` if memory cannot be allocated.
 #[inline(always)]
 pub(crate) fn read_record(
     alloc: Global,
@@ -390,7 +398,7 @@ pub(crate) fn read_record(
     ensures none { IsErrOf result RecordFault.Damaged → IsNoRecord (setting context.now) item body.now }
 {
     match item {
-        Item::Symbol(symbol) => read_laid_node(alloc, context, symbol, location, body, values),
+        Item::Symbol(symbol) => read_node_by_layout(alloc, context, symbol, location, body, values),
         Item::Terminal(Terminal::Class(class)) => {
             read_token(alloc, class, body, values)?;
             Ok(class)

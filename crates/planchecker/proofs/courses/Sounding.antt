@@ -4,7 +4,7 @@ use Rattle.std.proofs.lemmas.Option.{slice_get_within, slice_get-get_or}
 use Rattle.ag_grammar.specs.declared.grammar.Production.{Production}
 use Rattle.ag_grammar.specs.grammars.AttributeGrammar.{Grammar, IsProduction}
 use Rattle.passassign.specs.Rows.{IsGreatest, passes_of}
-use Rattle.passcode.specs.Rows.{Lists, IsListOf, lists_of}
+use Rattle.passcode.specs.Rows.{Lists, IsListAt, lists_of}
 use Rattle.passcode.proofs.Lawful.{lists_run}
 use Rattle.passcode.proofs.lists.Shaped.{greatest_most}
 use Rattle.planchecker.specs.Plans.{IsPlan}
@@ -14,14 +14,14 @@ use Rattle.planchecker.specs.courses.Settings.{Setting, list_at, setting_of}
 module _ (g : Grammar) (rows : List (List ℕ)) (code : Lists) (passes k : ℕ) (plan : IsPlan g rows code)
     (greatest : IsGreatest passes rows) (one : 1 ≤ k) (most : k ≤ passes) where
   -- a production has a list for the pass
-  list_of : (p : ℕ) (q : Production) → IsProduction g p q → IsListOf code p k (list_at (setting_of g (rows, code) k) p)
+  list_of : (p : ℕ) (q : Production) → IsProduction g p q → IsListAt code p k (list_at (setting_of g (rows, code) k) p)
   list_of p q is =
       let shape = plan.shape.lists in
       let counted = shape.productions in
       let within = slice_get_within g.productions p q is in
       let row = slice_get-get_or code p [] (omega arith) in
-      let long : length (lists_of code p) ≡ shape.passes = shape.lists p (lists_of code p) row in
-      let same = greatest_most rows passes shape.passes greatest shape.greatest in
+      let long : length (lists_of code p) ≡ shape.pass_count = shape.lists p (lists_of code p) row in
+      let same = greatest_most rows passes shape.pass_count greatest shape.greatest in
       (one, slice_get-get_or (lists_of code p) (k - 1) [] (omega arith))
 
 pub plans_are_sound : PlansAreSound

@@ -1,4 +1,4 @@
--- The conditions of a pass on its setting (this project's).
+-- The conditions that the code of a pass relies on (this project's).
 use Rattle.std.specs.Prelude.{ℕ, suc, ◌≡◌}
 use Rattle.ag_grammar.specs.declared.grammar.Production.{Production}
 use Rattle.ag_grammar.specs.grammars.Accepted.{IsAccepted}
@@ -7,8 +7,8 @@ use Rattle.ag_grammar.specs.grammars.Passes.{IsLegal}
 use Rattle.passcode.specs.Course.{Runs, start}
 use Rattle.planchecker.specs.courses.Settings.{Setting, list_at}
 
--- The grammar is accepted, the assignment legal, each list of instructions runs from the start to the end, and the pass is the
--- next one.
+-- The grammar is accepted, the assignment is legal, the list of each production for the pass runs from the start to the end,
+-- and the pass that is written is the one after the pass that is read.
 pub record IsSound (c : Setting) : Type 0 where
   pub accepted : IsAccepted c.grammar
   pub legal : IsLegal c.grammar c.passes

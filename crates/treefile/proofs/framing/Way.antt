@@ -16,7 +16,7 @@ use Rattle.ag_grammar.specs.grammars.Tree.{Tree, Forest, Fits, deepest, depth_of
 use Rattle.treefile.specs.framing.ExpectedRecords.{Expects, Breaks, Child, MatchesCopy, IsNodeRecord, IsRecordOf, IsTooLarge, Pending, before_others, pending_root, children_with_copies}
 use Rattle.treefile.specs.framing.Backward.{ReadsBack, before_frame, next_before, pass_of}
 use Rattle.treefile.specs.framing.Ending.{is_tree_file}
-use Rattle.treefile.specs.Laws.{NoFileHasNoTree, OneRecord, ReadingBegins, WayBreaks, WayEnds, ReadingContinues, ReadingIsTooLong}
+use Rattle.treefile.specs.Laws.{NoFileHasNoTree, OneRecord, ReadingBegins, ReadingBreaks, ReadingEnds, ReadingContinues, ReadingIsTooLong}
 use Rattle.treefile.specs.records.Orders.{postfix, prefix, prefix_all}
 use Rattle.treefile.specs.records.Records.{bodies_of, bodies_of_all, copies_of, copy_of, node_body, token_body, values_up_to}
 use Rattle.treefile.specs.records.TreeFile.{Version, body_of, frame}
@@ -115,7 +115,7 @@ breaks version g m k most d content at (x ∷ todo) (Ok (Some found)) (body ∷ 
     let same : body ≡ found = cc in
     so expects.1.0 (subst (λ b. IsRecordOf version g m k x.1 b expects.1.0) same expects.1.1)
 
-pub way_ends : WayEnds
+pub way_ends : ReadingEnds
 way_ends version g m k content at count t v way tree is =
     let here = way (depth_of t) (node_count t) t v tree (record { deep = omega arith; large = omega arith }) is in
     go here.0 here.1 here.2
@@ -124,7 +124,7 @@ way_ends version g m k content at count t v way tree is =
     go [] back expects = back
     go (body ∷ bodies) back expects = elim expects [ ]
 
-pub way_breaks : WayBreaks
+pub way_breaks : ReadingBreaks
 way_breaks version g m k content at count todo way so t v tree is =
     let here = way (depth_of t) (node_count t) t v tree (record { deep = omega arith; large = omega arith }) is in
     breaks version g m k (depth_of t) (other (direction_of k)) content at todo (next_before version content at) here.0 refl here.1 here.2 so

@@ -16,7 +16,7 @@ use Rattle.ag_grammar.specs.grammars.Passes.{Passes}
 use Rattle.ag_grammar.specs.grammars.Solution.{WellAt, left_passes}
 use Rattle.treefile.specs.framing.ExpectedRecords.{AreCopies, Child, IsRecordOf, children_with_copies}
 use Rattle.treefile.specs.Laws.{BytesAreLeft, ListedRecord, ValueIsMissing}
-use Rattle.treefile.specs.records.Listed.{IsListedRecord, count_up_to, first_of_values, others_of_values, placed, stored_count}
+use Rattle.treefile.specs.records.Listed.{IsListedRecord, count_up_to, first_of_values, others_of_values, listed_value, stored_count}
 use Rattle.treefile.specs.records.Records.{values_up_to, with_copies}
 use Rattle.treefile.specs.records.TreeFile.{Version, body_of}
 use Rattle.treefile.specs.declared.body.Kind.TheVariants.{Node}
@@ -28,13 +28,13 @@ placed_more : (k : ℕ) (ps : List ℕ) (vs : List Value) (n : ℕ) → length v
 placed_more k ps [] n e = absurd (omega arith)
 placed_more k ps (v ∷ vs) n e = (omega arith, refl)
 
--- the values up to a pass, of values that were placed
-values_of_placed : (k : ℕ) (ps : List ℕ) (vs : List Value) → length vs ≡ count_up_to k ps → values_up_to k ps (placed k ps vs) ≡ vs
+-- the values up to a pass, of listed values
+values_of_placed : (k : ℕ) (ps : List ℕ) (vs : List Value) → length vs ≡ count_up_to k ps → values_up_to k ps (listed_value k ps vs) ≡ vs
 values_of_placed k [] [] e = refl
 values_of_placed k [] (v ∷ vs) e = absurd (omega arith)
 values_of_placed k (p ∷ ps) vs e = by_test (nat_le p k) e (λ ws. values_of_placed k ps ws)
   where
-    by_test : (b : Bool) → length vs ≡ cond b 1 0 + count_up_to k ps → ((ws : List Value) → length ws ≡ count_up_to k ps → values_up_to k ps (placed k ps ws) ≡ ws) → cond b (first_of_values vs ∷ []) [] ++ values_up_to k ps (placed k ps (cond b (others_of_values vs) vs)) ≡ vs
+    by_test : (b : Bool) → length vs ≡ cond b 1 0 + count_up_to k ps → ((ws : List Value) → length ws ≡ count_up_to k ps → values_up_to k ps (listed_value k ps ws) ≡ ws) → cond b (first_of_values vs ∷ []) [] ++ values_up_to k ps (listed_value k ps (cond b (others_of_values vs) vs)) ≡ vs
     by_test true e later = let more = placed_more k ps vs (count_up_to k ps) (omega arith) in ap (λ (ws : List Value). first_of_values vs ∷ ws) (later (others_of_values vs) more.0) ∙ more.1
     by_test false e later = later vs (omega arith)
 
@@ -47,8 +47,8 @@ first_well : (vs : List Value) (n : ℕ) → length vs ≡ suc n → All IsWell 
 first_well [] n e all = absurd (omega arith)
 first_well (v ∷ vs) n e all = All-head IsWell v vs all
 
--- well values that were placed are well where the pass is at most k
-placed_well : (k : ℕ) (ps : List ℕ) (vs : List Value) → length vs ≡ count_up_to k ps → All IsWell vs → WellAt (λ p. p ≤ k) ps (placed k ps vs) (placed k ps vs)
+-- listed values that are all well are well where the pass is at most k
+placed_well : (k : ℕ) (ps : List ℕ) (vs : List Value) → length vs ≡ count_up_to k ps → All IsWell vs → WellAt (λ p. p ≤ k) ps (listed_value k ps vs) (listed_value k ps vs)
 placed_well k [] vs e all a p is le = absurd (let bad : ⊥ = cc in bad)
 placed_well k (p ∷ ps) vs e all zero q is le =
     let same : p ≡ q = cc in
@@ -57,7 +57,7 @@ placed_well k (p ∷ ps) vs e all zero q is le =
     first_well vs (count_up_to k ps) (omega (arith, one)) all
 placed_well k (p ∷ ps) vs e all (suc a) q is le = by_test (nat_le p k) e (λ ws f g. placed_well k ps ws f g a q is le)
   where
-    by_test : (b : Bool) → length vs ≡ cond b 1 0 + count_up_to k ps → ((ws : List Value) → length ws ≡ count_up_to k ps → All IsWell ws → IsWell (placed k ps ws a)) → IsWell (placed k ps (cond b (others_of_values vs) vs) a)
+    by_test : (b : Bool) → length vs ≡ cond b 1 0 + count_up_to k ps → ((ws : List Value) → length ws ≡ count_up_to k ps → All IsWell ws → IsWell (listed_value k ps ws a)) → IsWell (listed_value k ps (cond b (others_of_values vs) vs) a)
     by_test true e later = later (others_of_values vs) (placed_more k ps vs (count_up_to k ps) (omega arith)).0 (others_well vs all)
     by_test false e later = later vs (omega arith) all
 
@@ -103,10 +103,10 @@ module _ (version : Version) (g : Grammar) (m : Passes) (k s : ℕ) (body : List
       let parts = parted has g m k q vs is.count in
       let own = own_of has n vs in
       let long : length own ≡ count_up_to k (m s) = parts.0 ∙ ap (count_up_to k) symbol in
-      let values : values_up_to k (left_passes m (slice_get g.productions p)) (placed k (m s) own) ≡ own = ap (λ ps. values_up_to k ps (placed k (m s) own)) passes ∙ values_of_placed k (m s) own long in (
+      let values : values_up_to k (left_passes m (slice_get g.productions p)) (listed_value k (m s) own) ≡ own = ap (λ ps. values_up_to k ps (listed_value k (m s) own)) passes ∙ values_of_placed k (m s) own long in (
         p,
         q,
-        placed k (m s) own,
+        listed_value k (m s) own,
         record {
           production = is.production;
           left = is.left;

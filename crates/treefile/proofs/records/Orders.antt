@@ -4,7 +4,7 @@ use Rattle.std.proofs.lemmas.List.{length-reverse, reverse-append, reverse-rever
 use Rattle.ag_grammar.specs.declared.direction.Direction.{Direction}
 use Rattle.ag_grammar.specs.declared.direction.Direction.TheVariants.{LeftToRight, RightToLeft}
 use Rattle.ag_grammar.specs.grammars.Passes.{other}
-use Rattle.treefile.specs.records.Orders.{AreRanked, BodyForest, BodyTree, IsRanked, branch, joined, more, node_count, node_counts, none, postfix, postfix_all, prefix, prefix_all, tree_count}
+use Rattle.treefile.specs.records.Orders.{AllMatchArity, BodyForest, BodyTree, MatchesArity, branch, joined, more, node_count, node_counts, none, postfix, postfix_all, prefix, prefix_all, tree_count}
 
 -- a reversal of lists joined in one direction joins their reversals in the other
 turn_joined : (d : Direction) (xs ys : List (List ℕ)) → reverse (joined d xs ys) ≡ joined (other d) (reverse xs) (reverse ys)
@@ -41,18 +41,18 @@ length-postfix d t = sym (length-reverse (postfix d t)) ∙ ap length (turned d 
 pub length-postfix_all : (d : Direction) (ts : BodyForest) → length (postfix_all d ts) ≡ node_counts ts
 length-postfix_all d ts = sym (length-reverse (postfix_all d ts)) ∙ ap length (turned_all d ts) ∙ length-prefix_all (other d) ts
 
-module _ (rank : List ℕ → Option ℕ) where
+module _ (arity : List ℕ → Option ℕ) where
   mutual
-    pub one_tree : (d : Direction) (t u : BodyTree) (xs ys : List (List ℕ)) → IsRanked rank t → IsRanked rank u → prefix d t ++ xs ≡ prefix d u ++ ys → (t ≡ u) × (xs ≡ ys)
+    pub one_tree : (d : Direction) (t u : BodyTree) (xs ys : List (List ℕ)) → MatchesArity arity t → MatchesArity arity u → prefix d t ++ xs ≡ prefix d u ++ ys → (t ≡ u) × (xs ≡ ys)
     one_tree d (branch a ts) (branch b us) xs ys f g e =
         let heads : a ≡ b = cc in
         let tails : prefix_all d ts ++ xs ≡ prefix_all d us ++ ys = cc in
-        let sizes : Some (tree_count ts) ≡ Some (tree_count us) = sym f.0 ∙ ap rank heads ∙ g.0 in
+        let sizes : Some (tree_count ts) ≡ Some (tree_count us) = sym f.0 ∙ ap arity heads ∙ g.0 in
         let same : tree_count ts ≡ tree_count us = cc in
         let rest = one_forest d ts us xs ys same f.1 g.1 tails in
         (ap (λ (body : List ℕ). branch body ts) heads ∙ ap (branch b) rest.0, rest.1)
 
-    one_forest : (d : Direction) (ts us : BodyForest) (xs ys : List (List ℕ)) → tree_count ts ≡ tree_count us → AreRanked rank ts → AreRanked rank us → prefix_all d ts ++ xs ≡ prefix_all d us ++ ys → (ts ≡ us) × (xs ≡ ys)
+    one_forest : (d : Direction) (ts us : BodyForest) (xs ys : List (List ℕ)) → tree_count ts ≡ tree_count us → AllMatchArity arity ts → AllMatchArity arity us → prefix_all d ts ++ xs ≡ prefix_all d us ++ ys → (ts ≡ us) × (xs ≡ ys)
     one_forest d none none xs ys s f g e = (refl, e)
     one_forest d none (more u us) xs ys s f g e = absurd cc
     one_forest d (more t ts) none xs ys s f g e = absurd cc
@@ -70,7 +70,7 @@ module _ (rank : List ℕ → Option ℕ) where
         (ap (λ (v : BodyTree). more v ts) first.0 ∙ ap (more u) rest.0, first.1)
 
   -- the same of lists that end with postfix lists
-  pub one_tree_at_end : (d : Direction) (t u : BodyTree) (xs ys : List (List ℕ)) → IsRanked rank t → IsRanked rank u → xs ++ postfix d t ≡ ys ++ postfix d u → (t ≡ u) × (xs ≡ ys)
+  pub one_tree_at_end : (d : Direction) (t u : BodyTree) (xs ys : List (List ℕ)) → MatchesArity arity t → MatchesArity arity u → xs ++ postfix d t ≡ ys ++ postfix d u → (t ≡ u) × (xs ≡ ys)
   one_tree_at_end d t u xs ys f g e =
       let turned_t : reverse (xs ++ postfix d t) ≡ prefix (other d) t ++ reverse xs = reverse-append xs (postfix d t) ∙ ap (λ (zs : List (List ℕ)). zs ++ reverse xs) (turned d t) in
       let turned_u : reverse (ys ++ postfix d u) ≡ prefix (other d) u ++ reverse ys = reverse-append ys (postfix d u) ∙ ap (λ (zs : List (List ℕ)). zs ++ reverse ys) (turned d u) in

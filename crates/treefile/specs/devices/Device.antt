@@ -8,20 +8,20 @@ use Rattle.treefile.specs.declared.device.DeviceFault.TheVariants.{Failed, NoMem
 abbrev pub max_failures : ℕ
 max_failures = 2 ^ 64 - 1
 
--- A call has failed since: the number of failures is greater. At the greatest number that is counted it can't
--- grow, and each call since may have failed.
-abbrev pub HasRisen : ℕ → ℕ → Type 0
-HasRisen before now = (before < now) ⊎ (now ≡ max_failures)
+-- The number of failures rose from `before` to `after`: a call failed in between. At the greatest number that is counted it
+-- can't grow, and so counts as risen.
+abbrev pub HasRisen : (before after : ℕ) → Type 0
+HasRisen before after = (before < after) ⊎ (after ≡ max_failures)
 
 -- The effects of a call on a device besides its content. A device that is honest after the call was honest
 -- before it: a call can show that a device is dishonest, and no call makes it honest again. The number of
--- failures never falls, stays within the greatest number that is counted, and rises if the call returns that
--- the device failed.
-pub record Persists (honest_before honest_now : Bool) (before now : ℕ) (failed : Type 0) : Type 0 where
-  pub honest : honest_now ≡ true → honest_before ≡ true
-  pub kept : before ≤ now
-  pub bounded : before ≤ max_failures → now ≤ max_failures
-  pub cause : failed → HasRisen before now
+-- failures (`before` and `after` the call) never falls, stays within the greatest number that is counted, and rises if the call
+-- failed with D1, which `failed` states.
+pub record Persists (honest_before honest_after : Bool) (before after : ℕ) (failed : Type 0) : Type 0 where
+  pub honest : honest_after ≡ true → honest_before ≡ true
+  pub kept : before ≤ after
+  pub bounded : before ≤ max_failures → after ≤ max_failures
+  pub cause : failed → HasRisen before after
 
 -- the fact holds if the device is honest
 abbrev pub WhenHonest : Bool → Type 0 → Type 0

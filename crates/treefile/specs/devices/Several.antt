@@ -4,8 +4,8 @@ use Rattle.std.specs.Prelude.{ℕ, ◌⊎◌, Bool, true}
 use Rattle.std.proofs.Common.{inl, inr, lit<, lit≤}
 use Rattle.treefile.specs.devices.Device.{HasRisen, Persists}
 
--- the effects of a call on a device besides its content, whatever the call returns, in the terms of the
--- device's type
+-- the effects of a call on a device besides its content, whatever the call returns. `honest` and `failures` give the honesty and
+-- the number of failures of a device of this type
 abbrev pub Lasts : {D : Type 0} → (D → Bool) → (D → ℕ) → D → D → Type 0
 Lasts honest failures old new = Persists (honest old) (honest new) (failures old) (failures new) ⊥
 

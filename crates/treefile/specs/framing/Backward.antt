@@ -14,11 +14,11 @@ pass_of content = from_be_bytes w16 (slice_range content 4 header_bytes)
 abbrev pub pass_in : Version → List ℕ → Result ℕ FrameFault
 pass_in version content = if is_tree_file version content then Ok (pass_of content) else Err NotATreeFile
 
--- the offset where the previous frame ends, for the frame of a body that ends at an offset
+-- the offset where the frame of this body begins, if it ends at `at`; the frame before it ends there
 abbrev pub before_frame : ℕ → List ℕ → ℕ
 before_frame at body = at - length_bytes - length body
 
--- the body as an option
+-- the body as an option, to which the header is `None`
 abbrev pub some_body : Result (List ℕ) FrameFault → Result (Option (List ℕ)) FrameFault
 some_body (Ok body) = Ok (Some body)
 some_body (Err fault) = Err fault

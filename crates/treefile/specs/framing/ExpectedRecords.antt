@@ -1,5 +1,6 @@
 -- Reading a tree file from its end to its header: the records that are still expected, of the items whose
--- trees were not read yet. All of this is this project's.
+-- trees were not read yet. The letters are those of `Records.antt`; d is a direction, e gives the values of a node's attributes,
+-- and x is an item or a child. All of this is this project's.
 use Rattle.std.specs.Prelude.{ℕ, suc, ◌≡◌, ◌+◌, ◌-◌, ◌<◌, ◌≤◌, ◌⊎◌, Bool, true, false, List, [], ◌∷◌, ◌++◌, All, length, take, drop, Option, Some, None, Result, Ok, Err, refl}
 use Rattle.std.proofs.Common.{inl, inr, lit<}
 use Rattle.ag_value.specs.declared.value.Value.{Value, Text}
@@ -147,7 +148,7 @@ before_from_left = refl
 pub before_from_right : before_others RightToLeft 2 (item.Symbol 7 ∷ item.Symbol 8 ∷ []) ((1, item.Symbol 9) ∷ []) ≡ (2, item.Symbol 8) ∷ (2, item.Symbol 7) ∷ (1, item.Symbol 9) ∷ []
 before_from_right = refl
 
--- after one visited item of two, the other one is unvisited
+-- after one visited item of two, the other one remains
 pub unvisited_from_left : remaining_of LeftToRight (item.Symbol 7 ∷ item.Symbol 8 ∷ []) 1 ≡ item.Symbol 8 ∷ []
 unvisited_from_left = refl
 

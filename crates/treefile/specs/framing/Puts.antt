@@ -1,12 +1,12 @@
--- The effects on a writer of a call that appends a frame. This project's.
+-- The effect of a put on a writer. This project's.
 use Rattle.std.specs.Prelude.{◌≡◌, ◌+◌, Result, IsErrOf, OnOk, true}
 use Rattle.treefile.specs.framing.Writing.{Progress}
 use Rattle.treefile.specs.declared.device.DeviceFault.{DeviceFault}
 use Rattle.treefile.specs.declared.device.DeviceFault.TheVariants.{Failed, NoMemory}
 
--- One more frame is counted. The writer is broken if the device failed, and a broken writer always fails and
+-- After Ok one more frame is counted. The writer is broken if the device failed, and a broken writer always fails and
 -- leaves the device unchanged. After NoMemory nothing has changed.
-pub record SettlesPut {A D : Type 0} (device_old device_new : D) (old new : Progress) (result : Result A DeviceFault) : Type 0 where
+pub record PutEffect {A D : Type 0} (device_old device_new : D) (old new : Progress) (result : Result A DeviceFault) : Type 0 where
   pub counted : OnOk result (new ≡ record old { written = old.written + 1 })
   pub breaks : IsErrOf result Failed → new ≡ record old { is_broken = true }
   pub broken : old.is_broken ≡ true → IsErrOf result Failed × (device_new ≡ device_old)

@@ -1,5 +1,5 @@
--- The values of a record as a list; its body has their spellings, one after the other. All of this is this
--- project's.
+-- The values of a record as a list; its body has their spellings, one after the other. The letters are those of `Records.antt`;
+-- ps are passes, and vs values. All of this is this project's.
 use Rattle.std.specs.Prelude.{ℕ, zero, suc, ◌≡◌, ◌+◌, ◌++◌, nat_le, Bool, true, false, List, [], ◌∷◌, length, pos, All, if◌then◌else◌, refl}
 use Rattle.std.specs.List.{flat_map}
 use Rattle.ag_value.specs.declared.value.Value.{Value, Num}
@@ -30,12 +30,12 @@ abbrev pub others_of_values : List Value → List Value
 others_of_values [] = []
 others_of_values (v ∷ vs) = vs
 
--- The values of a list at the attributes whose pass is at most k, in declared order. The values of the other
--- attributes don't matter.
-abbrev pub placed : ℕ → List ℕ → List Value → ℕ → Value
-placed k [] vs a = Num (pos 0)
-placed k (p ∷ ps) vs zero = first_of_values vs
-placed k (p ∷ ps) vs (suc a) = placed k ps (if nat_le p k then others_of_values vs else vs) a
+-- The value of attribute a, if a list has the values of the attributes whose pass is at most k, in declared order. For the other
+-- attributes the result doesn't matter.
+abbrev pub listed_value : ℕ → List ℕ → List Value → ℕ → Value
+listed_value k [] vs a = Num (pos 0)
+listed_value k (p ∷ ps) vs zero = first_of_values vs
+listed_value k (p ∷ ps) vs (suc a) = listed_value k ps (if nat_le p k then others_of_values vs else vs) a
 
 -- the number of values in the copy of an item's tree in the file of pass k
 abbrev pub copied_count : Grammar → Passes → ℕ → Item → ℕ
@@ -43,7 +43,7 @@ copied_count g m k (item.Symbol s) = count_up_to k (synthesized_passes g m s)
 copied_count g m k (item.Terminal (Class c)) = 1
 copied_count g m k (item.Terminal (Literal l)) = 0
 
--- the number in the copies of some items
+-- the number of values in the copies of some items' trees
 abbrev pub copies_count : Grammar → Passes → ℕ → List Item → ℕ
 copies_count g m k [] = 0
 copies_count g m k (x ∷ xs) = copied_count g m k x + copies_count g m k xs
@@ -68,7 +68,7 @@ abbrev pub AreSpelled : ℕ → List ℕ → Type 0
 AreSpelled n bytes = (vs : List Value) × (length vs ≡ n) × All IsWell vs × (bytes ≡ flat_map spelling_of vs)
 
 -- Some well values were read from bytes: the bytes begin with their spellings, and `rest` follows.
-pub record HasRead (bytes : List ℕ) (vs : List Value) (rest : List ℕ) : Type 0 where
+pub record HasReadValues (bytes : List ℕ) (vs : List Value) (rest : List ℕ) : Type 0 where
   pub well : All IsWell vs
   pub split : bytes ≡ flat_map spelling_of vs ++ rest
 
@@ -83,9 +83,9 @@ one_up_to_first = refl
 pub three_up_to_second : count_up_to 2 (1 ∷ 2 ∷ 2 ∷ []) ≡ 3
 three_up_to_second = refl
 
--- of three attributes of the passes 2, 1 and 1 the last two get the values in the file of pass 1
-pub placed_first : placed 1 (2 ∷ 1 ∷ 1 ∷ []) (Num (pos 7) ∷ Num (pos 8) ∷ []) 1 ≡ Num (pos 7)
+-- of three attributes of the passes 2, 1 and 1, the last two have the two values in the file of pass 1
+pub placed_first : listed_value 1 (2 ∷ 1 ∷ 1 ∷ []) (Num (pos 7) ∷ Num (pos 8) ∷ []) 1 ≡ Num (pos 7)
 placed_first = refl
 
-pub placed_second : placed 1 (2 ∷ 1 ∷ 1 ∷ []) (Num (pos 7) ∷ Num (pos 8) ∷ []) 2 ≡ Num (pos 8)
+pub placed_second : listed_value 1 (2 ∷ 1 ∷ 1 ∷ []) (Num (pos 7) ∷ Num (pos 8) ∷ []) 2 ≡ Num (pos 8)
 placed_second = refl

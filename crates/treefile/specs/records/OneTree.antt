@@ -1,4 +1,5 @@
--- Trees that can be recorded in a file, so that the file determines them. All of this is this project's.
+-- Trees that can be recorded in a file, so that the file determines them. The letters are those of `Records.antt`. All of this is
+-- this project's.
 use Rattle.std.specs.Prelude.{ℕ, ◌^◌, ◌≤◌, length}
 use Rattle.ag_grammar.specs.declared.grammar.Item.{Item}
 use Rattle.ag_grammar.specs.grammars.AttributeGrammar.{Grammar}

@@ -43,14 +43,14 @@ abbrev pub tree_count : BodyForest → ℕ
 tree_count none = 0
 tree_count (more t ts) = suc (tree_count ts)
 
--- A function gives the number of children of each node by its body (the textbook's ranked trees).
+-- `arity` gives the number of children of each node by its body (the textbook's ranked trees; "rank" is another word for arity).
 abbrev mutual
-  pub IsRanked : (List ℕ → Option ℕ) → BodyTree → Type 0
-  IsRanked rank (branch body ts) = (rank body ≡ Some (tree_count ts)) × AreRanked rank ts
+  pub MatchesArity : (List ℕ → Option ℕ) → BodyTree → Type 0
+  MatchesArity arity (branch body ts) = (arity body ≡ Some (tree_count ts)) × AllMatchArity arity ts
 
-  pub AreRanked : (List ℕ → Option ℕ) → BodyForest → Type 0
-  AreRanked rank none = Unit {0}
-  AreRanked rank (more t ts) = IsRanked rank t × AreRanked rank ts
+  pub AllMatchArity : (List ℕ → Option ℕ) → BodyForest → Type 0
+  AllMatchArity arity none = Unit {0}
+  AllMatchArity arity (more t ts) = MatchesArity arity t × AllMatchArity arity ts
 
 -- The depth: 1 for a node without children, else one more than that of the deepest child (this project's).
 abbrev mutual

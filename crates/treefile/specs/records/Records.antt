@@ -1,4 +1,6 @@
--- The records of a tree's nodes, and the file of a tree after a pass. All of this is this project's.
+-- The records of a tree's nodes, and the file of a tree after a pass. In these definitions g is a grammar, m has the passes of
+-- its attributes, k is the number of a pass, s a symbol, p the number of a production and q the production itself, c a class, t
+-- a tree, and v its values. All of this is this project's.
 use Rattle.std.specs.Prelude.{◌≡◌, ℕ, suc, ◌+◌, ◌≤◌, nat_le, Bool, true, false, List, [], ◌∷◌, ◌++◌, Option, Some, None, slice_get, length, take, if◌then◌else◌}
 use Rattle.ag_value.specs.declared.value.Value.{Value, Text}
 use Rattle.ag_grammar.specs.declared.grammar.Item.TheVariants as item
@@ -79,7 +81,7 @@ max_copied g m (item.Symbol s) = length (synthesized_passes g m s)
 max_copied g m (item.Terminal (Class c)) = 1
 max_copied g m (item.Terminal (Literal l)) = 0
 
--- the greatest number in the copies of some items
+-- the greatest number of values in the copies of some items' trees
 abbrev pub max_copies : Grammar → Passes → List Item → ℕ
 max_copies g m [] = 0
 max_copies g m (x ∷ xs) = max_copied g m x + max_copies g m xs

@@ -3,7 +3,7 @@ use Rattle.std.specs.Prelude.{◌≡◌, ℕ, ◌+◌, ◌*◌, Bool, true, fals
 use Rattle.std.proofs.Common.{ap, sym, ◌∙◌}
 use Rattle.std.specs.List.{flat_map}
 use Rattle.std.specs.Int.{w16, w32, to_be_bytes}
-use Rattle.ag_grammar.specs.declared.limits.TheConstants.{MAX_ATTRIBUTES, MAX_STORED}
+use Rattle.ag_grammar.specs.declared.limits.TheConstants.{MAX_ATTRIBUTES, MAX_CHILDREN}
 use Rattle.ag_value.specs.declared.value.Value.{Value}
 use Rattle.ag_value.specs.declared.value.Value.TheVariants as value
 use Rattle.ag_value.specs.declared.value.Value.TheVariants.{rolls-Num}
@@ -28,7 +28,7 @@ version_one = record { magic = 65 ∷ 71 ∷ 84 ∷ 49 ∷ []; max_values = MAX_
 
 -- version 2: AGT2, and as many values more for each child
 abbrev pub version_two : Version
-version_two = record { magic = 65 ∷ 71 ∷ 84 ∷ 50 ∷ []; max_values = MAX_ATTRIBUTES + MAX_STORED * MAX_ATTRIBUTES; has_copies = true }
+version_two = record { magic = 65 ∷ 71 ∷ 84 ∷ 50 ∷ []; max_values = MAX_ATTRIBUTES + MAX_CHILDREN * MAX_ATTRIBUTES; has_copies = true }
 
 -- the version of each number
 abbrev pub version_of : FileVersion → Version

@@ -1,7 +1,7 @@
 use Rattle.std.proofs.Common.{◌≡◌, ◌∙◌, true, [], length, Err, refl, sym, subst}
 use Rattle.std.specs.Result.{IfErr}
 use Rattle.ag_grammar.specs.expressions.Trees.{is_below}
-use Rattle.ag_expr.specs.language.State.{IsReadToEnd, everything}
+use Rattle.ag_expr.specs.language.State.{IsReadToEnd, complete_list}
 use Rattle.ag_expr.proofs.language.Agree.{expr_exact}
 use Rattle.ag_expr.proofs.language.Below.{expr_below}
 use Rattle.ag_expr.proofs.language.States.{all_at_end}
@@ -23,7 +23,7 @@ returns-clause-read c =
 
 pub returns-clause-below : goal.returns-clause-below
 returns-clause-below c =
-    let all = everything c.args.reader.now in
+    let all = complete_list c.args.reader.now in
     let listed = sym (all_at_end _ (sym c.if-not-is_at_end.ensures)) ∙ c.in_ok-tree.ensures.1.occurrences in
     let read = unnamed c.args.reader.now c.requires _ c.in_ok-tree.ensures.0 in
     subst (λ os. is_below (length os) c.in_ok-tree.tree ≡ true) (sym listed) (expr_below all 64 _ _ ((expr_exact all 64 []).sound _ _ _ read).2)

@@ -11,7 +11,7 @@ use Rattle.ag_grammar.specs.declared.grammar.Rule.{Rule}
 use Rattle.ag_grammar.specs.declared.grammar.Target.{Target}
 use Rattle.ag_grammar.specs.declared.grammar.Terminal.TheVariants.{Literal, Class}
 use Rattle.ag_grammar.specs.grammars.AttributeGrammar.{attribute_names, item_at, item_names, stored_items, IsRule, Kind, HasKind, RefersTo, defined_kind, used_kind, Synthesized, Inherited}
-use Rattle.ag_grammar.specs.grammars.Accepted.{out_name, max_attributes, max_items, max_stored, max_literal_bytes, class_count, IsSeparator, IsWithinGrammarLimits, IsInUse, IsNamedItem, IsNamedRule, IsNamed, IsComplete, IsNormal, IsProductive, by_production, nothing, a_symbol, a_word, IsReached, at_start, within, IsAccepted}
+use Rattle.ag_grammar.specs.grammars.Accepted.{out_name, max_attributes, max_items, max_children, max_literal_bytes, class_count, IsSeparator, IsWithinGrammarLimits, IsInUse, IsNamedItem, IsNamedRule, IsNamed, IsComplete, IsNormal, IsProductive, by_production, nothing, a_symbol, a_terminal, IsReached, at_start, within, IsAccepted}
 use Rattle.ag_grammar.specs.grammars.Tree.{IsTreeOf}
 use Rattle.ag_grammar.specs.grammars.Solution.{children, at, Holds, Solves, AnyRule, IsTranslation}
 use Rattle.ag_grammar.specs.grammars.Sample.{sample, without_out, doubled, bare, rule_bare, named as named_at, copy_rule, s_name, i_name, production_r, production_a, attribute, symbol_r, symbol_a, rule_out, rule_first, rule_second, rule_s, sample_tree, sample_values}
@@ -109,7 +109,7 @@ normal_second : IsNormal sample production_a
 normal_second = only (λ r. Each (λ o. HasKind sample production_a o (used_kind o.place)) r.args) rule_s (only (λ o. HasKind sample production_a o (used_kind o.place)) (attribute 0 1) refl)
 
 productive_a : IsProductive sample 1
-productive_a = by_production 1 production_a refl refl (a_word nothing)
+productive_a = by_production 1 production_a refl refl (a_terminal nothing)
 
 productive : (s : ℕ) → s < length sample.symbols → IsProductive sample s
 productive zero h = by_production 0 first refl refl (a_symbol productive_a (a_symbol productive_a nothing))
@@ -127,7 +127,7 @@ limits = record {
   attribute_count = both (λ s. length (attribute_names s) ≤ max_attributes) symbol_r symbol_a (omega arith) (omega arith);
   production_count = omega arith;
   item_count = both (λ q. length q.items ≤ max_items) first production_a (omega arith) (omega arith);
-  stored_count = both (λ q. length (stored_items q.items) ≤ max_stored) first production_a (omega arith) (omega arith);
+  stored_count = both (λ q. length (stored_items q.items) ≤ max_children) first production_a (omega arith) (omega arith);
   literal_count = omega arith;
   literal_bytes = only (λ x. (1 ≤ length x) × (length x ≤ max_literal_bytes)) (120 ∷ []) (omega arith, omega arith);
 }

@@ -11,7 +11,7 @@ use Rattle.ag_grammar.specs.declared.grammar.Item.TheVariants as item
 use Rattle.ag_grammar.specs.declared.grammar.Rule.{Rule}
 use Rattle.ag_grammar.specs.declared.grammar.Terminal.TheVariants.{Literal, Class}
 use Rattle.ag_grammar.specs.grammars.AttributeGrammar.{attribute_names, lex_name, stored_items, HasKind, IsRule, RefersTo, Synthesized, used_kind, defined_kind}
-use Rattle.ag_grammar.specs.grammars.Accepted.{out_name, max_attributes, max_items, max_stored, max_literal_bytes, class_count, IsSeparator, IsWithinGrammarLimits, IsInUse, IsNamedItem, IsNamedRule, IsNamed, IsComplete, IsNormal, IsProductive, by_production, nothing, a_word, IsReached, at_start, IsAccepted}
+use Rattle.ag_grammar.specs.grammars.Accepted.{out_name, max_attributes, max_items, max_children, max_literal_bytes, class_count, IsSeparator, IsWithinGrammarLimits, IsInUse, IsNamedItem, IsNamedRule, IsNamed, IsComplete, IsNormal, IsProductive, by_production, nothing, a_terminal, IsReached, at_start, IsAccepted}
 use Rattle.ag_grammar.proofs.grammars.Members.{alone, both, only, related_one}
 use Rattle.ag_grammar.proofs.grammars.samples.NumberSample.{no_separator}
 use Rattle.ag_grammar.proofs.grammars.Rules.{environment, lends}
@@ -89,7 +89,7 @@ limits = record {
   attribute_count = only (λ s. length (attribute_names s) ≤ max_attributes) symbol_s (omega arith);
   production_count = omega arith;
   item_count = only (λ q. length q.items ≤ max_items) production_s (omega arith);
-  stored_count = only (λ q. length (stored_items q.items) ≤ max_stored) production_s (omega arith);
+  stored_count = only (λ q. length (stored_items q.items) ≤ max_children) production_s (omega arith);
   literal_count = omega arith;
   literal_bytes = only (λ x. (1 ≤ length x) × (length x ≤ max_literal_bytes)) (105 ∷ 102 ∷ []) (omega arith, omega arith);
 }
@@ -100,7 +100,7 @@ accepted = record {
   start = record { symbol = symbol_s; declared = refl; plain = refl; out = (0, refl) };
   complete = only (IsComplete token_sample) production_s complete;
   normal = only (IsNormal token_sample) production_s normal;
-  productive = first_alone (IsProductive token_sample) (by_production 0 production_s refl refl (a_word (a_word nothing)));
+  productive = first_alone (IsProductive token_sample) (by_production 0 production_s refl refl (a_terminal (a_terminal nothing)));
   reachable = first_alone (IsReached token_sample) at_start;
   limits = limits;
 }

@@ -1,7 +1,7 @@
 use Rattle.std.proofs.Common.{false, length}
 use Rattle.ag_tokens.specs.declared.token.Punctuation.TheVariants as punctuation
 use Rattle.ag_text.specs.Reading.{next_name_from, names_from}
-use Rattle.ag_text.specs.Words.{is_mark}
+use Rattle.ag_text.specs.Meanings.{is_mark}
 use Rattle.ag_expr.proofs.reading.Turns.{Going}
 use Rattle.ag_text.proofs.parser.names.Given as goal
 

@@ -12,10 +12,10 @@ loop-after-preserved c = (search rules, goes_on c.args.text.now c.loop-after.res
 pub split_at-requires : goal.split_at-requires
 split_at-requires c = boundary c.args.text.now c.loop-after.rest.now _ c.loop-after.invariant.1 c.loop-after.invariant.0
 
-pub returns-in-Some-without_quotes : goal.returns-in-Some-without_quotes
-returns-in-Some-without_quotes c =
+pub returns-in-Some-after_quote : goal.returns-in-Some-after_quote
+returns-in-Some-after_quote c =
     let body = ap (λ x. unescaped (chars x)) c.split_at.ensures.front ∙ body_is c.args.text.now c.loop-after.rest.now _ c.loop-after.invariant.1 c.utf8.text c.loop-after.invariant.0 in
-    sym (stopped c.args.text.now c.loop-after.rest.now _ c.in_default.ensures c.loop-after.invariant.1 ∙ rw (← c.in-Some-without_quotes.ensures, body) refl)
+    sym (stopped c.args.text.now c.loop-after.rest.now _ c.in_default.ensures c.loop-after.invariant.1 ∙ rw (← c.in-Some-after_quote.ensures, body) refl)
 
 pub returns-in-None : goal.returns-in-None
 returns-in-None c = sym (stopped c.args.text.now c.loop-after.rest.now _ c.in_default.ensures c.loop-after.invariant.1 ∙ rw (← c.in-None.ensures) refl)

@@ -18,5 +18,5 @@ returns-clause-value c =
     let small = so_far.small in
     to_z_pos w64 c.loop-c.number (omega arith) ∙ ap pos (value_of _ c.loop-c.number c.loop-c.rest.now c.in_default.ensures so_far)
 
-pub returns-clause-back : goal.returns-clause-back
-returns-clause-back c = rest_of _ c.loop-c.number c.loop-c.rest.now c.in_default.ensures c.loop-c.invariant.1
+pub returns-clause-rest : goal.returns-clause-rest
+returns-clause-rest c = rest_of _ c.loop-c.number c.loop-c.rest.now c.in_default.ensures c.loop-c.invariant.1

@@ -14,5 +14,5 @@ split_at-requires c = boundary c.args.class c.args.text.now c.loop-after.rest.no
 pub returns-clause-prefix : goal.returns-clause-prefix
 returns-clause-prefix c = c.split_at.ensures.front ∙ front_cut c.args.class c.args.text.now c.loop-after.rest.now c.loop-after.invariant.1 c.in_default.ensures
 
-pub returns-clause-back : goal.returns-clause-back
-returns-clause-back c = ap chars c.split_at.ensures.back ∙ back_cut c.args.class c.args.text.now c.loop-after.rest.now c.loop-after.invariant.1 c.in_default.ensures
+pub returns-clause-rest : goal.returns-clause-rest
+returns-clause-rest c = ap chars c.split_at.ensures.back ∙ back_cut c.args.class c.args.text.now c.loop-after.rest.now c.loop-after.invariant.1 c.in_default.ensures

@@ -12,7 +12,7 @@ loop-search-init c = record {
   count = c.in_ok-mark_seeds.ensures.grows.count ∙ c.in_ok-visit_all.ensures.grows.count ∙ omega (arith, c.in_ok-vec.ensures.len);
   search = c.in_ok-mark_seeds.ensures.search;
   settled = λ p d inside. rw c.in_ok-mark_seeds.ensures.visited (settled_stays _ _ _ _ _ c.in_ok-mark_seeds.ensures.grows _ (c.in_ok-visit_all.ensures.settles p d
-      (settled_first _ _ _ _ c.args.facts.now p (λ t. rw (c.in_ok-vec.ensures.items_if_clones_equal (λ y h. h)) (unmarked (length c.args.uses.now) t)) (c.requires.waiting.facts_noted p d inside))));
+      (settled_first _ _ _ _ c.args.facts.now p (λ t. rw (c.in_ok-vec.ensures.items_if_clones_equal (λ y h. h)) (unmarked (length c.args.uses.now) t)) (c.requires.waiting.facts_listed p d inside))));
   seeded = λ t h. c.in_ok-mark_seeds.ensures.marked t (rw c.in_ok-visit_all.ensures.seeds h);
 }
 
@@ -48,7 +48,7 @@ loop-search-preserved c =
       count = taken.grows.count ∙ c.loop-search.invariant.count;
       search = taken.search;
       settled = λ p d inside. rw (← c.loop-search.invariant.clauses) (taken.settles p d (rw (c.loop-search.invariant.clauses, c.as_slice.ensures.value, ← here)
-          (settled_taken _ _ _ p x _ _ is (λ t h. c.requires.waiting.noted p t d inside h) (c.loop-search.invariant.settled p d inside))));
+          (settled_taken _ _ _ p x _ _ is (λ t h. c.requires.waiting.listed p t d inside h) (c.loop-search.invariant.settled p d inside))));
       seeded = λ t h. taken.grows.marked t (c.loop-search.invariant.seeded t h);
     }
 

@@ -5,6 +5,6 @@ use Rattle.closure.proofs.waiting.facts.Given as goal
 
 abbrev pub invariant-loop-at : goal.invariant-loop-at
 invariant-loop-at l = record {
-  noted : (p : ℕ) (d : Clause) → p < l.at → (get_or l.clauses p d).body ≡ [] → Contains l.facts.items p;
+  listed : (p : ℕ) (d : Clause) → p < l.at → (get_or l.clauses p d).body ≡ [] → Contains l.facts.items p;
   fits : All (λ p. p < length l.clauses) l.facts.items;
 }

@@ -9,16 +9,16 @@ use Rattle.closure.proofs.waiting.uses.Goals as goal
 pub loop-at-init : goal.loop-at-init
 loop-at-init c = record {
   count = omega arith;
-  noted = λ p t d lt h. absurd (omega arith);
+  listed = λ p t d lt h. absurd (omega arith);
   fits = λ t. rw (rows_empty c.loop.uses.items c.loop.invariant.empty t) (All-nil (λ p. p < length c.args.clauses.now));
 }
 
 pub loop-at-preserved : goal.loop-at-preserved
 loop-at-preserved c = record {
-  count = sym (length-map _ _) ∙ c.in_ok-note_all.ensures.notes.same ∙ length-map _ _ ∙ c.loop-at.invariant.count;
-  noted = noted_lines _ _ _ _ _ _ c.loop-at-test.true (c.as_slice.ensures ∙ ap (λ (q : Clause). q.body) c.index-clauses-at.is) c.in_ok-note_all.ensures.notes c.loop-at.invariant.noted c.in_ok-note_all.ensures.noted;
-  fits = c.in_ok-note_all.ensures.notes.fits (length c.args.clauses.now) c.loop-at-test.true c.loop-at.invariant.fits;
+  count = sym (length-map _ _) ∙ c.in_ok-add_uses.ensures.adds.same ∙ length-map _ _ ∙ c.loop-at.invariant.count;
+  listed = noted_lines _ _ _ _ _ _ c.loop-at-test.true (c.as_slice.ensures ∙ ap (λ (q : Clause). q.body) c.index-clauses-at.is) c.in_ok-add_uses.ensures.adds c.loop-at.invariant.listed c.in_ok-add_uses.ensures.listed;
+  fits = c.in_ok-add_uses.ensures.adds.fits (length c.args.clauses.now) c.loop-at-test.true c.loop-at.invariant.fits;
 }
 
-pub returns-clause-noted : goal.returns-clause-noted
-returns-clause-noted c = λ p t d lt h. c.loop-at.invariant.noted p t d (omega arith) h
+pub returns-clause-listed : goal.returns-clause-listed
+returns-clause-listed c = λ p t d lt h. c.loop-at.invariant.listed p t d (omega arith) h

@@ -14,6 +14,6 @@ invariant-loop l = record {
 abbrev pub invariant-loop-at : goal.invariant-loop-at
 invariant-loop-at l = record {
   count : length l.uses.items ≡ l.count;
-  noted : (p t : ℕ) (d : Clause) → p < l.at → Contains (get_or l.clauses p d).body t → Contains (row (rows l.uses.items) t) p;
+  listed : (p t : ℕ) (d : Clause) → p < l.at → Contains (get_or l.clauses p d).body t → Contains (row (rows l.uses.items) t) p;
   fits : (t : ℕ) → All (λ p. p < length l.clauses) (row (rows l.uses.items) t);
 }

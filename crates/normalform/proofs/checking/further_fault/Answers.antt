@@ -18,4 +18,4 @@ returns c =
     let ss = map symbol_of raw.symbols in
     let past : None ≡ first_wrong (rule_kinds ss raw.productions) = rw (← c.requires, ← c.as_slice-productions.ensures) (sym c.in_default.is ∙ c.in_ok-fault.ensures) in
     let all : first_wrong (limit_checks ss raw.productions) ≡ first_wrong (further_checks raw) = rest_of (rule_kinds ss raw.productions) (limit_checks ss raw.productions) past in
-    rw (← all, ← c.requires, ← c.as_slice-productions.ensures) c.exceeded.ensures
+    rw (← all, ← c.requires, ← c.as_slice-productions.ensures) c.first_limit.ensures

@@ -2,7 +2,7 @@
 use Rattle.std.proofs.Common.{◌≡◌, ◌<◌, [], ◌∷◌, All, length, map, ap, subst, sym, ◌∙◌}
 use Rattle.std.proofs.lemmas.List.{length-map}
 use Rattle.closure.specs.Clauses.{Clauses}
-use Rattle.closure.specs.Edges.{along}
+use Rattle.closure.specs.Edges.{clause_of_edge}
 use Rattle.normalform.specs.faults.Found.{IsFoundAt}
 use Rattle.normalform.specs.faults.Underivable.{IsFirstUnderivable}
 use Rattle.normalform.specs.numbers.Numbers.{symbol_of}
@@ -27,12 +27,12 @@ pub returns-clause-found : goal.returns-clause-found
 returns-clause-found c =
     let raw = c.args.raw.now in
     let count : c.in_ok-clauses.clauses.count ≡ length (symbols raw) = ap (λ (k : Clauses). k.count) c.in_ok-clauses.ensures ∙ ap length c.as_slice.ensures ∙ sym (length-map raw.symbols symbol_of) in
-    let here : c.in_ok-clauses.clauses.clauses ≡ map along (edges raw) = ap (λ (k : Clauses). k.clauses) c.in_ok-clauses.ensures ∙ ap (map along) c.requires.edges in
-    found_map (IsFirstUnderivable (map along (edges raw)) (start raw ∷ []) (length (symbols raw))) (IsFoundAt raw fault.Unreachable) (λ n. unreached_found raw n c.requires.names c.requires.productive) c.first_underivable.result (rw (← count, ← here, ← c.requires.start) c.first_underivable.ensures.found)
+    let here : c.in_ok-clauses.clauses.clauses ≡ map clause_of_edge (edges raw) = ap (λ (k : Clauses). k.clauses) c.in_ok-clauses.ensures ∙ ap (map clause_of_edge) c.requires.edges in
+    found_map (IsFirstUnderivable (map clause_of_edge (edges raw)) (start raw ∷ []) (length (symbols raw))) (IsFoundAt raw fault.Unreachable) (λ n. unreached_found raw n c.requires.names c.requires.productive) c.first_underivable.result (rw (← count, ← here, ← c.requires.start) c.first_underivable.ensures.found)
 
 pub returns-clause-none : goal.returns-clause-none
 returns-clause-none c =
     let raw = c.args.raw.now in
     let count : c.in_ok-clauses.clauses.count ≡ length (symbols raw) = ap (λ (k : Clauses). k.count) c.in_ok-clauses.ensures ∙ ap length c.as_slice.ensures ∙ sym (length-map raw.symbols symbol_of) in
-    let here : c.in_ok-clauses.clauses.clauses ≡ map along (edges raw) = ap (λ (k : Clauses). k.clauses) c.in_ok-clauses.ensures ∙ ap (map along) c.requires.edges in
+    let here : c.in_ok-clauses.clauses.clauses ≡ map clause_of_edge (edges raw) = ap (λ (k : Clauses). k.clauses) c.in_ok-clauses.ensures ∙ ap (map clause_of_edge) c.requires.edges in
     none_map (all_reached raw) c.first_underivable.result (rw (← count, ← here, ← c.requires.start) c.first_underivable.ensures.none)

@@ -13,7 +13,7 @@ returns-clause-refused c = λ g p.
     let most : open_count c.args.progress.now.states.items ≤ open_count last = let n = c.requires.count in let m = c.if-left-open_before-2.false in omega (arith, n, m, counted) in
     let some : 0 < open_count c.args.progress.now.states.items = let n = c.requires.count in let m = c.requires.some in omega (arith, n, m) in
     refused g c.args.dependencies.now.all.items c.args.progress.now c.make_pass.new.progress c.make_pass-2.new.progress c.in_ok-first.first.items c.in_ok-second.second.items one two p c.in_ok-first.ensures.next c.in_ok-second.ensures.next
-    (c.in_ok-second.ensures.len ∙ c.in_ok-first.ensures.len) (λ k o. c.in_ok-first.ensures.left k (c.in_ok-second.ensures.left k o)) most c.in_ok-left_of.field-0 c.in_ok-left_of.ensures.strikes c.in_ok-left_of.ensures.all c.in_ok-left_of.ensures.ordered some
+    (c.in_ok-second.ensures.len ∙ c.in_ok-first.ensures.len) (λ k o. c.in_ok-first.ensures.left k (c.in_ok-second.ensures.left k o)) most c.in_ok-certificate_of.field-0 c.in_ok-certificate_of.ensures.strikes c.in_ok-certificate_of.ensures.all c.in_ok-certificate_of.ensures.ordered some
 
 pub returns-then-left-open_before-clause-last : goal.returns-then-left-open_before-clause-last
 returns-then-left-open_before-clause-last c = λ g p.

@@ -2,7 +2,7 @@ use Rattle.std.proofs.Common.{◌≡◌, ◌≤◌, length, inl, ap, ◌∙◌, 
 use Rattle.std.proofs.lemmas.List.Sums.{count_by-le-length}
 use Rattle.passassign.specs.PassesSoFar.{open_count}
 use Rattle.passassign.specs.Searching.{AreReady}
-use Rattle.passassign.specs.Rows.{numbers_of, passes_of, AreFew}
+use Rattle.passassign.specs.Rows.{numbers_of, passes_of, AreWithinMaxPasses}
 use Rattle.passassign.specs.Least.{IsLeast}
 use Rattle.passassign.specs.PassStrikes.{AreStrikesOf, AreStrikesSoFar}
 use Rattle.passassign.specs.Tables.{is_open, table_passes, AreRowsOfTable}
@@ -47,7 +47,7 @@ returns-clause-least c = λ g w.
 pub returns-clause-few : goal.returns-clause-few
 returns-clause-few c = λ g w.
     let none : open_count c.loop-open_now.progress.states.items ≡ 0 = let n = c.loop-open_now.invariant.count in let z = c.loop-open_now-test.false in omega (arith, n, z) in
-    subst AreFew (sym c.of_rows.ensures)
+    subst AreWithinMaxPasses (sym c.of_rows.ensures)
     (few g c.in_ok-dependencies.dependencies.all.items c.loop-open_now.progress c.args.symbols.now c.args.productions.now (numbers_of c.in_ok-rows.rows.items) w (c.loop-open_now.invariant.made g w) none
     (subst (λ states. AreRowsOfTable c.args.symbols.now states (numbers_of c.in_ok-rows.rows.items)) c.as_slice-2.ensures.value c.in_ok-rows.ensures)
     (let n = c.loop-open_now.invariant.next in omega (arith, n)))

@@ -1,7 +1,7 @@
 use Rattle.std.proofs.Common.{◌≡◌, ◌+◌, ◌*◌, ◌≤◌, ◌⊎◌, length, true}
 use Rattle.ag_grammar.specs.grammars.AttributeGrammar.{Grammar}
 use Rattle.passassign.specs.PassStrikes.{AreStrikesSoFar, IsLastInUse}
-use Rattle.passassign.specs.PassesSoFar.{IsProgress, IsWith, open_count}
+use Rattle.passassign.specs.PassesSoFar.{IsProgress, IsAcceptedWith, open_count}
 use Rattle.ag_grammar.specs.grammars.Accepted.{max_passes}
 use Rattle.passassign.specs.Searching.{AreReady}
 use Rattle.passassign.specs.Tables.{table_passes}
@@ -13,10 +13,10 @@ invariant-loop-open_now l = record {
   len : length l.progress.states.items ≤ 4096;
   count : l.open_now ≡ open_count l.progress.states.items;
   next : l.progress.next + 2 * l.open_now ≤ max_passes + 1;
-  made : (g : Grammar) → IsWith l.symbols l.productions g → IsProgress g l.dependencies.all.items l.progress;
-  last : (g : Grammar) → IsWith l.symbols l.productions g → (l.progress.next ≡ 1) ⊎ IsLastInUse l.progress.next (table_passes l.progress.states.items);
+  made : (g : Grammar) → IsAcceptedWith l.symbols l.productions g → IsProgress g l.dependencies.all.items l.progress;
+  last : (g : Grammar) → IsAcceptedWith l.symbols l.productions g → (l.progress.next ≡ 1) ⊎ IsLastInUse l.progress.next (table_passes l.progress.states.items);
   wanted : l.kept.is_wanted ≡ l.wants_strikes;
-  kept : (g : Grammar) → IsWith l.symbols l.productions g → l.kept.is_wanted ≡ true → AreStrikesSoFar g l.progress.next (table_passes l.progress.states.items) l.kept.lists.items;
+  kept : (g : Grammar) → IsAcceptedWith l.symbols l.productions g → l.kept.is_wanted ≡ true → AreStrikesSoFar g l.progress.next (table_passes l.progress.states.items) l.kept.lists.items;
 }
 
 abbrev pub decreases-loop-open_now : goal.decreases-loop-open_now

@@ -1,8 +1,8 @@
 use Rattle.std.proofs.Common.{ℕ, List, sym}
 use Rattle.std.proofs.lemmas.Result.{IfOk-weaker}
 use Rattle.ag_grammar.specs.grammars.AttributeGrammar.{Grammar}
-use Rattle.passassign.specs.PassesSoFar.{IsWith}
-use Rattle.passassign.specs.Rows.{AreFew}
+use Rattle.passassign.specs.PassesSoFar.{IsAcceptedWith}
+use Rattle.passassign.specs.Rows.{AreWithinMaxPasses}
 use Rattle.passassign.specs.declared.stuck.Strikes.{Strikes}
 use Rattle.passassign.proofs.assigning.assign_with_strikes.Goals as goal
 
@@ -10,5 +10,5 @@ pub assign_all-requires-clause-accepted : goal.assign_all-requires-clause-accept
 assign_all-requires-clause-accepted c = (c.args.grammar.now, record { accepted = c.symbols.ensures.accepted; symbols_are = sym c.symbols.ensures.lent; productions_are = sym c.productions.ensures.lent })
 
 pub returns-clause-few : goal.returns-clause-few
-returns-clause-few c = IfOk-weaker c.assign_all.result (λ (x : List (List ℕ) × Strikes). (g : Grammar) → IsWith c.symbols.result.now c.productions.result.now g → AreFew x.0) (λ (x : List (List ℕ) × Strikes). AreFew x.0)
+returns-clause-few c = IfOk-weaker c.assign_all.result (λ (x : List (List ℕ) × Strikes). (g : Grammar) → IsAcceptedWith c.symbols.result.now c.productions.result.now g → AreWithinMaxPasses x.0) (λ (x : List (List ℕ) × Strikes). AreWithinMaxPasses x.0)
     (λ x few. few c.args.grammar.now (record { accepted = c.symbols.ensures.accepted; symbols_are = sym c.symbols.ensures.lent; productions_are = sym c.productions.ensures.lent })) c.assign_all.ensures.few

@@ -12,7 +12,7 @@ is_no h q = let e = h.1 q in let bad : ⊥ = cc in bad
 
 pub loop-index-preserved : goal.loop-index-preserved
 loop-index-preserved c =
-    front_more (λ k (x : Strike). (x.symbol ≡ c.args.symbol) × (x.attr ≡ c.args.attr) → ⊥) c.args.strikes.now c.loop-index.index none c.loop-index-test.true c.loop-index.invariant (is_no c.if-is_of.ensures)
+    front_more (λ k (x : Strike). (x.symbol ≡ c.args.symbol) × (x.attr ≡ c.args.attr) → ⊥) c.args.strikes.now c.loop-index.index none c.loop-index-test.true c.loop-index.invariant (is_no c.if-is_strike_of.ensures)
 
 pub returns-clause-none : goal.returns-clause-none
 returns-clause-none c = λ same h.

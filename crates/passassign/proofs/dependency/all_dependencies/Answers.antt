@@ -6,9 +6,9 @@ use Rattle.passassign.proofs.dependency.all_dependencies.Goals as goal
 
 pub loop-index-preserved : goal.loop-index-preserved
 loop-index-preserved c =
-    adds_more IsByProduction c.args.productions.now c.loop-index.index c.index-productions-index.result [] c.loop-index.found.items c.put_production.new.found.items
+    adds_more IsByProduction c.args.productions.now c.loop-index.index c.index-productions-index.result [] c.loop-index.found.items c.append_production.new.found.items
     (slice_get_read c.args.productions.now _ c.loop-index.index c.index-productions-index.result refl c.loop-index-test.true c.index-productions-index.is) c.loop-index.invariant
-    c.in_ok-put_production.ensures
+    c.in_ok-append_production.ensures
 
 pub overflow_cast-index : goal.overflow_cast-index
 overflow_cast-index c =
@@ -17,8 +17,8 @@ overflow_cast-index c =
     let within = c.loop-index-test.true in
     record { fits = omega (arith, few, same, within) }
 
-pub put_production-requires : goal.put_production-requires
-put_production-requires c = record {
+pub append_production-requires : goal.append_production-requires
+append_production-requires c = record {
   accepted = (
     c.requires.accepted.0,
     c.loop-index.index,

@@ -1,7 +1,7 @@
 use Rattle.std.proofs.Common.{map}
 use Rattle.closure.specs.Additions.{IsAddedBefore, AreInOrder}
 use Rattle.closure.specs.Following.{AreClosure}
-use Rattle.passassign.specs.Searching.{target_of, AreBarred, AreStrikesOf}
+use Rattle.passassign.specs.Searching.{target_of, AreBarred, AreStrikesBy}
 use Rattle.passassign.proofs.strikes.ReportedStrikes.{clauses_of, named, seeds_below, is_search}
 use Rattle.passassign.proofs.search.search.Goals as goal
 
@@ -27,6 +27,6 @@ returns c =
     rw (c.requires.edges, c.as_slice-2.ensures.value, c.in_ok-seeds.ensures, c.as_slice.ensures.value) at c.in_ok-found.ensures.order in
     let closure : AreClosure (clauses_of all) (map target_of barred) c.in_ok-found.found.marks.items =
     rw (c.requires.edges, c.as_slice-2.ensures.value, c.in_ok-seeds.ensures, c.as_slice.ensures.value) at c.in_ok-found.ensures.marks in
-    let exact : AreStrikesOf all barred c.in_ok-found.found.added.items c.in_ok-strikes.strikes.items =
+    let exact : AreStrikesBy all barred c.in_ok-found.found.added.items c.in_ok-strikes.strikes.items =
     rw (c.as_slice-all.ensures.value, c.as_slice-3.ensures.value, c.as_slice-4.ensures.value) at c.in_ok-strikes.ensures in
     is_search all barred c.args.direction c.args.states.now bars c.in_ok-found.found.added.items order c.in_ok-strikes.strikes.items exact c.in_ok-found.found.marks.items c.in_ok-found.ensures.added closure

@@ -37,7 +37,7 @@ returns c =
     let exact = collected_lists c.args.grammar.now (passes_of c.args.assignment.now) c.passes-passes.result c.of_rows.result many
     all in
     let lists : HasLists c.args.grammar.now c.args.assignment.now c.of_rows.result =
-    record { passes = c.passes-passes.result; greatest = c.passes-passes.ensures; productions = many; lists = all.lengths } in
+    record { pass_count = c.passes-passes.result; greatest = c.passes-passes.ensures; productions = many; lists = all.lengths } in
     record {
       agrees = lists_agree c.args.grammar.now (passes_of c.args.assignment.now) c.productions-production-items.ensures.accepted
           c.requires c.of_rows.result exact;

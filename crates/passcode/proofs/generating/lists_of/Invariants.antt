@@ -1,7 +1,7 @@
 use Rattle.std.proofs.Common.{ℕ, ◌≡◌, ◌+◌, List, Some, length, slice_get}
 use Rattle.passassign.specs.Rows.{passes_of}
 use Rattle.passcode.specs.declared.instr.Instr.{Instr}
-use Rattle.passcode.specs.Listing.{list_of}
+use Rattle.passcode.specs.Listing.{generated_list}
 use Rattle.passcode.specs.Rows.{row_of}
 use Rattle.passcode.proofs.generating.lists_of.Given as goal
 
@@ -9,5 +9,5 @@ abbrev pub invariant-loop-before : goal.invariant-loop-before
 invariant-loop-before l = record {
   len : length l.lists.items ≡ l.before;
   lists : (i : ℕ) (xs : List Instr) → slice_get (row_of l.lists.items) i ≡ Some xs
-      → xs ≡ list_of (passes_of l.assignment) l.production (i + 1);
+      → xs ≡ generated_list (passes_of l.assignment) l.production (i + 1);
 }

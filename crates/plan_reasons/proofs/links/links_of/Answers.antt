@@ -6,7 +6,7 @@ use Rattle.plan_reasons.proofs.links.links_of.Goals as goal
 pub loop-strike-preserved : goal.loop-strike-preserved
 loop-strike-preserved c = record {
   within = let t = c.loop-strike-test.true in omega (arith, t);
-  linked = links_more c.args.grammar.now c.args.strikes.now c.loop-strike.strike-index _ c.loop-strike.links.items c.put_link.new.links.items (slice_get-get_or c.args.strikes.now c.loop-strike.strike-index _ c.loop-strike-test.true) c.loop-strike.invariant.linked c.in_ok-put_link.ensures;
+  linked = links_more c.args.grammar.now c.args.strikes.now c.loop-strike.strike-index _ c.loop-strike.links.items c.append_link.new.links.items (slice_get-get_or c.args.strikes.now c.loop-strike.strike-index _ c.loop-strike-test.true) c.loop-strike.invariant.linked c.in_ok-append_link.ensures;
 }
 
 pub returns : goal.returns

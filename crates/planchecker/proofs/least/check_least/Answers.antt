@@ -16,7 +16,7 @@ strikes_of g rows lent lists n same len greatest each = record {
 
 pub returns-clause-strikes : goal.returns-clause-strikes
 returns-clause-strikes c = (
-  (λ t. strikes_of c.args.grammar.now c.args.assignment.now c.as_slice-lists.result.now c.args.strikes.now.passes c.passes.result
+  (λ t. strikes_of c.args.grammar.now c.args.assignment.now c.as_slice-lists.result.now c.args.strikes.now.lists c.passes.result
       c.as_slice-lists.ensures c.if-lists-passes.false c.passes.ensures (c.are_all_strikes.ensures.0 t)),
   (λ h. c.are_all_strikes.ensures.1
       (subst (λ xs. EachAt (λ i xs. AreStrikesAt c.args.grammar.now (passes_of c.args.assignment.now) (i + 1) xs) xs)
@@ -25,6 +25,6 @@ returns-clause-strikes c = (
 
 pub returns-clause-least : goal.returns-clause-least
 returns-clause-least c = λ t other legal s a p q e f.
-    c.none_is_earlier.ensures c.args.grammar.now c.args.assignment.now c.args.strikes.now.passes other
-    (strikes_of c.args.grammar.now c.args.assignment.now c.as_slice-lists.result.now c.args.strikes.now.passes c.passes.result
+    c.none_is_earlier.ensures c.args.grammar.now c.args.assignment.now c.args.strikes.now.lists other
+    (strikes_of c.args.grammar.now c.args.assignment.now c.as_slice-lists.result.now c.args.strikes.now.lists c.passes.result
     c.as_slice-lists.ensures c.if-lists-passes.false c.passes.ensures (c.are_all_strikes.ensures.0 t)) legal s a p q e f

@@ -6,22 +6,22 @@ use Rattle.planchecker.proofs.Lists.{row_len}
 use Rattle.planchecker.proofs.Loops.{front_more, front_whole, says_no, says_yes}
 use Rattle.planchecker.proofs.shape.are_lists.Goals as goal
 
-pub returns-then-len-passes : goal.returns-then-len-passes
-returns-then-len-passes c =
+pub returns-then-len-pass_count : goal.returns-then-len-pass_count
+returns-then-len-pass_count c =
     let v = c.row-item.result in
     let ok = v.ok in
     let len = row_len v.items in
-    says_no (λ h. c.if-len-passes.true
-    (let same : length (row_of v.items) ≡ c.args.passes =
+    says_no (λ h. c.if-len-pass_count.true
+    (let same : length (row_of v.items) ≡ c.args.pass_count =
     h.lists c.loop-row.row-index (row_of v.items)
     (row_is c.args.rows.now c.loop-row.row-index v c.loop-row-test.true c.row-item.is) in omega (arith, c.len.ensures)))
 
 pub loop-row-preserved : goal.loop-row-preserved
 loop-row-preserved c =
     let v = c.row-item.result in
-    front_more (λ i (row : List (List Instr)). length row ≡ c.args.passes) (rows_of c.args.rows.now) c.loop-row.row-index
+    front_more (λ i (row : List (List Instr)). length row ≡ c.args.pass_count) (rows_of c.args.rows.now) c.loop-row.row-index
     (row_of v.items) (row_is c.args.rows.now c.loop-row.row-index v c.loop-row-test.true c.row-item.is) c.loop-row.invariant
-    (let ok = v.ok in let len = row_len v.items in let same = c.if-len-passes.false in omega (arith, c.len.ensures))
+    (let ok = v.ok in let len = row_len v.items in let same = c.if-len-pass_count.false in omega (arith, c.len.ensures))
 
 pub returns : goal.returns
 returns c =
@@ -31,6 +31,6 @@ returns c =
     says_yes (record {
       productions_are = omega arith;
       lists =
-          front_whole (λ i (row : List (List Instr)). length row ≡ c.args.passes) (rows_of c.args.rows.now) c.loop-row.row-index
-          (omega arith) c.loop-row.invariant;
+          front_whole (λ i (row : List (List Instr)). length row ≡ c.args.pass_count) (rows_of c.args.rows.now)
+          c.loop-row.row-index (omega arith) c.loop-row.invariant;
     })

@@ -13,7 +13,7 @@ returns-in_err-body-clause-found g c = λ honest.
 
 pub returns-in-Err-Damaged-clause-found : goal.returns-in-Err-Damaged-clause-found
 returns-in-Err-Damaged-clause-found g c = λ honest.
-    let rows = c.args.plan.now.0 in
-    let nothing = subst (λ body. (x : Value) → IsRootRecord c.args.grammar.now rows body x → ⊥) c.as_slice.ensures.value (c.in-Err-Damaged.ensures.none (ap Err c.in-Err-Damaged.field-0-is)) in
-    no_root_at_end c.args.grammar.now rows (g.D.Device.content c.args.device.now) c.in_ok-body.body.items c.in_ok-end-in-Err-Damaged.end
+    let assignment = c.args.plan.now.0 in
+    let nothing = subst (λ body. (x : Value) → IsRootRecord c.args.grammar.now assignment body x → ⊥) c.as_slice.ensures.value (c.in-Err-Damaged.ensures.none (ap Err c.in-Err-Damaged.field-0-is)) in
+    no_root_at_end c.args.grammar.now assignment (g.D.Device.content c.args.device.now) c.in_ok-body.body.items c.in_ok-end-in-Err-Damaged.end
     (c.in_ok-end-in-Err-Damaged.ensures.length honest ∙ ap length (c.in_ok-body.ensures.content (c.in_ok-end-in-Err-Damaged.ensures.persists.honest honest))) (c.in_ok-body.ensures.exact (c.in_ok-end-in-Err-Damaged.ensures.persists.honest honest)) nothing

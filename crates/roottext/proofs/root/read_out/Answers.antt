@@ -10,8 +10,8 @@ pub returns-in_err-read_node-clause-none : goal.returns-in_err-read_node-clause-
 returns-in_err-read_node-clause-none c =
     let g = c.args.grammar.now in
     let plan = c.args.plan.now in
-    let last = c.passes-following.result in
-    let greatest = subst (IsGreatest last) c.assignment.ensures c.passes-following.ensures in
+    let last = c.passes-next_pass.result in
+    let greatest = subst (IsGreatest last) c.assignment.ensures c.passes-next_pass.ensures in
     let p = err_from_is_err_and c.from_residual.result c.from_residual.ensures.1 in
     rw (p.1, p.2)
     (λ damaged x root. no_root g plan.0 plan.1 last c.args.body.now greatest (subst (λ s. IsNoNode (setting_of g plan (last + 1)) s c.args.body.now) c.start.ensures.value (c.in_err-read_node.ensures.none (same_fault _ _ damaged))) x root)
@@ -21,8 +21,8 @@ pub swap_remove-requires : goal.swap_remove-requires
 swap_remove-requires c =
     let g = c.args.grammar.now in
     let plan = c.args.plan.now in
-    let last = c.passes-following.result in
-    let greatest = subst (IsGreatest last) c.assignment.ensures c.passes-following.ensures in
+    let last = c.passes-next_pass.result in
+    let greatest = subst (IsGreatest last) c.assignment.ensures c.passes-next_pass.ensures in
     let read = started (setting_of g plan (last + 1)) c.start.result c.in_ok-read_node.field-0 c.args.body.now c.new-values.result.items c.read_node.new.values.items c.start.ensures.value c.new-values.ensures.items c.in_ok-read_node.ensures.read in
     let less = out_within g plan.0 plan.1 last c.args.out c.in_ok-read_node.field-0 c.args.body.now c.read_node.new.values.items c.requires.plan greatest c.requires.out read in
     omega (arith, less, c.read_node.new.values.ok.0)
@@ -31,8 +31,8 @@ pub returns-clause-read : goal.returns-clause-read
 returns-clause-read c =
     let g = c.args.grammar.now in
     let plan = c.args.plan.now in
-    let last = c.passes-following.result in
-    let greatest = subst (IsGreatest last) c.assignment.ensures c.passes-following.ensures in
+    let last = c.passes-next_pass.result in
+    let greatest = subst (IsGreatest last) c.assignment.ensures c.passes-next_pass.ensures in
     let read = started (setting_of g plan (last + 1)) c.start.result c.in_ok-read_node.field-0 c.args.body.now c.new-values.result.items c.read_node.new.values.items c.start.ensures.value c.new-values.ensures.items c.in_ok-read_node.ensures.read in
     root_read g plan.0 plan.1 last c.args.out c.in_ok-read_node.field-0 c.args.body.now c.read_node.new.values.items c.swap_remove.result c.requires.plan greatest c.requires.out read c.swap_remove.ensures.value
 

@@ -6,7 +6,7 @@ use Rattle.ag_grammar.specs.values.Lists.{item_at}
 use Rattle.ag_grammar.proofs.values.Wells.{well_nth}
 use Rattle.ag_eval.proofs.builtins.lists.nth.Goals as goal
 
-pub part-requires : goal.part-requires
-part-requires c =
+pub from_lent-requires : goal.from_lent-requires
+from_lent-requires c =
     let index = to_z w64 (of_z w64 c.in-List-Num.index) in
     well_nth c.args.list.now c.in-List-Num.items index c.in-Some.item.now c.in-List-Num.is-0 c.requires (ap (λ xs. item_at xs index) (sym c.as_slice.ensures) ∙ sym c.item_at.ensures ∙ ap option_copied c.in-Some.is)

@@ -27,5 +27,5 @@ fit-requires c =
     record {
       item = ap (λ ps. is_item (value.Table ps)) (growth_result ∙ sym (inserts key x pairs i index_is none)) ∙ item_with key x pairs c.requires.table (is_utf8-from_IsUtf8 key c.utf8.key) (item_of x well c.requires.no_fault);
       weighed = fits.0;
-      sounded = fits.1;
+      depth_exact = fits.1;
     }

@@ -1,16 +1,16 @@
 use Rattle.std.proofs.Common.{◌≤◌, length, option_map, IsUtf8, refl, subst, arith}
 use Rattle.ag_tokens.proofs.Lexed.{width-chars}
-use Rattle.ag_scan.specs.Cutting.{front_of}
-use Rattle.ag_scan.specs.Supplied.{Supplied}
-use Rattle.ag_scan.specs.Words.{over}
+use Rattle.ag_scan.specs.Cutting.{leading_word_of}
+use Rattle.ag_scan.specs.TokenReader.{TokenReader}
+use Rattle.ag_scan.specs.Words.{vocabulary}
 use Rattle.ag_scan.proofs.Supplying.{goes_on, none_next, none_there, counted}
 use Rattle.ag_scan.proofs.tokens.Tokens.advance.Goals as goal
 
-pub look-at-requires-clause-within : goal.look-at-requires-clause-within
-look-at-requires-clause-within c =
+pub next_word-at-requires-clause-within : goal.next_word-at-requires-clause-within
+next_word-at-requires-clause-within c =
     let at = rw c.in-Some.is at c.self.invariant in
     let utf8 = subst IsUtf8 c.as_bytes-utf8.ensures.value c.as_bytes-utf8.ensures.utf8 in
-    omega (arith, width-chars c.in-Some.prefix.rest.now utf8, at.left.2)
+    omega (arith, width-chars c.in-Some.next.rest.now utf8, at.left.2)
 
 pub overflow_add-self : goal.overflow_add-self
 overflow_add-self c =
@@ -19,16 +19,16 @@ overflow_add-self c =
 
 pub invariant_of-self : goal.invariant_of-self
 invariant_of-self c =
-    let v = over c.self.inside.literals.now c.self.inside.classes.now in
+    let v = vocabulary c.self.inside.literals.now c.self.inside.classes.now in
     let at = rw c.in-Some.is at c.self.invariant in
     let utf8 = subst IsUtf8 c.as_bytes-utf8.ensures.value c.as_bytes-utf8.ensures.utf8 in
-    let seen = c.look-at in
-    goes_on v c.self.inside.text.now c.self.invariant.has c.self.inside.taken (front_of c.in-Some.prefix) c.self.inside.at c.in-Some.prefix.rest.now at refl utf8 (option_map (λ f. front_of f) seen.result.0) seen.result.1
-    seen.ensures.prefix (λ none. seen.ensures.end (none_there seen.result.0 none))
+    let seen = c.next_word-at in
+    goes_on v c.self.inside.text.now c.self.invariant.has c.self.inside.taken (leading_word_of c.in-Some.next) c.self.inside.at c.in-Some.next.rest.now at refl utf8 (option_map (λ f. leading_word_of f) seen.result.0) seen.result.1
+    seen.ensures.next (λ none. seen.ensures.end (none_there seen.result.0 none))
 
 pub returns-in_default : goal.returns-in_default
 returns-in_default c =
     let at = rw c.in_default.is at c.self.invariant in
     let past = (none_next _ _ _ _ at).1 in
-    let short : length c.args.self.now.list ≤ c.args.self.now.taken = subst (λ (h : Supplied). length h.list ≤ h.taken) c.self.view_is past in
+    let short : length c.args.self.now.list ≤ c.args.self.now.taken = subst (λ (h : TokenReader). length h.list ≤ h.taken) c.self.view_is past in
     absurd (omega (arith, c.requires))

@@ -6,10 +6,10 @@ use Rattle.ag_tokens.proofs.cursor.Cursor.fault.Goals as goal
 
 pub returns-in-Ok : goal.returns-in-Ok
 returns-in-Ok c =
-    let given = rw c.in-Ok.is at c.self.invariant.cut_front in
+    let given = rw c.in-Ok.is at c.self.invariant.lexed in
     rw (← c.self.view_is) (sym (ap (λ (i : Input). fault_of i.ending i.left) (front_is _ _ (Ok c.in-Ok.field-0) given)))
 
 pub returns-in-Err : goal.returns-in-Err
 returns-in-Err c =
-    let given = rw c.in-Err.is at c.self.invariant.cut_front in
+    let given = rw c.in-Err.is at c.self.invariant.lexed in
     rw (← c.self.view_is) (c.fault_before.ensures _ ∙ sym (ap (λ (i : Input). fault_of i.ending i.left) (front_is _ _ (Err c.in-Err.fault) given)))

@@ -16,13 +16,13 @@ use Rattle.aggen.proofs.translations.evaluating.run_tree.Goals as goal
 pub run_pass-requires-clause-last : goal.run_pass-requires-clause-last
 run_pass-requires-clause-last g c =
     let lists = c.requires.least.plan.shape.lists in
-    (lists.passes, lists.greatest, some_pass c.args.translator.now (passes_of c.args.plan.now.0) lists.passes c.grammar-grammar.ensures.accepted c.requires.least.plan.legal (greatest_is_last lists.passes c.args.plan.now.0 lists.greatest))
+    (lists.pass_count, lists.greatest, some_pass c.args.translator.now (passes_of c.args.plan.now.0) lists.pass_count c.grammar-grammar.ensures.accepted c.requires.least.plan.legal (greatest_is_last lists.pass_count c.args.plan.now.0 lists.greatest))
 
 pub run_all-requires-clause-last : goal.run_all-requires-clause-last
 run_all-requires-clause-last g c =
     let lists = c.requires.least.plan.shape.lists in
-    let some = some_pass c.args.translator.now (passes_of c.args.plan.now.0) lists.passes c.grammar-grammar.ensures.accepted c.requires.least.plan.legal (greatest_is_last lists.passes c.args.plan.now.0 lists.greatest) in
-    (lists.passes, lists.greatest, omega arith)
+    let some = some_pass c.args.translator.now (passes_of c.args.plan.now.0) lists.pass_count c.grammar-grammar.ensures.accepted c.requires.least.plan.legal (greatest_is_last lists.pass_count c.args.plan.now.0 lists.greatest) in
+    (lists.pass_count, lists.greatest, omega arith)
 
 pub returns-in_err-first-clause-refused : goal.returns-in_err-first-clause-refused
 returns-in_err-first-clause-refused g c =

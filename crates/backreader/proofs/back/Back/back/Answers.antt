@@ -87,9 +87,9 @@ returns-in-Err g c =
     let at_is : c.self.inside.window.at ≡ c.args.self.now.progress.at = ap (λ (state : BackState). state.progress.at) c.self.view_is in
     let unbroken : c.args.self.now.progress.fault ≡ None = sym (ap (λ (state : BackState). state.progress.fault) c.self.view_is) ∙ c.in_default.is in
     let then : Progress = record { version = version_of c.self.inside.window.version; pass = c.self.inside.pass; at = c.self.inside.window.at; records = c.self.inside.records; fault = c.self.inside.fault } in
-    let now : ℕ → Progress = λ (k : ℕ). record { version = version_of c.self.inside.window.version; pass = c.self.inside.pass; at = k; records = c.self.inside.records; fault = c.for_good-self-inside.result } in
+    let now : ℕ → Progress = λ (k : ℕ). record { version = version_of c.self.inside.window.version; pass = c.self.inside.pass; at = k; records = c.self.inside.records; fault = c.permanent_fault-self-inside.result } in
     let version : record (now c.next.new.self.at) { version = version_of c.next.new.self.version } ≡ now c.next.new.self.at = ap (λ v. record (now c.next.new.self.at) { version = version_of v }) c.in-Err.ensures.version in
-    let after : now c.next.new.self.at ≡ progress_after then (Err fault) = ap now c.in-Err.ensures.kept ∙ c.for_good-self-inside.ensures then c.in_default.is in (
+    let after : now c.next.new.self.at ≡ progress_after then (Err fault) = ap now c.in-Err.ensures.kept ∙ c.permanent_fault-self-inside.ensures then c.in_default.is in (
       (
         refl,
         (λ _. tt),

@@ -8,8 +8,8 @@ pub invariant_of-result : goal.invariant_of-result
 invariant_of-result c =
     let count : length (rows c.in_ok-uses.uses.items) ≡ c.args.count = length-map c.in_ok-uses.uses.items _ ∙ c.in_ok-uses.ensures.len in record {
       below = rw count c.requires;
-      noted = rw (← c.as_slice.ensures.value) c.in_ok-uses.ensures.noted;
+      listed = rw (← c.as_slice.ensures.value) c.in_ok-uses.ensures.listed;
       fits = rw (← c.as_slice.ensures.value) c.in_ok-uses.ensures.fits;
-      facts_noted = rw (← c.as_slice-2.ensures.value) c.in_ok-facts.ensures.noted;
+      facts_listed = rw (← c.as_slice-2.ensures.value) c.in_ok-facts.ensures.listed;
       facts_fit = rw (← c.as_slice-2.ensures.value) c.in_ok-facts.ensures.fits;
     }

@@ -4,7 +4,7 @@ use Rattle.ag_value.specs.Well.{IsWell}
 use Rattle.ag_value.specs.declared.value.Value.{Value}
 use Rattle.ag_grammar.specs.declared.grammar.Item.TheVariants as item
 use Rattle.ag_grammar.specs.grammars.Tree.{max_nodes}
-use Rattle.ag_scan.specs.Supplied.{Supplied, offset_at}
+use Rattle.ag_scan.specs.TokenReader.{TokenReader, offset_at}
 use Rattle.ag_scan.specs.Tokens.{Token}
 use Rattle.treefile.specs.records.TreeFile.{version_two}
 use Rattle.treefile.specs.framing.Writing.{Progress}
@@ -13,7 +13,7 @@ use Rattle.llparse.specs.sentence.Parsing.{task_of, Between}
 use Rattle.llparse.specs.Ahead.{ahead_of}
 use Rattle.llparse.specs.sentence.Sentences.{words_of}
 use Rattle.llparse.specs.table.Tables.{choice_of}
-use Rattle.llparse.specs.sentence.Turns.{IsAtSymbol, Faces, HasTables, HasTokens, IsBetween, Leads, Refuses, Writes}
+use Rattle.llparse.specs.sentence.Turns.{IsAtSymbol, IsAtItem, FitsTables, FitsTokens, IsBetween, Leads, Refuses, Writes}
 use Rattle.llparse.specs.declared.sentence.parse_fault.ParseFault.{ParseFault}
 use Rattle.llparse.specs.declared.sentence.parse_fault.ParseFault.TheVariants.{Unexpected}
 use Rattle.llparse.specs.declared.sentence.parser.OpenProduction.{OpenProduction}
@@ -30,8 +30,8 @@ returns-in_err-node-clause-refused g c =
     let k = task_of c.args.grammar.now c.args.sentence.now (g.D.Device.is_honest c.args.device.now) (g.D.Device.content c.args.device.now) in
     let p = err_from_is_err_and c.from_residual.result c.from_residual.ensures.1 in
     let made = c.new-parser.ensures.tokens in
-    rw (p.1, p.2) (stuck k.grammar c.args.sentence.now k.honest k.prefix 0 c.in_err-node.field-0.0 (subst (λ (h : Supplied). c.in_err-node.field-0.0 ≡ Unexpected (offset_at h.list h.taken)) made c.in_err-node.ensures.offset)
-    (turn.not_begun k c.args.tables.now c.requires.tables c.start.result c.start.ensures.value c.start.ensures.accepted (subst (λ (h : Supplied). choice_of c.args.tables.now c.start.result (ahead_of (drop h.taken (words_of h.list))) ≡ None) made c.in_err-node.ensures.none)))
+    rw (p.1, p.2) (stuck k.grammar c.args.sentence.now k.honest k.prefix 0 c.in_err-node.field-0.0 (subst (λ (h : TokenReader). c.in_err-node.field-0.0 ≡ Unexpected (offset_at h.list h.taken)) made c.in_err-node.ensures.offset)
+    (turn.not_begun k c.args.tables.now c.requires.tables c.start.result c.start.ensures.value c.start.ensures.accepted (subst (λ (h : TokenReader). choice_of c.args.tables.now c.start.result (ahead_of (drop h.taken (words_of h.list))) ≡ None) made c.in_err-node.ensures.none)))
 
 pub loop-terminal-init : goal.loop-terminal-init
 loop-terminal-init g c =
@@ -41,9 +41,9 @@ loop-terminal-init g c =
     let none_written = ap (λ (w : Progress). w.written) c.requires.begun in
     let counted = made.count in
     record {
-      occurs = λ honest below. turn.begun (task_of c.args.grammar.now c.args.sentence.now honest (g.D.Device.content c.args.device.now)) c.args.tables.now c.requires.tables c.start.result c.start.ensures.value c.in_ok-node.node c.new-parser.result (omega arith) (omega arith) made.waiting made.texts (ap (λ (h : Supplied). h.taken) made.tokens) made.count c.in_ok-node.ensures.begins c.in_ok-node.ensures.base (subst (λ (h : Supplied). choice_of c.args.tables.now c.start.result (ahead_of (drop h.taken (words_of h.list))) ≡ Some c.in_ok-node.node.production) made.tokens c.in_ok-node.ensures.chosen);
+      occurs = λ honest below. turn.begun (task_of c.args.grammar.now c.args.sentence.now honest (g.D.Device.content c.args.device.now)) c.args.tables.now c.requires.tables c.start.result c.start.ensures.value c.in_ok-node.node c.new-parser.result (omega arith) (omega arith) made.waiting made.texts (ap (λ (h : TokenReader). h.taken) made.tokens) made.count c.in_ok-node.ensures.begins c.in_ok-node.ensures.base (subst (λ (h : TokenReader). choice_of c.args.tables.now c.start.result (ahead_of (drop h.taken (words_of h.list))) ≡ Some c.in_ok-node.node.production) made.tokens c.in_ok-node.ensures.chosen);
       written = omega arith;
-      list = ap (λ (h : Supplied). h.list) made.tokens;
+      list = ap (λ (h : TokenReader). h.list) made.tokens;
       fine = ap (λ (w : Progress). w.is_broken) c.requires.begun;
       frames = λ h. none_added ParseFault k.prefix (Ok tt);
       persists = record { honest = λ h. h; kept = omega arith; bounded = λ h. h; cause = λ h. absurd h };
@@ -63,7 +63,7 @@ loop-terminal-preserved-in-Continue-branch-2 g c =
     let k = task_of c.args.grammar.now c.args.sentence.now (g.D.Device.is_honest c.args.device.now) (g.D.Device.content c.args.device.now) in
     let inv = c.loop-terminal.invariant in
     let done = c.in_ok-take-in-Some-Terminal.ensures in
-    let takes = subst (λ ts. (node : OpenProduction) (honest : Bool) → (honest ≡ true → g.D.Device.is_honest c.take.new.device ≡ true) → Writes (HasTokens ts) ts honest (g.D.Device.content c.loop-terminal.device) (g.D.Device.content c.take.new.device) (λ k. Faces k (item.Terminal c.in-Some-Terminal.terminal) node c.loop-terminal.parser) (λ k. IsBetween k node c.take.new.self)) inv.list done.takes in
+    let takes = subst (λ ts. (node : OpenProduction) (honest : Bool) → (honest ≡ true → g.D.Device.is_honest c.take.new.device ≡ true) → Writes (FitsTokens ts) ts honest (g.D.Device.content c.loop-terminal.device) (g.D.Device.content c.take.new.device) (λ k. IsAtItem k (item.Terminal c.in-Some-Terminal.terminal) node c.loop-terminal.parser) (λ k. IsBetween k node c.take.new.self)) inv.list done.takes in
     record {
       occurs = λ honest below. let k = task_of c.args.grammar.now c.args.sentence.now honest (g.D.Device.content c.args.device.now) in takes c.next_item.new.node honest below k.grammar k.prefix (c.start.ensures.accepted, c.requires.tokens) (turn.faced k c.loop-terminal.node c.next_item.new.node c.in-Some-Terminal.field-0 c.in-Some-Terminal.ensures (item.Terminal c.in-Some-Terminal.terminal) c.in-Some-Terminal.field-0-is c.loop-terminal.parser (g.D.Device.content c.loop-terminal.device) (inv.occurs honest (λ h. done.device.persists.honest (below h))));
       written = done.written;
@@ -78,7 +78,7 @@ returns-in_err-take-in-Some-Terminal-clause-refused g c =
     let k = task_of c.args.grammar.now c.args.sentence.now (g.D.Device.is_honest c.take.new.device) (g.D.Device.content c.args.device.now) in
     let p = err_from_is_err_and c.from_residual-in_err-take-in-Some-Terminal.result c.from_residual-in_err-take-in-Some-Terminal.ensures.1 in
     let inv = c.loop-terminal.invariant in
-    rw (p.1, p.2) ((subst (λ ts. Refuses (HasTokens ts) ts (λ k. Faces k (item.Terminal c.in-Some-Terminal.terminal) c.next_item.new.node c.loop-terminal.parser) c.in_err-take-in-Some-Terminal.field-0.0) inv.list (c.in_err-take-in-Some-Terminal.ensures.refuses c.next_item.new.node)) k.grammar k.honest k.prefix (g.D.Device.content c.loop-terminal.device) (c.start.ensures.accepted, c.requires.tokens)
+    rw (p.1, p.2) ((subst (λ ts. Refuses (FitsTokens ts) ts (λ k. IsAtItem k (item.Terminal c.in-Some-Terminal.terminal) c.next_item.new.node c.loop-terminal.parser) c.in_err-take-in-Some-Terminal.field-0.0) inv.list (c.in_err-take-in-Some-Terminal.ensures.refuses c.next_item.new.node)) k.grammar k.honest k.prefix (g.D.Device.content c.loop-terminal.device) (c.start.ensures.accepted, c.requires.tokens)
     (turn.faced k c.loop-terminal.node c.next_item.new.node c.in-Some-Terminal.field-0 c.in-Some-Terminal.ensures (item.Terminal c.in-Some-Terminal.terminal) c.in-Some-Terminal.field-0-is c.loop-terminal.parser (g.D.Device.content c.loop-terminal.device) (inv.occurs k.honest (λ h. c.in_err-take-in-Some-Terminal.ensures.device.persists.honest h))))
 
 -- after a symbol
@@ -87,7 +87,7 @@ returns-in_err-node-in-Some-Symbol-clause-refused g c =
     let k = task_of c.args.grammar.now c.args.sentence.now (g.D.Device.is_honest c.loop-terminal.device) (g.D.Device.content c.args.device.now) in
     let p = err_from_is_err_and c.from_residual-in_err-node-in-Some-Symbol.result c.from_residual-in_err-node-in-Some-Symbol.ensures.1 in
     let inv = c.loop-terminal.invariant in
-    rw (p.1, p.2) ((subst (λ ts. Refuses (HasTables c.args.tables.now) ts (λ k. IsAtSymbol k c.in-Some-Symbol.symbol c.next_item.new.node c.loop-terminal.parser) c.in_err-node-in-Some-Symbol.field-0.0) inv.list c.in_err-node-in-Some-Symbol.ensures.refuses) k.grammar k.honest k.prefix (g.D.Device.content c.loop-terminal.device) (c.start.ensures.accepted, c.requires.tables) (at_symbol k c.in-Some-Symbol.symbol _ _ _ _
+    rw (p.1, p.2) ((subst (λ ts. Refuses (FitsTables c.args.tables.now) ts (λ k. IsAtSymbol k c.in-Some-Symbol.symbol c.next_item.new.node c.loop-terminal.parser) c.in_err-node-in-Some-Symbol.field-0.0) inv.list c.in_err-node-in-Some-Symbol.ensures.refuses) k.grammar k.honest k.prefix (g.D.Device.content c.loop-terminal.device) (c.start.ensures.accepted, c.requires.tables) (at_symbol k c.in-Some-Symbol.symbol _ _ _ _
     (turn.faced k c.loop-terminal.node c.next_item.new.node c.in-Some-Symbol.field-0 c.in-Some-Symbol.ensures (item.Symbol c.in-Some-Symbol.symbol) c.in-Some-Symbol.field-0-is c.loop-terminal.parser (g.D.Device.content c.loop-terminal.device) (inv.occurs k.honest (λ h. h)))))
 
 pub loop-terminal-preserved-in-Some-Symbol : goal.loop-terminal-preserved-in-Some-Symbol
@@ -97,9 +97,9 @@ loop-terminal-preserved-in-Some-Symbol g c =
     let written = inv.written in
     let counted = c.in_ok-node-in-Some-Symbol.ensures.counted in
     record {
-      occurs = λ honest below. let k = task_of c.args.grammar.now c.args.sentence.now honest (g.D.Device.content c.args.device.now) in (subst (λ ts. Leads (HasTables c.args.tables.now) ts (λ k. IsAtSymbol k c.in-Some-Symbol.symbol c.next_item.new.node c.loop-terminal.parser) (λ k. IsBetween k c.in_ok-node-in-Some-Symbol.node c.open.new.self)) inv.list c.in_ok-node-in-Some-Symbol.ensures.opens) k.grammar k.honest k.prefix (g.D.Device.content c.loop-terminal.device) (c.start.ensures.accepted, c.requires.tables) (at_symbol k c.in-Some-Symbol.symbol _ _ _ _ (turn.faced k c.loop-terminal.node c.next_item.new.node c.in-Some-Symbol.field-0 c.in-Some-Symbol.ensures (item.Symbol c.in-Some-Symbol.symbol) c.in-Some-Symbol.field-0-is c.loop-terminal.parser (g.D.Device.content c.loop-terminal.device) (inv.occurs honest below)));
+      occurs = λ honest below. let k = task_of c.args.grammar.now c.args.sentence.now honest (g.D.Device.content c.args.device.now) in (subst (λ ts. Leads (FitsTables c.args.tables.now) ts (λ k. IsAtSymbol k c.in-Some-Symbol.symbol c.next_item.new.node c.loop-terminal.parser) (λ k. IsBetween k c.in_ok-node-in-Some-Symbol.node c.open.new.self)) inv.list c.in_ok-node-in-Some-Symbol.ensures.opens) k.grammar k.honest k.prefix (g.D.Device.content c.loop-terminal.device) (c.start.ensures.accepted, c.requires.tables) (at_symbol k c.in-Some-Symbol.symbol _ _ _ _ (turn.faced k c.loop-terminal.node c.next_item.new.node c.in-Some-Symbol.field-0 c.in-Some-Symbol.ensures (item.Symbol c.in-Some-Symbol.symbol) c.in-Some-Symbol.field-0-is c.loop-terminal.parser (g.D.Device.content c.loop-terminal.device) (inv.occurs honest below)));
       written = omega arith;
-      list = ap (λ (h : Supplied). h.list) c.in_ok-node-in-Some-Symbol.ensures.tokens ∙ inv.list;
+      list = ap (λ (h : TokenReader). h.list) c.in_ok-node-in-Some-Symbol.ensures.tokens ∙ inv.list;
       fine = inv.fine;
       frames = inv.frames;
       persists = inv.persists;

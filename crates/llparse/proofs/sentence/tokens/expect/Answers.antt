@@ -1,6 +1,6 @@
 use Rattle.std.proofs.Common.{◌+◌, ◌∷◌, drop, sym, ap, subst, ◌∙◌}
 use Rattle.std.proofs.lemmas.Bool.{false≢true}
-use Rattle.ag_scan.specs.Supplied.{token_of}
+use Rattle.ag_scan.specs.TokenReader.{token_of}
 use Rattle.ag_scan.specs.Tokens.{IsTokenOf}
 use Rattle.llparse.specs.sentence.Sentences.{words_of}
 use Rattle.llparse.proofs.answers.Nexts.{next_is, none_is, other_next, is_left}

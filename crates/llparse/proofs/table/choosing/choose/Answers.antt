@@ -1,6 +1,6 @@
 use Rattle.std.proofs.Common.{◌≡◌, ◌<◌, ◌+◌, ◌-◌, arith, length, get_or, slice_get, Some, subst, refl, ◌∙◌}
 use Rattle.std.proofs.lemmas.Option.{slice_get-get_or}
-use Rattle.llparse.specs.table.Predicted.{AreFirstFrom, IsLeastFrom}
+use Rattle.llparse.specs.table.Predicted.{AreEarliestFrom, IsLeastFrom}
 use Rattle.llparse.proofs.table.choosing.choose.Goals as goal
 
 pub loop-at-preserved : goal.loop-at-preserved
@@ -10,18 +10,18 @@ loop-at-preserved c =
     let inside : c.loop-at.at - 1 < length c.args.productions.now = omega (arith, c.loop-at-test.true, c.loop-at.auto.at) in
     let q = get_or c.args.productions.now (c.loop-at.at - 1) r in
     let is : slice_get c.args.productions.now (c.loop-at.at - 1) ≡ Some q = slice_get-get_or c.args.productions.now (c.loop-at.at - 1) r inside in
-    let old = subst (λ z. AreFirstFrom c.args.productions.now c.args.marks.now z c.loop-at.column.choices.items) step c.loop-at.invariant.first in
+    let old = subst (λ z. AreEarliestFrom c.args.productions.now c.args.marks.now z c.loop-at.column.choices.items) step c.loop-at.invariant.earliest in
     let least = subst (λ z. IsLeastFrom c.args.productions.now c.args.marks.now z c.loop-at.column.conflict) step c.loop-at.invariant.least in
     record {
       len = c.choose_if.ensures.len ∙ c.loop-at.invariant.len;
-      first = c.choose_if.ensures.first c.args.productions.now c.args.marks.now q is refl refl old;
+      earliest = c.choose_if.ensures.earliest c.args.productions.now c.args.marks.now q is refl refl old;
       least = c.choose_if.ensures.least c.args.productions.now c.args.marks.now q is refl refl old least;
     }
 
-pub returns-clause-first : goal.returns-clause-first
-returns-clause-first c =
+pub returns-clause-earliest : goal.returns-clause-earliest
+returns-clause-earliest c =
     let none : c.loop-at.at ≡ 0 = omega (arith, c.loop-at-test.false) in
-    subst (λ z. AreFirstFrom c.args.productions.now c.args.marks.now z c.loop-at.column.choices.items) none c.loop-at.invariant.first
+    subst (λ z. AreEarliestFrom c.args.productions.now c.args.marks.now z c.loop-at.column.choices.items) none c.loop-at.invariant.earliest
 
 pub returns-clause-least : goal.returns-clause-least
 returns-clause-least c =

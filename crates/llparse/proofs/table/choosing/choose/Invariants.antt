@@ -1,10 +1,10 @@
 use Rattle.std.proofs.Common.{◌≡◌, length}
-use Rattle.llparse.specs.table.Predicted.{AreFirstFrom, IsLeastFrom}
+use Rattle.llparse.specs.table.Predicted.{AreEarliestFrom, IsLeastFrom}
 use Rattle.llparse.proofs.table.choosing.choose.Given as goal
 
 abbrev pub invariant-loop-at : goal.invariant-loop-at
 invariant-loop-at l = record {
   len : length l.column.choices.items ≡ l.symbols;
-  first : AreFirstFrom l.productions l.marks l.at l.column.choices.items;
+  earliest : AreEarliestFrom l.productions l.marks l.at l.column.choices.items;
   least : IsLeastFrom l.productions l.marks l.at l.column.conflict;
 }

@@ -1,15 +1,15 @@
 -- The invariant of the loop of `add_follow_edges`.
 use Rattle.std.proofs.Common.{◌≡◌, drop, Contains}
 use Rattle.ag_grammar.specs.declared.grammar.Item.{Item}
-use Rattle.llparse.specs.table.CanStart.{all_empty, OfRest}
+use Rattle.llparse.specs.table.CanStart.{all_nullable, OfRest}
 use Rattle.llparse.specs.table.Edges.{Adds, IsEdge}
 use Rattle.llparse.specs.table.Nodes.{node_of}
-use Rattle.llparse.specs.table.Nullable.{is_empty}
+use Rattle.llparse.specs.table.Nullable.{is_nullable_item}
 use Rattle.closure.specs.Following.{is_marked}
 use Rattle.llparse.proofs.table.follow.add_follow_edges.Given as goal
 
 abbrev pub invariant-loop-at : goal.invariant-loop-at
 invariant-loop-at l = record {
-  empty : l.empty ≡ all_empty (is_empty (is_marked l.nullable)) (drop l.at l.items);
-  edges : Adds (OfRest (all_empty (is_empty (is_marked l.nullable))) (λ (x : Item) e. IsEdge l.left (node_of l.sizes.symbols l.sizes.literals x) e) (drop l.at l.items)) (Contains l.initial.edges.items) (Contains l.edges.items);
+  rest_nullable : l.rest_nullable ≡ all_nullable (is_nullable_item (is_marked l.nullable)) (drop l.at l.items);
+  edges : Adds (OfRest (all_nullable (is_nullable_item (is_marked l.nullable))) (λ (x : Item) e. IsEdge l.left (node_of l.sizes.symbols l.sizes.literals x) e) (drop l.at l.items)) (Contains l.initial.edges.items) (Contains l.edges.items);
 }

@@ -20,7 +20,7 @@ loop-at-preserved c =
     let left = ap (λ (q : Production). q.left) is in
     let items = c.as_slice-items.ensures ∙ ap (λ (q : Production). q.items) is in
     record {
-      first = edges_more g accepted n c.loop-at.at r _ _ _ c.as_slice-items.result.now c.nullable_prefix_len-prefix.result _ _ _ inside c.of-sizes.ensures.symbols c.of-sizes.ensures.literals left items c.nullable_prefix_len-prefix.ensures.prefix c.loop-at.invariant.first c.in_ok-add_prefix_edges.ensures;
+      first = edges_more g accepted n c.loop-at.at r _ _ _ c.as_slice-items.result.now c.starting_items_len-count.result _ _ _ inside c.of-sizes.ensures.symbols c.of-sizes.ensures.literals left items c.starting_items_len-count.ensures.items c.loop-at.invariant.first c.in_ok-add_first_edges.ensures;
       follow = last_more g accepted n c.loop-at.at r _ _ _ c.as_slice-items.result.now _ _ _ inside c.of-sizes.ensures.symbols c.of-sizes.ensures.literals left items c.loop-at.invariant.follow c.in_ok-add_follow_edges.ensures;
     }
 

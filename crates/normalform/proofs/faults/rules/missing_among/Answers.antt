@@ -1,13 +1,13 @@
 -- The remaining goals of `missing_among`.
 use Rattle.std.proofs.Common.{◌+◌, refl, map}
-use Rattle.normalform.specs.faults.Faults.{missing_at, after}
+use Rattle.normalform.specs.faults.Faults.{missing_at, next_index}
 use Rattle.normalform.specs.declared.faults.placed.PlacedItem.TheVariants as placed
 use Rattle.normalform.specs.faults.PlacedItem.{item_placed}
 use Rattle.normalform.proofs.found.Wrong.{along_here, along_past, mapped, within}
 use Rattle.normalform.proofs.faults.rules.missing_among.Goals as goal
 
 pub returns-in-Some : goal.returns-in-Some
-returns-in-Some c = along_here (missing_at c.args.declared.now c.args.targets.now c.args.production) after c.loop-place.place (map item_placed c.args.items.now) _ _ _ _ (within item_placed c.args.items.now c.loop-place.place c.loop-place-test.true) (mapped item_placed c.args.items.now c.loop-place.place (placed.Symbol 0) c.loop-place-test.true) c.in-Some.ensures c.loop-place.invariant
+returns-in-Some c = along_here (missing_at c.args.declared.now c.args.targets.now c.args.production) next_index c.loop-place.place (map item_placed c.args.items.now) _ _ _ _ (within item_placed c.args.items.now c.loop-place.place c.loop-place-test.true) (mapped item_placed c.args.items.now c.loop-place.place (placed.Symbol 0) c.loop-place-test.true) c.in-Some.ensures c.loop-place.invariant
 
 pub loop-place-preserved : goal.loop-place-preserved
-loop-place-preserved c = along_past (missing_at c.args.declared.now c.args.targets.now c.args.production) after c.loop-place.place (c.loop-place.place + 1) (map item_placed c.args.items.now) _ _ _ (within item_placed c.args.items.now c.loop-place.place c.loop-place-test.true) (mapped item_placed c.args.items.now c.loop-place.place (placed.Symbol 0) c.loop-place-test.true) c.in_default.ensures refl c.loop-place.invariant
+loop-place-preserved c = along_past (missing_at c.args.declared.now c.args.targets.now c.args.production) next_index c.loop-place.place (c.loop-place.place + 1) (map item_placed c.args.items.now) _ _ _ (within item_placed c.args.items.now c.loop-place.place c.loop-place-test.true) (mapped item_placed c.args.items.now c.loop-place.place (placed.Symbol 0) c.loop-place-test.true) c.in_default.ensures refl c.loop-place.invariant

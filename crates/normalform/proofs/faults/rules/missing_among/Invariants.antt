@@ -1,8 +1,8 @@
 -- The invariant of the loop of `missing_among`.
 use Rattle.std.proofs.Common.{◌≡◌, drop, map}
 use Rattle.normalform.specs.faults.PlacedItem.{item_placed}
-use Rattle.normalform.specs.faults.Faults.{first_wrong, checks_along, after, missing_at}
+use Rattle.normalform.specs.faults.Faults.{first_wrong, checks_along, next_index, missing_at}
 use Rattle.normalform.proofs.faults.rules.missing_among.Given as goal
 
 abbrev pub invariant-loop-place : goal.invariant-loop-place
-invariant-loop-place l = first_wrong (checks_along (missing_at l.declared l.targets l.production) after l.place (drop l.place (map item_placed l.items))) ≡ first_wrong (checks_along (missing_at l.declared l.targets l.production) after 0 (map item_placed l.items))
+invariant-loop-place l = first_wrong (checks_along (missing_at l.declared l.targets l.production) next_index l.place (drop l.place (map item_placed l.items))) ≡ first_wrong (checks_along (missing_at l.declared l.targets l.production) next_index 0 (map item_placed l.items))

@@ -1,6 +1,6 @@
 use Rattle.std.proofs.Common.{sym, ◌∙◌, drop}
 use Rattle.passrun.specs.layouts.Contexts.{setting}
-use Rattle.passrun.proofs.steps.Turning.{nothing_read}
+use Rattle.passrun.proofs.steps.MachineSteps.{nothing_read}
 use Rattle.passrun.proofs.passing.copying.matches_copy.Goals as goal
 
 pub returns-then-row-eq0 : goal.returns-then-row-eq0

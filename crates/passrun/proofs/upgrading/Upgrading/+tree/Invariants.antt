@@ -1,7 +1,7 @@
 use Rattle.std.proofs.Common.{◌≡◌, true, ◌+◌, ◌-◌, ◌≤◌, suc, All, drop, take, length}
 use Rattle.ag_value.specs.Well.{IsWell}
 use Rattle.passrun.specs.passing.Putting.{AddsFrames}
-use Rattle.passrun.specs.Upgrading.{Converted, IsReady}
+use Rattle.passrun.specs.Upgrading.{Converted, IsUpgrading}
 use Rattle.treefile.specs.devices.Device.{LeavesContent, Persists, WhenHonest}
 use Rattle.passrun.proofs.upgrading.Upgrading.+tree.Given as goal
 
@@ -17,7 +17,7 @@ invariant-loop-at g l =
       from_persists : Persists (g.D.Device.is_honest l.fn.from) (g.D.Device.is_honest l.from) (g.D.Device.failures l.fn.from) (g.D.Device.failures l.from) ⊥;
       to_persists : Persists (g.E.Device.is_honest l.fn.to) (g.E.Device.is_honest l.to) (g.E.Device.failures l.fn.to) (g.E.Device.failures l.to) ⊥;
       since : WhenHonest (g.D.Device.is_honest l.from) (g.D.Device.is_honest l.initial.from ≡ true);
-      ready : IsReady (g.D.Device.is_honest l.from) (g.D.Device.content l.fn.from) l.self.back l.self.writer;
+      ready : IsUpgrading (g.D.Device.is_honest l.from) (g.D.Device.content l.fn.from) l.self.back l.self.writer;
       added : AddsFrames (g.E.Device.is_honest l.to) (g.E.Device.content l.fn.to) (g.E.Device.content l.to);
       balanced : l.self.writer.written + l.fn.self.back.progress.records + 1 ≡ l.fn.self.writer.written + l.self.back.progress.records;
       well : All IsWell l.texts.items;

@@ -6,7 +6,7 @@ returns-then-self c = (
   (λ t. (
     sym c.requires.phase ∙ c.in-Between.is,
     sym c.requires.turn ∙ c.if-self.true ∙ c.requires.children,
-    c.are_all_given.ensures.0 t,
+    c.are_all_done.ensures.0 t,
   )),
-  λ h. c.are_all_given.ensures.1 h.2,
+  λ h. c.are_all_done.ensures.1 h.2,
 )

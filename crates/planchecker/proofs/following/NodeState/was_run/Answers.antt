@@ -9,7 +9,7 @@ use Rattle.planchecker.proofs.following.NodeState.was_run.Goals as goal
 pub returns-then-runs_rule : goal.returns-then-runs_rule
 returns-then-runs_rule c =
     let n = c.args.self.now in
-    says_yes (prefix_is_run n.course.production.now c.args.number n.list.now start n.index c.loop-index.index _
+    says_yes (prefix_is_run n.context.production.now c.args.number n.list.now start n.index c.loop-index.index _
     c.loop-index-test.true
     (slice_get-get_or n.list.now c.loop-index.index _
     (let w = c.requires.within in let less = c.loop-index-test.true in omega arith)) (is_yes c.if-runs_rule.ensures))
@@ -25,7 +25,7 @@ loop-index-preserved c =
 pub returns : goal.returns
 returns c =
     let n = c.args.self.now in
-    says_no (λ has. elim (leading_run n.course.production.now c.args.number n.list.now start n.index has) [
+    says_no (λ has. elim (leading_run n.context.production.now c.args.number n.list.now start n.index has) [
       | inl none ↦ (let e = none.1 in let bad : ⊥ = cc in bad)
       | inr h ↦ (let past = c.loop-index-test.false in let less = h.2 in c.loop-index.invariant h.0 h.1 (omega arith) h.3 h.4)
     ])

@@ -6,10 +6,10 @@ use Rattle.ag_grammar.specs.declared.grammar.Terminal.{Terminal}
 use Rattle.ag_grammar.specs.declared.grammar.Terminal.TheVariants.{Literal}
 use Rattle.ag_grammar.specs.grammars.Tree.{max_depth}
 use Rattle.ag_scan.specs.Words.{vocabulary_of}
-use Rattle.ag_scan.specs.Supplied.{Supplied, supplied}
+use Rattle.ag_scan.specs.TokenReader.{TokenReader, reader_at}
 use Rattle.ag_scan.specs.Tokens.{IsTokenOf}
-use Rattle.llparse.specs.sentence.Parsing.{task_of, Before, Between, Made}
-use Rattle.llparse.specs.sentence.Turns.{made_by}
+use Rattle.llparse.specs.sentence.Parsing.{task_of, AtItem, Between, Output}
+use Rattle.llparse.specs.sentence.Turns.{output_of}
 use Rattle.llparse.specs.sentence.Sentences.{words_of}
 use Rattle.treefile.proofs.framing.Beginning.{none_added}
 use Rattle.llparse.specs.declared.sentence.parse_fault.ParseFault.{ParseFault}
@@ -23,7 +23,7 @@ pub returns-in_err-lex-clause-refuses : goal.returns-in_err-lex-clause-refuses
 returns-in_err-lex-clause-refuses g c = λ node.
     let p = err_from_is_err_and c.from_residual.result c.from_residual.ensures.1 in
     rw (p.1, p.2) (λ gr honest prefix bytes has b. stuck gr c.args.self.now.tokens.list honest prefix c.args.self.now.tokens.taken c.in_err-lex.field-0.0 c.in_err-lex.ensures.offset
-    (no_terminal (task_of gr c.args.self.now.tokens.list honest prefix) has.0 c.args.terminal (node ∷ reverse c.args.self.now.waiting.items) c.args.self.now.tokens.taken c.args.self.now.count (made_by c.args.self.now bytes) c.in_err-lex.ensures.other b))
+    (no_terminal (task_of gr c.args.self.now.tokens.list honest prefix) has.0 c.args.terminal (node ∷ reverse c.args.self.now.waiting.items) c.args.self.now.tokens.taken c.args.self.now.count (output_of c.args.self.now bytes) c.in_err-lex.ensures.other b))
 
 pub returns-in_err-lex-clause-adds : goal.returns-in_err-lex-clause-adds
 returns-in_err-lex-clause-adds g c h = none_added ParseFault (g.D.Device.content c.args.device.now) c.from_residual.result
@@ -47,7 +47,7 @@ returns-clause-takes g c = λ node honest below gr prefix has b.
     let fs = node ∷ reverse c.args.self.now.waiting.items in
     let taken = c.args.self.now.tokens.taken in
     let count = c.args.self.now.count in
-    let now = made_by c.args.self.now (g.D.Device.content c.args.device.now) in
+    let now = output_of c.args.self.now (g.D.Device.content c.args.device.now) in
     let lex = c.in_ok-lex.lex.now in
     let rest = drop (taken + 1) (words_of c.args.self.now.tokens.list) in
     let fits = c.in_ok-lex.ensures.fits (vocabulary_of gr) has.1 in
@@ -56,20 +56,20 @@ returns-clause-takes g c = λ node honest below gr prefix has b.
           let is = w.in-Class.is in
           let room = w.in_ok-has_room.ensures.room in
           let levels : length fs < max_depth = omega (arith, length-reverse c.args.self.now.waiting.items, room.0) in
-          let made : Made = record { bytes = g.D.Device.content w.put_leaf.new.device; texts = w.put_leaf.new.texts.items } in
-          let passed = c.advance.ensures ∙ ap (λ (p : Parser). supplied p.tokens.list (p.tokens.taken + 1)) w.self-is in
+          let made : Output = record { bytes = g.D.Device.content w.put_leaf.new.device; texts = w.put_leaf.new.texts.items } in
+          let passed = c.advance.ensures ∙ ap (λ (p : Parser). reader_at p.tokens.list (p.tokens.taken + 1)) w.self-is in
           let word = subst (λ (t : Terminal). drop taken (words_of c.args.self.now.tokens.list) ≡ (t, lex) ∷ rest) is c.in_ok-lex.ensures.taken in
           rw (w.self-is, w.device-is)
-          (subst (λ (h : Supplied). Between task fs h.taken (count + 1) made) (sym passed)
+          (subst (λ (h : TokenReader). Between task fs h.taken (count + 1) made) (sym passed)
           (class task w.in-Class.class lex fs taken count now made rest word (subst (λ (t : Terminal). IsTokenOf (vocabulary_of gr) t lex) is fits).1
-          (λ h. w.in_ok-put_leaf.ensures.frame ((rw w.device-is at below) h)) w.in_ok-put_leaf.ensures.kept room.1 levels (subst (λ (t : Terminal). Before task (item.Terminal t) fs taken count now) is b)))
+          (λ h. w.in_ok-put_leaf.ensures.frame ((rw w.device-is at below) h)) w.in_ok-put_leaf.ensures.kept room.1 levels (subst (λ (t : Terminal). AtItem task (item.Terminal t) fs taken count now) is b)))
       | in_default w ↦
           let is = w.in_default.is in
-          let passed = c.advance.ensures ∙ ap (λ (p : Parser). supplied p.tokens.list (p.tokens.taken + 1)) w.self-is in
+          let passed = c.advance.ensures ∙ ap (λ (p : Parser). reader_at p.tokens.list (p.tokens.taken + 1)) w.self-is in
           let text = text_is gr w.in_default.field-0 lex (subst (λ (t : Terminal). IsTokenOf (vocabulary_of gr) t lex) is fits) in
           let word = subst (λ (t : Terminal). drop taken (words_of c.args.self.now.tokens.list) ≡ (t, lex) ∷ rest) is c.in_ok-lex.ensures.taken in
           rw (w.self-is, w.device-is)
-          (subst (λ (h : Supplied). Between task fs h.taken count now) (sym passed)
+          (subst (λ (h : TokenReader). Between task fs h.taken count now) (sym passed)
           (literal task w.in_default.field-0 fs taken count now rest (word ∙ ap (λ x. (Literal w.in_default.field-0, x) ∷ rest) text)
-          (subst (λ (t : Terminal). Before task (item.Terminal t) fs taken count now) is b)))
+          (subst (λ (t : Terminal). AtItem task (item.Terminal t) fs taken count now) is b)))
     ]

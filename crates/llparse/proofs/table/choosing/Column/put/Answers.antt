@@ -1,11 +1,11 @@
 use Rattle.std.proofs.Common.{◌≡◌, ◌<◌, Some, None, ap, sym, ◌∙◌, subst, length, set}
-use Rattle.llparse.specs.table.Predicted.{choice_at, AreFirstFrom}
+use Rattle.llparse.specs.table.Predicted.{choice_at, AreEarliestFrom}
 use Rattle.std.proofs.lemmas.List.{get_or_default}
 use Rattle.llparse.proofs.look_ahead.Choices.{clashes, put_chosen}
 use Rattle.llparse.proofs.table.choosing.Column.put.Goals as goal
 
-pub returns-clause-first : goal.returns-clause-first
-returns-clause-first c = λ qs marks q is same marked old. subst (λ z. AreFirstFrom qs marks c.args.production (set c.args.self.now.choices.items z (Some c.args.production))) same (put_chosen qs marks c.args.production q is marked c.args.self.now.choices.items (subst (λ z. z < length c.args.self.now.choices.items) (sym same) c.requires.symbol) old)
+pub returns-clause-earliest : goal.returns-clause-earliest
+returns-clause-earliest c = λ qs marks q is same marked old. subst (λ z. AreEarliestFrom qs marks c.args.production (set c.args.self.now.choices.items z (Some c.args.production))) same (put_chosen qs marks c.args.production q is marked c.args.self.now.choices.items (subst (λ z. z < length c.args.self.now.choices.items) (sym same) c.requires.symbol) old)
 
 pub returns-clause-least : goal.returns-clause-least
 returns-clause-least c = λ qs marks q is same marked old least.

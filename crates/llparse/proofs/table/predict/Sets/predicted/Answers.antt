@@ -5,23 +5,23 @@ use Rattle.closure.specs.Following.{is_marked}
 use Rattle.llparse.proofs.look_ahead.Predictions.{predicted_more, predicts_at}
 use Rattle.llparse.proofs.table.predict.Sets.predicted.Goals as goal
 
-pub first-requires-clause-edges : goal.first-requires-clause-edges
-first-requires-clause-edges c = rw c.as_slice-nullable.ensures.value c.requires.sets.first_exact
+pub first_marks-requires-clause-edges : goal.first_marks-requires-clause-edges
+first_marks-requires-clause-edges c = rw c.as_slice-nullable.ensures.value c.requires.sets.first_exact
 
-pub follow-requires-clause-edges : goal.follow-requires-clause-edges
-follow-requires-clause-edges c = rw c.as_slice-nullable.ensures.value c.requires.sets.follow_exact
+pub follow_marks-requires-clause-edges : goal.follow_marks-requires-clause-edges
+follow_marks-requires-clause-edges c = rw c.as_slice-nullable.ensures.value c.requires.sets.follow_exact
 
 pub loop-at-preserved : goal.loop-at-preserved
 loop-at-preserved c =
     let g = c.args.grammar.now in
     let r = c.index-productions-at.result in
     let is : r ≡ get_or g.productions c.loop-at.at r = c.index-productions-at.is ∙ ap (λ (qs : List Production). get_or qs c.loop-at.at r) c.productions-productions.ensures.lent in
-    let this = predicts_at g c.of-sizes.ensures.accepted (is_marked c.args.self.now.nullable.items) c.requires.sets.nullable_exact c.args.ahead c.in_ok-begins.begins.items c.in_ok-follows.follows.items c.in_ok-begins.ensures c.in_ok-follows.ensures
-    c.loop-at.at r _ _ c.as_slice-items.result.now c.has-following.result c.is_next.result is c.of-sizes.ensures.symbols c.of-sizes.ensures.literals c.as_slice-items.ensures (rw c.as_slice-follows.ensures.value at c.has-following.ensures)
-    (rw (c.as_slice-begins.ensures.value, c.as_slice-nullable.ensures.value) at c.is_next.ensures) in
+    let this = predicts_at g c.of-sizes.ensures.accepted (is_marked c.args.self.now.nullable.items) c.requires.sets.nullable_exact c.args.ahead c.in_ok-in_first.in_first.items c.in_ok-in_follow.in_follow.items c.in_ok-in_first.ensures c.in_ok-in_follow.ensures
+    c.loop-at.at r _ _ c.as_slice-items.result.now c.is_marked-following.result c.items_can_start.result is c.of-sizes.ensures.symbols c.of-sizes.ensures.literals c.as_slice-items.ensures (rw c.as_slice-in_follow.ensures.value at c.is_marked-following.ensures)
+    (rw (c.as_slice-in_first.ensures.value, c.as_slice-nullable.ensures.value) at c.items_can_start.ensures) in
     record {
       count = omega (arith, c.in_ok-push.ensures.len, c.loop-at.invariant.count);
-      exact = rw (c.in_ok-push.ensures.items, ← c.loop-at.invariant.count) (predicted_more g c.args.ahead c.loop-at.marks.items c.is_next.result (rw c.loop-at.invariant.count this) (rw c.loop-at.invariant.count c.loop-at.invariant.exact));
+      exact = rw (c.in_ok-push.ensures.items, ← c.loop-at.invariant.count) (predicted_more g c.args.ahead c.loop-at.marks.items c.items_can_start.result (rw c.loop-at.invariant.count this) (rw c.loop-at.invariant.count c.loop-at.invariant.exact));
     }
 
 pub returns-clause-marks : goal.returns-clause-marks

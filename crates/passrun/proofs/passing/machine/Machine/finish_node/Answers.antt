@@ -3,8 +3,8 @@ use Rattle.std.proofs.lemmas.List.Elements.{All-drop, All-same}
 use Rattle.std.proofs.lemmas.Option.{slice_get_within}
 use Rattle.ag_value.specs.Well.{IsWell}
 use Rattle.passrun.specs.layouts.Contexts.{setting}
-use Rattle.passrun.proofs.steps.Supposed.{turns_to}
-use Rattle.passrun.proofs.steps.Turning.{ended_turns, no_waited, none_popped, own_of, popped_none, put_room, root_turns, some_is, waited_for, waited_place, whole_of}
+use Rattle.passrun.proofs.steps.Supposed.{leads_to}
+use Rattle.passrun.proofs.steps.MachineSteps.{ended_leads, no_waited, none_popped, own_of, popped_none, put_room, root_leads, some_is, waited_for, waited_place, whole_of}
 use Rattle.passrun.proofs.places.Widths.{few_values}
 use Rattle.passrun.proofs.course.Working.{ended_less}
 use Rattle.passrun.proofs.passing.machine.Machine.finish_node.Goals as goal
@@ -14,7 +14,7 @@ returns-in_default-clause-runs g c =
     let m = c.args.self.now in
     let n : vec_len m.waiting ≡ 0 = none_popped _ _ _ c.pop.result c.pop.ensures.cases c.in_default.is in
     let none = popped_none m.waiting.items c.pop.new.self.items c.in_default.ensures.items (omega (arith, m.waiting.ok.0)) in
-    root_turns (setting c.args.context.now) c.requires.context.sound m c.pop.new.self (g.E.Device.is_honest c.args.to.now) (g.E.Device.content c.args.to.now) c.args.node c.requires.next none.0 none.1
+    root_leads (setting c.args.context.now) c.requires.context.sound m c.pop.new.self (g.E.Device.is_honest c.args.to.now) (g.E.Device.content c.args.to.now) c.args.node c.requires.next none.0 none.1
 
 pub put_record-requires-clause-few : goal.put_record-requires-clause-few
 put_record-requires-clause-few g c =
@@ -59,8 +59,8 @@ move_copies-requires-clause-row g c =
 
 pub returns-clause-runs : goal.returns-clause-runs
 returns-clause-runs g c =
-    turns_to (setting c.args.context.now) (g.E.Device.is_honest c.args.to.now) (g.E.Device.is_honest c.put_record.new.to) (g.E.Device.content c.args.to.now) (g.E.Device.content c.put_record.new.to) c.args.self.now _ (Some c.args.node) _ c.in_ok-put_record.ensures.persists.honest
-    (ended_turns (setting c.args.context.now) c.requires.context.sound c.args.self.now c.move_copies.new.values c.pop.new.self c.put_record.new.writer (g.E.Device.is_honest c.put_record.new.to) (g.E.Device.is_honest c.put_record.new.to) (g.E.Device.content c.args.to.now) (g.E.Device.content c.put_record.new.to) c.args.node c.in-Some.outer c.in-Some-place.row c.following-values.result.now (c.in-Some.outer.base + c.in-Some-place.row.start)
+    leads_to (setting c.args.context.now) (g.E.Device.is_honest c.args.to.now) (g.E.Device.is_honest c.put_record.new.to) (g.E.Device.content c.args.to.now) (g.E.Device.content c.put_record.new.to) c.args.self.now _ (Some c.args.node) _ c.in_ok-put_record.ensures.persists.honest
+    (ended_leads (setting c.args.context.now) c.requires.context.sound c.args.self.now c.move_copies.new.values c.pop.new.self c.put_record.new.writer (g.E.Device.is_honest c.put_record.new.to) (g.E.Device.is_honest c.put_record.new.to) (g.E.Device.content c.args.to.now) (g.E.Device.content c.put_record.new.to) c.args.node c.in-Some.outer c.in-Some-place.row c.following-values.result.now (c.in-Some.outer.base + c.in-Some-place.row.start)
     c.requires.runs c.requires.next c.in-Some.ensures.items c.in-Some-place.ensures refl (c.following-values.ensures ∙ ap (drop c.args.node.base) c.as_slice.ensures.value) c.in_ok-put_record.ensures.put refl c.move_copies.ensures)
 
 pub returns-clause-less : goal.returns-clause-less

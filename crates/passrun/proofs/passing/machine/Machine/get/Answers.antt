@@ -5,8 +5,8 @@ use Rattle.passrun.specs.Damage.{IsDamaged, source}
 use Rattle.passrun.specs.layouts.Contexts.{setting}
 use Rattle.passrun.specs.passing.Places.{kept_values}
 use Rattle.passrun.proofs.Refusing.{get_differs, get_refused, read_row}
-use Rattle.passrun.proofs.steps.Supposed.{from_supposed, turns_from}
-use Rattle.passrun.proofs.steps.Turning.{got_place, got_turns, has_agreed, no_item}
+use Rattle.passrun.proofs.steps.Supposed.{from_supposed, leads_from}
+use Rattle.passrun.proofs.steps.MachineSteps.{got_place, got_leads, has_agreed, no_item}
 use Rattle.passrun.proofs.course.Working.{got_less}
 use Rattle.passrun.proofs.passing.machine.Machine.get.Goals as goal
 
@@ -72,8 +72,8 @@ returns-clause-runs g c =
     let start : c.len-start.result ≡ length m.values.items = omega (arith, m.values.ok.0) in
     let more = read_row context row.item c.in_ok-number.number h.body m.values.items read h.taken in
     let old : take c.len-start.result read ≡ m.values.items = ap (take c.len-start.result) more.1 ∙ take_at m.values.items more.0 c.len-start.result (sym start) in
-    turns_from context (g.D.Device.is_honest c.args.from.now) (g.D.Device.is_honest c.fetch.new.from) (g.D.Device.content c.args.from.now) (g.D.Device.content c.fetch.new.from) m _ (Some c.args.node) _ c.in_ok-number.ensures.persists.honest
-    (got_turns context c.requires.context.sound m c.fetch.new.back c.truncate_row.new.values (g.D.Device.is_honest c.fetch.new.from) (g.D.Device.is_honest c.fetch.new.from) (g.D.Device.content c.args.from.now) (g.D.Device.content c.fetch.new.from) c.args.node c.after_step.result c.args.place c.in_ok-number.number (c.len-open_count.result + 1) row read
+    leads_from context (g.D.Device.is_honest c.args.from.now) (g.D.Device.is_honest c.fetch.new.from) (g.D.Device.content c.args.from.now) (g.D.Device.content c.fetch.new.from) m _ (Some c.args.node) _ c.in_ok-number.ensures.persists.honest
+    (got_leads context c.requires.context.sound m c.fetch.new.back c.truncate_row.new.values (g.D.Device.is_honest c.fetch.new.from) (g.D.Device.is_honest c.fetch.new.from) (g.D.Device.content c.args.from.now) (g.D.Device.content c.fetch.new.from) c.args.node c.after_step.result c.args.place c.in_ok-number.number (c.len-open_count.result + 1) row read
     c.requires.next c.in-Some.ensures h (omega (arith, m.waiting.ok.0))
     (λ q there begins. has_agreed context q c.args.node c.args.place row.item c.in_ok-number.number h.body m.values.items read (drop copied vs) (drop c.len-start.result vs) copied c.len-start.result c.matches_copy.result h.taken c.matches_copy.ensures c.if-not-matches_copy.false
     (ap (drop copied) c.as_slice.ensures.value) (ap (drop c.len-start.result) c.as_slice.ensures.value) (ap (λ n. c.args.node.base + n) begins) start)

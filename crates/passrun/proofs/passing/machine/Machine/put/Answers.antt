@@ -2,8 +2,8 @@ use Rattle.std.proofs.Common.{ap, refl, ◌∙◌, ◌+◌, drop, take, length, 
 use Rattle.std.proofs.lemmas.List.Elements.{All-drop, All-take, All-same}
 use Rattle.ag_value.specs.Well.{IsWell}
 use Rattle.passrun.specs.layouts.Contexts.{setting}
-use Rattle.passrun.proofs.steps.Supposed.{turns_to}
-use Rattle.passrun.proofs.steps.Turning.{left_turns, no_row, put_room, put_turns, symbol_there, text_within, whole_of}
+use Rattle.passrun.proofs.steps.Supposed.{leads_to}
+use Rattle.passrun.proofs.steps.MachineSteps.{left_leads, no_row, put_room, put_leads, symbol_there, text_within, whole_of}
 use Rattle.passrun.proofs.course.Working.{put_less}
 use Rattle.std.proofs.Common.{Some}
 use Rattle.passrun.proofs.passing.machine.Machine.put.Goals as goal
@@ -14,7 +14,7 @@ unreachable-requires g c = no_row (setting c.args.context.now) c.requires.contex
 pub returns-in_default-item-clause-runs : goal.returns-in_default-item-clause-runs
 returns-in_default-item-clause-runs g c =
     let s = symbol_there c.in-Some.row.item c.in_default-item.not-Terminal in
-    left_turns (setting c.args.context.now) c.requires.context.sound c.args.self.now (g.E.Device.is_honest c.args.to.now) (g.E.Device.content c.args.to.now) c.args.node c.after_step.result c.args.place s.0 c.in-Some.row c.requires.runs c.requires.next c.in-Some.ensures s.1 c.after_step.ensures
+    left_leads (setting c.args.context.now) c.requires.context.sound c.args.self.now (g.E.Device.is_honest c.args.to.now) (g.E.Device.content c.args.to.now) c.args.node c.after_step.result c.args.place s.0 c.in-Some.row c.requires.runs c.requires.next c.in-Some.ensures s.1 c.after_step.ensures
 
 pub returns-in_default-item-clause-less : goal.returns-in_default-item-clause-less
 returns-in_default-item-clause-less g c = put_less (setting c.args.context.now) c.requires.context.sound c.args.self.now c.args.self.now.writer c.args.node c.after_step.result c.args.place c.requires.runs c.requires.next c.after_step.ensures
@@ -37,8 +37,8 @@ put_record-requires-clause-room g c = put_room (setting c.args.context.now) c.re
 pub returns-clause-runs : goal.returns-clause-runs
 returns-clause-runs g c =
     let text = c.args.node.base + c.in-Some.row.start in
-    turns_to (setting c.args.context.now) (g.E.Device.is_honest c.args.to.now) (g.E.Device.is_honest c.put_record.new.to) (g.E.Device.content c.args.to.now) (g.E.Device.content c.put_record.new.to) c.args.self.now _ (Some c.args.node) _ c.in_ok-put_record.ensures.persists.honest
-    (put_turns (setting c.args.context.now) c.requires.context.sound c.args.self.now c.put_record.new.writer (g.E.Device.is_honest c.put_record.new.to) (g.E.Device.is_honest c.put_record.new.to) (g.E.Device.content c.args.to.now) (g.E.Device.content c.put_record.new.to) c.args.node c.after_step-2.result c.args.place c.in-Some.row c.in-Terminal.field-0 c.single_value-values.result.now
+    leads_to (setting c.args.context.now) (g.E.Device.is_honest c.args.to.now) (g.E.Device.is_honest c.put_record.new.to) (g.E.Device.content c.args.to.now) (g.E.Device.content c.put_record.new.to) c.args.self.now _ (Some c.args.node) _ c.in_ok-put_record.ensures.persists.honest
+    (put_leads (setting c.args.context.now) c.requires.context.sound c.args.self.now c.put_record.new.writer (g.E.Device.is_honest c.put_record.new.to) (g.E.Device.is_honest c.put_record.new.to) (g.E.Device.content c.args.to.now) (g.E.Device.content c.put_record.new.to) c.args.node c.after_step-2.result c.args.place c.in-Some.row c.in-Terminal.field-0 c.single_value-values.result.now
     c.requires.runs c.requires.next c.in-Some.ensures c.in-Terminal.is (c.single_value-values.ensures ∙ ap (λ vs. take 1 (drop text vs)) c.as_slice.ensures.value) c.in_ok-put_record.ensures.put refl c.after_step-2.ensures)
 
 pub returns-clause-less : goal.returns-clause-less

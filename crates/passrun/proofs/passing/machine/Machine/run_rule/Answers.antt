@@ -3,7 +3,7 @@ use Rattle.ag_grammar.specs.expressions.Evaluation.{value_of}
 use Rattle.ag_value.specs.declared.value.Value.{Num}
 use Rattle.passrun.specs.layouts.Contexts.{setting}
 use Rattle.passrun.proofs.places.Entries.{slots_found, slots_less}
-use Rattle.passrun.proofs.steps.Turning.{given_turns, giver, meter_of, rule_less, well_of}
+use Rattle.passrun.proofs.steps.MachineSteps.{rule_leads, giver, meter_of, rule_less, well_of}
 use Rattle.passrun.proofs.course.Working.{given_less}
 use Rattle.passrun.proofs.passing.machine.Machine.run_rule.Goals as goal
 
@@ -49,7 +49,7 @@ returns-clause-runs c =
     let slots = c.index-as_slice-rule-2.result in
     let are = slots_found context c.args.node.production c.args.rule c.index-productions-node.result c.index-as_slice-rule.result c.args.layout.now c.as_slice-2.result.now c.index-as_slice-rule-2.result (c.requires.layout c.index-productions-node.result h.there) h.numbered c.as_slice-2.ensures c.index-as_slice-rule-2.is in
     let v = value_of c.index-as_slice-rule.result.expr.0 (λ k. get_or (drop base m.values.items) (slice_index slots.args k) (Num (pos 0))) in
-    given_turns context c.requires.context.sound m c.put_rule_value.new.values c.args.node c.after_step.result c.args.meter.now c.put_rule_value.new.meter c.args.rule c.index-productions-node.result c.index-as_slice-rule.result slots (Num (pos 0)) v c.requires.next h.there h.numbered are refl c.in_ok-put_rule_value.ensures.well c.in_ok-put_rule_value.ensures.value c.in_ok-put_rule_value.ensures.counted c.after_step.ensures
+    rule_leads context c.requires.context.sound m c.put_rule_value.new.values c.args.node c.after_step.result c.args.meter.now c.put_rule_value.new.meter c.args.rule c.index-productions-node.result c.index-as_slice-rule.result slots (Num (pos 0)) v c.requires.next h.there h.numbered are refl c.in_ok-put_rule_value.ensures.well c.in_ok-put_rule_value.ensures.value c.in_ok-put_rule_value.ensures.counted c.after_step.ensures
 
 pub returns-clause-less : goal.returns-clause-less
 returns-clause-less c = given_less (setting c.args.context.now) c.requires.context.sound c.args.self.now c.put_rule_value.new.values c.args.node c.after_step.result c.args.rule c.requires.next c.after_step.ensures

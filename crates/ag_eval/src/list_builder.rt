@@ -1,0 +1,73 @@
+//! A list that is built item by item.
+
+ghost use Rattle.std.specs.Prelude.{◌≡◌, ◌++◌, ◌∷◌, [], None, OnOk};
+ghost use Rattle.ag_value.specs.declared.value.Value.TheVariants as value;
+ghost use Rattle.ag_grammar.specs.values.Arguments.{fault_of};
+ghost use Rattle.ag_grammar.specs.values.Fitting.{fit};
+
+use crate::measured::Measured;
+use ag_value::{Items, NoMemory, Value};
+use std::alloc::Global;
+use std::marker::Model;
+
+/// Items for a list, with the weight and the depth of the list.
+#[derive(Debug, Drop)]
+pub struct ListBuilder {
+    items: Vec<Value>,
+    weight: u64,
+    depth: u32,
+}
+
+impl Model for ListBuilder {
+    ghost use Rattle.std.specs.Prelude.{List};
+    ghost use Rattle.std.specs.Coded.{codes};
+    ghost use Rattle.ag_value.specs.declared.value.Value.{Value as AttributeValue};
+    ghost use Rattle.ag_value.specs.contracts.value.Value as value_row;
+    ghost use Rattle.ag_grammar.specs.values.Fitting.{IsGathered};
+
+    ghost Value = { List AttributeValue };
+
+    ghost coded = { Prim.hlevel (codes, value_row.the_row.coded) };
+
+    ghost view = { λ g. g.items.items };
+
+    ghost invariant = { λ g. IsGathered g.items.items g.weight g.depth };
+}
+
+impl ListBuilder {
+    /// Makes an empty list of items. Takes no memory.
+    pub fn new(alloc: Global) -> ListBuilder
+        ensures { result ≡ [] }
+    {
+        ListBuilder {
+            items: Vec::new(alloc),
+            weight: 5,
+            depth: 1,
+        }
+    }
+
+    /// Appends an item.
+    pub fn push(&mut self, item: Measured) -> Result<(), NoMemory>
+        requires { fault_of item ≡ None }
+        ensures { OnOk result (self.new ≡ self.old ++ item ∷ []) }
+    {
+        let weight = self.weight.saturating_add(item.weight());
+        let depth = self.depth.max(item.depth() + 1);
+        self.items.push(item.into_value())?;
+        self.weight = weight;
+        self.depth = depth;
+        Ok(())
+    }
+
+    /// Returns the list of the items, or an error if it is beyond the limits.
+    pub fn into_list(self) -> Measured
+        ensures { result ≡ fit (value.List self) }
+    {
+        let ListBuilder {
+            items,
+            weight,
+            depth,
+        } = self;
+        Measured::fit(Value::List(Items::from_vec(items)), weight, depth)
+    }
+}

@@ -1,0 +1,6 @@
+use Rattle.std.proofs.Common.{◌≡◌, drop, slice_get}
+use Rattle.ag_grammar.specs.grammars.AttributeGrammar.{stored_items}
+use Rattle.ag_grammar.proofs.parts.child_at.Given as goal
+
+abbrev pub invariant-loop-item : goal.invariant-loop-item
+invariant-loop-item l = slice_get (stored_items (drop l.item-index l.items)) l.to_skip ≡ slice_get (stored_items l.items) l.index

@@ -1,0 +1,69 @@
+use Rattle.std.proofs.Common.{◌≡◌, ℕ, List, ◌∷◌, ◌++◌, [], length, Option, All, ap, sym, refl, ◌∙◌}
+use Rattle.std.proofs.lemmas.List.Elements.{All-append, All-cons, All-head, All-nil, All-tail}
+use Rattle.ag_grammar.specs.declared.direction.Direction.{Direction}
+use Rattle.ag_grammar.specs.declared.direction.Direction.TheVariants.{LeftToRight, RightToLeft}
+use Rattle.ag_grammar.specs.grammars.Passes.{other}
+use Rattle.treefile.specs.framing.Ending.{IsBody}
+use Rattle.treefile.specs.records.Orders.{BodyForest, BodyTree, MatchesArity, branch, joined, more, none, postfix, postfix_all, prefix}
+use Rattle.treefile.specs.records.TreeFile.{file, version_two}
+use Rattle.treefile.proofs.framing.Backward.{reads_same}
+use Rattle.treefile.proofs.records.Orders.{one_tree, one_tree_at_end}
+use Rattle.backreader.specs.Turning.{IsFileOf}
+use Rattle.backreader.proofs.Mirror.{mirror, other-other, postfix-mirror, arities-mirror}
+use Rattle.backreader.proofs.Whole.{tree_back}
+use Rattle.backreader.proofs.laws.reversing_twice_restores.Goals as goal
+
+-- one list is that of two trees, seen in two directions: of one tree, or of one and its mirror image
+twice : (arity : List ℕ → Option ℕ) (d e : Direction) (t u : BodyTree) → MatchesArity arity t → MatchesArity arity u → postfix (other d) t ≡ postfix e u → postfix (other e) u ≡ postfix d t
+twice arity LeftToRight RightToLeft t u r s same = ap (postfix LeftToRight) (sym (one_tree_at_end arity RightToLeft t u [] [] r s same).0)
+twice arity RightToLeft LeftToRight t u r s same = ap (postfix RightToLeft) (sym (one_tree_at_end arity LeftToRight t u [] [] r s same).0)
+twice arity LeftToRight LeftToRight t u r s same = ap (postfix RightToLeft) (sym (one_tree_at_end arity LeftToRight (mirror t) u [] [] (arities-mirror arity t r) s (postfix-mirror LeftToRight t ∙ same)).0) ∙ postfix-mirror RightToLeft t
+twice arity RightToLeft RightToLeft t u r s same = ap (postfix LeftToRight) (sym (one_tree_at_end arity RightToLeft (mirror t) u [] [] (arities-mirror arity t r) s (postfix-mirror RightToLeft t ∙ same)).0) ∙ postfix-mirror LeftToRight t
+
+pub returns-clause-bodies : goal.returns-clause-bodies
+returns-clause-bodies c arity d e bodies turned again first second =
+    second.to ∙ twice arity d e first.tree second.tree first.arities second.arities (sym first.to ∙ second.from) ∙ sym first.from
+
+-- a property of each body of a list holds in the list of another direction
+module _ (P : List ℕ → Type 0) where
+  both_all : (xs ys : List (List ℕ)) → All P (xs ++ ys) → All P xs × All P ys
+  both_all [] ys all = (All-nil P, all)
+  both_all (x ∷ xs) ys all =
+      let rest = both_all xs ys (All-tail P x (xs ++ ys) all) in
+      (All-cons P x xs (All-head P x (xs ++ ys) all) rest.0, rest.1)
+
+  joined_all : (d : Direction) (xs ys : List (List ℕ)) → All P xs → All P ys → All P (joined d xs ys)
+  joined_all LeftToRight xs ys first second = All-append P xs ys first second
+  joined_all RightToLeft xs ys first second = All-append P ys xs second first
+
+  parts_all : (d : Direction) (xs ys : List (List ℕ)) → All P (joined d xs ys) → All P xs × All P ys
+  parts_all LeftToRight xs ys all = both_all xs ys all
+  parts_all RightToLeft xs ys all =
+      let both = both_all ys xs all in
+      (both.1, both.0)
+
+  mutual
+    other_all : (d e : Direction) (t : BodyTree) → All P (postfix d t) → All P (postfix e t)
+    other_all d e (branch body ts) all =
+        let both = both_all (postfix_all d ts) (body ∷ []) all in
+        All-append P (postfix_all e ts) (body ∷ []) (others_all d e ts both.0) both.1
+
+    others_all : (d e : Direction) (ts : BodyForest) → All P (postfix_all d ts) → All P (postfix_all e ts)
+    others_all d e none all = all
+    others_all d e (more t ts) all =
+        let both = parts_all d (postfix d t) (postfix_all d ts) all in
+        joined_all e (postfix e t) (postfix_all e ts) (other_all d e t both.0) (others_all d e ts both.1)
+
+pub returns-clause-files : goal.returns-clause-files
+returns-clause-files c arity pass d content turned again count another first second =
+    let t = first.tree in
+    let u = second.tree in
+    let is : IsFileOf arity (other d) t turned = record {
+      arities = first.from.arities;
+      bodies = other_all (IsBody version_two) d (other d) t first.from.bodies;
+      pass = pass;
+      occurs = first.to refl;
+    } in
+    let read : prefix (other (other d)) u ≡ prefix (other (other d)) t = reads_same version_two turned (prefix (other (other d)) u) (prefix (other (other d)) t) (length turned) (tree_back arity turned (other d) u second.from) (tree_back arity turned (other d) t is) in
+    let same : u ≡ t = (one_tree arity (other (other d)) u t [] [] second.from.arities first.from.arities (ap (λ (bodies : List (List ℕ)). bodies ++ []) read)).0 in
+    second.to refl ∙ ap (λ (v : BodyTree). file version_two first.from.pass (postfix (other (other d)) v)) same ∙ ap (λ (e : Direction). file version_two first.from.pass (postfix e t)) (other-other d) ∙ sym first.from.occurs

@@ -1,7 +1,0 @@
-use Rattle.std.proofs.Common.{◌≡◌, true, length}
-use Rattle.std.specs.Prelude.{All}
-use Rattle.llparse.specs.table.Tables.{is_known}
-use Rattle.llparse.proofs.sentence.expected.all_that_could.Given as goal
-
-abbrev pub invariant-loop-index : goal.invariant-loop-index
-invariant-loop-index l = All (λ ahead. is_known (length l.grammar.literals) ahead ≡ true) l.expected.items

@@ -1,5 +1,0 @@
-use Rattle.llparse.specs.sentence.Turns.{left_of}
-use Rattle.llparse.proofs.sentence.expected.go_on.Given as goal
-
-abbrev pub decreases-loop-terminal : goal.decreases-loop-terminal
-decreases-loop-terminal l = left_of l.grammar l.node l.parser

@@ -1,9 +1,0 @@
--- The invariant of the loop of `add_prefix_edges`.
-use Rattle.std.proofs.Common.{take, Contains}
-use Rattle.ag_grammar.specs.declared.grammar.Item.{Item}
-use Rattle.llparse.specs.table.Edges.{Adds, IsEdge, OfSome}
-use Rattle.llparse.specs.table.Nodes.{node_of}
-use Rattle.llparse.proofs.table.first.add_prefix_edges.Given as goal
-
-abbrev pub invariant-loop-item : goal.invariant-loop-item
-invariant-loop-item l = Adds (OfSome (λ (x : Item) e. IsEdge (node_of l.sizes.symbols l.sizes.literals x) l.left e) (take l.item-index l.items)) (Contains l.initial.edges.items) (Contains l.edges.items)

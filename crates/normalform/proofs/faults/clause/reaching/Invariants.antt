@@ -1,7 +1,0 @@
--- The invariant of the loop of `reaching`.
-use Rattle.std.proofs.Common.{◌≡◌, ◌++◌, drop, flat_map}
-use Rattle.normalform.specs.faults.Clauses.{reaching, edges_of}
-use Rattle.normalform.proofs.faults.clause.reaching.Given as goal
-
-abbrev pub invariant-loop-clause : goal.invariant-loop-clause
-invariant-loop-clause l = l.edges.items ++ flat_map edges_of (drop l.clause-index l.clauses) ≡ reaching l.clauses

@@ -1,7 +1,0 @@
--- The invariant of the loop of `doubled_checks`.
-use Rattle.std.proofs.Common.{◌≡◌, drop}
-use Rattle.normalform.specs.faults.Faults.{first_wrong, doubled_checks, checks_along, symbol_checks, with_symbol}
-use Rattle.normalform.proofs.faults.naming.doubled_checks.Given as goal
-
-abbrev pub invariant-loop-symbol : goal.invariant-loop-symbol
-invariant-loop-symbol l = first_wrong (checks_along symbol_checks with_symbol l.seen (drop l.symbol-index l.symbols)) ≡ first_wrong (doubled_checks l.symbols)

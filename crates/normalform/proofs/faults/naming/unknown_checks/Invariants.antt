@@ -1,7 +1,0 @@
--- The invariant of the loop of `unknown_checks`.
-use Rattle.std.proofs.Common.{◌≡◌, drop}
-use Rattle.normalform.specs.faults.Faults.{first_wrong, unknown_checks}
-use Rattle.normalform.proofs.faults.naming.unknown_checks.Given as goal
-
-abbrev pub invariant-loop-production : goal.invariant-loop-production
-invariant-loop-production l = first_wrong (unknown_checks l.declared (drop l.production-index l.productions)) ≡ first_wrong (unknown_checks l.declared l.productions)

@@ -1,7 +1,0 @@
--- The invariant of the loop of `missing_checks`.
-use Rattle.std.proofs.Common.{◌≡◌, drop}
-use Rattle.normalform.specs.faults.Faults.{first_wrong, checks_along, after, missing_in, missing_checks}
-use Rattle.normalform.proofs.faults.rules.missing_checks.Given as goal
-
-abbrev pub invariant-loop-number : goal.invariant-loop-number
-invariant-loop-number l = first_wrong (checks_along (missing_in l.declared) after l.number (drop l.number l.productions)) ≡ first_wrong (missing_checks l.declared l.productions)

@@ -1,8 +1,0 @@
--- The check of targets has one target for each rule.
-use Rattle.std.proofs.Common.{IfOk, ◌≡◌, subst}
-use Rattle.normalform.specs.faults.Faults.{first_wrong}
-use Rattle.normalform.proofs.found.Wrong.{defined_checks}
-use Rattle.normalform.proofs.faults.rules.not_defined_here.Goals as goal
-
-pub returns : goal.returns
-returns c = subst (λ checks. IfOk c.first_in_productions.result (λ f. f ≡ first_wrong checks)) (defined_checks c.args.declared.now c.args.productions.now) c.first_in_productions.ensures

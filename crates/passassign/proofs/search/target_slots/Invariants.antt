@@ -1,0 +1,6 @@
+use Rattle.std.proofs.Common.{◌≡◌, map, take}
+use Rattle.passassign.specs.Searching.{target_of}
+use Rattle.passassign.proofs.search.target_slots.Given as goal
+
+abbrev pub invariant-loop-one : goal.invariant-loop-one
+invariant-loop-one l = l.targets.items ≡ map target_of (take l.one-index l.dependencies)

@@ -1,0 +1,92 @@
+//! The current text, and the lines that change it.
+
+use crate::words::{Mistake, bytes_of, first_word, number};
+use std::alloc::{AllocError, Global};
+
+/// Runs the line if its verb changes the text. Returns whether it does.
+pub fn change_text(
+    alloc: Global,
+    text: &mut String,
+    verb: &str,
+    rest: &str,
+) -> Result<bool, Mistake> {
+    match verb {
+        "text" => {
+            text.clear();
+            text.push_str(rest)?;
+        }
+        "more" => {
+            text.push('\n')?;
+            text.push_str(rest)?;
+        }
+        "and" => text.push_str(rest)?,
+        "chars" => write_chars(text, bytes_of(alloc, rest)?.as_slice())?,
+        "times" => write_times(alloc, text, rest)?,
+        "twice" => write_twice(alloc, text, rest)?,
+        "front" => write_before(alloc, text, rest)?,
+        _ => return Ok(false),
+    }
+    Ok(true)
+}
+
+/// Appends the characters with these code points, from 0 to 255.
+fn write_chars(text: &mut String, numbers: &[u8]) -> Result<(), AllocError> {
+    for number in numbers {
+        text.push(char::from(*number))?;
+    }
+    Ok(())
+}
+
+/// Appends the text to itself, and then appends `rest`.
+fn write_twice(alloc: Global, text: &mut String, rest: &str) -> Result<(), AllocError> {
+    let so_far = String::from_str(alloc, text.as_str())?;
+    text.push_str(so_far.as_str())?;
+    text.push_str(rest)
+}
+
+/// Inserts a text before the current text.
+fn write_before(alloc: Global, text: &mut String, rest: &str) -> Result<(), AllocError> {
+    let so_far = String::from_str(alloc, text.as_str())?;
+    text.clear();
+    text.push_str(rest)?;
+    text.push_str(so_far.as_str())
+}
+
+/// Appends copies of a text: as many as the number in the first word of `rest`. In each copy, `#` becomes the copy's
+/// number from 0, `@` its number from 1, and `~` a space.
+fn write_times(alloc: Global, text: &mut String, rest: &str) -> Result<(), Mistake> {
+    let (count, piece) = first_word(rest);
+    let count = number(count)?;
+    if !piece.contains('#') && !piece.contains('@') {
+        return Ok(write_alike(alloc, text, piece, count as usize)?);
+    }
+    for turn in 0..count {
+        write_turn(text, piece, turn)?;
+    }
+    Ok(())
+}
+
+/// Appends `count` equal copies of a text.
+fn write_alike(
+    alloc: Global,
+    text: &mut String,
+    piece: &str,
+    count: usize,
+) -> Result<(), AllocError> {
+    let mut one = String::new(alloc);
+    write_turn(&mut one, piece, 0)?;
+    text.push_str(one.as_str().repeat(alloc, count)?.as_str())
+}
+
+/// Appends the copy of a text with the number `turn`, from 0.
+fn write_turn(text: &mut String, piece: &str, turn: u32) -> Result<(), AllocError> {
+    for letter in piece.chars() {
+        match letter {
+            '#' => write!(text, "{turn}")?,
+            '@' => write!(text, "{}", turn.wrapping_add(1))?,
+            '~' => text.push(' ')?,
+            _ => text.push(letter)?,
+        }
+    }
+    Ok(())
+}
