@@ -25,7 +25,7 @@ use Rattle.treefile.specs.declared.device.DeviceFault.TheVariants as device
 use Rattle.treefile.proofs.records.FirstFile.{unassigned_from_one}
 use Rattle.treefile.proofs.records.Records.{file_fits}
 use Rattle.treefile.proofs.records.Texts.{texts_are_given}
-use Rattle.passrun.proofs.Upgraded.{room}
+use Rattle.passrun.proofs.upgrades.Upgraded.{room}
 use Rattle.aggen.specs.Checking.{IsGrammarOf}
 use Rattle.aggen.specs.Evaluating.{IsTreeFaultBeforeText, LeavesFilesOfTree}
 use Rattle.aggen.specs.Jobs.{HasJob, LeavesLastFilesOfJob}

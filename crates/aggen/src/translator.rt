@@ -25,7 +25,7 @@ ghost use Rattle.aggen.specs.Translating.{LeavesLastFiles, TranslatesSentence};
 ghost use Rattle.aggen.specs.Translation.{BeginsText, WritesText};
 ghost use Rattle.aggen.specs.Upgrading.{IsOldFileFault};
 ghost use Rattle.passrun.specs.Rounds.{LeavesSomeFile};
-ghost use Rattle.passrun.specs.Upgrading.{IsUpgraded};
+ghost use Rattle.passrun.specs.upgrading.Upgrading.{IsUpgraded};
 
 use crate::checking::grammar_of;
 use crate::translations::evaluating::run_tree;

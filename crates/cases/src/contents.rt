@@ -12,7 +12,7 @@ use treefile::{Device, DeviceFault, FrameFault, Kind, MemDevice, Writer, last_bo
 struct Fractions {}
 
 impl Arity for Fractions {
-    ghost use Rattle.backreader.specs.Worked.{children_in_fractions};
+    ghost use Rattle.backreader.specs.turning.Worked.{children_in_fractions};
 
     ghost children_of = { λ _. children_in_fractions };
 

@@ -1,4 +1,4 @@
-pub mod Converted
+pub mod upgrades
 pub mod course
 pub mod Damage
 pub mod places
@@ -7,5 +7,4 @@ pub mod Refusing
 pub mod steps
 pub mod RecordedPasses
 pub mod Totals
-pub mod Upgraded
 pub mod WorkedDamage

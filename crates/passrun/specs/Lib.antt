@@ -7,4 +7,4 @@ pub mod passing
 pub mod Printed
 pub mod reading
 pub mod Rounds
-pub mod Upgrading
+pub mod upgrading

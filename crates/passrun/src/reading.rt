@@ -2,5 +2,4 @@
 
 pub mod fetching;
 pub mod lent;
-pub mod old_record;
 pub mod record;

@@ -5,20 +5,22 @@ ghost use Rattle.std.specs.Prelude.{OnErr, OnOk, [], ◌∷◌, ◌++◌, ℕ};
 ghost use Rattle.ag_value.specs.Well.{IsWell};
 ghost use Rattle.ag_grammar.specs.grammars.Accepted.{IsAccepted};
 ghost use Rattle.ag_grammar.specs.grammars.AttributeGrammar.{stored_items};
-ghost use Rattle.backreader.specs.Turning.{max_reversed_records};
+ghost use Rattle.backreader.specs.turning.Turning.{max_reversed_records};
 ghost use Rattle.passrun.specs.Faults.{run_fault_of_turn};
 ghost use Rattle.passrun.specs.passing.Ahead.{IsResourceFault};
 ghost use Rattle.passrun.specs.passing.Putting.{AddsFrames, HasPut, LeavesFrames};
-ghost use Rattle.passrun.specs.Upgrading.{Converted, HasTaken, IsConverted, IsUpgrading, IsUnconverted};
-ghost use Rattle.passrun.specs.Upgrading.{IsUpgradeFault, IsUpgraded, stored_count, text_list};
+ghost use Rattle.passrun.specs.upgrading.Upgrading.{Converted, HasTaken, IsConverted, IsUpgrading, IsUnconverted};
+ghost use Rattle.passrun.specs.upgrading.Upgrading.{IsUpgradeFault, IsUpgraded, stored_count, text_list};
 ghost use Rattle.treefile.specs.records.TreeFile.{version_two};
 ghost use Rattle.treefile.specs.framing.Beginning.{LeavesBeginning};
 ghost use Rattle.treefile.specs.devices.Device.{LeavesContent, Persists, WhenHonest};
 ghost use Rattle.treefile.specs.devices.Several.{BothPersist, ThreePersist};
 
-use crate::reading::old_record::{OldRecord, old_record};
+mod old_record;
+
 use crate::reading::record::RecordFault;
 use crate::run_fault::RunFault;
+use crate::upgrading::old_record::{OldRecord, old_record};
 use ag_grammar::{Grammar, Item};
 use ag_value::{NoMemory, Value};
 use backreader::{Arity, Back, MAX_REVERSED_LEVELS, MAX_REVERSED_RECORDS, turn};

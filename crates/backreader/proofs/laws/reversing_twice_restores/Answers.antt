@@ -8,9 +8,9 @@ use Rattle.treefile.specs.records.Orders.{BodyForest, BodyTree, MatchesArity, br
 use Rattle.treefile.specs.records.TreeFile.{file, version_two}
 use Rattle.treefile.proofs.framing.Backward.{reads_same}
 use Rattle.treefile.proofs.records.Orders.{one_tree, one_tree_at_end}
-use Rattle.backreader.specs.Turning.{IsFileOf}
-use Rattle.backreader.proofs.Mirror.{mirror, other-other, postfix-mirror, arities-mirror}
-use Rattle.backreader.proofs.Whole.{tree_back}
+use Rattle.backreader.specs.turning.Turning.{IsFileOf}
+use Rattle.backreader.proofs.turnings.Mirror.{mirror, other-other, postfix-mirror, arities-mirror}
+use Rattle.backreader.proofs.turnings.Whole.{tree_back}
 use Rattle.backreader.proofs.laws.reversing_twice_restores.Goals as goal
 
 -- one list is that of two trees, seen in two directions: of one tree, or of one and its mirror image

@@ -1,4 +1,4 @@
-use Rattle.backreader.proofs.OneTurning.{tree_exact}
+use Rattle.backreader.proofs.turnings.OneTurning.{tree_exact}
 use Rattle.backreader.proofs.laws.trees_are_reversed.Goals as goal
 
 pub returns : goal.returns

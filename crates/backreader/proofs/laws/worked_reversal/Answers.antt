@@ -1,11 +1,11 @@
 use Rattle.std.proofs.Common.{ℕ, List, [], ◌∷◌, None, All, map, refl, lit≤}
 use Rattle.std.proofs.lemmas.List.Elements.{All-cons, All-nil}
-use Rattle.backreader.specs.Worked.{arity_in_fractions}
+use Rattle.backreader.specs.turning.Worked.{arity_in_fractions}
 use Rattle.treefile.specs.framing.Backward.{next_before}
 use Rattle.treefile.specs.framing.Ending.{IsBody, is_tree_file}
 use Rattle.treefile.specs.records.Orders.{BodyTree, branch, more, none}
 use Rattle.treefile.specs.records.TreeFile.{header, version_two}
-use Rattle.backreader.proofs.Whole.{missing}
+use Rattle.backreader.proofs.turnings.Whole.{missing}
 use Rattle.backreader.proofs.laws.worked_reversal.Goals as goal
 
 abbrev body_of : ℕ → List ℕ

@@ -9,10 +9,10 @@ use Rattle.treefile.proofs.framing.Beginning as beginning
 use Rattle.treefile.proofs.framing.Beginning.{frames_begin}
 use Rattle.passrun.specs.declared.run_fault.RunFault.{RunFault}
 use Rattle.backreader.specs.BackState.{IsOver, BackState}
-use Rattle.passrun.specs.Upgrading.{Converted, IsUnconverted, text_list}
+use Rattle.passrun.specs.upgrading.Upgrading.{Converted, IsUnconverted, text_list}
 use Rattle.passrun.proofs.course.Ending.{none_lent}
 use Rattle.passrun.proofs.Refusing.{some_lent}
-use Rattle.passrun.proofs.Upgraded.{begins_at, fault_after, left_over, not_begun, of_other_pass, whole_converted}
+use Rattle.passrun.proofs.upgrades.Upgraded.{begins_at, fault_after, left_over, not_begun, of_other_pass, whole_converted}
 use Rattle.passrun.proofs.upgrading.convert.Goals as goal
 
 abbrev body_of : Option (Bor (List ℕ)) → Option (List ℕ)

@@ -1,8 +1,8 @@
 use Rattle.std.proofs.Common.{Bool, List, ℕ, subst, sym}
 use Rattle.std.proofs.lemmas.Result.{err_from_is_err_and}
 use Rattle.treefile.specs.framing.Beginning.{LeavesBeginning}
-use Rattle.passrun.specs.Upgrading.{IsConverted, IsUpgraded}
-use Rattle.passrun.proofs.Upgraded.{turned_fault, turned_tree}
+use Rattle.passrun.specs.upgrading.Upgrading.{IsConverted, IsUpgraded}
+use Rattle.passrun.proofs.upgrades.Upgraded.{turned_fault, turned_tree}
 use Rattle.passrun.proofs.upgrading.upgrade.Goals as goal
 
 pub returns-in_err-count-clause-refused : goal.returns-in_err-count-clause-refused

@@ -10,10 +10,10 @@ use Rattle.ag_grammar.specs.declared.grammar.Item.TheVariants as item
 use Rattle.ag_grammar.specs.declared.grammar.Production.{Production}
 use Rattle.ag_grammar.specs.grammars.AttributeGrammar.{Grammar, IsProduction, stored_items}
 use Rattle.backreader.specs.BackState.{Progress}
-use Rattle.passrun.specs.Upgrading.{Converted, HasTaken, IsOf, IsUnconverted, text_list}
+use Rattle.passrun.specs.upgrading.Upgrading.{Converted, HasTaken, IsOf, IsUnconverted, text_list}
 use Rattle.treefile.specs.records.TreeFile.{body_of, frame}
 use Rattle.treefile.specs.declared.body.Kind.TheVariants.{Node, Token}
-use Rattle.passrun.proofs.Converted.{converted_supposed, next_converted, next_refused, node_converted, node_of, none_converted, one_text, text_is_well, token_converted}
+use Rattle.passrun.proofs.upgrades.Converted.{converted_supposed, next_converted, next_refused, node_converted, node_of, none_converted, one_text, text_is_well, token_converted}
 use Rattle.treefile.proofs.framing.Backward.{All-reverse}
 use Rattle.treefile.proofs.framing.Beginning.{added, none_added}
 use Rattle.passrun.specs.declared.run_fault.RunFault.{RunFault}

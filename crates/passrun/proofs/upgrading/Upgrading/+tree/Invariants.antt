@@ -1,7 +1,7 @@
 use Rattle.std.proofs.Common.{◌≡◌, true, ◌+◌, ◌-◌, ◌≤◌, suc, All, drop, take, length}
 use Rattle.ag_value.specs.Well.{IsWell}
 use Rattle.passrun.specs.passing.Putting.{AddsFrames}
-use Rattle.passrun.specs.Upgrading.{Converted, IsUpgrading}
+use Rattle.passrun.specs.upgrading.Upgrading.{Converted, IsUpgrading}
 use Rattle.treefile.specs.devices.Device.{LeavesContent, Persists, WhenHonest}
 use Rattle.passrun.proofs.upgrading.Upgrading.+tree.Given as goal
 

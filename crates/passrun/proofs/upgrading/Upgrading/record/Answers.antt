@@ -1,7 +1,7 @@
 use Rattle.std.proofs.Common.{ℕ, List, Bor, Err, ap, arith}
 use Rattle.std.specs.Option.{option_map}
 use Rattle.std.proofs.lemmas.Result.{err_from_is_err_and}
-use Rattle.passrun.proofs.Converted.{one_fault, one_missing, one_too_deep, one_too_many, one_wrong}
+use Rattle.passrun.proofs.upgrades.Converted.{one_fault, one_missing, one_too_deep, one_too_many, one_wrong}
 use Rattle.passrun.proofs.upgrading.Upgrading.record.Goals as goal
 
 pub returns-then-level-gt-MAX_REVERSED_LEVELS-clause-refused : goal.returns-then-level-gt-MAX_REVERSED_LEVELS-clause-refused

@@ -32,11 +32,11 @@ use Rattle.treefile.proofs.records.FirstFile.{first_body, unassigned_from_one}
 use Rattle.treefile.proofs.records.Fitting.{numbered}
 use Rattle.treefile.proofs.records.Texts.{texts_are_given}
 use Rattle.backreader.specs.BackState.{Progress}
-use Rattle.backreader.specs.Turning.{max_reversed_levels, max_reversed_records}
+use Rattle.backreader.specs.turning.Turning.{max_reversed_levels, max_reversed_records}
 use Rattle.passrun.specs.Faults.{run_fault_of_frame}
-use Rattle.passrun.specs.Upgrading.{Converted, IsAt, IsOf, IsUnconverted, IsUpgradeFault, body_in, pending_items, old_file, text_list, upcoming}
-use Rattle.passrun.specs.declared.reading.old_record.OldRecord.{OldRecord}
-use Rattle.passrun.specs.declared.reading.old_record.OldRecord.TheVariants as old
+use Rattle.passrun.specs.upgrading.Upgrading.{Converted, IsAt, IsOf, IsUnconverted, IsUpgradeFault, body_in, pending_items, old_file, text_list, upcoming}
+use Rattle.passrun.specs.declared.upgrading.old_record.OldRecord.{OldRecord}
+use Rattle.passrun.specs.declared.upgrading.old_record.OldRecord.TheVariants as old
 use Rattle.passrun.specs.declared.run_fault.RunFault.{RunFault}
 use Rattle.passrun.specs.declared.run_fault.RunFault.TheVariants as fault
 use Rattle.passrun.specs.Damage.{IsWithin}

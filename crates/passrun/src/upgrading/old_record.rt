@@ -1,8 +1,8 @@
 //! Records of version 1 and pass 0: a node has only its production, and a token its text.
 
 ghost use Rattle.std.specs.Prelude.{◌≡◌, IfOk, IsErrOf};
-ghost use Rattle.passrun.specs.Upgrading.{IsOf, body_in};
-ghost use Rattle.passrun.specs.declared.reading.old_record.OldRecord.{OldRecord as TheOldRecord};
+ghost use Rattle.passrun.specs.upgrading.Upgrading.{IsOf, body_in};
+ghost use Rattle.passrun.specs.declared.upgrading.old_record.OldRecord.{OldRecord as TheOldRecord};
 
 use crate::reading::record::{RecordFault, node_in, text_in};
 use ag_grammar::{Grammar, Item, Terminal};

@@ -2,7 +2,7 @@
 use Rattle.std.proofs.Common.{◌≡◌, ℕ, Bool, true, false, List, [], ◌∷◌, ◌++◌, length, Option, Some, None, Result, Ok, Err, ap, sym, subst, ◌∙◌}
 use Rattle.ag_grammar.specs.declared.direction.Direction.{Direction}
 use Rattle.ag_grammar.specs.grammars.Passes.{other}
-use Rattle.backreader.specs.Turning.{IsFileOf, IsReversed, IsWithinLimits, ReversesTree, Reverses}
+use Rattle.backreader.specs.turning.Turning.{IsFileOf, IsReversed, IsWithinLimits, ReversesTree, Reverses}
 use Rattle.backreader.specs.declared.turning.TurnFault.{TurnFault}
 use Rattle.backreader.specs.declared.turning.TurnFault.TheVariants as turn_fault
 use Rattle.treefile.specs.framing.Backward.{ReadsBack, next_before}
@@ -14,7 +14,7 @@ use Rattle.std.specs.List.{flat_map}
 use Rattle.treefile.proofs.framing.Backward.{reads_apart, reads_same}
 use Rattle.treefile.proofs.framing.Files.{begins}
 use Rattle.treefile.proofs.records.Orders.{one_tree}
-use Rattle.backreader.proofs.Whole.{tree_back}
+use Rattle.backreader.proofs.turnings.Whole.{tree_back}
 
 module _ (arity : List ℕ → Option ℕ) (pass : ℕ) (content : List ℕ) (honest : Bool) (turned : List ℕ) (direction : Direction) (tree : BodyTree) (is : IsFileOf arity direction tree content) where
   is_file : is_tree_file version_two content ≡ true

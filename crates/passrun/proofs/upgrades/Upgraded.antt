@@ -34,16 +34,16 @@ use Rattle.treefile.proofs.records.Records.{bodies_fit}
 use Rattle.treefile.proofs.records.Texts.{texts_are_given}
 use Rattle.backreader.specs.BackState.{IsOver, BackState, Progress}
 use Rattle.backreader.specs.Arities.{arity_of}
-use Rattle.backreader.specs.Turning.{IsFileOf, IsWithinLimits, ReversesTree, Reverses, max_reversed_records}
+use Rattle.backreader.specs.turning.Turning.{IsFileOf, IsWithinLimits, ReversesTree, Reverses, max_reversed_records}
 use Rattle.backreader.specs.declared.turning.TurnFault.{TurnFault}
 use Rattle.backreader.specs.declared.turning.TurnFault.TheVariants as turn_fault
-use Rattle.backreader.proofs.Mirror.{postfix-reverse}
-use Rattle.backreader.proofs.OneTurning.{tree_exact}
+use Rattle.backreader.proofs.turnings.Mirror.{postfix-reverse}
+use Rattle.backreader.proofs.turnings.OneTurning.{tree_exact}
 use Rattle.backreader.proofs.EndingAt.{all_bytes}
 use Rattle.passrun.specs.Faults.{run_fault_of_frame, run_fault_of_turn}
-use Rattle.passrun.specs.Upgrading.{Converted, IsAt, IsConverted, IsUpgradeFault, IsUpgraded, old_file, stored_count}
+use Rattle.passrun.specs.upgrading.Upgrading.{Converted, IsAt, IsConverted, IsUpgradeFault, IsUpgraded, old_file, stored_count}
 use Rattle.passrun.specs.declared.run_fault.RunFault.TheVariants as fault
-use Rattle.passrun.proofs.Converted.{breaks_at, no_first, decidable}
+use Rattle.passrun.proofs.upgrades.Converted.{breaks_at, no_first, decidable}
 use Rattle.passrun.proofs.Damage.{other_pass, readable, unstarted}
 
 module _ (g : Grammar) (accepted : IsAccepted g) where

@@ -20,10 +20,10 @@ use Rattle.treefile.specs.framing.Writing as writing
 use Rattle.treefile.specs.declared.body.Kind.{Kind}
 use Rattle.treefile.specs.declared.body.Kind.TheVariants.{Node, Token}
 use Rattle.backreader.specs.BackState.{IsOver, BackState, Progress}
-use Rattle.backreader.specs.Turning.{max_reversed_levels, max_reversed_records}
+use Rattle.backreader.specs.turning.Turning.{max_reversed_levels, max_reversed_records}
 use Rattle.passrun.specs.Damage.{ArrivesAt, ExceedsDepth, ExceedsNodes, IsReadable, ShowsAt, Source}
-use Rattle.passrun.specs.declared.reading.old_record.OldRecord.{OldRecord}
-use Rattle.passrun.specs.declared.reading.old_record.OldRecord.TheVariants as old
+use Rattle.passrun.specs.declared.upgrading.old_record.OldRecord.{OldRecord}
+use Rattle.passrun.specs.declared.upgrading.old_record.OldRecord.TheVariants as old
 use Rattle.passrun.specs.declared.run_fault.RunFault.{RunFault}
 use Rattle.passrun.specs.declared.run_fault.RunFault.TheVariants as fault
 

@@ -4,7 +4,7 @@ use Rattle.std.specs.Prelude.{option_and_then}
 use Rattle.std.proofs.lemmas.List.Elements.{All-cons, All-nil}
 use Rattle.ag_grammar.specs.declared.direction.Direction.{Direction}
 use Rattle.ag_grammar.specs.declared.direction.Direction.TheVariants.{LeftToRight, RightToLeft}
-use Rattle.backreader.specs.Taking.{levels_before, pending_levels, pending_trees}
+use Rattle.backreader.specs.turning.Taking.{levels_before, pending_levels, pending_trees}
 use Rattle.treefile.specs.records.Orders.{AllMatchArity, BodyForest, BodyTree, MatchesArity, branch, deepest, depth_of, more, none, prefix, prefix_all, tree_count}
 
 -- one more level at the end of equal ones, or at their beginning

@@ -1,0 +1,2 @@
+-- Converting files of version 1.
+pub mod Upgrading
