@@ -18,7 +18,10 @@ second_sound a b h = (parts (fault_of b) None (parts (fault_of a) (first_fault (
 
 pub third_sound : (a b c : Value) → leftmost (a ∷ b ∷ c ∷ []) ≡ None → fault_of c ≡ None
 unfolding leftmost
-third_sound a b c h = (parts (fault_of c) None (parts (fault_of b) (first_fault (fault_of c) None) (parts (fault_of a) (first_fault (fault_of b) (first_fault (fault_of c) None)) h).1).1).0
+third_sound a b c h =
+    (parts (fault_of c) None
+    (parts (fault_of b) (first_fault (fault_of c) None)
+    (parts (fault_of a) (first_fault (fault_of b) (first_fault (fault_of c) None)) h).1).1).0
 
 pub ruleset no_faults = (second_sound, third_sound)
 
@@ -29,17 +32,22 @@ number_is_none : (n : ℤ) → fault_of (value.Num n) ≡ None
 number_is_none n = ap fault_at (outs-Num n)
 
 -- The value of an operator is its left argument's error,
-pub left_is_fault : (o : Operator) (left right : Value) (code : ErrorCode) → left ≡ value.Fault code → value.Fault code ≡ operation_result o left right
+pub left_is_fault : (o : Operator) (left right : Value) (code : ErrorCode) → left ≡ value.Fault code
+    → value.Fault code ≡ operation_result o left right
 unfolding leftmost
 left_is_fault o left right code h =
     let f : fault_of left ≡ Some code = ap fault_of h ∙ fault_is code in
-    sym (ap (λ (x : Option ErrorCode). fault_or (first_fault x (first_fault (fault_of right) None)) (operator_result o left right)) f)
+    sym
+    (ap (λ (x : Option ErrorCode).
+    fault_or (first_fault x (first_fault (fault_of right) None)) (operator_result o left right)) f)
 
 -- and after a number its right argument's.
-pub right_is_fault : (o : Operator) (n : ℤ) (right : Value) (code : ErrorCode) → right ≡ value.Fault code → value.Fault code ≡ operation_result o (value.Num n) right
+pub right_is_fault : (o : Operator) (n : ℤ) (right : Value) (code : ErrorCode) → right ≡ value.Fault code
+    → value.Fault code ≡ operation_result o (value.Num n) right
 unfolding leftmost
 right_is_fault o n right code h =
     let f : fault_of right ≡ Some code = ap fault_of h ∙ fault_is code in
     sym
-    (ap (λ (x : Option ErrorCode). fault_or (first_fault x (first_fault (fault_of right) None)) (operator_result o (value.Num n) right)) (number_is_none n)
+    (ap (λ (x : Option ErrorCode).
+    fault_or (first_fault x (first_fault (fault_of right) None)) (operator_result o (value.Num n) right)) (number_is_none n)
     ∙ ap (λ (x : Option ErrorCode). fault_or (first_fault x None) (operator_result o (value.Num n) right)) f)

@@ -16,7 +16,8 @@ module _ (others : List (Operator × Node)) (i : ℕ) (x : Operator × Node) (lt
 
   -- The rest of a chain has the same value for the value so far as the rest after the operand for the next
   -- value.
-  pub chained_more : (env : ℕ → Value) (bound : List Value) (old new right whole : Value) → x ≡ get_or others i x → right ≡ value_in x.1 env bound → new ≡ operation_result x.0 old right
+  pub chained_more : (env : ℕ → Value) (bound : List Value) (old new right whole : Value) → x ≡ get_or others i x
+      → right ≡ value_in x.1 env bound → new ≡ operation_result x.0 old right
       → chain_value env bound old (map (λ (p : Operator × Node). (p.0, value_in p.1)) (drop i others)) ≡ whole
       → chain_value env bound new (map (λ (p : Operator × Node). (p.0, value_in p.1)) (drop (i + 1) others)) ≡ whole
   chained_more env bound old new right whole same right_is new_is so_far =
@@ -27,4 +28,6 @@ module _ (others : List (Operator × Node)) (i : ℕ) (x : Operator × Node) (lt
       ∙ so_far
 
   pub below_more : (n bound : ℕ) → all_below n bound (drop i others) ≡ true → all_below n bound (drop (i + 1) others) ≡ true
-  below_more n bound below = (and_parts (is_within n (get_or others i x).1 bound) (all_below n bound (drop (i + 1) others)) (sym (ap (all_below n bound) left) ∙ below)).1
+  below_more n bound below =
+      (and_parts (is_within n (get_or others i x).1 bound) (all_below n bound (drop (i + 1) others))
+      (sym (ap (all_below n bound) left) ∙ below)).1

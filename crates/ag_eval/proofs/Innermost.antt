@@ -1,9 +1,11 @@
 -- The values of bindings without the innermost one.
-use Rattle.std.proofs.Common.{Some, ◌≡◌, ◌≢◌, ℕ, zero, suc, ◌<◌, List, [], ◌∷◌, ◌++◌, length, map, slice_get, refl, sym, ap, subst, ◌∙◌, arith}
+use Rattle.std.proofs.Common.{Some, ◌≡◌, ◌≢◌, ℕ, zero, suc, ◌<◌, List, [], ◌∷◌, ◌++◌, length, map, slice_get, refl, sym, ap}
+use Rattle.std.proofs.Common.{subst, ◌∙◌, arith}
 use Rattle.std.proofs.lemmas.List.{length-map, map-append}
 
 -- the outer bindings are unchanged
-pub stays : {A : Type 0} (outer : List A) (innermost : A) (k : ℕ) → k < length (outer ++ innermost ∷ []) → k ≢ length outer → slice_get outer k ≡ slice_get (outer ++ innermost ∷ []) k
+pub stays : {A : Type 0} (outer : List A) (innermost : A) (k : ℕ) → k < length (outer ++ innermost ∷ []) → k ≢ length outer
+    → slice_get outer k ≡ slice_get (outer ++ innermost ∷ []) k
 stays [] innermost zero lt other = absurd (other refl)
 stays [] innermost (suc k) lt other = absurd (omega arith)
 stays (x ∷ xs) innermost zero lt other = refl
@@ -15,8 +17,12 @@ last [] innermost = refl
 last (x ∷ xs) innermost = last xs innermost
 
 -- the same of a view of the bindings
-pub seen_stays : {A B : Type 0} (view : A → B) (whole : List B) (all outer : List A) (innermost : A) (k : ℕ) → map view all ≡ whole → all ≡ outer ++ innermost ∷ [] → k < length whole → k ≢ length outer → slice_get (map view outer) k ≡ slice_get whole k
+pub seen_stays : {A B : Type 0} (view : A → B) (whole : List B) (all outer : List A) (innermost : A) (k : ℕ)
+    → map view all ≡ whole → all ≡ outer ++ innermost ∷ [] → k < length whole → k ≢ length outer
+    → slice_get (map view outer) k ≡ slice_get whole k
 seen_stays view whole all outer innermost k is split lt other =
-    let parts : map view outer ++ view innermost ∷ [] ≡ whole = sym (map-append view outer (innermost ∷ [])) ∙ ap (map view) (sym split) ∙ is in
+    let parts : map view outer ++ view innermost ∷ [] ≡ whole =
+    sym (map-append view outer (innermost ∷ [])) ∙ ap (map view) (sym split) ∙ is in
     let long : length (map view outer) ≡ length outer = length-map outer view in
-    subst (λ ys. slice_get (map view outer) k ≡ slice_get ys k) parts (stays (map view outer) (view innermost) k (subst (λ ys. k < length ys) (sym parts) lt) (λ same. other (same ∙ long)))
+    subst (λ ys. slice_get (map view outer) k ≡ slice_get ys k) parts
+    (stays (map view outer) (view innermost) k (subst (λ ys. k < length ys) (sym parts) lt) (λ same. other (same ∙ long)))

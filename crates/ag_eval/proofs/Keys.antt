@@ -1,5 +1,6 @@
 -- The index of a key among those of a table, present or not.
-use Rattle.std.proofs.Common.{◌≡◌, ℕ, zero, suc, ◌<◌, ◌≤◌, Bool, true, false, cond, nat_cmp, List, [], ◌∷◌, ◌++◌, length, map, get_or, filter, find, None, bytes_eq, refl, sym, ap, ◌∙◌, subst, arith}
+use Rattle.std.proofs.Common.{◌≡◌, ℕ, zero, suc, ◌<◌, ◌≤◌, Bool, true, false, cond, nat_cmp, List, [], ◌∷◌, ◌++◌, length, map}
+use Rattle.std.proofs.Common.{get_or, filter, find, None, bytes_eq, refl, sym, ap, ◌∙◌, subst, arith}
 use Rattle.std.proofs.lemmas.Bool.{and_parts}
 use Rattle.std.proofs.lemmas.Cmp.{nat_list_cmp_total, tied_itself}
 use Rattle.std.proofs.lemmas.Map.Text.{is_eq-slice_cmp}
@@ -38,7 +39,8 @@ other : (a b : List ℕ) → is_before a b ≡ true → bytes_eq a b ≡ false
 other a b p = sym (is_eq-slice_cmp a b) ∙ ap is_eq (less (order a b) p)
 
 other_back : (a b : List ℕ) → is_before a b ≡ true → bytes_eq b a ≡ false
-other_back a b p = sym (is_eq-slice_cmp b a) ∙ ap is_eq (nat_list_cmp_total.antisymm b a ∙ ap ordering_reverse (less (order a b) p))
+other_back a b p =
+    sym (is_eq-slice_cmp b a) ∙ ap is_eq (nat_list_cmp_total.antisymm b a ∙ ap ordering_reverse (less (order a b) p))
 
 -- a key is before all that come after one that is not before it
 past : (key a b : List ℕ) → is_before a key ≡ false → is_before a b ≡ true → is_before key b ≡ true
@@ -54,7 +56,8 @@ after key a n differs = go (order a key) refl n
   where
     go : (r : Ordering) → order a key ≡ r → is_lt r ≡ false → is_before key a ≡ true
     go Less e n = let bad : ⊥ = cc in absurd bad
-    go Equal e n = let bad : true ≡ false = sym (ap is_eq e) ∙ is_eq-slice_cmp a key ∙ differs in let worse : ⊥ = cc in absurd worse
+    go Equal e n = let bad : true ≡ false = sym (ap is_eq e) ∙ is_eq-slice_cmp a key ∙ differs in let worse : ⊥ = cc in
+        absurd worse
     go Greater e n = ap is_lt (nat_list_cmp_total.antisymm key a ∙ ap ordering_reverse e)
 
 same_key : (a b : List ℕ) → is_before a b ≡ false → is_before b a ≡ false → a ≡ b
@@ -63,10 +66,12 @@ same_key a b n m = go (order a b) refl n
     go : (r : Ordering) → order a b ≡ r → is_lt r ≡ false → a ≡ b
     go Less e n = let bad : ⊥ = cc in absurd bad
     go Equal e n = (bytes_eq-Decides a b).0 (sym (is_eq-slice_cmp a b) ∙ ap is_eq e)
-    go Greater e n = let back : is_before b a ≡ true = ap is_lt (nat_list_cmp_total.antisymm b a ∙ ap ordering_reverse e) in let bad : true ≡ false = sym back ∙ m in let worse : ⊥ = cc in absurd worse
+    go Greater e n = let back : is_before b a ≡ true = ap is_lt (nat_list_cmp_total.antisymm b a ∙ ap ordering_reverse e) in
+        let bad : true ≡ false = sym back ∙ m in let worse : ⊥ = cc in absurd worse
 
 -- the first of rising keys is before the next, and these rise
-rising_parts : (a b : List ℕ) (keys : List (List ℕ)) → is_ascending (a ∷ b ∷ keys) ≡ true → (is_before a b ≡ true) × (is_ascending (b ∷ keys) ≡ true)
+rising_parts : (a b : List ℕ) (keys : List (List ℕ)) → is_ascending (a ∷ b ∷ keys) ≡ true
+    → (is_before a b ≡ true) × (is_ascending (b ∷ keys) ≡ true)
 rising_parts a b keys h = and_parts (is_before a b) (is_ascending (b ∷ keys)) h
 
 rising_rest : (a : List ℕ) (keys : List (List ℕ)) → is_ascending (a ∷ keys) ≡ true → is_ascending keys ≡ true
@@ -79,7 +84,8 @@ record AreAfter (key : List ℕ) (pairs : List Pair) : Type 0 where
   prefix : filter (λ (p : Pair). is_before p.0 key) pairs ≡ []
   absent : find (λ (p : Pair). bytes_eq p.0 key) pairs ≡ None
 
-later : (key a : List ℕ) (pairs : List Pair) → is_before a key ≡ false → is_ascending (a ∷ map key_of pairs) ≡ true → AreAfter key pairs
+later : (key a : List ℕ) (pairs : List Pair) → is_before a key ≡ false → is_ascending (a ∷ map key_of pairs) ≡ true
+    → AreAfter key pairs
 later key a [] n rising = record { back = refl; prefix = refl; absent = refl }
 later key a (x ∷ xs) n rising =
     let parts = rising_parts a x.0 (map key_of xs) rising in
@@ -97,8 +103,10 @@ Fronts key pairs i = (k : ℕ) (d : Pair) → k < i → is_before (get_or pairs 
 abbrev Backs : List ℕ → List Pair → ℕ → Type 0
 Backs key pairs i = (k : ℕ) (d : Pair) → i ≤ k → k < length pairs → is_before (get_or pairs k d).0 key ≡ false
 
-index_found : (key : List ℕ) (pairs : List Pair) (i : ℕ) → is_ascending (map key_of pairs) ≡ true → i ≤ length pairs → Fronts key pairs i → Backs key pairs i → IsIndex key pairs i
-index_found key [] zero rising le fronts backs = record { prefix = refl; occurs = λ same. let bad : ⊥ = cc in absurd bad; belongs = λ differs. (refl, refl) }
+index_found : (key : List ℕ) (pairs : List Pair) (i : ℕ) → is_ascending (map key_of pairs) ≡ true → i ≤ length pairs
+    → Fronts key pairs i → Backs key pairs i → IsIndex key pairs i
+index_found key [] zero rising le fronts backs =
+    record { prefix = refl; occurs = λ same. let bad : ⊥ = cc in absurd bad; belongs = λ differs. (refl, refl) }
 index_found key [] (suc i) rising le fronts backs = absurd (omega arith)
 index_found key (x ∷ xs) zero rising le fronts backs =
     let n : is_before x.0 key ≡ false = backs zero x (omega arith) (omega arith) in
@@ -114,7 +122,9 @@ index_found key (x ∷ xs) zero rising le fronts backs =
     }
 index_found key (x ∷ xs) (suc i) rising le fronts backs =
     let here : is_before x.0 key ≡ true = fronts zero x (omega arith) in
-    let rest = index_found key xs i (rising_rest x.0 (map key_of xs) rising) (omega arith) (λ k d lt. fronts (suc k) d (omega arith)) (λ k d le lt. backs (suc k) d (omega arith) (omega arith)) in
+    let rest =
+    index_found key xs i (rising_rest x.0 (map key_of xs) rising) (omega arith) (λ k d lt. fronts (suc k) d (omega arith))
+    (λ k d le lt. backs (suc k) d (omega arith) (omega arith)) in
     let n : is_before key x.0 ≡ false = not_back x.0 key here in
     let differs : bytes_eq x.0 key ≡ false = other x.0 key here in
     record {
@@ -124,26 +134,34 @@ index_found key (x ∷ xs) (suc i) rising le fronts backs =
     }
 
 -- the keys before a key come first
-first_least : (a : List ℕ) (xs : List Pair) (j : ℕ) (d : Pair) → is_ascending (a ∷ map key_of xs) ≡ true → j < length xs → is_before a (get_or xs j d).0 ≡ true
+first_least : (a : List ℕ) (xs : List Pair) (j : ℕ) (d : Pair) → is_ascending (a ∷ map key_of xs) ≡ true → j < length xs
+    → is_before a (get_or xs j d).0 ≡ true
 first_least a [] j d rising lt = absurd (omega arith)
 first_least a (x ∷ xs) zero d rising lt = (rising_parts a x.0 (map key_of xs) rising).0
 first_least a (x ∷ xs) (suc j) d rising lt =
     let parts = rising_parts a x.0 (map key_of xs) rising in
     before_trans a x.0 (get_or xs j d).0 parts.0 (first_least x.0 xs j d parts.1 (omega arith))
 
-pub partitioned : (key : List ℕ) (pairs : List Pair) → is_ascending (map key_of pairs) ≡ true → IsPartitionedBy (λ (p : Pair). is_before p.0 key) pairs
+pub partitioned : (key : List ℕ) (pairs : List Pair) → is_ascending (map key_of pairs) ≡ true
+    → IsPartitionedBy (λ (p : Pair). is_before p.0 key) pairs
 partitioned key [] rising i j d le lt h = absurd (omega arith)
 partitioned key (x ∷ xs) rising zero zero d le lt h = h
-partitioned key (x ∷ xs) rising zero (suc j) d le lt h = before_trans x.0 (get_or xs j d).0 key (first_least x.0 xs j d rising (omega arith)) h
+partitioned key (x ∷ xs) rising zero (suc j) d le lt h =
+    before_trans x.0 (get_or xs j d).0 key (first_least x.0 xs j d rising (omega arith)) h
 partitioned key (x ∷ xs) rising (suc i) zero d le lt h = absurd (omega arith)
-partitioned key (x ∷ xs) rising (suc i) (suc j) d le lt h = partitioned key xs (rising_rest x.0 (map key_of xs) rising) i j d (omega arith) (omega arith) h
+partitioned key (x ∷ xs) rising (suc i) (suc j) d le lt h =
+    partitioned key xs (rising_rest x.0 (map key_of xs) rising) i j d (omega arith) (omega arith) h
 
 -- the end of a binary search is the index
-pub index_is : (key : List ℕ) (pairs : List Pair) (i : ℕ) → is_ascending (map key_of pairs) ≡ true → i ≤ length pairs → IsPartitionPoint (λ (p : Pair). is_before p.0 key ≡ true) (λ (p : Pair). is_before p.0 key ≡ false) pairs i → IsIndex key pairs i
-index_is key pairs i rising le point = index_found key pairs i rising le (λ k d lt. point.0 k d (omega arith) lt) (λ k d le lt. point.1 k d le lt)
+pub index_is : (key : List ℕ) (pairs : List Pair) (i : ℕ) → is_ascending (map key_of pairs) ≡ true → i ≤ length pairs
+    → IsPartitionPoint (λ (p : Pair). is_before p.0 key ≡ true) (λ (p : Pair). is_before p.0 key ≡ false) pairs i
+    → IsIndex key pairs i
+index_is key pairs i rising le point =
+    index_found key pairs i rising le (λ k d lt. point.0 k d (omega arith) lt) (λ k d le lt. point.1 k d le lt)
 
 -- keys also rise with one more, or with a key replaced by itself
-rising_pair : (a b : List ℕ) (keys : List (List ℕ)) → is_before a b ≡ true → is_ascending (b ∷ keys) ≡ true → is_ascending (a ∷ b ∷ keys) ≡ true
+rising_pair : (a b : List ℕ) (keys : List (List ℕ)) → is_before a b ≡ true → is_ascending (b ∷ keys) ≡ true
+    → is_ascending (a ∷ b ∷ keys) ≡ true
 rising_pair a b keys p q = rw (p, q) refl
 
 abbrev Rises : List Pair → Type 0
@@ -153,11 +171,20 @@ pub rising_with : (key : List ℕ) (v : Value) (pairs : List Pair) → Rises pai
 rising_with key v [] rising = refl
 rising_with key v (x ∷ xs) rising = go (is_before x.0 key) refl (rising_with key v xs (rising_rest x.0 (map key_of xs) rising))
   where
-    head : (ys : List Pair) → is_ascending (x.0 ∷ map key_of ys) ≡ true → is_before x.0 key ≡ true → Rises (with_pair key v ys) → Rises (x ∷ with_pair key v ys)
+    head : (ys : List Pair) → is_ascending (x.0 ∷ map key_of ys) ≡ true → is_before x.0 key ≡ true → Rises (with_pair key v ys)
+        → Rises (x ∷ with_pair key v ys)
     head [] rising here rest = rising_pair x.0 key [] here refl
     head (y ∷ ys) rising here rest = inner (is_before y.0 key) refl rest
       where
-        inner : (b : Bool) → is_before y.0 key ≡ b → Rises (cond b (y ∷ filter (λ (p : Pair). is_before p.0 key) ys) (filter (λ (p : Pair). is_before p.0 key) ys) ++ (key, v) ∷ filter (λ (p : Pair). is_before key p.0) (y ∷ ys)) → Rises (x ∷ (cond b (y ∷ filter (λ (p : Pair). is_before p.0 key) ys) (filter (λ (p : Pair). is_before p.0 key) ys) ++ (key, v) ∷ filter (λ (p : Pair). is_before key p.0) (y ∷ ys)))
+        inner : (b : Bool) → is_before y.0 key ≡ b
+            → Rises
+            (cond b (y ∷ filter (λ (p : Pair). is_before p.0 key) ys) (filter (λ (p : Pair). is_before p.0 key) ys)
+            ++ (key, v) ∷ filter (λ (p : Pair). is_before key p.0) (y ∷ ys))
+            → Rises
+            (x
+            ∷ (cond b (y ∷ filter (λ (p : Pair). is_before p.0 key) ys)
+            (filter (λ (p : Pair). is_before p.0 key) ys) ++ (key, v) ∷ filter
+            (λ (p : Pair). is_before key p.0) (y ∷ ys)))
         inner true e rest = rising_pair x.0 y.0 _ (rising_parts x.0 y.0 (map key_of ys) rising).0 rest
         inner false e rest =
             let none = (later key y.0 ys e (rising_parts x.0 y.0 (map key_of ys) rising).1).prefix in

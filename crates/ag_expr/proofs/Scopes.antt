@@ -1,14 +1,17 @@
 -- The names in scope, as the code keeps them.
 use Rattle.std.proofs.lemmas.List.{map-append}
-use Rattle.std.proofs.Common.{◌∙◌, length, option_to_list, arith, append-nil, ◌≡◌, ℕ, ◌+◌, List, [], ◌∷◌, ◌++◌, map, Option, Some, None, Bor, bytes_eq, cond, refl, ap, sym}
+use Rattle.std.proofs.Common.{◌∙◌, length, option_to_list, arith, append-nil, ◌≡◌, ℕ, ◌+◌, List, [], ◌∷◌, ◌++◌, map, Option, Some}
+use Rattle.std.proofs.Common.{None, Bor, bytes_eq, cond, refl, ap, sym}
 use Rattle.ag_expr.specs.language.Names.{Names, last_from, binding_in, without_innermost}
 
-last_map : (name : List ℕ) (at : ℕ) (found : Option ℕ) (ys : List (Bor (List ℕ))) → last_from (λ y. bytes_eq y name) at found (map (λ y. y.now) ys) ≡ last_from (λ y. bytes_eq y.now name) at found ys
+last_map : (name : List ℕ) (at : ℕ) (found : Option ℕ) (ys : List (Bor (List ℕ)))
+    → last_from (λ y. bytes_eq y name) at found (map (λ y. y.now) ys) ≡ last_from (λ y. bytes_eq y.now name) at found ys
 last_map name at found [] = refl
 last_map name at found (y ∷ ys) = last_map name (at + 1) (cond (bytes_eq y.now name) (Some at) found) ys
 
 -- the index of a name in a list of borrowed names
-pub last_lent : (name : List ℕ) (ys : List (Bor (List ℕ))) → binding_in (map (λ y. y.now) ys) name ≡ last_from (λ y. bytes_eq y.now name) 0 None ys
+pub last_lent : (name : List ℕ) (ys : List (Bor (List ℕ)))
+    → binding_in (map (λ y. y.now) ys) name ≡ last_from (λ y. bytes_eq y.now name) 0 None ys
 last_lent name ys = last_map name 0 None ys
 
 -- all names but the innermost
@@ -18,7 +21,10 @@ outer_end (x ∷ []) name = refl
 outer_end (x ∷ y ∷ ys) name = ap (λ zs. x ∷ zs) (outer_end (y ∷ ys) name)
 
 -- the innermost name is removed
-pub unbound : (old new : List (Bor (List ℕ))) (r : Option (Bor (List ℕ))) → old ≡ new ++ option_to_list r → (r ≡ None → length old ≡ 0) → map (λ y. y.now) new ≡ without_innermost (map (λ y. y.now) old)
+pub unbound : (old new : List (Bor (List ℕ))) (r : Option (Bor (List ℕ))) → old ≡ new ++ option_to_list r
+    → (r ≡ None → length old ≡ 0) → map (λ y. y.now) new ≡ without_innermost (map (λ y. y.now) old)
 unbound [] new None e none = let same = e ∙ append-nil new in ap (map (λ y. y.now)) (sym same)
 unbound (x ∷ old) new None e none = let bad : ⊥ = omega (arith, none refl) in absurd bad
-unbound old new (Some x) e none = sym (ap (λ ys. without_innermost (map (λ y. y.now) ys)) e ∙ ap without_innermost (map-append (λ y. y.now) new (x ∷ [])) ∙ outer_end (map (λ y. y.now) new) x.now)
+unbound old new (Some x) e none =
+    sym (ap (λ ys. without_innermost (map (λ y. y.now) ys)) e ∙ ap without_innermost (map-append (λ y. y.now) new (x ∷ []))
+    ∙ outer_end (map (λ y. y.now) new) x.now)

@@ -1,5 +1,6 @@
 -- The examples of jobs that were worked out by hand. A search over the bytes shows that no separator begins before an offset.
-use Rattle.std.proofs.Common.{ℕ, zero, suc, ◌≡◌, ◌+◌, ◌<◌, ◌≤◌, inl, inr, ◌∙◌, ap, refl, subst, List, [], ◌∷◌, ◌++◌, length, codes, Bool, true, false, not, ◌==◌, ◌&&◌, ◌||◌, arith}
+use Rattle.std.proofs.Common.{ℕ, zero, suc, ◌≡◌, ◌+◌, ◌<◌, ◌≤◌, inl, inr, ◌∙◌, ap, refl, subst, List, [], ◌∷◌, ◌++◌, length}
+use Rattle.std.proofs.Common.{codes, Bool, true, false, not, ◌==◌, ◌&&◌, ◌||◌, arith}
 use Rattle.std.proofs.lemmas.Bool.{and_parts}
 use Rattle.std.proofs.lemmas.List.{length-append}
 use Rattle.ag_job.specs.Jobs.{AreWholeLines, HasNoSeparator, IsCut, IsSeparator}
@@ -47,31 +48,43 @@ is_free before [] (suc n) = true
 is_free before (byte ∷ bytes) (suc n) = not ((before == 10) && separates (byte ∷ bytes)) && is_free byte bytes n
 
 -- then a text that is followed by a line `%%` has at least n bytes
-after_free : (n before : ℕ) (text rest : List ℕ) → is_free before (text ++ rest) n ≡ true → last_after before text ≡ 10 → separates rest ≡ true → n ≤ length text
+after_free : (n before : ℕ) (text rest : List ℕ) → is_free before (text ++ rest) n ≡ true → last_after before text ≡ 10
+    → separates rest ≡ true → n ≤ length text
 after_free zero before text rest free ended separated = omega arith
 after_free (suc n) before [] [] free ended separated = let bad : ⊥ = cc in absurd bad
 after_free (suc n) before [] (byte ∷ rest) free ended separated =
-    let here : not ((10 == 10) && true) && is_free byte rest n ≡ true = subst (λ it. not ((10 == 10) && it) && is_free byte rest n ≡ true) separated (subst (λ it. not ((it == 10) && separates (byte ∷ rest)) && is_free byte rest n ≡ true) ended free) in
+    let here : not ((10 == 10) && true) && is_free byte rest n ≡ true =
+    subst (λ it. not ((10 == 10) && it) && is_free byte rest n ≡ true) separated
+    (subst (λ it. not ((it == 10) && separates (byte ∷ rest)) && is_free byte rest n ≡ true) ended free) in
     let bad : ⊥ = cc in absurd bad
 after_free (suc n) before (byte ∷ text) rest free ended separated =
-    let more : n ≤ length text = after_free n byte text rest ((and_parts (not ((before == 10) && separates (byte ∷ (text ++ rest)))) (is_free byte (text ++ rest) n) free).1) ended separated in
+    let more : n ≤ length text =
+    after_free n byte text rest
+    ((and_parts (not ((before == 10) && separates (byte ∷ (text ++ rest)))) (is_free byte (text ++ rest) n) free).1) ended
+    separated in
     omega (arith, more)
 
 free_until : (n : ℕ) (bytes text sentence : List ℕ) → is_free 10 bytes n ≡ true → IsCut bytes text sentence → n ≤ length text
-free_until n bytes text sentence free cut = after_free n 10 text (cut.separator ++ sentence) (subst (λ all. is_free 10 all n ≡ true) cut.all free) (whole_ends text cut.lines) (separated cut.separator sentence cut.is_separator)
+free_until n bytes text sentence free cut =
+    after_free n 10 text (cut.separator ++ sentence) (subst (λ all. is_free 10 all n ≡ true) cut.all free)
+    (whole_ends text cut.lines) (separated cut.separator sentence cut.is_separator)
 
 -- if no line `%%` begins at any offset, the bytes have no separator
 free_of_all : (bytes : List ℕ) → is_free 10 bytes (length bytes) ≡ true → HasNoSeparator bytes
 free_of_all bytes free text sentence cut =
     let far = free_until (length bytes) bytes text sentence free cut in
-    let long : length bytes ≡ length text + (length cut.separator + length sentence) = ap (λ (w : List ℕ). length w) cut.all ∙ length-append text (cut.separator ++ sentence) ∙ ap (λ n. length text + n) (length-append cut.separator sentence) in
+    let long : length bytes ≡ length text + (length cut.separator + length sentence) =
+    ap (λ (w : List ℕ). length w) cut.all ∙ length-append text (cut.separator ++ sentence)
+    ∙ ap (λ n. length text + n) (length-append cut.separator sentence) in
     let some = separator_long cut.separator sentence cut.is_separator in
     omega (arith, far, long, some)
   where
     separator_long : (separator rest : List ℕ) → IsSeparator separator rest → 0 < length separator
     separator_long separator rest (inl e) = let n : length separator ≡ 3 = ap (λ (w : List ℕ). length w) e in omega (arith, n)
-    separator_long separator rest (inr (inl e)) = let n : length separator ≡ 4 = ap (λ (w : List ℕ). length w) e in omega (arith, n)
-    separator_long separator rest (inr (inr (e, none))) = let n : length separator ≡ 2 = ap (λ (w : List ℕ). length w) e in omega (arith, n)
+    separator_long separator rest (inr (inl e)) = let n : length separator ≡ 4 = ap (λ (w : List ℕ). length w) e in
+        omega (arith, n)
+    separator_long separator rest (inr (inr (e, none))) = let n : length separator ≡ 2 = ap (λ (w : List ℕ). length w) e in
+        omega (arith, n)
 
 pub cr_and_lf_end : CrAndLfEnd
 cr_and_lf_end = record {

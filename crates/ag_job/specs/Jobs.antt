@@ -17,7 +17,8 @@ AreWholeLines text = (text ≡ []) ⊎ ((prefix : List ℕ) × (text ≡ prefix 
 
 -- The line `%%` with its end. A CR directly before its LF is ignored. If it is the last line, it may have neither LF nor CR.
 abbrev pub IsSeparator : (separator rest : List ℕ) → Type 0
-IsSeparator separator rest = (separator ≡ codes "%%\n") ⊎ ((separator ≡ codes "%%\r\n") ⊎ ((separator ≡ codes "%%") × (rest ≡ [])))
+IsSeparator separator rest =
+    (separator ≡ codes "%%\n") ⊎ ((separator ≡ codes "%%\r\n") ⊎ ((separator ≡ codes "%%") × (rest ≡ [])))
 
 -- The bytes are a text of whole lines, a line `%%`, and a sentence.
 pub record IsCut (bytes text sentence : List ℕ) : Type 0 where
@@ -54,4 +55,5 @@ job_fault_of read.NoMemory = fault.NoMemory
 
 -- A job has at most one grammar and one sentence.
 abbrev pub OnePairOfParts : Type 0
-OnePairOfParts = (bytes text sentence text' sentence' : List ℕ) → IsJob bytes text sentence → IsJob bytes text' sentence' → (text ≡ text') × (sentence ≡ sentence')
+OnePairOfParts = (bytes text sentence text' sentence' : List ℕ) → IsJob bytes text sentence → IsJob bytes text' sentence'
+    → (text ≡ text') × (sentence ≡ sentence')

@@ -1,5 +1,6 @@
 -- The answer to each sentence, by a plain function.
-use Rattle.std.proofs.Common.{◌≡◌, ℕ, zero, suc, ◌+◌, ◌-◌, ◌<◌, ◌≤◌, Bool, true, false, cond, nat_lt, List, [], ◌∷◌, ◌++◌, length, drop, Option, Some, None, Result, Ok, Err, chars, refl, ap, subst, ◌∙◌, arith}
+use Rattle.std.proofs.Common.{◌≡◌, ℕ, zero, suc, ◌+◌, ◌-◌, ◌<◌, ◌≤◌, Bool, true, false, cond, nat_lt, List, [], ◌∷◌, ◌++◌, length}
+use Rattle.std.proofs.Common.{drop, Option, Some, None, Result, Ok, Err, chars, refl, ap, subst, ◌∙◌, arith}
 use Rattle.std.proofs.lemmas.Bool.Decides.{nat_tests}
 use Rattle.std.proofs.lemmas.List.{length-append, length-drop}
 use Rattle.std.proofs.lemmas.Str.{is_utf8-from_IsUtf8, IsUtf8-from_is_utf8}
@@ -70,28 +71,51 @@ are_taken : (v : Vocabulary) → IsClean v → (n at : ℕ) (cs : List ℕ) → 
 are_taken v clean zero at cs less = absurd (omega arith)
 are_taken v clean (suc n) at cs less = go (short_of (word_from v (after_separators cs))) refl (are_taken v clean n)
   where
-    go : (o : Option LeadingWord) → short_of (word_from v (after_separators cs)) ≡ o → ((at : ℕ) (cs : List ℕ) → length cs < n → AreTaken v at cs (taken_from v n at cs)) → AreTaken v at cs (taken_from v (suc n) at cs)
-    go None e more = rw (taken_at, e) (record { are = spaced v at cs _ _ _ (ended _ _); short = each_none _; ends = record { plain = plain_after cs; none = e } })
+    go : (o : Option LeadingWord) → short_of (word_from v (after_separators cs)) ≡ o
+        → ((at : ℕ) (cs : List ℕ) → length cs < n → AreTaken v at cs (taken_from v n at cs))
+        → AreTaken v at cs (taken_from v (suc n) at cs)
+    go None e more =
+        rw (taken_at, e)
+        (record {
+          are = spaced v at cs _ _ _ (ended _ _);
+          short = each_none _;
+          ends = record { plain = plain_after cs; none = e };
+        })
     go (Some f) e more =
         let (first, short) = short_exact (word_from v (after_separators cs)) f e in
-        let cut : IsLeadingToken v (after_separators cs) f = subst (IsWordIn v (after_separators cs)) first (word_is v (after_separators cs)) in
+        let cut : IsLeadingToken v (after_separators cs) f =
+        subst (IsWordIn v (after_separators cs)) first (word_is v (after_separators cs)) in
         let some = word_some v f.kind cut.word f.lex clean.some cut.token.is in
         let here = at + prefix_len is_separator cs in
-        let next = more (here + (width (after_separators cs) - width f.rest)) f.rest (omega (arith, ap length cut.split, length-append cut.word f.rest, length-drop (prefix_len is_separator cs) cs)) in
-        rw (taken_at, e) (record { are = spaced v at cs _ _ _ (one_more v here (after_separators cs) f _ _ _ first next.are); short = each_more _ _ _ short next.short; ends = next.ends })
+        let next =
+        more (here + (width (after_separators cs) - width f.rest)) f.rest
+        (omega (
+          arith,
+          ap length cut.split,
+          length-append cut.word f.rest,
+          length-drop (prefix_len is_separator cs) cs,
+        )) in
+        rw (taken_at, e)
+        (record {
+          are = spaced v at cs _ _ _ (one_more v here (after_separators cs) f _ _ _ first next.are);
+          short = each_more _ _ _ short next.short;
+          ends = next.ends;
+        })
 
 cut_is : (v : Vocabulary) → IsClean v → (cs : List ℕ) (o : Option LeadingWord) → IsWordIn v cs o → word_from v cs ≡ o
 cut_is v clean cs o is = one_word v clean cs (word_from v cs) o (word_is v cs) is
 
 -- characters that do not begin with a separator begin with the next token
-at_once : (v : Vocabulary) (n at : ℕ) (cs : List ℕ) → BeginsNoSeparator cs → taken_from v (suc n) at cs ≡ taken_at (taken_from v n) v at cs
+at_once : (v : Vocabulary) (n at : ℕ) (cs : List ℕ) → BeginsNoSeparator cs
+    → taken_from v (suc n) at cs ≡ taken_at (taken_from v n) v at cs
 at_once v n at cs plain =
     let none = no_spaces cs plain in
     let there : at + prefix_len is_separator cs ≡ at = omega (arith, none) in
     λ i. taken_at (taken_from v n) v (there i) (drop (none i) cs)
 
 -- tokens that end where no more can be read are those that the function reads
-taken_is : (v : Vocabulary) → IsClean v → (n : ℕ) {at : ℕ} {cs : List ℕ} {ts : List Token} {end : ℕ} {rest : List ℕ} → AreTokens v at cs ts end rest → AreShort ts → IsEnd v rest → length ts < n
+taken_is : (v : Vocabulary) → IsClean v → (n : ℕ) {at : ℕ} {cs : List ℕ} {ts : List Token} {end : ℕ} {rest : List ℕ}
+    → AreTokens v at cs ts end rest → AreShort ts → IsEnd v rest → length ts < n
     → taken_from v n at cs ≡ record { tokens = ts; end = end; rest = rest }
 taken_is v clean zero are short ends less = absurd (omega arith)
 taken_is v clean (suc n) (ended at cs) short ends less = at_once v n at cs ends.plain ∙ rw (taken_at, ends.none) refl
@@ -100,12 +124,14 @@ taken_is v clean (suc n) (separator at c cs ts end rest h are) short ends less =
     let there : at + prefix_len is_separator (c ∷ cs) ≡ (at + 1) + prefix_len is_separator cs = omega (arith, more) in
     (λ i. taken_at (taken_from v n) v (there i) (drop (more i) (c ∷ cs))) ∙ taken_is v clean (suc n) are short ends less
 taken_is v clean (suc n) (word at cs w following lex t ts end rest split is are) short ends less =
-    let first : word_from v cs ≡ Some (record { kind = t; lex = lex; rest = following }) = cut_is v clean cs (Some _) (record { word = w; split = split; token = is }) in
+    let first : word_from v cs ≡ Some (record { kind = t; lex = lex; rest = following }) =
+    cut_is v clean cs (Some _) (record { word = w; split = split; token = is }) in
     let brief : length lex ≤ max_token_bytes = short 0 _ refl in
     let not_long : nat_lt max_token_bytes (length lex) ≡ false = grind (arith, nat_tests) in
     let there : at + (width cs - width following) ≡ at + width w = omega (arith, ap width split, width-append w following) in
     let more = taken_is v clean n are (λ i u e. short (suc i) u e) ends (omega arith) in
-    at_once v n at cs (token_plain v clean cs t lex w following split is) ∙ rw (taken_at, first, not_long, there) (ap (after_one (record { kind = t; lex = lex; at = at })) more)
+    at_once v n at cs (token_plain v clean cs t lex w following split is)
+    ∙ rw (taken_at, first, not_long, there) (ap (after_one (record { kind = t; lex = lex; at = at })) more)
 
 -- ---- the answer
 
@@ -121,21 +147,44 @@ answer_by v t = ended_by t.rest (word_from v t.rest) t.tokens t.end
 -- the answer to a sentence
 abbrev pub answer_to : Vocabulary → List ℕ → Result (List Token) ScanFault
 answer_to v s =
-    cond (nat_lt max_sentence_bytes (length s)) (Err fault.TooLong) (cond (is_utf8 s) (answer_by v (taken_from v (suc (length (chars s))) 0 (chars s))) (Err (fault.BadUtf8 (utf8_valid_len s))))
+    cond (nat_lt max_sentence_bytes (length s)) (Err fault.TooLong)
+    (cond (is_utf8 s) (answer_by v (taken_from v (suc (length (chars s))) 0 (chars s)))
+    (Err (fault.BadUtf8 (utf8_valid_len s))))
 
 answers : (v : Vocabulary) (s : List ℕ) → IsReadable s → (t : Taken) → AreTaken v 0 (chars s) t → IsAnswer v s (answer_by v t)
 answers v s readable t taken = go t.rest taken.are taken.ends (word_from v t.rest) (word_is v t.rest) refl
   where
-    go : (cs : List ℕ) → AreTokens v 0 (chars s) t.tokens t.end cs → IsEnd v cs → (o : Option LeadingWord) → IsWordIn v cs o → word_from v cs ≡ o → IsAnswer v s (ended_by cs o t.tokens t.end)
+    go : (cs : List ℕ) → AreTokens v 0 (chars s) t.tokens t.end cs → IsEnd v cs → (o : Option LeadingWord) → IsWordIn v cs o
+        → word_from v cs ≡ o → IsAnswer v s (ended_by cs o t.tokens t.end)
     go [] are ends o is e =
         let end : t.end ≡ length s = omega (arith, as_wide are, width-chars s readable.utf8) in
         record { readable = readable; tokens = record { are = rw end at are; short = taken.short } }
-    go (c ∷ cs) are ends None none e =
-        (readable, record { before = t.tokens; first = c; rest = cs; reaches = record { are = are; short = taken.short }; no_separator = ends.plain; no_word = none })
+    go (c ∷ cs) are ends None none e = (
+      readable,
+      record {
+        before = t.tokens;
+        first = c;
+        rest = cs;
+        reaches = record { are = are; short = taken.short };
+        no_separator = ends.plain;
+        no_word = none;
+      },
+    )
     go (c ∷ cs) are ends (Some f) cut e =
         let none = ends.none in
-        let long : max_token_bytes < length f.lex = grind (arith, nat_tests) in
-        (readable, record { before = t.tokens; kind = f.kind; lex = f.lex; word = cut.word; rest = f.rest; reaches = record { are = rw cut.split at are; short = taken.short }; token = cut.token; long = long })
+        let long : max_token_bytes < length f.lex = grind (arith, nat_tests) in (
+          readable,
+          record {
+            before = t.tokens;
+            kind = f.kind;
+            lex = f.lex;
+            word = cut.word;
+            rest = f.rest;
+            reaches = record { are = rw cut.split at are; short = taken.short };
+            token = cut.token;
+            long = long;
+          },
+        )
 
 -- the result of the function is an answer,
 answered : (v : Vocabulary) → IsClean v → (s : List ℕ) → IsAnswer v s (answer_to v s)
@@ -143,13 +192,21 @@ answered v clean s = go (nat_lt max_sentence_bytes (length s)) (is_utf8 s) refl 
   where
     go : (long utf8 : Bool) → nat_lt max_sentence_bytes (length s) ≡ long → is_utf8 s ≡ utf8 → IsAnswer v s (answer_to v s)
     go true utf8 e f = rw e (grind (arith, nat_tests))
-    go false false e f = let short : length s ≤ max_sentence_bytes = grind (arith, nat_tests) in rw (e, f) (short, λ is. (let utf8 = is_utf8-from_IsUtf8 s is in cc), refl)
+    go false false e f = let short : length s ≤ max_sentence_bytes = grind (arith, nat_tests) in
+        rw (e, f) (short, λ is. (let utf8 = is_utf8-from_IsUtf8 s is in cc), refl)
     go false true e f =
         let short : length s ≤ max_sentence_bytes = grind (arith, nat_tests) in
-        rw (e, f) (answers v s (record { short = short; utf8 = IsUtf8-from_is_utf8 s f }) _ (are_taken v clean (suc (length (chars s))) 0 (chars s) (omega arith)))
+        rw (e, f)
+        (answers v s (record { short = short; utf8 = IsUtf8-from_is_utf8 s f }) _
+        (are_taken v clean (suc (length (chars s))) 0 (chars s) (omega arith)))
 
 pub accepted_clean : (g : Grammar) → IsAccepted g → IsClean (vocabulary_of g)
-accepted_clean g is = record { some = λ i x e. (is.limits.literal_bytes i x e).0; plain = is.named.without_separators; differ = is.named.literals_differ }
+accepted_clean g is =
+    record {
+      some = λ i x e. (is.limits.literal_bytes i x e).0;
+      plain = is.named.without_separators;
+      differ = is.named.literals_differ;
+    }
 
 pub an_answer : AnAnswer
 an_answer g accepted s = (answer_to (vocabulary_of g) s, answered (vocabulary_of g) (accepted_clean g accepted) s)
@@ -157,25 +214,32 @@ an_answer g accepted s = (answer_to (vocabulary_of g) s, answered (vocabulary_of
 -- ---- there is only one answer
 
 module _ (v : Vocabulary) (clean : IsClean v) (s : List ℕ) where
-  reached : {ts : List Token} {end : ℕ} {rest : List ℕ} → IsReadable s → Reaches v (chars s) ts end rest → IsEnd v rest → answer_to v s ≡ ended_by rest (word_from v rest) ts end
+  reached : {ts : List Token} {end : ℕ} {rest : List ℕ} → IsReadable s → Reaches v (chars s) ts end rest → IsEnd v rest
+      → answer_to v s ≡ ended_by rest (word_from v rest) ts end
   reached readable reaches ends =
       let short = readable.short in
       let not_far : nat_lt max_sentence_bytes (length s) ≡ false = grind (arith, nat_tests) in
       let few = fewer clean.some reaches.are in
-      rw (not_far, is_utf8-from_IsUtf8 s readable.utf8) (ap (answer_by v) (taken_is v clean (suc (length (chars s))) reaches.are reaches.short ends (omega arith)))
+      rw (not_far, is_utf8-from_IsUtf8 s readable.utf8)
+      (ap (answer_by v) (taken_is v clean (suc (length (chars s))) reaches.are reaches.short ends (omega arith)))
 
   no_word_left : word_from v [] ≡ None
-  no_word_left = cut_is v clean [] None (λ w more split is. (let some = word_some v is.0 w is.1 clean.some is.2 in omega (arith, ap length split, length-append w more)))
+  no_word_left =
+      cut_is v clean [] None (λ w more split is.
+      (let some = word_some v is.0 w is.1 clean.some is.2 in omega (arith, ap length split, length-append w more)))
 
-  long_left : (cs : List ℕ) (f : LeadingWord) (ts : List Token) (at : ℕ) → IsLeadingToken v cs f → ended_by cs (Some f) ts at ≡ Err (fault.LongToken at)
-  long_left [] f ts at cut = let some = word_some v f.kind cut.word f.lex clean.some cut.token.is in absurd (omega (arith, ap length cut.split, length-append cut.word f.rest))
+  long_left : (cs : List ℕ) (f : LeadingWord) (ts : List Token) (at : ℕ) → IsLeadingToken v cs f
+      → ended_by cs (Some f) ts at ≡ Err (fault.LongToken at)
+  long_left [] f ts at cut = let some = word_some v f.kind cut.word f.lex clean.some cut.token.is in
+      absurd (omega (arith, ap length cut.split, length-append cut.word f.rest))
   long_left (c ∷ cs) f ts at cut = refl
 
   -- and each answer is the result of the function
   pub is_answer : (q : Result (List Token) ScanFault) → IsAnswer v s q → answer_to v s ≡ q
   is_answer (Ok ts) is = reached is.readable is.tokens (record { plain = tt; none = rw no_word_left refl })
   is_answer (Err fault.NoMemory) is = absurd is
-  is_answer (Err fault.TooLong) is = let far : nat_lt max_sentence_bytes (length s) ≡ true = grind (arith, nat_tests) in rw far refl
+  is_answer (Err fault.TooLong) is = let far : nat_lt max_sentence_bytes (length s) ≡ true = grind (arith, nat_tests) in
+      rw far refl
   is_answer (Err (fault.BadUtf8 at)) (short, refused, there) =
       let not_far : nat_lt max_sentence_bytes (length s) ≡ false = grind (arith, nat_tests) in
       let no_text : is_utf8 s ≡ false = let is = IsUtf8-from_is_utf8 s in grind (arith, refused, is) in
@@ -190,4 +254,5 @@ module _ (v : Vocabulary) (clean : IsClean v) (s : List ℕ) where
       let far = long.long in
       let is_long : nat_lt max_token_bytes (length long.lex) ≡ true = grind (arith, nat_tests) in
       let plain = token_plain v clean _ long.kind long.lex long.word long.rest refl long.token in
-      reached readable long.reaches (record { plain = plain; none = rw (first, is_long) refl }) ∙ rw first (long_left (long.word ++ long.rest) f long.before at cut)
+      reached readable long.reaches (record { plain = plain; none = rw (first, is_long) refl })
+      ∙ rw first (long_left (long.word ++ long.rest) f long.before at cut)

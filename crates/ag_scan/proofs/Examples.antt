@@ -25,21 +25,37 @@ literal = record { kind = Literal 0; lex = codes "if"; at = 5 }
 
 first : word_from iffy (codes "iffy if") ≡ Some (record { kind = Class 0; lex = codes "iffy"; rest = codes " if" })
 unfolding class_from lib.Utf8.encode
-first = rw (is_xid_start-ascii 105 (lit< tt), is_xid_continue-ascii 105 (lit< tt), is_xid_continue-ascii 102 (lit< tt), is_xid_continue-ascii 121 (lit< tt), is_xid_continue-ascii 32 (lit< tt)) refl
+first =
+    rw (
+      is_xid_start-ascii 105 (lit< tt),
+      is_xid_continue-ascii 105 (lit< tt),
+      is_xid_continue-ascii 102 (lit< tt),
+      is_xid_continue-ascii 121 (lit< tt),
+      is_xid_continue-ascii 32 (lit< tt),
+    ) refl
 
 second : word_from iffy (codes "if") ≡ Some (record { kind = Literal 0; lex = codes "if"; rest = [] })
 unfolding class_from lib.Utf8.encode
 second = rw (is_xid_start-ascii 105 (lit< tt), is_xid_continue-ascii 105 (lit< tt), is_xid_continue-ascii 102 (lit< tt)) refl
 
 are_iffy : AreTokens iffy 0 (codes "iffy if") (name ∷ literal ∷ []) 7 []
-are_iffy = one_more iffy 0 (codes "iffy if") _ _ 7 [] first (separator 4 32 (codes "if") (literal ∷ []) 7 [] refl (one_more iffy 5 (codes "if") _ [] 7 [] second (ended 7 [])))
+are_iffy =
+    one_more iffy 0 (codes "iffy if") _ _ 7 [] first
+    (separator 4 32 (codes "if") (literal ∷ []) 7 [] refl (one_more iffy 5 (codes "if") _ [] 7 [] second (ended 7 [])))
 
 iffy_characters : chars (codes "iffy if") ≡ codes "iffy if"
 unfolding chars
 iffy_characters = refl
 
 iffy_text : IsUtf8 (codes "iffy if")
-iffy_text = (codes "iffy if", (refl, rw (encode_ascii 105 (lit< tt), encode_ascii 102 (lit< tt), encode_ascii 121 (lit< tt), encode_ascii 32 (lit< tt)) refl))
+iffy_text = (
+  codes "iffy if",
+  (
+    refl,
+    rw (encode_ascii 105 (lit< tt), encode_ascii 102 (lit< tt), encode_ascii 121 (lit< tt), encode_ascii 32 (lit< tt))
+        refl,
+  ),
+)
 
 pub longest_wins : LongestWins
 longest_wins = record {

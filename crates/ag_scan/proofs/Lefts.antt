@@ -1,12 +1,14 @@
 -- The rest of a list after its first members.
-use Rattle.std.proofs.Common.{◌≡◌, ℕ, zero, suc, ◌+◌, ◌≤◌, List, [], ◌∷◌, length, drop, slice_get, Some, None, refl, ap, sym, ◌∙◌, add-one, arith}
+use Rattle.std.proofs.Common.{◌≡◌, ℕ, zero, suc, ◌+◌, ◌≤◌, List, [], ◌∷◌, length, drop, slice_get, Some, None, refl, ap, sym, ◌∙◌}
+use Rattle.std.proofs.Common.{add-one, arith}
 use Rattle.std.proofs.Math.Seq.{drop-nil}
 
 -- the member at an index is the first of the rest
 pub rest_at : {A : Type 0} (xs : List A) (i : ℕ) (x : A) → slice_get xs i ≡ Some x → drop i xs ≡ x ∷ drop (i + 1) xs
 rest_at [] i x e = absurd (cc)
 rest_at (y ∷ ys) zero x e = let same : y ≡ x = cc in ap (λ z. z ∷ ys) same
-rest_at {A} (y ∷ ys) (suc i) x e = rest_at ys i x e ∙ ap (λ j. x ∷ drop j ys) (add-one i) ∙ ap (λ j. x ∷ drop j (y ∷ ys)) (sym (add-one (suc i)))
+rest_at {A} (y ∷ ys) (suc i) x e =
+    rest_at ys i x e ∙ ap (λ j. x ∷ drop j ys) (add-one i) ∙ ap (λ j. x ∷ drop j (y ∷ ys)) (sym (add-one (suc i)))
 
 pub rest_none : {A : Type 0} (xs : List A) (i : ℕ) → slice_get xs i ≡ None → drop i xs ≡ []
 rest_none [] i e = drop-nil i
@@ -14,12 +16,14 @@ rest_none (y ∷ ys) zero e = absurd (cc)
 rest_none (y ∷ ys) (suc i) e = rest_none ys i e
 
 -- the rest after one more member, and its index is in range
-pub following : {A : Type 0} (xs : List A) (i : ℕ) (x : A) (rest : List A) → drop i xs ≡ x ∷ rest → (drop (i + 1) xs ≡ rest) × (i + 1 ≤ length xs)
+pub following : {A : Type 0} (xs : List A) (i : ℕ) (x : A) (rest : List A) → drop i xs ≡ x ∷ rest
+    → (drop (i + 1) xs ≡ rest) × (i + 1 ≤ length xs)
 following {A} [] i x rest e = let none = drop-nil {A = A} i in absurd (cc)
 following (y ∷ ys) zero x rest e = (cc, omega arith)
 following {A} (y ∷ ys) (suc i) x rest e =
     let h = following ys i x rest e in
-    let a : drop (suc i + 1) (y ∷ ys) ≡ drop (i + 1) ys = ap (λ j. drop j (y ∷ ys)) (add-one (suc i)) ∙ sym (ap (λ j. drop j ys) (add-one i)) in
+    let a : drop (suc i + 1) (y ∷ ys) ≡ drop (i + 1) ys =
+    ap (λ j. drop j (y ∷ ys)) (add-one (suc i)) ∙ sym (ap (λ j. drop j ys) (add-one i)) in
     (a ∙ h.0, omega (arith, h.1))
 
 -- the first member of the rest is the member at the index

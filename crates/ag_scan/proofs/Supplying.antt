@@ -1,5 +1,6 @@
 -- The tokens that a reader returns one at a time are those of the text.
-use Rattle.std.proofs.Common.{◌≡◌, ℕ, zero, suc, ◌+◌, ◌-◌, ◌≤◌, List, [], ◌∷◌, length, drop, Option, Some, None, IsUtf8, slice_get, chars, option_map, refl, ap, sym, ◌∙◌, subst, arith}
+use Rattle.std.proofs.Common.{◌≡◌, ℕ, zero, suc, ◌+◌, ◌-◌, ◌≤◌, List, [], ◌∷◌, length, drop, Option, Some, None, IsUtf8}
+use Rattle.std.proofs.Common.{slice_get, chars, option_map, refl, ap, sym, ◌∙◌, subst, arith}
 use Rattle.std.proofs.Math.Seq.{drop-nil}
 use Rattle.std.specs.List.{prefix_len}
 use Rattle.ag_tokens.specs.Remaining.{after_separators}
@@ -16,22 +17,34 @@ use Rattle.ag_scan.proofs.Listing.{left_width}
 use Rattle.ag_scan.proofs.Lefts.{following, there, ended}
 
 -- the text after leading separators is not longer than the text
-pub no_longer : (following left : List ℕ) → IsUtf8 following → IsUtf8 left → chars left ≡ after_separators (chars following) → length left ≤ length following
+pub no_longer : (following left : List ℕ) → IsUtf8 following → IsUtf8 left → chars left ≡ after_separators (chars following)
+    → length left ≤ length following
 no_longer following left utf8 utf8' is = omega (arith, left_width (chars following) left utf8' is, width-chars following utf8)
 
 -- the word after leading separators is that of the first of the tokens there
-pub prefix_exact : (v : Vocabulary) (text following left : List ℕ) → IsScannable v text → length following ≤ length text → IsUtf8 following → IsUtf8 left → chars left ≡ after_separators (chars following) → (o : Option LeadingWord) → IsWordIn v (chars left) o
-    → (ts : List Token) → AreTokens v (length text - length following) (chars following) ts (length text) [] → IsLeadingWordOf v (length text) ts o (length text - length left)
-prefix_exact v text following left has within utf8 utf8' is o cut ts are = go o (begin_with v has.clean are refl o (subst (λ cs. IsWordIn v cs o) is cut))
+pub prefix_exact : (v : Vocabulary) (text following left : List ℕ) → IsScannable v text → length following ≤ length text
+    → IsUtf8 following → IsUtf8 left → chars left ≡ after_separators (chars following) → (o : Option LeadingWord)
+    → IsWordIn v (chars left) o
+    → (ts : List Token) → AreTokens v (length text - length following) (chars following) ts (length text) []
+    → IsLeadingWordOf v (length text) ts o (length text - length left)
+prefix_exact v text following left has within utf8 utf8' is o cut ts are =
+    go o (begin_with v has.clean are refl o (subst (λ cs. IsWordIn v cs o) is cut))
   where
-    go : (o : Option LeadingWord) → BeginWith v (length text - length following) (chars following) ts (length text) o → IsLeadingWordOf v (length text) ts o (length text - length left)
+    go : (o : Option LeadingWord) → BeginWith v (length text - length following) (chars following) ts (length text) o
+        → IsLeadingWordOf v (length text) ts o (length text - length left)
     go None none = none
     go (Some f) (more, first, narrow, after) =
         let w = width-chars following utf8 in
         let s = left_width (chars following) left utf8' is in
-        let at : (length text - length following) + prefix_len is_separator (chars following) ≡ length text - length left = omega arith in
-        let end : (length text - length following) + (width (chars following) - width f.rest) ≡ length text - width f.rest = omega arith in
-        (more, first ∙ ap (λ n. record { kind = f.kind; lex = f.lex; at = n } ∷ more) at, omega arith, subst (λ n. AreTokens v n f.rest more (length text) []) end after)
+        let at : (length text - length following) + prefix_len is_separator (chars following) ≡ length text - length left =
+        omega arith in
+        let end : (length text - length following) + (width (chars following) - width f.rest) ≡ length text - width f.rest =
+        omega arith in (
+          more,
+          first ∙ ap (λ n. record { kind = f.kind; lex = f.lex; at = n } ∷ more) at,
+          omega arith,
+          subst (λ n. AreTokens v n f.rest more (length text) []) end after,
+        )
 
 -- ---- offsets
 
@@ -42,41 +55,65 @@ last_is (u ∷ []) (suc i) t e = let none = drop-nil {A = Token} i in absurd (cc
 last_is (u ∷ w ∷ ts) (suc i) t e = last_is (w ∷ ts) i t e
 
 -- the offset of the next token, or of the last one
-offset_exact : (v : Vocabulary) (end : ℕ) (ts : List Token) (i at : ℕ) (o : Option LeadingWord) → IsLeadingWordOf v end (drop i ts) o at → (o ≡ None → at ≡ last_offset ts) → at ≡ offset_at ts i
+offset_exact : (v : Vocabulary) (end : ℕ) (ts : List Token) (i at : ℕ) (o : Option LeadingWord)
+    → IsLeadingWordOf v end (drop i ts) o at → (o ≡ None → at ≡ last_offset ts) → at ≡ offset_at ts i
 offset_exact v end ts i at None none last = last refl ∙ rw ((ended ts i none).0, offset_at) refl
 offset_exact v end ts i at (Some f) (more, first, narrow, are) last = rw (there ts i _ more first, offset_at) refl
 
 module _ (v : Vocabulary) (text : List ℕ) (has : IsScannable v text) where
   -- the state at the beginning of a text
-  pub begins : (o : Option LeadingWord) (at : ℕ) → IsNextWordFrom v text text o at → (o ≡ None → at ≡ 0) → IsReaderState v text 0 o at
+  pub begins : (o : Option LeadingWord) (at : ℕ) → IsNextWordFrom v text text o at → (o ≡ None → at ≡ 0)
+      → IsReaderState v text 0 o at
   begins o at exact end =
       let none : 0 ≡ length text - length text = omega arith in
-      let left = exact (tokens_in v text) (subst (λ n. AreTokens v n (chars text) (tokens_in v text) (length text) []) none has.tokens.tokens.are) in
+      let left =
+      exact (tokens_in v text)
+      (subst (λ n. AreTokens v n (chars text) (tokens_in v text) (length text) []) none has.tokens.tokens.are) in
       let last : o ≡ None → at ≡ last_offset (tokens_in v text) = λ none. end none ∙ sym (ap last_offset (rw none at left)) in
-      record { has = has; within = omega arith; left = left; offset = offset_exact v (length text) (tokens_in v text) 0 at o left last }
+      record {
+        has = has;
+        within = omega arith;
+        left = left;
+        offset = offset_exact v (length text) (tokens_in v text) 0 at o left last;
+      }
 
   -- the state after the next token
-  pub goes_on : (i : ℕ) (f : LeadingWord) (at : ℕ) (rest : List ℕ) → IsReaderState v text i (Some f) at → f.rest ≡ chars rest → IsUtf8 rest → (o : Option LeadingWord) (next : ℕ)
+  pub goes_on : (i : ℕ) (f : LeadingWord) (at : ℕ) (rest : List ℕ) → IsReaderState v text i (Some f) at → f.rest ≡ chars rest
+      → IsUtf8 rest → (o : Option LeadingWord) (next : ℕ)
       → IsNextWordFrom v text rest o next → (o ≡ None → next ≡ at) → IsReaderState v text (i + 1) o next
   goes_on i f at rest is same utf8 o next exact end =
       let (more, first, narrow, are) = is.left in
       let w : width f.rest ≡ length rest = ap width same ∙ width-chars rest utf8 in
-      let occur = subst (λ n. AreTokens v (length text - n) (chars rest) more (length text) []) w (subst (λ cs. AreTokens v (length text - width f.rest) cs more (length text) []) same are) in
+      let occur =
+      subst (λ n. AreTokens v (length text - n) (chars rest) more (length text) []) w
+      (subst (λ cs. AreTokens v (length text - width f.rest) cs more (length text) []) same are) in
       let after = following (tokens_in v text) i _ more first in
       let left = exact more occur in
-      let last : o ≡ None → next ≡ last_offset (tokens_in v text) = λ none. end none ∙ sym (last_is (tokens_in v text) i _ (first ∙ ap (λ us. record { kind = f.kind; lex = f.lex; at = at } ∷ us) (rw none at left))) in
+      let last : o ≡ None → next ≡ last_offset (tokens_in v text) =
+      λ none. end none
+      ∙ sym
+      (last_is (tokens_in v text) i _
+      (first ∙ ap (λ us. record { kind = f.kind; lex = f.lex; at = at } ∷ us) (rw none at left))) in
       let following_it = subst (λ us. IsLeadingWordOf v (length text) us o next) (sym after.0) left in
-      record { has = has; within = after.1; left = following_it; offset = offset_exact v (length text) (tokens_in v text) (i + 1) next o following_it last }
+      record {
+        has = has;
+        within = after.1;
+        left = following_it;
+        offset = offset_exact v (length text) (tokens_in v text) (i + 1) next o following_it last;
+      }
 
 -- the next token is the one with this index
-pub is_next : (v : Vocabulary) (text : List ℕ) (i at : ℕ) (f : LeadingWord) → IsReaderState v text i (Some f) at → slice_get (tokens_in v text) i ≡ Some (record { kind = f.kind; lex = f.lex; at = at })
+pub is_next : (v : Vocabulary) (text : List ℕ) (i at : ℕ) (f : LeadingWord) → IsReaderState v text i (Some f) at
+    → slice_get (tokens_in v text) i ≡ Some (record { kind = f.kind; lex = f.lex; at = at })
 is_next v text i at f is = let (more, first, narrow, are) = is.left in there (tokens_in v text) i _ more first
 
-pub none_next : (v : Vocabulary) (text : List ℕ) (i at : ℕ) → IsReaderState v text i None at → (slice_get (tokens_in v text) i ≡ None) × (length (tokens_in v text) ≤ i)
+pub none_next : (v : Vocabulary) (text : List ℕ) (i at : ℕ) → IsReaderState v text i None at
+    → (slice_get (tokens_in v text) i ≡ None) × (length (tokens_in v text) ≤ i)
 none_next v text i at is = ended (tokens_in v text) i is.left
 
 -- the number of tokens taken fits the counter
-pub counted : (v : Vocabulary) (text : List ℕ) (i at : ℕ) (o : Option LeadingWord) → IsReaderState v text i o at → (length text ≤ 1048576) × (i ≤ length text)
+pub counted : (v : Vocabulary) (text : List ℕ) (i at : ℕ) (o : Option LeadingWord) → IsReaderState v text i o at
+    → (length text ≤ 1048576) × (i ≤ length text)
 counted v text i at o is = let few = few_tokens v text is.has in (is.has.tokens.readable.short, omega (arith, is.within))
 
 -- a word of the code is `None` if its specification word is

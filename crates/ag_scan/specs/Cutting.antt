@@ -1,6 +1,7 @@
 -- The scanner as plain functions: the word at the beginning of characters, and all tokens of a text. They
 -- agree with the definitions.
-use Rattle.std.specs.Prelude.{◌≡◌, ℕ, zero, suc, ◌+◌, ◌-◌, Bool, cond, nat_eq, nat_lt, ◌==◌, List, [], ◌∷◌, ◌++◌, length, take, drop, Option, Some, None, slice_get, chars, encode_utf8_all}
+use Rattle.std.specs.Prelude.{◌≡◌, ℕ, zero, suc, ◌+◌, ◌-◌, Bool, cond, nat_eq, nat_lt, ◌==◌, List, [], ◌∷◌, ◌++◌, length, take}
+use Rattle.std.specs.Prelude.{drop, Option, Some, None, slice_get, chars, encode_utf8_all}
 use Rattle.std.specs.Cmp.Lexicographic.{pointwise}
 use Rattle.std.specs.Char.{is_ascii_digit}
 use Rattle.std.specs.List.{prefix_len, list_any}
@@ -48,7 +49,8 @@ unfoldable pub class_from : List ℕ → List ℕ → Option LeadingWord
 class_from classes [] = None
 class_from classes (c ∷ cs) =
     cond (starts_name c) (cond (uses classes 0) (Some (span_from is_xid_continue 0 (c ∷ cs))) None)
-    (cond (is_ascii_digit c) (cond (uses classes 1) (Some (span_from is_ascii_digit 1 (c ∷ cs))) None) (cond (c == 34) (cond (uses classes 2) (text_from cs) None) None))
+    (cond (is_ascii_digit c) (cond (uses classes 1) (Some (span_from is_ascii_digit 1 (c ∷ cs))) None)
+    (cond (c == 34) (cond (uses classes 2) (text_from cs) None) None))
 
 -- the specification word of a word of the code
 abbrev pub leading_word_of : code.LeadingWord → LeadingWord
@@ -78,7 +80,8 @@ number_from n (x ∷ xs) text = cond (pointwise nat_eq x text) (Some n) (number_
 -- the literal that consists of the first n characters, or else `other`
 abbrev pub literal_or : List (List ℕ) → List ℕ → ℕ → Option LeadingWord → Option LeadingWord
 literal_or literals cs n other =
-    elim (number_from 0 literals (encode_utf8_all (take n cs))) [ Some l ↦ Some (record { kind = Literal l; lex = encode_utf8_all (take n cs); rest = drop n cs }) | None ↦ other ]
+    elim (number_from 0 literals (encode_utf8_all (take n cs)))
+    [ Some l ↦ Some (record { kind = Literal l; lex = encode_utf8_all (take n cs); rest = drop n cs }) | None ↦ other ]
 
 -- the longest literal at the beginning of the characters that has at most n of them
 abbrev pub literal_within : List (List ℕ) → List ℕ → ℕ → Option LeadingWord
@@ -99,7 +102,11 @@ word_from v cs = longer_of (literal_within v.literals cs (length cs)) (class_fro
 abbrev pub tokens_from : Vocabulary → ℕ → ℕ → List ℕ → List Token
 tokens_from v zero at cs = []
 tokens_from v (suc n) at cs =
-    elim (word_from v (after_separators cs)) [ Some f ↦ record { kind = f.kind; lex = f.lex; at = at + prefix_len is_separator cs } ∷ tokens_from v n (at + (width cs - width f.rest)) f.rest | None ↦ [] ]
+    elim (word_from v (after_separators cs)) [
+      | Some f ↦ record { kind = f.kind; lex = f.lex; at = at + prefix_len is_separator cs } ∷ tokens_from v n
+          (at + (width cs - width f.rest)) f.rest
+      | None ↦ []
+    ]
 
 -- the tokens of a text
 abbrev pub tokens_in : Vocabulary → List ℕ → List Token

@@ -19,8 +19,10 @@ IsAnswer v sentence (Err (fault.LongToken at)) = IsRefused v sentence (fault.Lon
 
 -- A sentence has at most one answer over an accepted grammar: one list of tokens or one fault.
 abbrev pub AtMostOneAnswer : Type 0
-AtMostOneAnswer = (g : Grammar) → IsAccepted g → (sentence : List ℕ) (q r : Result (List Token) ScanFault) → IsAnswer (vocabulary_of g) sentence q → IsAnswer (vocabulary_of g) sentence r → q ≡ r
+AtMostOneAnswer = (g : Grammar) → IsAccepted g → (sentence : List ℕ) (q r : Result (List Token) ScanFault)
+    → IsAnswer (vocabulary_of g) sentence q → IsAnswer (vocabulary_of g) sentence r → q ≡ r
 
 -- Each sentence has an answer over an accepted grammar.
 abbrev pub AnAnswer : Type 0
-AnAnswer = (g : Grammar) → IsAccepted g → (sentence : List ℕ) → (q : Result (List Token) ScanFault) × IsAnswer (vocabulary_of g) sentence q
+AnAnswer = (g : Grammar) → IsAccepted g → (sentence : List ℕ)
+    → (q : Result (List Token) ScanFault) × IsAnswer (vocabulary_of g) sentence q

@@ -45,16 +45,19 @@ after_last (Some k) = k + 1
 
 -- `shorter` has, for each entry, the index of the last entry before it that is a prefix of it.
 pub record AreLinked (entries : List LiteralEntry) (shorter : List (Option ℕ)) : Type 0 where
-  pub each : (i : ℕ) (w : LiteralEntry) (o : Option ℕ) → slice_get entries i ≡ Some w → slice_get shorter i ≡ Some o → IsLastPrefixIfAny entries i w.text.now o
+  pub each : (i : ℕ) (w : LiteralEntry) (o : Option ℕ) → slice_get entries i ≡ Some w → slice_get shorter i ≡ Some o
+      → IsLastPrefixIfAny entries i w.text.now o
 
 -- The entries are sorted by their texts.
 pub record AreOrdered (entries : List LiteralEntry) : Type 0 where
-  pub each : (i j : ℕ) (a b : LiteralEntry) → i ≤ j → slice_get entries i ≡ Some a → slice_get entries j ≡ Some b → IsNotAfter a.text.now b.text.now
+  pub each : (i j : ℕ) (a b : LiteralEntry) → i ≤ j → slice_get entries i ≡ Some a → slice_get entries j ≡ Some b
+      → IsNotAfter a.text.now b.text.now
 
 -- The entries are those of the literals, each with its number.
 pub record AreLiterals (literals : List (List ℕ)) (entries : List LiteralEntry) : Type 0 where
   pub numbered : Each (λ w. slice_get literals w.number ≡ Some w.text.now) entries
-  pub whole : (n : ℕ) (x : List ℕ) → slice_get literals n ≡ Some x → (k : ℕ) × (w : LiteralEntry) × (slice_get entries k ≡ Some w) × (w.text.now ≡ x)
+  pub whole : (n : ℕ) (x : List ℕ) → slice_get literals n ≡ Some x
+      → (k : ℕ) × (w : LiteralEntry) × (slice_get entries k ≡ Some w) × (w.text.now ≡ x)
 
 -- The entries are those of the literals, sorted by their texts, each linked to the last one before it that is
 -- a prefix of it.
@@ -90,4 +93,5 @@ Covers k Several = Unit {0}
 -- Each of the first `count` entries begins with a byte, and what is stored for this byte includes the entry.
 pub record AreCovered (entries : List LiteralEntry) (starts : List StartingLiterals) (count : ℕ) : Type 0 where
   pub whole : length starts ≡ 256
-  pub each : (k : ℕ) (w : LiteralEntry) → k < count → slice_get entries k ≡ Some w → (b : ℕ) × (rest : List ℕ) × (w.text.now ≡ b ∷ rest) × ((d : StartingLiterals) → Covers k (get_or starts b d))
+  pub each : (k : ℕ) (w : LiteralEntry) → k < count → slice_get entries k ≡ Some w
+      → (b : ℕ) × (rest : List ℕ) × (w.text.now ≡ b ∷ rest) × ((d : StartingLiterals) → Covers k (get_or starts b d))

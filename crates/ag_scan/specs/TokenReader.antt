@@ -38,12 +38,14 @@ pub record IsScannable (v : Vocabulary) (text : List ℕ) : Type 0 where
 abbrev pub IsLeadingWordOf : Vocabulary → ℕ → List Token → Option LeadingWord → ℕ → Type 0
 IsLeadingWordOf v end left None at = left ≡ []
 IsLeadingWordOf v end left (Some f) at =
-    (more : List Token) × (left ≡ record { kind = f.kind; lex = f.lex; at = at } ∷ more) × (width f.rest ≤ end) × AreTokens v (end - width f.rest) f.rest more end []
+    (more : List Token) × (left ≡ record { kind = f.kind; lex = f.lex; at = at } ∷ more) × (width f.rest ≤ end)
+    × AreTokens v (end - width f.rest) f.rest more end []
 
 -- The word and the offset that `next_word` returns for a suffix of a text.
 abbrev pub IsNextWordFrom : Vocabulary → List ℕ → List ℕ → Option LeadingWord → ℕ → Type 0
 IsNextWordFrom v text following next at =
-    (ts : List Token) → AreTokens v (length text - length following) (chars following) ts (length text) [] → IsLeadingWordOf v (length text) ts next at
+    (ts : List Token) → AreTokens v (length text - length following) (chars following) ts (length text) []
+    → IsLeadingWordOf v (length text) ts next at
 
 -- The state of a reader: `taken` tokens of the text have been taken, and `next` is the word of the next
 -- token.

@@ -26,8 +26,10 @@ max_sentence_bytes = max_text_bytes
 -- at its offset; `rest` are the characters after them.
 pub data AreTokens (v : Vocabulary) : ℕ → List ℕ → List Token → ℕ → List ℕ → Type 0 where
   ended : (at : ℕ) (cs : List ℕ) → AreTokens v at cs [] at cs
-  separator : (at c : ℕ) (cs : List ℕ) (ts : List Token) (end : ℕ) (rest : List ℕ) → is_separator c ≡ true → AreTokens v (at + 1) cs ts end rest → AreTokens v at (c ∷ cs) ts end rest
-  word : (at : ℕ) (all word cs lex : List ℕ) (t : Terminal) (ts : List Token) (end : ℕ) (rest : List ℕ) → all ≡ word ++ cs → IsToken v t lex word cs → AreTokens v (at + width word) cs ts end rest
+  separator : (at c : ℕ) (cs : List ℕ) (ts : List Token) (end : ℕ) (rest : List ℕ) → is_separator c ≡ true
+      → AreTokens v (at + 1) cs ts end rest → AreTokens v at (c ∷ cs) ts end rest
+  word : (at : ℕ) (all word cs lex : List ℕ) (t : Terminal) (ts : List Token) (end : ℕ) (rest : List ℕ) → all ≡ word ++ cs
+      → IsToken v t lex word cs → AreTokens v (at + width word) cs ts end rest
       → AreTokens v at all (record { kind = t; lex = lex; at = at } ∷ ts) end rest
 
 -- the text of each token has at most 65,535 bytes
@@ -76,7 +78,8 @@ pub record AreTokensOf (v : Vocabulary) (sentence : List ℕ) (ts : List Token) 
 -- too long. `NoMemory` states nothing about the sentence.
 abbrev pub IsRefused : Vocabulary → List ℕ → ScanFault → Type 0
 IsRefused v sentence fault.TooLong = max_sentence_bytes < length sentence
-IsRefused v sentence (fault.BadUtf8 at) = (length sentence ≤ max_sentence_bytes) × (IsUtf8 sentence → ⊥) × (at ≡ utf8_valid_len sentence)
+IsRefused v sentence (fault.BadUtf8 at) =
+    (length sentence ≤ max_sentence_bytes) × (IsUtf8 sentence → ⊥) × (at ≡ utf8_valid_len sentence)
 IsRefused v sentence (fault.NoToken at) = IsReadable sentence × NoTokenAt v (chars sentence) at
 IsRefused v sentence (fault.LongToken at) = IsReadable sentence × LongTokenAt v (chars sentence) at
 IsRefused v sentence fault.NoMemory = Unit {0}

@@ -28,7 +28,8 @@ vocabulary_of g = vocabulary g.literals g.classes
 abbrev pub IsWordOfClass : ℕ → List ℕ → List ℕ → Type 0
 IsWordOfClass zero word lex = IsName word × (lex ≡ encode_utf8_all word)
 IsWordOfClass (suc zero) word lex = IsDigits word × (lex ≡ encode_utf8_all word)
-IsWordOfClass (suc (suc zero)) word lex = (body : List ℕ) × (word ≡ 34 ∷ (body ++ 34 ∷ [])) × (list_all is_quotable body ≡ true) × (lex ≡ encode_utf8_all body)
+IsWordOfClass (suc (suc zero)) word lex =
+    (body : List ℕ) × (word ≡ 34 ∷ (body ++ 34 ∷ [])) × (list_all is_quotable body ≡ true) × (lex ≡ encode_utf8_all body)
 IsWordOfClass (suc (suc (suc c))) word lex = ⊥
 
 -- The characters are a word of the terminal: the text of a literal, or a word of a class in use.

@@ -7,7 +7,9 @@ use Rattle.ag_scan.specs.Words.{vocabulary}
 -- With the literal `if` and names, `iffy if` is the name `iffy` and then the literal: the longest word wins,
 -- and a literal wins a tie.
 abbrev pub LongestWins : Type 0
-LongestWins = AreTokensOf (vocabulary (codes "if" ∷ []) (0 ∷ [])) (codes "iffy if") (record { kind = Class 0; lex = codes "iffy"; at = 0 } ∷ record { kind = Literal 0; lex = codes "if"; at = 5 } ∷ [])
+LongestWins =
+    AreTokensOf (vocabulary (codes "if" ∷ []) (0 ∷ [])) (codes "iffy if")
+    (record { kind = Class 0; lex = codes "iffy"; at = 0 } ∷ record { kind = Literal 0; lex = codes "if"; at = 5 } ∷ [])
 
 -- If the only word is the literal `1`, no token begins at the offset 1 of `12`.
 abbrev pub UnusedIsNone : Type 0

@@ -1,5 +1,6 @@
 -- The parser agrees with the syntax of grammars, and fails at the first token that cannot be accepted.
-use Rattle.std.proofs.Common.{◌≡◌, ℕ, Bool, true, false, not, ◌||◌, List, [], ◌∷◌, ◌++◌, map, Some, codes, bytes_eq, refl, ap, sym, ◌∙◌, subst, append-nil, arith}
+use Rattle.std.proofs.Common.{◌≡◌, ℕ, Bool, true, false, not, ◌||◌, List, [], ◌∷◌, ◌++◌, map, Some, codes, bytes_eq, refl, ap}
+use Rattle.std.proofs.Common.{sym, ◌∙◌, subst, append-nil, arith}
 use denote.Enum.Bare.{true_same}
 use Rattle.std.proofs.lemmas.Slice.Eq.{bytes_eq-Decides}
 use Rattle.ag_tokens.specs.contracts.token.Punctuation.{the_type}
@@ -14,12 +15,15 @@ use Rattle.ag_grammar.specs.declared.raw.RawGrammar.{RawGrammar}
 use Rattle.ag_grammar.specs.declared.raw.RawItem.{RawItem}
 use Rattle.ag_grammar.specs.declared.raw.RawItem.TheVariants as item
 use Rattle.ag_grammar.specs.declared.raw.RawSymbol.{RawSymbol}
-use Rattle.ag_text.specs.Reading.{many, expect, expect_word, one_from, is_other_than, is_any, next_name_from, names_from, section_from, attributes_from, symbol_from, rule_from, production_from, grammar_from}
+use Rattle.ag_text.specs.Reading.{many, expect, expect_word, one_from, is_other_than, is_any, next_name_from, names_from}
+use Rattle.ag_text.specs.Reading.{section_from, attributes_from, symbol_from, rule_from, production_from, grammar_from}
 use Rattle.ag_tokens.specs.Languages as spelling
 use Rattle.ag_tokens.specs.Languages.{gives, Many, further}
-use Rattle.ag_text.specs.Syntax.{one, mark, word, IsFurther, IsNames, IsSection, IsAttributes, IsSymbol, IsRule, IsProduction, IsGrammar}
+use Rattle.ag_text.specs.Syntax.{one, mark, word, IsFurther, IsNames, IsSection, IsAttributes, IsSymbol, IsRule, IsProduction}
+use Rattle.ag_text.specs.Syntax.{IsGrammar}
 use Rattle.ag_text.specs.Meanings.{some_if, is_mark, is_word, is_reserved, mark_in, word_in, name_in, item_in, target_in}
-use Rattle.ag_expr.proofs.reading.Exact.{Apart, Before, ends_exact, first_is, further_exact, many_exact, many_leads, maybe_exact, maybe_starts, nowhere, any_then, start_then, then_exact, then_starts, shortens}
+use Rattle.ag_expr.proofs.reading.Exact.{Apart, Before, ends_exact, first_is, further_exact, many_exact, many_leads, maybe_exact}
+use Rattle.ag_expr.proofs.reading.Exact.{maybe_starts, nowhere, any_then, start_then, then_exact, then_starts, shortens}
 use Rattle.ag_expr.proofs.reading.Steady.{Shortens, ends_steady, further_steady, many_steady, or_steady, pure_steady, then_steady}
 use Rattle.ag_text.proofs.Expressions.{ended_exact, ended_steady}
 use Rattle.ag_text.proofs.Manner.{Exact, Starts, Steady, manner, token_exact, token_starts, token_steady}
@@ -121,13 +125,18 @@ unfolding symbol_from
 symbol_exact =
     any_then (token_exact (word_in (codes "symbol"))) (λ u. any_then (token_exact name_in) (λ name.
     start_then (attributes_exact (codes "syn")) (λ syn.
-    start_then (attributes_exact (codes "inh")) (λ inh. ends_exact (λ u. record { name = name; syn = syn; inh = inh }) (token_exact (mark_in punctuation.Semicolon)))
+    start_then (attributes_exact (codes "inh"))
+    (λ inh. ends_exact (λ u. record { name = name; syn = syn; inh = inh }) (token_exact (mark_in punctuation.Semicolon)))
     (λ inh. then_starts (mark_starts punctuation.Semicolon)) semi_apart)
-    (λ syn. maybe_starts [] (section_starts (codes "inh")) (λ inh. then_starts (mark_starts punctuation.Semicolon))) after_syn_apart))
+    (λ syn. maybe_starts [] (section_starts (codes "inh")) (λ inh. then_starts (mark_starts punctuation.Semicolon)))
+    after_syn_apart))
 
 rule_exact : Exact nowhere IsRule rule_from
 unfolding rule_from
-rule_exact = any_then (token_exact target_in) (λ target. any_then (token_exact (mark_in punctuation.Equal)) (λ u. ends_exact (λ expr. record { target = target; expr = expr }) ended_exact))
+rule_exact =
+    any_then (token_exact target_in)
+    (λ target. any_then (token_exact (mark_in punctuation.Equal))
+    (λ u. ends_exact (λ expr. record { target = target; expr = expr }) ended_exact))
 
 item_exact : Exact nowhere (one item_in) (one_from item_in)
 item_exact = token_exact item_in
@@ -144,7 +153,9 @@ production_exact =
     any_then (token_exact name_in) (λ left. any_then (token_exact (mark_in punctuation.Equal)) (λ u.
     start_then (many_exact (token_exact item_in) items_start (λ t h. refl)) (λ items.
     any_then (token_exact (mark_in punctuation.OpenTable)) (λ u.
-    start_then (many_exact rule_exact rules_start (λ t h. refl)) (λ rules. ends_exact (λ u. record { left = left; items = items; rules = rules }) (token_exact (mark_in punctuation.CloseTable)))
+    start_then (many_exact rule_exact rules_start (λ t h. refl))
+    (λ rules. ends_exact (λ u. record { left = left; items = items; rules = rules })
+    (token_exact (mark_in punctuation.CloseTable)))
     (λ rules. then_starts (mark_starts punctuation.CloseTable)) (mark_ends punctuation.CloseTable)))
     (λ items. then_starts (mark_starts punctuation.OpenTable)) (mark_ends punctuation.OpenTable)))
 
@@ -152,7 +163,8 @@ production_exact =
 abbrev any_goes_on : GrammarToken → Bool
 any_goes_on t = is_any t || nowhere t
 
-nothing_goes_on : (test : GrammarToken → Bool) (ps : List PlacedToken) → first_is any_goes_on ps ≡ false → first_is test ps ≡ false
+nothing_goes_on : (test : GrammarToken → Bool) (ps : List PlacedToken) → first_is any_goes_on ps ≡ false
+    → first_is test ps ≡ false
 nothing_goes_on test ps h = grind arith
 
 productions_start : Starts is_plain IsProduction
@@ -164,14 +176,21 @@ any_starts = then_starts (token_starts (λ at t a h. refl))
 pub grammar_exact : Exact any_goes_on IsGrammar grammar_from
 unfolding grammar_from IsGrammar
 grammar_exact =
-    any_then (token_exact (word_in (codes "start"))) (λ u. any_then (token_exact name_in) (λ start. any_then (token_exact (mark_in punctuation.Semicolon)) (λ u.
+    any_then (token_exact (word_in (codes "start")))
+    (λ u. any_then (token_exact name_in) (λ start. any_then (token_exact (mark_in punctuation.Semicolon)) (λ u.
     then_exact (many_exact symbol_exact (then_starts (word_starts (codes "symbol"))) (λ t h. refl)) (λ symbols.
-    ends_exact (λ productions. record { start = start; symbols = symbols; productions = productions }) (many_exact production_exact any_starts (λ t h. refl))) (following start))))
+    ends_exact (λ productions. record { start = start; symbols = symbols; productions = productions })
+    (many_exact production_exact any_starts (λ t h. refl))) (following start))))
   where
-    following : (start : Named) (symbols : List RawSymbol) → Before manner any_goes_on (λ t. is_word (codes "symbol") t || nowhere t) (spelling.◌>>=◌ (Many IsProduction) (λ productions. gives {A = RawGrammar} (record { start = start; symbols = symbols; productions = productions })))
+    following : (start : Named) (symbols : List RawSymbol)
+        → Before manner any_goes_on (λ t. is_word (codes "symbol") t || nowhere t)
+        (spelling.◌>>=◌ (Many IsProduction)
+        (λ productions. gives {A = RawGrammar} (record { start = start; symbols = symbols; productions = productions })))
     following start symbols vs rest b (us, ws, xs, e, are, (no_more, same)) h =
         let all : map (λ p. p) vs ≡ us = e ∙ ap (λ ys. us ++ ys) no_more ∙ append-nil us in
-        many_leads {m = manner} is_plain (λ t. is_word (codes "symbol") t || nowhere t) IsProduction productions_start plain_apart vs xs (subst (λ ps. Many IsProduction ps xs) (sym all) are) rest (nothing_goes_on _ rest h)
+        many_leads {m = manner} is_plain
+        (λ t. is_word (codes "symbol") t || nowhere t) IsProduction productions_start plain_apart vs xs
+        (subst (λ ps. Many IsProduction ps xs) (sym all) are) rest (nothing_goes_on _ rest h)
 
 -- ---- where each part fails
 
@@ -196,7 +215,9 @@ next_name_shortens = shortens next_name_exact (then_starts (mark_starts punctuat
 
 names_steady : Steady IsNames names_from
 unfolding names_from
-names_steady = then_steady name_steady (λ name. further_steady false is_comma (name ∷ []) next_name_steady next_name_shortens next_name_shortens)
+names_steady =
+    then_steady name_steady (λ name.
+    further_steady false is_comma (name ∷ []) next_name_steady next_name_shortens next_name_shortens)
 
 attributes_steady : (w : List ℕ) → Steady (IsAttributes w) (attributes_from w)
 unfolding attributes_from section_from
@@ -205,13 +226,17 @@ attributes_steady w = or_steady (then_steady (word_steady w) (λ u. names_steady
 symbol_steady : Steady IsSymbol symbol_from
 unfolding symbol_from
 symbol_steady =
-    then_steady (word_steady (codes "symbol")) (λ u. then_steady name_steady (λ name. then_steady (attributes_steady (codes "syn")) (λ syn. then_steady (attributes_steady (codes "inh")) (λ inh.
+    then_steady (word_steady (codes "symbol"))
+    (λ u.
+    then_steady name_steady (λ name.
+    then_steady (attributes_steady (codes "syn")) (λ syn. then_steady (attributes_steady (codes "inh")) (λ inh.
     ends_steady (λ u. record { name = name; syn = syn; inh = inh }) (mark_steady punctuation.Semicolon)))))
 
 rule_steady : Steady IsRule rule_from
 unfolding rule_from
 rule_steady =
-    then_steady (token_steady target_in (token.Occurrence 0 (codes "a")) (record { place = 0; attr = codes "a"; at = 0 }) refl) (λ target. then_steady (mark_steady punctuation.Equal) (λ u.
+    then_steady (token_steady target_in (token.Occurrence 0 (codes "a")) (record { place = 0; attr = codes "a"; at = 0 }) refl)
+    (λ target. then_steady (mark_steady punctuation.Equal) (λ u.
     ends_steady (λ expr. record { target = target; expr = expr }) ended_steady))
 
 item_steady : Steady (one item_in) (one_from item_in)
@@ -220,16 +245,25 @@ item_steady = token_steady item_in (token.Name (codes "A")) (item.Name a_name) r
 production_steady : Steady IsProduction production_from
 unfolding production_from
 production_steady =
-    then_steady name_steady (λ left. then_steady (mark_steady punctuation.Equal) (λ u. then_steady (many_steady (is_other_than punctuation.OpenTable) item_steady (shortens item_exact items_start)) (λ items.
-    then_steady (mark_steady punctuation.OpenTable) (λ u. then_steady (many_steady (is_other_than punctuation.CloseTable) rule_steady (shortens rule_exact rules_start)) (λ rules.
+    then_steady name_steady (λ left.
+    then_steady (mark_steady punctuation.Equal)
+    (λ u. then_steady (many_steady (is_other_than punctuation.OpenTable) item_steady (shortens item_exact items_start))
+    (λ items.
+    then_steady (mark_steady punctuation.OpenTable)
+    (λ u. then_steady (many_steady (is_other_than punctuation.CloseTable) rule_steady (shortens rule_exact rules_start))
+    (λ rules.
     ends_steady (λ u. record { left = left; items = items; rules = rules }) (mark_steady punctuation.CloseTable))))))
 
 pub grammar_steady : Steady IsGrammar grammar_from
 unfolding grammar_from IsGrammar
 grammar_steady =
-    then_steady (word_steady (codes "start")) (λ u. then_steady name_steady (λ start. then_steady (mark_steady punctuation.Semicolon) (λ u.
-    then_steady (many_steady (is_word (codes "symbol")) symbol_steady (shortens symbol_exact (then_starts (word_starts (codes "symbol"))))) (λ symbols.
-    ends_steady (λ productions. record { start = start; symbols = symbols; productions = productions }) (many_steady is_any production_steady (shortens production_exact any_starts))))))
+    then_steady (word_steady (codes "start"))
+    (λ u. then_steady name_steady (λ start. then_steady (mark_steady punctuation.Semicolon) (λ u.
+    then_steady
+    (many_steady (is_word (codes "symbol")) symbol_steady
+    (shortens symbol_exact (then_starts (word_starts (codes "symbol"))))) (λ symbols.
+    ends_steady (λ productions. record { start = start; symbols = symbols; productions = productions })
+    (many_steady is_any production_steady (shortens production_exact any_starts))))))
 
 -- ---- each further part takes at least one token
 

@@ -32,11 +32,14 @@ Starts = theory.Starts manner
 abbrev pub Steady : {A : Type 0} → (List PlacedToken → A → Type 0) → Parser A → Type 0
 Steady L r = steady.Steady manner L r r
 
-pub token_exact : {A : Type 0} {stops : GrammarToken → Bool} (sign : ℕ → GrammarToken → Option A) → Exact stops (one sign) (one_from sign)
+pub token_exact : {A : Type 0} {stops : GrammarToken → Bool} (sign : ℕ → GrammarToken → Option A)
+    → Exact stops (one sign) (one_from sign)
 token_exact sign = one_exact sign (λ p. sign p.at p.token) (λ p. refl)
 
-pub token_starts : {A : Type 0} {test : GrammarToken → Bool} {sign : ℕ → GrammarToken → Option A} → ((at : ℕ) (t : GrammarToken) (a : A) → sign at t ≡ Some a → test t ≡ true) → Starts test (one sign)
+pub token_starts : {A : Type 0} {test : GrammarToken → Bool} {sign : ℕ → GrammarToken → Option A}
+    → ((at : ℕ) (t : GrammarToken) (a : A) → sign at t ≡ Some a → test t ≡ true) → Starts test (one sign)
 token_starts {sign = sign} h = one_starts (λ p. sign p.at p.token) (λ p. h p.at p.token)
 
-pub token_steady : {A : Type 0} (sign : ℕ → GrammarToken → Option A) (t : GrammarToken) (a : A) → sign 0 t ≡ Some a → Steady (one sign) (one_from sign)
+pub token_steady : {A : Type 0} (sign : ℕ → GrammarToken → Option A) (t : GrammarToken) (a : A) → sign 0 t ≡ Some a
+    → Steady (one sign) (one_from sign)
 token_steady sign t a word = one_steady sign (λ p. sign p.at p.token) (λ p. refl) (record { at = 0; token = t }) a word

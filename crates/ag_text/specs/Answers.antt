@@ -42,7 +42,9 @@ answer_of text (Err s) = Err (fault_of text s)
 
 -- the result of parsing a text with these tokens: too long, else not UTF-8, else the result for its tokens
 abbrev pub read_text : List ℕ → Input → Result RawGrammar TextFault
-read_text text i = cond (nat_lt max_text_bytes (length text)) (Err fault.TooLong) (cond (is_utf8 text) (answer_of text (grammar_of i)) (Err (fault.BadUtf8 (utf8_valid_len text))))
+read_text text i =
+    cond (nat_lt max_text_bytes (length text)) (Err fault.TooLong)
+    (cond (is_utf8 text) (answer_of text (grammar_of i)) (Err (fault.BadUtf8 (utf8_valid_len text))))
 
 -- The answer is the result of parsing the text, or memory ran out.
 abbrev pub IsRead : List ℕ → Result RawGrammar TextFault → Type 0
@@ -50,7 +52,8 @@ IsRead text answer = (i : Input) → Lexes 0 (chars text) i → answer ≢ Err f
 
 -- the same for a text that is short enough and UTF-8
 abbrev pub IsReadText : List ℕ → Result RawGrammar TextFault → Type 0
-IsReadText text answer = (i : Input) → Lexes 0 (chars text) i → answer ≢ Err fault.NoMemory → answer_of text (grammar_of i) ≡ answer
+IsReadText text answer = (i : Input) → Lexes 0 (chars text) i → answer ≢ Err fault.NoMemory
+    → answer_of text (grammar_of i) ≡ answer
 
 -- The token of a G2 fault is the first that cannot be accepted, and the line is that of its offset.
 abbrev pub IsFirstOf : List ℕ → TextFault → Type 0

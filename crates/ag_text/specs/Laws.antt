@@ -13,7 +13,8 @@ use Rattle.ag_text.specs.Syntax.{IsGrammar}
 -- the grammar.
 abbrev pub ReadingAgrees : Type 0
 ReadingAgrees = (at : ℕ) (placed : List PlacedToken) (raw : RawGrammar)
-    → (grammar_of (record { left = placed; ending = ending.EndsAt at }) ≡ Ok (raw, record { left = []; ending = ending.EndsAt at })) ↔ IsGrammar placed raw
+    → (grammar_of (record { left = placed; ending = ending.EndsAt at }) ≡ Ok
+    (raw, record { left = []; ending = ending.EndsAt at })) ↔ IsGrammar placed raw
 
 -- Outside of expressions, the parser rejects tokens that are not a grammar at the first token that cannot be
 -- accepted.

@@ -1,5 +1,6 @@
 -- The meaning of one token in a grammar's text (this project's).
-use Rattle.std.specs.Prelude.{ℕ, ◌==◌, ◌&&◌, length, Bool, not, cond, if◌then◌else◌, List, [], ◌∷◌, Option, Some, None, bytes_eq, codes}
+use Rattle.std.specs.Prelude.{ℕ, ◌==◌, ◌&&◌, length, Bool, not, cond, if◌then◌else◌, List, [], ◌∷◌, Option, Some, None, bytes_eq}
+use Rattle.std.specs.Prelude.{codes}
 use Rattle.std.specs.List.{list_any}
 use Rattle.ag_tokens.specs.declared.token.Punctuation.{Punctuation}
 use Rattle.ag_grammar.specs.declared.syntax.occurrence.Occ.{Occ}
@@ -54,7 +55,9 @@ literal_of bytes = some_if (is_literal bytes) (item.Literal bytes)
 
 -- the token class with this reserved name
 abbrev pub class_of : List ℕ → Option ℕ
-class_of name = cond (bytes_eq name (codes "NAME")) (Some name_class) (cond (bytes_eq name (codes "NUMBER")) (Some number_class) (cond (bytes_eq name (codes "TEXT")) (Some text_class) None))
+class_of name =
+    cond (bytes_eq name (codes "NAME")) (Some name_class)
+    (cond (bytes_eq name (codes "NUMBER")) (Some number_class) (cond (bytes_eq name (codes "TEXT")) (Some text_class) None))
 
 abbrev pub class_or_name : Option ℕ → Option Named → Option RawItem
 class_or_name (Some class) name = Some (item.Class class)

@@ -32,17 +32,26 @@ start_alone = record { start = named 6 (codes "S"); symbols = []; productions = 
 abbrev pub constant_tokens : List PlacedToken
 constant_tokens =
     name_at 0 (codes "start") ∷ name_at 6 (codes "S") ∷ mark_at 7 punctuation.Semicolon ∷
-    name_at 9 (codes "symbol") ∷ name_at 16 (codes "S") ∷ name_at 18 (codes "syn") ∷ name_at 22 (codes "out") ∷ mark_at 25 punctuation.Semicolon ∷
-    name_at 27 (codes "S") ∷ mark_at 29 punctuation.Equal ∷ record { at = 31; token = token.Text (codes "x") } ∷ name_at 35 (codes "S") ∷ name_at 37 (codes "NAME") ∷ mark_at 42 punctuation.OpenTable ∷
-    record { at = 44; token = token.Occurrence 0 (codes "out") } ∷ mark_at 51 punctuation.Equal ∷ record { at = 53; token = token.Number (pos 7) } ∷ mark_at 54 punctuation.Semicolon ∷
+    name_at 9 (codes "symbol") ∷ name_at 16 (codes "S") ∷ name_at 18 (codes "syn") ∷ name_at 22 (codes "out")
+    ∷ mark_at 25 punctuation.Semicolon ∷
+    name_at 27 (codes "S") ∷ mark_at 29 punctuation.Equal ∷ record { at = 31; token = token.Text (codes "x") } ∷ name_at 35
+    (codes "S") ∷ name_at 37 (codes "NAME") ∷ mark_at 42 punctuation.OpenTable ∷
+    record { at = 44; token = token.Occurrence 0 (codes "out") } ∷ mark_at 51 punctuation.Equal ∷ record
+    { at = 53; token = token.Number (pos 7) } ∷ mark_at 54 punctuation.Semicolon ∷
     mark_at 56 punctuation.CloseTable ∷ []
 
 abbrev pub constant_rule : RawRule
-constant_rule = record { target = record { place = 0; attr = codes "out"; at = 44 }; expr = (node.Literal (value.Num (pos 7)), []) }
+constant_rule =
+    record { target = record { place = 0; attr = codes "out"; at = 44 }; expr = (node.Literal (value.Num (pos 7)), []) }
 
 abbrev pub constant : RawGrammar
 constant = record {
   start = named 6 (codes "S");
   symbols = record { name = named 16 (codes "S"); syn = named 22 (codes "out") ∷ []; inh = [] } ∷ [];
-  productions = record { left = named 27 (codes "S"); items = item.Literal (codes "x") ∷ item.Name (named 35 (codes "S")) ∷ item.Class 0 ∷ []; rules = constant_rule ∷ [] } ∷ [];
+  productions =
+      record {
+        left = named 27 (codes "S");
+        items = item.Literal (codes "x") ∷ item.Name (named 35 (codes "S")) ∷ item.Class 0 ∷ [];
+        rules = constant_rule ∷ [];
+      } ∷ [];
 }

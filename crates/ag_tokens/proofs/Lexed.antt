@@ -1,5 +1,6 @@
 -- Tokens that the lexer reads one after the other, and the separators between them.
-use Rattle.std.proofs.Common.{◌≡◌, ℕ, ◌+◌, ◌-◌, ◌<◌, ◌≤◌, Bool, true, false, List, [], ◌∷◌, ◌++◌, length, drop, Some, chars, IsUtf8, encode_utf8, encode_utf8_all, refl, ap, ◌∙◌, subst, arith}
+use Rattle.std.proofs.Common.{◌≡◌, ℕ, ◌+◌, ◌-◌, ◌<◌, ◌≤◌, Bool, true, false, List, [], ◌∷◌, ◌++◌, length, drop, Some, chars}
+use Rattle.std.proofs.Common.{IsUtf8, encode_utf8, encode_utf8_all, refl, ap, ◌∙◌, subst, arith}
 use Rattle.std.proofs.lemmas.List.{length-append}
 use Rattle.std.proofs.lemmas.Bool.Decides.{nat_tests}
 use Rattle.std.specs.Char.{len_utf8}
@@ -26,7 +27,10 @@ pub is_behind : (cs : List ℕ) (t : GrammarToken) (rest : List ℕ) → token_f
 is_behind cs t rest e =
     let cut = token_sound cs t rest e in
     let some = word_some cut.word t cut.token in
-    record { shorter = omega (arith, ap length cut.split, length-append cut.word rest); narrower = omega (arith, ap width cut.split, width-append cut.word rest) }
+    record {
+      shorter = omega (arith, ap length cut.split, length-append cut.word rest);
+      narrower = omega (arith, ap width cut.split, width-append cut.word rest);
+    }
 
 pub separator_width : (c : ℕ) → is_separator c ≡ true → len_utf8 c ≡ 1
 separator_width c h = grind (arith, nat_tests)
@@ -36,29 +40,37 @@ spaces [] = refl
 spaces (c ∷ cs) = let more = spaces cs in grind (arith, separator_width, drop_more)
 
 -- tokens after separators
-pub spaced : (at : ℕ) (cs : List ℕ) (ps : List PlacedToken) (end : ℕ) (rest : List ℕ) → AreTokens (at + prefix_len is_separator cs) (drop (prefix_len is_separator cs) cs) ps end rest → AreTokens at cs ps end rest
+pub spaced : (at : ℕ) (cs : List ℕ) (ps : List PlacedToken) (end : ℕ) (rest : List ℕ)
+    → AreTokens (at + prefix_len is_separator cs) (drop (prefix_len is_separator cs) cs) ps end rest → AreTokens at cs ps end rest
 spaced at [] ps end rest are = subst (λ n. AreTokens n [] ps end rest) (omega arith) are
 spaced at (c ∷ cs) ps end rest are = go (is_separator c) refl (spaced (at + 1) cs ps end rest)
   where
-    go : (b : Bool) → is_separator c ≡ b → (AreTokens ((at + 1) + prefix_len is_separator cs) (drop (prefix_len is_separator cs) cs) ps end rest → AreTokens (at + 1) cs ps end rest) → AreTokens at (c ∷ cs) ps end rest
+    go : (b : Bool) → is_separator c ≡ b
+        → (AreTokens ((at + 1) + prefix_len is_separator cs) (drop (prefix_len is_separator cs) cs) ps end rest
+        → AreTokens (at + 1) cs ps end rest) → AreTokens at (c ∷ cs) ps end rest
     go false h more = let k : at + 0 ≡ at = omega arith in rw (h, k) at are
-    go true h more = let k : at + (1 + prefix_len is_separator cs) ≡ (at + 1) + prefix_len is_separator cs = omega arith in separator at c cs ps end rest h (more (rw (h, k, drop_more) at are))
+    go true h more = let k : at + (1 + prefix_len is_separator cs) ≡ (at + 1) + prefix_len is_separator cs = omega arith in
+        separator at c cs ps end rest h (more (rw (h, k, drop_more) at are))
 
 pub plain_after : (cs : List ℕ) → BeginsNoSeparator (drop (prefix_len is_separator cs) cs)
 plain_after [] = tt
 plain_after (c ∷ cs) = let more = plain_after cs in grind (arith, drop_more)
 
 -- a token that the lexer reads, and the tokens after it
-pub one_more : (at : ℕ) (cs : List ℕ) (t : GrammarToken) (following : List ℕ) (ps : List PlacedToken) (end : ℕ) (rest : List ℕ) → token_from cs ≡ Some (t, following) → AreTokens (at + (width cs - width following)) following ps end rest
+pub one_more : (at : ℕ) (cs : List ℕ) (t : GrammarToken) (following : List ℕ) (ps : List PlacedToken) (end : ℕ) (rest : List ℕ)
+    → token_from cs ≡ Some (t, following) → AreTokens (at + (width cs - width following)) following ps end rest
     → AreTokens at cs (record { at = at; token = t } ∷ ps) end rest
 one_more at cs t following ps end rest e more =
     let cut = token_sound cs t following e in
-    let wide : at + (width cs - width following) ≡ at + width cut.word = omega (arith, ap width cut.split, width-append cut.word following) in
-    word at cs cut.word following t ps end rest cut.split cut.token (cut_longest cs t following cut.word e cut.split) (subst (λ n. AreTokens n following ps end rest) wide more)
+    let wide : at + (width cs - width following) ≡ at + width cut.word =
+    omega (arith, ap width cut.split, width-append cut.word following) in
+    word at cs cut.word following t ps end rest cut.split cut.token (cut_longest cs t following cut.word e cut.split)
+    (subst (λ n. AreTokens n following ps end rest) wide more)
 
 pub width-encoded : (cs : List ℕ) → width cs ≡ length (encode_utf8_all cs)
 width-encoded [] = refl
-width-encoded (c ∷ cs) = let more = width-encoded cs in omega (arith, length-append (encode_utf8 c) (encode_utf8_all cs), length-encode c)
+width-encoded (c ∷ cs) = let more = width-encoded cs in
+    omega (arith, length-append (encode_utf8 c) (encode_utf8_all cs), length-encode c)
 
 pub width-chars : (bs : List ℕ) → IsUtf8 bs → width (chars bs) ≡ length bs
 width-chars bs is = width-encoded (chars bs) ∙ ap length (encodes-chars bs is)

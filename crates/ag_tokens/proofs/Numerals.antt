@@ -1,5 +1,7 @@
 -- Texts of digits, as the standard library parses them.
-use Rattle.std.proofs.Common.{◌≡◌, ℕ, ℤ, ◌+◌, ◌-◌, ◌*◌, ◌≤◌, ◌<◌, pos, Bool, true, false, cond, ◌==◌, nat_le, List, [], ◌∷◌, length, take, Option, Some, None, Result, Err, chars, encode_utf8_all, refl, ap, sym, ◌∙◌, arith, rules}
+use Rattle.std.proofs.Common.{◌≡◌, ℕ, ℤ, ◌+◌, ◌-◌, ◌*◌, ◌≤◌, ◌<◌, pos, Bool, true, false, cond, ◌==◌, nat_le, List, [], ◌∷◌}
+use Rattle.std.proofs.Common.{length, take, Option, Some, None, Result, Err, chars, encode_utf8_all, refl, ap, sym, ◌∙◌, arith}
+use Rattle.std.proofs.Common.{rules}
 use Rattle.std.specs.Char.{is_ascii_digit}
 use Rattle.std.specs.List.{list_all, prefix_len}
 use Rattle.std.specs.Char.{digit_value}
@@ -11,7 +13,8 @@ use mir.Syntax.{w64}
 use Rattle.ag_tokens.specs.GrammarToken as token
 use Rattle.ag_tokens.specs.Tokens.{IsDigits}
 use Rattle.ag_tokens.specs.declared.lexer.Class.TheVariants as class
-use Rattle.ag_tokens.specs.Lexing.{prefix_in, rest_in, digits_from, number_from, occurrence_from, plain_from, text_from, token_from, match_option}
+use Rattle.ag_tokens.specs.Lexing.{prefix_in, rest_in, digits_from, number_from, occurrence_from, plain_from, text_from}
+use Rattle.ag_tokens.specs.Lexing.{token_from, match_option}
 use Rattle.ag_tokens.proofs.Fronts.{prefix_passes, take_more, drop_more}
 
 own : IsNumeralModel (λ ds. list_all is_ascii_digit ds ≡ true) (digits_value 10)
@@ -23,10 +26,12 @@ digits_encoded [] all = refl
 digits_encoded (d ∷ ds) all = let more = digits_encoded ds in grind (arith, nat_tests, encode_ascii, more)
 
 -- digits that do not parse are a number that is too large
-pub place_refused : {E : Type 0} (ds : List ℕ) (e : E) → IsDigits ds → (let r : Result ℕ E = Err e in ParsesUnsigned 16 10 ds r) → nat_le (digits_value 10 ds) 65535 ≡ false
+pub place_refused : {E : Type 0} (ds : List ℕ) (e : E) → IsDigits ds → (let r : Result ℕ E = Err e in ParsesUnsigned 16 10 ds r)
+    → nat_le (digits_value 10 ds) 65535 ≡ false
 place_refused ds e is parses = let bad = parse_digits own 16 ds (Err e) parses is.1 in grind (arith, nat_tests)
 
-pub number_refused : {E : Type 0} (ds : List ℕ) (e : E) → IsDigits ds → (let r : Result ℤ E = Err e in ParsesSigned w64 10 ds r) → nat_le (digits_value 10 ds) 9223372036854775807 ≡ false
+pub number_refused : {E : Type 0} (ds : List ℕ) (e : E) → IsDigits ds → (let r : Result ℤ E = Err e in ParsesSigned w64 10 ds r)
+    → nat_le (digits_value 10 ds) 9223372036854775807 ≡ false
 number_refused ds e is parses = let bad = parse_signed_digits own w64 ds (Err e) parses is.1 in grind (arith, nat_tests)
 
 -- the leading digits that the lexer reads
@@ -41,7 +46,8 @@ module _ (cs word : List ℕ) (is : word ≡ encode_utf8_all (prefix_in class.Di
   pub no_digits_cut : (length word == 0) ≡ true → digits_from cs ≡ None
   no_digits_cut empty = let same = word_is in let none = front_empty is_ascii_digit cs in grind (arith, nat_tests)
 
-  pub digits_cut : (length word == 0) ≡ false → (back : List ℕ) → back ≡ rest_in class.Digit cs → digits_from cs ≡ Some (word, back)
+  pub digits_cut : (length word == 0) ≡ false → (back : List ℕ) → back ≡ rest_in class.Digit cs
+      → digits_from cs ≡ Some (word, back)
   digits_cut some back same = let is = word_is in grind (arith, nat_tests)
 
   pub digits_are : (length word == 0) ≡ false → IsDigits word
@@ -58,7 +64,8 @@ front_more c cs is = grind (arith, take_more)
 back_more : (c : ℕ) (cs : List ℕ) → is_ascii_digit c ≡ true → rest_in class.Digit (c ∷ cs) ≡ rest_in class.Digit cs
 back_more c cs is = grind (arith, drop_more)
 
-value_more : (n c : ℕ) (ds : List ℕ) → is_ascii_digit c ≡ true → digits_value_after 10 n (c ∷ ds) ≡ digits_value_after 10 (n * 10 + (c - 48)) ds
+value_more : (n c : ℕ) (ds : List ℕ) → is_ascii_digit c ≡ true
+    → digits_value_after 10 n (c ∷ ds) ≡ digits_value_after 10 (n * 10 + (c - 48)) ds
 value_more n c ds is = ap (λ d. digits_value_after 10 (n * 10 + d) ds) (digit_is c is)
 
 -- The digits of `cs` up to the beginning of `rest` have been read, and their value is `number`.
@@ -71,29 +78,42 @@ pub begins : (c : ℕ) (text : List ℕ) → is_ascii_digit c ≡ true → Worke
 begins c text is = record {
   small = grind (arith, nat_tests);
   value = let none : 0 * 10 + (c - 48) ≡ c - 48 = omega arith in
-      sym (ap (digits_value 10) (front_more c (chars text) is) ∙ value_more 0 c (prefix_in class.Digit (chars text)) is ∙ ap (λ n. digits_value_after 10 n (prefix_in class.Digit (chars text))) none);
+      sym (ap (digits_value 10) (front_more c (chars text) is) ∙ value_more 0 c (prefix_in class.Digit (chars text)) is
+      ∙ ap (λ n. digits_value_after 10 n (prefix_in class.Digit (chars text))) none);
   back = sym (back_more c (chars text) is);
 }
 
-pub goes_on : (cs : List ℕ) (number : ℕ) (rest : List ℕ) (c : ℕ) (following : List ℕ) → is_ascii_digit c ≡ true → chars rest ≡ c ∷ chars following → number ≤ 99999999999999999 → WorkedOut cs number rest → WorkedOut cs (number * 10 + (c - 48)) following
+pub goes_on : (cs : List ℕ) (number : ℕ) (rest : List ℕ) (c : ℕ) (following : List ℕ) → is_ascii_digit c ≡ true
+    → chars rest ≡ c ∷ chars following → number ≤ 99999999999999999 → WorkedOut cs number rest
+    → WorkedOut cs (number * 10 + (c - 48)) following
 goes_on cs number rest c following is split small so_far =
-    let prefix : prefix_in class.Digit (chars rest) ≡ c ∷ prefix_in class.Digit (chars following) = rw split (front_more c (chars following) is) in
-    let back : rest_in class.Digit (chars rest) ≡ rest_in class.Digit (chars following) = rw split (back_more c (chars following) is) in
+    let prefix : prefix_in class.Digit (chars rest) ≡ c ∷ prefix_in class.Digit (chars following) =
+    rw split (front_more c (chars following) is) in
+    let back : rest_in class.Digit (chars rest) ≡ rest_in class.Digit (chars following) =
+    rw split (back_more c (chars following) is) in
     record {
       small = grind (arith, nat_tests);
-      value = sym (ap (digits_value_after 10 number) prefix ∙ value_more number c (prefix_in class.Digit (chars following)) is) ∙ so_far.value;
+      value =
+          sym (ap (digits_value_after 10 number) prefix ∙ value_more number c (prefix_in class.Digit (chars following)) is)
+          ∙ so_far.value;
       back = sym back ∙ so_far.back;
     }
 
-pub value_of : (cs : List ℕ) (number : ℕ) (rest : List ℕ) → prefix_len is_ascii_digit (chars rest) ≡ 0 → WorkedOut cs number rest → number ≡ digits_value 10 (prefix_in class.Digit cs)
+pub value_of : (cs : List ℕ) (number : ℕ) (rest : List ℕ) → prefix_len is_ascii_digit (chars rest) ≡ 0 → WorkedOut cs number rest
+    → number ≡ digits_value 10 (prefix_in class.Digit cs)
 value_of cs number rest none so_far = sym (rw none refl) ∙ so_far.value
 
-pub rest_of : (cs : List ℕ) (number : ℕ) (rest : List ℕ) → prefix_len is_ascii_digit (chars rest) ≡ 0 → WorkedOut cs number rest → chars rest ≡ rest_in class.Digit cs
+pub rest_of : (cs : List ℕ) (number : ℕ) (rest : List ℕ) → prefix_len is_ascii_digit (chars rest) ≡ 0 → WorkedOut cs number rest
+    → chars rest ≡ rest_in class.Digit cs
 rest_of cs number rest none so_far = sym (rw none refl) ∙ so_far.back
 
 -- ---- by the first character
 
-pub number_is : (c : ℕ) (cs : List ℕ) → is_ascii_digit c ≡ true → number_from (c ∷ cs) ≡ Some (token.Number (pos (digits_value 10 (prefix_in class.Digit (c ∷ cs)))), rest_in class.Digit (c ∷ cs))
+pub number_is : (c : ℕ) (cs : List ℕ) → is_ascii_digit c ≡ true
+    → number_from (c ∷ cs) ≡ Some (
+      token.Number (pos (digits_value 10 (prefix_in class.Digit (c ∷ cs)))),
+      rest_in class.Digit (c ∷ cs),
+    )
 number_is c cs is = grind arith
 
 pub no_digit : (c : ℕ) (cs : List ℕ) → is_ascii_digit c ≡ false → digits_from (c ∷ cs) ≡ None
@@ -107,8 +127,13 @@ some_digit c cs is =
     let some : digits_from (c ∷ cs) ≡ Some (prefix_in class.Digit (c ∷ cs), rest_in class.Digit (c ∷ cs)) = grind arith in
     chosen (digits_from (c ∷ cs)) _ _ _ some ∙ sym (number_is c cs is)
 
-pub numbered_token : (c : ℕ) (cs : List ℕ) → is_ascii_digit c ≡ true → token_from (c ∷ cs) ≡ Some (token.Number (pos (digits_value 10 (prefix_in class.Digit (c ∷ cs)))), rest_in class.Digit (c ∷ cs))
+pub numbered_token : (c : ℕ) (cs : List ℕ) → is_ascii_digit c ≡ true
+    → token_from (c ∷ cs) ≡ Some (
+      token.Number (pos (digits_value 10 (prefix_in class.Digit (c ∷ cs)))),
+      rest_in class.Digit (c ∷ cs),
+    )
 unfolding token_from
 numbered_token c cs is =
-    let plain : cond (c == 34) (text_from (length cs) [] cs) (cond (c == 36) (occurrence_from cs) (plain_from (c ∷ cs))) ≡ plain_from (c ∷ cs) = grind (arith, nat_tests) in
+    let plain : cond (c == 34) (text_from (length cs) [] cs) (cond (c == 36) (occurrence_from cs) (plain_from (c ∷ cs)))
+    ≡ plain_from (c ∷ cs) = grind (arith, nat_tests) in
     plain ∙ some_digit c cs is ∙ number_is c cs is

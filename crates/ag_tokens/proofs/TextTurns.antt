@@ -1,6 +1,8 @@
 -- The body of a text literal, read character by character, and the loop that reads it.
 use Rattle.std.specs.Option.{option_and_then}
-use Rattle.std.proofs.Common.{◌≡◌, ℕ, zero, suc, ◌≤◌, ◌<◌, ◌≢◌, true, List, [], ◌∷◌, ◌++◌, length, Option, Some, None, chars, encode_utf8, encode_utf8_all, ◌∙◌, refl, sym, ap, subst, arith, append_assoc, append-nil, take, ◌-◌, IsUtf8, is_some, Bor, MatchOption, lit<}
+use Rattle.std.proofs.Common.{◌≡◌, ℕ, zero, suc, ◌≤◌, ◌<◌, ◌≢◌, true, List, [], ◌∷◌, ◌++◌, length, Option, Some, None, chars}
+use Rattle.std.proofs.Common.{encode_utf8, encode_utf8_all, ◌∙◌, refl, sym, ap, subst, arith, append_assoc, append-nil, take, ◌-◌}
+use Rattle.std.proofs.Common.{IsUtf8, is_some, Bor, MatchOption, lit<}
 use Rattle.std.specs.Str.{IsCharBoundary}
 use Rattle.std.proofs.lemmas.Str.{encode_ascii, encodes-append, chars_from_encodes, IsUtf8-take}
 use Rattle.std.proofs.lemmas.Bool.{ne_eqb}
@@ -9,7 +11,8 @@ use Rattle.ag_tokens.proofs.Spans.{seam, front_bytes}
 use Rattle.ag_tokens.specs.GrammarToken.{GrammarToken}
 use Rattle.ag_tokens.specs.GrammarToken as token
 use Rattle.ag_tokens.specs.Tokens.{IsBody, empty, plain, escape, escaped}
-use Rattle.ag_tokens.specs.Lexing.{piece_from, character_from, escape_from, text_from, after_quote, unescaped, IsPast, IsAfterEscape}
+use Rattle.ag_tokens.specs.Lexing.{piece_from, character_from, escape_from, text_from, after_quote, unescaped, IsPast}
+use Rattle.ag_tokens.specs.Lexing.{IsAfterEscape}
 
 -- The characters in `taken` have been read and denote the bytes in `prefix`; `rest` is left, and reading it to
 -- its end gives `total`.
@@ -23,14 +26,17 @@ pub record Within (text rest : List ℕ) (total : Option (GrammarToken × List �
   pub same : text_from turns prefix (chars rest) ≡ total
 
 pub starts : (text : List ℕ) → Within text text (text_from (length (chars text)) [] (chars text))
-starts text = record { taken = []; prefix = []; is = empty; split = refl; turns = length (chars text); enough = omega arith; same = refl }
+starts text =
+    record { taken = []; prefix = []; is = empty; split = refl; turns = length (chars text); enough = omega arith; same = refl }
 
 joined : {xs bytes : List ℕ} → IsBody xs bytes → (ys more : List ℕ) → IsBody ys more → IsBody (xs ++ ys) (bytes ++ more)
 joined empty ys more is = is
 joined (plain c body bytes quote slash so_far) ys more is =
-    subst (IsBody (c ∷ (body ++ ys))) (sym (append_assoc (encode_utf8 c) bytes more)) (plain c (body ++ ys) (bytes ++ more) quote slash (joined so_far ys more is))
+    subst (IsBody (c ∷ (body ++ ys))) (sym (append_assoc (encode_utf8 c) bytes more))
+    (plain c (body ++ ys) (bytes ++ more) quote slash (joined so_far ys more is))
 joined (escape c d body bytes same so_far) ys more is =
-    subst (IsBody (92 ∷ c ∷ (body ++ ys))) (sym (append_assoc (encode_utf8 d) bytes more)) (escape c d (body ++ ys) (bytes ++ more) same (joined so_far ys more is))
+    subst (IsBody (92 ∷ c ∷ (body ++ ys))) (sym (append_assoc (encode_utf8 d) bytes more))
+    (escape c d (body ++ ys) (bytes ++ more) same (joined so_far ys more is))
 
 -- the characters after an escape are fewer
 shorter_escape : (cs rest : List ℕ) (c : ℕ) → escape_from cs ≡ Some (c, rest) → length rest < length cs
@@ -39,22 +45,28 @@ shorter_escape cs rest c e = grind arith
 shorter : (cs rest : List ℕ) (c : ℕ) → character_from cs ≡ Some (c, rest) → length rest < length cs
 shorter cs rest c e = grind (arith, shorter_escape)
 
-pub goes_on : (text rest after : List ℕ) (total : Option (GrammarToken × List ℕ)) → IsPast rest after → Within text rest total → Within text after total
+pub goes_on : (text rest after : List ℕ) (total : Option (GrammarToken × List ℕ)) → IsPast rest after → Within text rest total
+    → Within text after total
 unfolding text_from
 goes_on text rest after total past so_far = go so_far.turns so_far.enough so_far.same
   where
     whole : text ≡ encode_utf8_all (so_far.taken ++ past.piece) ++ after
-    whole = so_far.split ∙ ap (λ x. encode_utf8_all so_far.taken ++ x) past.split ∙ sym (append_assoc (encode_utf8_all so_far.taken) (encode_utf8_all past.piece) after)
+    whole =
+        so_far.split ∙ ap (λ x. encode_utf8_all so_far.taken ++ x) past.split
+        ∙ sym (append_assoc (encode_utf8_all so_far.taken) (encode_utf8_all past.piece) after)
         ∙ ap (λ x. x ++ after) (sym (encodes-append so_far.taken past.piece))
 
     go : (n : ℕ) → length (chars rest) ≤ n → text_from n so_far.prefix (chars rest) ≡ total → Within text after total
-    go zero enough same = let less = shorter (chars rest) (chars after) past.character past.cut in let bad : ⊥ = omega arith in absurd bad
+    go zero enough same = let less = shorter (chars rest) (chars after) past.character past.cut in let bad : ⊥ = omega arith in
+        absurd bad
     go (suc n) enough same =
         let less = shorter (chars rest) (chars after) past.character past.cut in
         record {
           taken = so_far.taken ++ past.piece;
           prefix = so_far.prefix ++ encode_utf8 past.character;
-          is = subst (λ x. IsBody (so_far.taken ++ past.piece) (so_far.prefix ++ x)) (append-nil (encode_utf8 past.character)) (joined so_far.is past.piece (encode_utf8 past.character ++ []) past.is);
+          is =
+              subst (λ x. IsBody (so_far.taken ++ past.piece) (so_far.prefix ++ x)) (append-nil (encode_utf8 past.character))
+              (joined so_far.is past.piece (encode_utf8 past.character ++ []) past.is);
           split = whole;
           turns = n;
           enough = omega arith;
@@ -64,12 +76,14 @@ goes_on text rest after total past so_far = go so_far.turns so_far.enough so_far
 none_unquoted : (cs : List ℕ) → length cs ≤ 0 → after_quote cs ≡ None
 none_unquoted cs h = grind arith
 
-pub stopped : (text rest : List ℕ) (total : Option (GrammarToken × List ℕ)) → character_from (chars rest) ≡ None → (so_far : Within text rest total)
+pub stopped : (text rest : List ℕ) (total : Option (GrammarToken × List ℕ)) → character_from (chars rest) ≡ None
+    → (so_far : Within text rest total)
     → total ≡ option_and_then (λ following. Some (token.Text so_far.prefix, following)) (after_quote (chars rest))
 unfolding text_from
 stopped text rest total is so_far = go so_far.turns so_far.enough so_far.same
   where
-    go : (n : ℕ) → length (chars rest) ≤ n → text_from n so_far.prefix (chars rest) ≡ total → total ≡ option_and_then (λ following. Some (token.Text so_far.prefix, following)) (after_quote (chars rest))
+    go : (n : ℕ) → length (chars rest) ≤ n → text_from n so_far.prefix (chars rest) ≡ total
+        → total ≡ option_and_then (λ following. Some (token.Text so_far.prefix, following)) (after_quote (chars rest))
     go zero enough same = rw (none_unquoted (chars rest) enough) (sym same)
     go (suc n) enough same = sym same ∙ rw is refl
 
@@ -86,7 +100,10 @@ module _ (text rest : List ℕ) (total : Option (GrammarToken × List ℕ)) (so_
   pub body_is : IsUtf8 text → IsUtf8 rest → unescaped (chars (take (length text - length rest) text)) ≡ so_far.prefix
   body_is utf8 utf8' =
       let bytes = front_bytes text rest so_far.taken so_far.split in
-      let characters : chars (encode_utf8_all so_far.taken) ≡ so_far.taken = sym (chars_from_encodes so_far.taken (encode_utf8_all so_far.taken) (subst IsUtf8 bytes (IsUtf8-take text (length text - length rest) utf8 (boundary utf8'))) refl) in
+      let characters : chars (encode_utf8_all so_far.taken) ≡ so_far.taken =
+      sym
+      (chars_from_encodes so_far.taken (encode_utf8_all so_far.taken)
+      (subst IsUtf8 bytes (IsUtf8-take text (length text - length rest) utf8 (boundary utf8'))) refl) in
       ap (λ x. unescaped (chars x)) bytes ∙ ap unescaped characters ∙ unescapes so_far.is
 
 some_escape : (c : ℕ) → is_some (escaped c) ≡ true → (d : ℕ) × (escaped c ≡ Some d)
@@ -96,7 +113,8 @@ encoded_escape : (c : ℕ) (rest : List ℕ) → 92 ∷ (encode_utf8 c ++ rest) 
 encoded_escape c rest = rw (encode_ascii 92 (lit< tt), append-nil (encode_utf8 c)) refl
 
 -- an escape
-pub past_escape : (text following : List ℕ) (passed : Option (Bor (List ℕ))) → chars text ≡ 92 ∷ chars following → text ≡ encode_utf8 92 ++ following → IsAfterEscape following passed
+pub past_escape : (text following : List ℕ) (passed : Option (Bor (List ℕ))) → chars text ≡ 92 ∷ chars following
+    → text ≡ encode_utf8 92 ++ following → IsAfterEscape following passed
     → MatchOption passed (character_from (chars text) ≡ None) (λ rest. IsPast text rest.now)
 past_escape text following None characters split is = rw (characters, is) refl
 past_escape text following (Some rest) characters split (c, h, more, after) =
@@ -106,11 +124,14 @@ past_escape text following (Some rest) characters split (c, h, more, after) =
       piece = 92 ∷ c ∷ [];
       cut = rw (characters, more, one.1) refl;
       is = escape c one.0 [] [] one.1 empty;
-      split = split ∙ ap (λ x. encode_utf8 92 ++ x) after ∙ ap (λ x. x ++ (encode_utf8 c ++ rest.now)) (encode_ascii 92 (lit< tt)) ∙ encoded_escape c rest.now;
+      split =
+          split ∙ ap (λ x. encode_utf8 92 ++ x) after ∙ ap (λ x. x ++ (encode_utf8 c ++ rest.now)) (encode_ascii 92 (lit< tt))
+          ∙ encoded_escape c rest.now;
     }
 
 -- a character that denotes itself
-pub past_plain : (text rest : List ℕ) (c : ℕ) → c ≢ 34 → c ≢ 92 → chars text ≡ c ∷ chars rest → text ≡ encode_utf8 c ++ rest → IsPast text rest
+pub past_plain : (text rest : List ℕ) (c : ℕ) → c ≢ 34 → c ≢ 92 → chars text ≡ c ∷ chars rest → text ≡ encode_utf8 c ++ rest
+    → IsPast text rest
 past_plain text rest c quote slash characters split = record {
   character = c;
   piece = c ∷ [];
@@ -124,7 +145,8 @@ pub ruleset past = (past_escape, past_plain)
 
 -- ---- the text that a body denotes, computed piece by piece
 
-pub piece_some : (cs : List ℕ) (c : ℕ) (rest : List ℕ) → Some (c, rest) ≡ piece_from cs → (unescaped cs ≡ encode_utf8 c ++ unescaped rest) × (length rest < length cs)
+pub piece_some : (cs : List ℕ) (c : ℕ) (rest : List ℕ) → Some (c, rest) ≡ piece_from cs
+    → (unescaped cs ≡ encode_utf8 c ++ unescaped rest) × (length rest < length cs)
 piece_some [] c rest h = let bad : ⊥ = cc in absurd bad
 piece_some (d ∷ []) c rest h = (grind (arith, nat_tests), grind (arith, nat_tests))
 piece_some (d ∷ e ∷ cs) c rest h = (grind (arith, nat_tests), grind (arith, nat_tests))

@@ -11,7 +11,8 @@ OneInput = (cs : List ℕ) → (i : Input) × Lexes 0 cs i × ((j : Input) → L
 
 -- `token_from` returns the longest token at the beginning of characters,
 abbrev pub LongestIsCut : Type 0
-LongestIsCut = (characters rest : List ℕ) (t : GrammarToken) → token_from characters ≡ Some (t, rest) → (word : List ℕ) × (characters ≡ word ++ rest) × IsToken word t × IsLongest word rest
+LongestIsCut = (characters rest : List ℕ) (t : GrammarToken) → token_from characters ≡ Some (t, rest)
+    → (word : List ℕ) × (characters ≡ word ++ rest) × IsToken word t × IsLongest word rest
 
 -- and no token begins there if it returns `None`.
 abbrev pub NothingIsCut : Type 0

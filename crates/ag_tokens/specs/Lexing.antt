@@ -1,6 +1,7 @@
 -- The lexer as a plain function. It agrees with the definition of tokens.
 use Rattle.std.specs.Option.{option_and_then}
-use Rattle.std.specs.Prelude.{◌≡◌, ℕ, zero, suc, pos, Bool, true, false, cond, ◌==◌, List, [], ◌∷◌, ◌++◌, length, take, drop, Option, Some, None, Result, Ok, Err, encode_utf8, encode_utf8_all, chars, is_some, option_map}
+use Rattle.std.specs.Prelude.{◌≡◌, ℕ, zero, suc, pos, Bool, true, false, cond, ◌==◌, List, [], ◌∷◌, ◌++◌, length, take, drop}
+use Rattle.std.specs.Prelude.{Option, Some, None, Result, Ok, Err, encode_utf8, encode_utf8_all, chars, is_some, option_map}
 use Rattle.std.specs.Borrow.{Bor}
 use Rattle.std.specs.Char.{is_ascii_digit}
 use Rattle.std.specs.List.{prefix_len}
@@ -68,18 +69,27 @@ token_of (lent_token.Punctuation s) = token.Punctuation s
 
 -- the leading digits, if there are any, and the characters after them
 abbrev pub digits_from : List ℕ → Option (List ℕ × List ℕ)
-digits_from cs = cond (prefix_len is_ascii_digit cs == 0) None (Some (take (prefix_len is_ascii_digit cs) cs, drop (prefix_len is_ascii_digit cs) cs))
+digits_from cs =
+    cond (prefix_len is_ascii_digit cs == 0) None
+    (Some (take (prefix_len is_ascii_digit cs) cs, drop (prefix_len is_ascii_digit cs) cs))
 
 -- the name at the beginning, if one begins there, and the characters after it
 abbrev pub name_from : List ℕ → Option (List ℕ × List ℕ)
 name_from [] = None
-name_from (c ∷ cs) = cond (starts_name c) (Some (take (prefix_len is_xid_continue (c ∷ cs)) (c ∷ cs), drop (prefix_len is_xid_continue (c ∷ cs)) (c ∷ cs))) None
+name_from (c ∷ cs) =
+    cond (starts_name c)
+    (Some (take (prefix_len is_xid_continue (c ∷ cs)) (c ∷ cs), drop (prefix_len is_xid_continue (c ∷ cs)) (c ∷ cs))) None
 
 -- the punctuation that consists of one character and begins no longer one
 abbrev pub single_punctuation : ℕ → Option Punctuation
 single_punctuation c =
-    cond (c == 45) (Some punctuation.Minus) (cond (c == 42) (Some punctuation.Times) (cond (c == 60) (Some punctuation.Less) (cond (c == 40) (Some punctuation.Open) (cond (c == 41) (Some punctuation.Close)
-    (cond (c == 91) (Some punctuation.OpenList) (cond (c == 93) (Some punctuation.CloseList) (cond (c == 123) (Some punctuation.OpenTable) (cond (c == 125) (Some punctuation.CloseTable)
+    cond (c == 45) (Some punctuation.Minus)
+    (cond (c == 42) (Some punctuation.Times)
+    (cond (c == 60) (Some punctuation.Less)
+    (cond (c == 40) (Some punctuation.Open) (cond (c == 41) (Some punctuation.Close)
+    (cond (c == 91) (Some punctuation.OpenList)
+    (cond (c == 93) (Some punctuation.CloseList)
+    (cond (c == 123) (Some punctuation.OpenTable) (cond (c == 125) (Some punctuation.CloseTable)
     (cond (c == 44) (Some punctuation.Comma) (cond (c == 59) (Some punctuation.Semicolon) None))))))))))
 
 -- `two` if the character `twice` follows, else `one`
@@ -91,7 +101,9 @@ double_mark twice two one (c ∷ cs) = cond (c == twice) (two, cs) (one, c ∷ c
 abbrev pub punctuation_from : List ℕ → Option (Punctuation × List ℕ)
 punctuation_from [] = None
 punctuation_from (c ∷ cs) =
-    cond (c == 43) (Some (double_mark 43 punctuation.Join punctuation.Plus cs)) (cond (c == 61) (Some (double_mark 61 punctuation.EqualEqual punctuation.Equal cs)) (option_and_then (λ s. Some (s, cs)) (single_punctuation c)))
+    cond (c == 43) (Some (double_mark 43 punctuation.Join punctuation.Plus cs))
+    (cond (c == 61) (Some (double_mark 61 punctuation.EqualEqual punctuation.Equal cs))
+    (option_and_then (λ s. Some (s, cs)) (single_punctuation c)))
 
 -- the character that the first characters of a body denote, and the characters after it; none at a quote
 abbrev pub character_from : List ℕ → Option (ℕ × List ℕ)
@@ -107,7 +119,8 @@ after_quote (c ∷ cs) = cond (c == 34) (Some cs) None
 unfoldable pub text_from : ℕ → List ℕ → List ℕ → Option (GrammarToken × List ℕ)
 text_from zero prefix cs = None
 text_from (suc turns) prefix cs =
-    match_option (character_from cs) (option_and_then (λ rest. Some (token.Text prefix, rest)) (after_quote cs)) (λ p. text_from turns (prefix ++ encode_utf8 p.0) p.1)
+    match_option (character_from cs) (option_and_then (λ rest. Some (token.Text prefix, rest)) (after_quote cs))
+    (λ p. text_from turns (prefix ++ encode_utf8 p.0) p.1)
 
 -- the characters after a dot
 abbrev pub after_dot : List ℕ → Option (List ℕ)
@@ -117,7 +130,11 @@ after_dot (c ∷ cs) = cond (c == 46) (Some cs) None
 -- the occurrence whose `$` has been read
 abbrev pub occurrence_from : List ℕ → Option (GrammarToken × List ℕ)
 occurrence_from cs =
-    option_and_then (λ d. option_and_then (λ rest. option_and_then (λ n. Some (token.Occurrence (digits_value 10 d.0) (encode_utf8_all n.0), n.1)) (name_from rest)) (after_dot d.1)) (digits_from cs)
+    option_and_then
+    (λ d.
+    option_and_then
+    (λ rest. option_and_then (λ n. Some (token.Occurrence (digits_value 10 d.0) (encode_utf8_all n.0), n.1))
+    (name_from rest)) (after_dot d.1)) (digits_from cs)
 
 -- a number literal of any size
 abbrev pub number_from : List ℕ → Option (GrammarToken × List ℕ)
@@ -127,7 +144,8 @@ number_from cs = option_and_then (λ d. Some (token.Number (pos (digits_value 10
 abbrev pub plain_from : List ℕ → Option (GrammarToken × List ℕ)
 plain_from cs =
     match_option (digits_from cs)
-    (match_option (name_from cs) (option_and_then (λ s. Some (token.Punctuation s.0, s.1)) (punctuation_from cs)) (λ n. Some (token.Name (encode_utf8_all n.0), n.1)))
+    (match_option (name_from cs) (option_and_then (λ s. Some (token.Punctuation s.0, s.1)) (punctuation_from cs))
+    (λ n. Some (token.Name (encode_utf8_all n.0), n.1)))
     (λ d. Some (token.Number (pos (digits_value 10 d.0)), d.1))
 
 -- the first token, and the characters after it
@@ -162,13 +180,16 @@ AgreesOnDigits result read = option_map {U = List ℕ × List ℕ} (λ x. (x.0.n
 
 -- the name and the text after it are those of the specification
 abbrev pub AgreesOnName : Option (Bor (List ℕ) × Bor (List ℕ)) → Option (List ℕ × List ℕ) → Type 0
-AgreesOnName result read = option_map {U = List ℕ × List ℕ} (λ x. (x.0.now, chars x.1.now)) result ≡ option_map {U = List ℕ × List ℕ} (λ n. (encode_utf8_all n.0, n.1)) read
+AgreesOnName result read =
+    option_map {U = List ℕ × List ℕ} (λ x. (x.0.now, chars x.1.now)) result ≡ option_map {U = List ℕ × List ℕ}
+    (λ n. (encode_utf8_all n.0, n.1)) read
 
 -- the result is the text after a first character of the class; if it is `None`, the text does not begin with
 -- such a character
 abbrev pub IsAfterOne : Class → List ℕ → Option (Bor (List ℕ)) → Type 0
 IsAfterOne class text None = prefix_len (is_in class) (chars text) ≡ 0
-IsAfterOne class text (Some rest) = (c : ℕ) × (is_in class c ≡ true) × (chars text ≡ c ∷ chars rest.now) × (text ≡ encode_utf8 c ++ rest.now)
+IsAfterOne class text (Some rest) =
+    (c : ℕ) × (is_in class c ≡ true) × (chars text ≡ c ∷ chars rest.now) × (text ≡ encode_utf8 c ++ rest.now)
 
 -- the result is a first digit and the text after it; if it is `None`, the text does not begin with a digit
 abbrev pub IsAfterDigit : List ℕ → Option (ℕ × Bor (List ℕ)) → Type 0
@@ -179,7 +200,8 @@ IsAfterDigit text (Some x) = (is_ascii_digit x.0 ≡ true) × IsSplit text x.0 x
 -- escape
 abbrev pub IsAfterEscape : List ℕ → Option (Bor (List ℕ)) → Type 0
 IsAfterEscape text None = escape_from (chars text) ≡ None
-IsAfterEscape text (Some rest) = (c : ℕ) × (is_some (escaped c) ≡ true) × (chars text ≡ c ∷ chars rest.now) × (text ≡ encode_utf8 c ++ rest.now)
+IsAfterEscape text (Some rest) =
+    (c : ℕ) × (is_some (escaped c) ≡ true) × (chars text ≡ c ∷ chars rest.now) × (text ≡ encode_utf8 c ++ rest.now)
 
 -- The text begins with one character of a body, written as `piece`, and `rest` is the text after it.
 pub record IsPast (text rest : List ℕ) : Type 0 where

@@ -1,6 +1,7 @@
 -- Parsers over tokens with offsets, for any type of faults: a parser returns a result and the remaining
 -- input, or a fault. All definitions are this project's.
-use Rattle.std.specs.Prelude.{ℕ, zero, suc, Bool, true, false, if◌then◌else◌, List, [], ◌∷◌, ◌++◌, length, Option, Some, None, Result, Ok, Err, bytes_eq}
+use Rattle.std.specs.Prelude.{ℕ, zero, suc, Bool, true, false, if◌then◌else◌, List, [], ◌∷◌, ◌++◌, length, Option, Some, None}
+use Rattle.std.specs.Prelude.{Result, Ok, Err, bytes_eq}
 use denote.Enum.Bare.{sameb}
 use Rattle.ag_tokens.specs.contracts.token.Punctuation.{the_type}
 use Rattle.ag_tokens.specs.declared.token.Punctuation.{Punctuation}

@@ -1,6 +1,7 @@
 -- The rest of a text while it is read from left to right: the remaining tokens, and their ending. All
 -- definitions are this project's.
-use Rattle.std.specs.Prelude.{◌≡◌, ℕ, zero, suc, ◌-◌, ◌≤◌, false, cond, List, [], ◌∷◌, drop, length, Option, Some, None, Result, chars}
+use Rattle.std.specs.Prelude.{◌≡◌, ℕ, zero, suc, ◌-◌, ◌≤◌, false, cond, List, [], ◌∷◌, drop, length, Option, Some, None, Result}
+use Rattle.std.specs.Prelude.{chars}
 use Rattle.std.specs.Borrow.{Bor}
 use Rattle.std.specs.List.{prefix_len}
 use Rattle.ag_tokens.specs.GrammarToken.{GrammarToken}
@@ -44,7 +45,8 @@ ending_by token_fault.TooLarge at cs = ending.TooLargeAt at
 -- input after it
 abbrev pub input_by : (List ℕ → Input) → ℕ → List ℕ → Option (GrammarToken × List ℕ) → Input
 input_by more at cs None = without_tokens (ending_at at cs)
-input_by more at cs (Some p) = cond (is_within p.0) (with_token at p.0 (more (after_separators p.1))) (without_tokens (ending.TooLargeAt at))
+input_by more at cs (Some p) =
+    cond (is_within p.0) (with_token at p.0 (more (after_separators p.1))) (without_tokens (ending.TooLargeAt at))
 
 -- The tokens of the last characters `cs` of a text of `len` bytes, at most `turns` of them, which bounds the
 -- recursion. `cs` does not begin with a separator.

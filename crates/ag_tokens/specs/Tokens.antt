@@ -1,6 +1,7 @@
 -- The definition of the tokens of a text, by longest match (this project's language). In this file a text is
 -- the list of its characters.
-use Rattle.std.specs.Prelude.{◌≡◌, ℕ, ◌+◌, ◌<◌, ◌≤◌, pos, int_le, nat_le, Bool, true, false, not, cond, ◌||◌, ◌&&◌, ◌==◌, ◌≢◌, List, [], ◌∷◌, ◌++◌, length, Option, Some, None, encode_utf8, encode_utf8_all}
+use Rattle.std.specs.Prelude.{◌≡◌, ℕ, ◌+◌, ◌<◌, ◌≤◌, pos, int_le, nat_le, Bool, true, false, not, cond, ◌||◌, ◌&&◌, ◌==◌, ◌≢◌}
+use Rattle.std.specs.Prelude.{List, [], ◌∷◌, ◌++◌, length, Option, Some, None, encode_utf8, encode_utf8_all}
 use Rattle.std.specs.Char.{is_ascii_digit, len_utf8}
 use Rattle.std.specs.List.{list_all}
 use Rattle.std.specs.Str.Parse.{digits_value}
@@ -38,14 +39,17 @@ IsName (c ∷ cs) = (starts_name c ≡ true) × (list_all is_xid_continue cs ≡
 
 -- the character that a backslash followed by c denotes, for c one of `"`, `\`, `n`, `t` and `r`
 abbrev pub escaped : ℕ → Option ℕ
-escaped c = cond (c == 34) (Some 34) (cond (c == 92) (Some 92) (cond (c == 110) (Some 10) (cond (c == 116) (Some 9) (cond (c == 114) (Some 13) None))))
+escaped c =
+    cond (c == 34) (Some 34)
+    (cond (c == 92) (Some 92) (cond (c == 110) (Some 10) (cond (c == 116) (Some 9) (cond (c == 114) (Some 13) None))))
 
 -- the body of a text literal, and the bytes of the text that it denotes: a quote or a backslash appears only
 -- in an escape, and any other character denotes itself
 pub data IsBody : List ℕ → List ℕ → Type 0 where
   empty : IsBody [] []
   plain : (c : ℕ) (body bytes : List ℕ) → c ≢ 34 → c ≢ 92 → IsBody body bytes → IsBody (c ∷ body) (encode_utf8 c ++ bytes)
-  escape : (c d : ℕ) (body bytes : List ℕ) → escaped c ≡ Some d → IsBody body bytes → IsBody (92 ∷ c ∷ body) (encode_utf8 d ++ bytes)
+  escape : (c d : ℕ) (body bytes : List ℕ) → escaped c ≡ Some d → IsBody body bytes
+      → IsBody (92 ∷ c ∷ body) (encode_utf8 d ++ bytes)
 
 -- the spelling of punctuation
 abbrev pub punctuation_text : Punctuation → List ℕ
@@ -71,12 +75,14 @@ IsToken word (token.Number n) = IsDigits word × (n ≡ pos (digits_value 10 wor
 IsToken word (token.Text bytes) = (body : List ℕ) × (word ≡ 34 ∷ (body ++ 34 ∷ [])) × IsBody body bytes
 IsToken word (token.Name bytes) = IsName word × (bytes ≡ encode_utf8_all word)
 IsToken word (token.Occurrence place attr) =
-    (digits : List ℕ) × (name : List ℕ) × (word ≡ 36 ∷ (digits ++ 46 ∷ name)) × IsDigits digits × IsName name × (place ≡ digits_value 10 digits) × (attr ≡ encode_utf8_all name)
+    (digits : List ℕ) × (name : List ℕ) × (word ≡ 36 ∷ (digits ++ 46 ∷ name)) × IsDigits digits × IsName name
+    × (place ≡ digits_value 10 digits) × (attr ≡ encode_utf8_all name)
 IsToken word (token.Punctuation s) = word ≡ punctuation_text s
 
 -- No longer prefix of the characters `word ++ rest` is a token.
 abbrev pub IsLongest : List ℕ → List ℕ → Type 0
-IsLongest word rest = (longer more : List ℕ) (t : GrammarToken) → word ++ rest ≡ longer ++ more → IsToken longer t → length longer ≤ length word
+IsLongest word rest = (longer more : List ℕ) (t : GrammarToken) → word ++ rest ≡ longer ++ more → IsToken longer t
+    → length longer ≤ length word
 
 -- no prefix of the characters is a token
 abbrev pub BeginsNoToken : List ℕ → Type 0
@@ -91,8 +97,10 @@ width (c ∷ cs) = len_utf8 c + width cs
 -- `placed`, each at its offset; `rest` are the characters after them.
 pub data AreTokens : ℕ → List ℕ → List PlacedToken → ℕ → List ℕ → Type 0 where
   ended : (at : ℕ) (cs : List ℕ) → AreTokens at cs [] at cs
-  separator : (at c : ℕ) (cs : List ℕ) (placed : List PlacedToken) (end : ℕ) (rest : List ℕ) → is_separator c ≡ true → AreTokens (at + 1) cs placed end rest → AreTokens at (c ∷ cs) placed end rest
-  word : (at : ℕ) (all word cs : List ℕ) (t : GrammarToken) (placed : List PlacedToken) (end : ℕ) (rest : List ℕ) → all ≡ word ++ cs → IsToken word t → IsLongest word cs → AreTokens (at + width word) cs placed end rest
+  separator : (at c : ℕ) (cs : List ℕ) (placed : List PlacedToken) (end : ℕ) (rest : List ℕ) → is_separator c ≡ true
+      → AreTokens (at + 1) cs placed end rest → AreTokens at (c ∷ cs) placed end rest
+  word : (at : ℕ) (all word cs : List ℕ) (t : GrammarToken) (placed : List PlacedToken) (end : ℕ) (rest : List ℕ)
+      → all ≡ word ++ cs → IsToken word t → IsLongest word cs → AreTokens (at + width word) cs placed end rest
       → AreTokens at all (record { at = at; token = t } ∷ placed) end rest
 
 -- The number of a token is within its limit: a number literal in the range of i64, a place at most 65,535.

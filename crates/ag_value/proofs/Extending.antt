@@ -11,7 +11,8 @@ pub by_one : (a b more : List ℕ) → b ≡ a ++ more → Extends a b
 by_one a b more e = record { more = more; is = e }
 
 pub by_two : (a b c : List ℕ) → Extends a b → Extends b c → Extends a c
-by_two a b c p q = record { more = p.more ++ q.more; is = q.is ∙ ap (λ (w : List ℕ). w ++ q.more) p.is ∙ append_assoc a p.more q.more }
+by_two a b c p q =
+    record { more = p.more ++ q.more; is = q.is ∙ ap (λ (w : List ℕ). w ++ q.more) p.is ∙ append_assoc a p.more q.more }
 
 pub ruleset extending = (by_nothing, by_one, by_two)
 

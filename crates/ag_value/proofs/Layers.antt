@@ -21,7 +21,9 @@ pub weight-List : (vs : List Value) → weight_of (v.List vs) ≡ 5 + sum (map w
 weight-List vs = ap weight_of (sym (rolls-List vs)) ∙ fold-roll-Value ℕ weight_step (Value-F.List vs)
 
 pub weight-Table : (ps : List (List ℕ × Value)) → weight_of (v.Table ps) ≡ 5 + sum (map weight_of_pair ps)
-weight-Table ps = ap weight_of (sym (rolls-Table ps)) ∙ fold-roll-Value ℕ weight_step (Value-F.Table ps) ∙ ap (λ ns. 5 + sum ns) (map-map _ _ ps)
+weight-Table ps =
+    ap weight_of (sym (rolls-Table ps)) ∙ fold-roll-Value ℕ weight_step (Value-F.Table ps)
+    ∙ ap (λ ns. 5 + sum ns) (map-map _ _ ps)
 
 pub weight-Num : (n : ℤ) → weight_of (v.Num n) ≡ 9
 weight-Num n = ap weight_of (sym (rolls-Num n)) ∙ fold-roll-Value ℕ weight_step (Value-F.Num n)
@@ -42,7 +44,9 @@ pub depth-List : (vs : List Value) → depth_of (v.List vs) ≡ 1 + greatest (ma
 depth-List vs = ap depth_of (sym (rolls-List vs)) ∙ fold-roll-Value ℕ depth_step (Value-F.List vs)
 
 pub depth-Table : (ps : List (List ℕ × Value)) → depth_of (v.Table ps) ≡ 1 + greatest (map (λ p. depth_of p.1) ps)
-depth-Table ps = ap depth_of (sym (rolls-Table ps)) ∙ fold-roll-Value ℕ depth_step (Value-F.Table ps) ∙ ap (λ ns. 1 + greatest ns) (map-map _ _ ps)
+depth-Table ps =
+    ap depth_of (sym (rolls-Table ps)) ∙ fold-roll-Value ℕ depth_step (Value-F.Table ps)
+    ∙ ap (λ ns. 1 + greatest ns) (map-map _ _ ps)
 
 pub depth-Fault : (c : ErrorCode) → depth_of (v.Fault c) ≡ 0
 depth-Fault c = ap depth_of (sym (rolls-Fault c)) ∙ fold-roll-Value ℕ depth_step (Value-F.Fault c)
@@ -54,12 +58,20 @@ pub spelling-Text : (text : List ℕ) → spelling_of (v.Text text) ≡ 1 ∷ co
 spelling-Text text = ap spelling_of (sym (rolls-Text text)) ∙ fold-roll-Value (List ℕ) spelling_step (Value-F.Text text)
 
 pub spelling-List : (vs : List Value) → spelling_of (v.List vs) ≡ 2 ∷ (to_be_bytes w32 (length vs) ++ joined (map spelling_of vs))
-spelling-List vs = ap spelling_of (sym (rolls-List vs)) ∙ fold-roll-Value (List ℕ) spelling_step (Value-F.List vs) ∙ ap (λ n. 2 ∷ (to_be_bytes w32 n ++ joined (map spelling_of vs))) (length-map vs spelling_of)
+spelling-List vs =
+    ap spelling_of (sym (rolls-List vs)) ∙ fold-roll-Value (List ℕ) spelling_step (Value-F.List vs)
+    ∙ ap (λ n. 2 ∷ (to_be_bytes w32 n ++ joined (map spelling_of vs))) (length-map vs spelling_of)
 
-pub spelling-Table : (ps : List (List ℕ × Value)) → spelling_of (v.Table ps) ≡ 3 ∷ (to_be_bytes w32 (length ps) ++ joined (map spelling_of_pair ps))
+pub spelling-Table : (ps : List (List ℕ × Value))
+    → spelling_of (v.Table ps) ≡ 3 ∷ (to_be_bytes w32 (length ps) ++ joined (map spelling_of_pair ps))
 spelling-Table ps =
     ap spelling_of (sym (rolls-Table ps)) ∙ fold-roll-Value (List ℕ) spelling_step (Value-F.Table ps)
-    ∙ ap (λ n. 3 ∷ (to_be_bytes w32 n ++ joined (map (λ (p : List ℕ × List ℕ). counted p.0 ++ p.1) (map (λ (p : List ℕ × Value). (p.0, spelling_of p.1)) ps)))) (length-map ps _)
+    ∙ ap
+    (λ n.
+    3
+    ∷ (to_be_bytes w32 n ++ joined
+    (map (λ (p : List ℕ × List ℕ). counted p.0 ++ p.1)
+    (map (λ (p : List ℕ × Value). (p.0, spelling_of p.1)) ps)))) (length-map ps _)
     ∙ ap (λ ts. 3 ∷ (to_be_bytes w32 (length ps) ++ joined ts)) (map-map _ _ ps)
 
 pub spelling-Fault : (c : ErrorCode) → spelling_of (v.Fault c) ≡ 4 ∷ number_of c ∷ []
@@ -89,10 +101,12 @@ item-Text text = ap is_item (sym (rolls-Text text)) ∙ fold-roll-Value Bool ite
 pub item-List : (vs : List Value) → is_item (v.List vs) ≡ all_true (map is_item vs)
 item-List vs = ap is_item (sym (rolls-List vs)) ∙ fold-roll-Value Bool item_step (Value-F.List vs)
 
-pub item-Table : (ps : List (List ℕ × Value)) → is_item (v.Table ps) ≡ (are_keys (map key_of ps) && all_true (map is_item_pair ps))
+pub item-Table : (ps : List (List ℕ × Value))
+    → is_item (v.Table ps) ≡ (are_keys (map key_of ps) && all_true (map is_item_pair ps))
 item-Table ps =
     ap is_item (sym (rolls-Table ps)) ∙ fold-roll-Value Bool item_step (Value-F.Table ps)
-    ∙ ap (λ ks. are_keys ks && all_true (map (λ (p : List ℕ × Bool). p.1) (map (λ (p : List ℕ × Value). (p.0, is_item p.1)) ps))) (map-map _ _ ps)
+    ∙ ap (λ ks. are_keys ks && all_true (map (λ (p : List ℕ × Bool). p.1) (map (λ (p : List ℕ × Value). (p.0, is_item p.1)) ps)))
+    (map-map _ _ ps)
     ∙ ap (λ bs. are_keys (map key_of ps) && all_true bs) (map-map _ _ ps)
 
 pub item-Fault : (c : ErrorCode) → is_item (v.Fault c) ≡ false
@@ -107,7 +121,8 @@ shown-Text text = ap shown_of (sym (rolls-Text text)) ∙ fold-roll-Value (List 
 pub shown-List : (vs : List Value) → shown_of (v.List vs) ≡ codes "[" ++ separated (map shown_of vs) ++ codes "]"
 shown-List vs = ap shown_of (sym (rolls-List vs)) ∙ fold-roll-Value (List ℕ) shown_step (Value-F.List vs)
 
-pub shown-Table : (ps : List (List ℕ × Value)) → shown_of (v.Table ps) ≡ codes "{" ++ separated (map shown_of_pair ps) ++ codes "}"
+pub shown-Table : (ps : List (List ℕ × Value))
+    → shown_of (v.Table ps) ≡ codes "{" ++ separated (map shown_of_pair ps) ++ codes "}"
 shown-Table ps =
     ap shown_of (sym (rolls-Table ps)) ∙ fold-roll-Value (List ℕ) shown_step (Value-F.Table ps)
     ∙ ap (λ (ts : List (List ℕ)). codes "{" ++ separated ts ++ codes "}") (map-map _ _ ps)

@@ -5,7 +5,8 @@ use Rattle.ag_value.specs.declared.fault.ValueFault.TheVariants.{Malformed, NoMe
 use Rattle.ag_value.specs.Reading.{Fails, Read, all_at}
 
 -- one more item is read, and one fewer is left
-pub goes_on : {A : Type 0} (item : List ℕ → Read A) (n i : ℕ) (prefix : List A) (bytes : List ℕ) (first : A) (rest : List ℕ) (whole : Read (List A)) → i < n → item bytes ≡ Some (first, rest)
+pub goes_on : {A : Type 0} (item : List ℕ → Read A) (n i : ℕ) (prefix : List A) (bytes : List ℕ) (first : A) (rest : List ℕ)
+    (whole : Read (List A)) → i < n → item bytes ≡ Some (first, rest)
     → all_at item (n - i) prefix bytes ≡ whole → all_at item (n - (i + 1)) (prefix ++ first ∷ []) rest ≡ whole
 unfolding all_at
 goes_on item n i prefix bytes first rest whole lt read so_far =
@@ -13,7 +14,8 @@ goes_on item n i prefix bytes first rest whole lt read so_far =
     sym (rw (left, read) refl) ∙ so_far
 
 -- if the next item can't be read, neither can the list
-pub stops : {A : Type 0} (item : List ℕ → Read A) (n i : ℕ) (prefix : List A) (bytes : List ℕ) (whole : Read (List A)) (e : ValueFault) → i < n → Fails e (item bytes)
+pub stops : {A : Type 0} (item : List ℕ → Read A) (n i : ℕ) (prefix : List A) (bytes : List ℕ) (whole : Read (List A))
+    (e : ValueFault) → i < n → Fails e (item bytes)
     → all_at item (n - i) prefix bytes ≡ whole → Fails e whole
 unfolding all_at
 stops item n i prefix bytes whole Malformed lt none so_far =

@@ -19,7 +19,8 @@ weight_positive v = subst (λ (w : Value). 1 ≤ weight_of w) (roll-out-Value v)
 
 pub few_by : {A : Type 0} (f : A → ℕ) → ((x : A) → 1 ≤ f x) → (xs : List A) → length xs ≤ sum (map f xs)
 few_by f one [] = omega arith
-few_by f one (x ∷ xs) = let more = few_by f one xs in let here = one x in let e = sum_by-cons (λ n. n) (f x) (map f xs) in omega (arith, more, here, e)
+few_by f one (x ∷ xs) = let more = few_by f one xs in let here = one x in let e = sum_by-cons (λ n. n) (f x) (map f xs) in
+    omega (arith, more, here, e)
 
 pub few_items : (vs : List Value) → length vs ≤ sum (map weight_of vs)
 few_items vs = few_by weight_of weight_positive vs

@@ -1,6 +1,7 @@
 -- Reading a value from a prefix of some bytes, as a plain function on lists. It reads exactly the spellings
 -- of values that are well except for their weight. Laws relate it to the spelling.
-use Rattle.std.specs.Prelude.{◌≡◌, ℕ, zero, suc, List, [], ◌∷◌, ◌++◌, length, take, drop, map, Option, Some, None, Result, Ok, Err, nat_lt, if◌then◌else◌}
+use Rattle.std.specs.Prelude.{◌≡◌, ℕ, zero, suc, List, [], ◌∷◌, ◌++◌, length, take, drop, map, Option, Some, None, Result, Ok}
+use Rattle.std.specs.Prelude.{Err, nat_lt, if◌then◌else◌}
 use Rattle.std.specs.Option.{option_and_then}
 use Rattle.std.specs.Int.{Width, w32, w64, byte_len, from_be_bytes, cast_signed}
 use Rattle.std.specs.Str.{is_utf8}
@@ -33,7 +34,8 @@ Agrees view (Err e) read = Fails e read
 
 -- an unsigned big-endian number of a given width
 abbrev pub number_at : Width → List ℕ → Read ℕ
-number_at w bytes = if nat_lt (length bytes) (byte_len w) then None else Some (from_be_bytes w (take (byte_len w) bytes), drop (byte_len w) bytes)
+number_at w bytes =
+    if nat_lt (length bytes) (byte_len w) then None else Some (from_be_bytes w (take (byte_len w) bytes), drop (byte_len w) bytes)
 
 -- a length, and that many bytes that are UTF-8
 unfoldable pub text_at : List ℕ → Read (List ℕ)
@@ -73,10 +75,12 @@ item_at levels [] = None
 item_at levels (zero ∷ rest) = number_at w64 rest >>= λ n. Some (v.Num (cast_signed w64 n.0), n.1)
 item_at levels (suc zero ∷ rest) = text_at rest >>= λ text. Some (v.Text text.0, text.1)
 item_at zero (suc (suc zero) ∷ rest) = None
-item_at (suc levels) (suc (suc zero) ∷ rest) = number_at w32 rest >>= λ n. all_at (item_at levels) n.0 [] n.1 >>= λ items. Some (v.List items.0, items.1)
+item_at (suc levels) (suc (suc zero) ∷ rest) =
+    number_at w32 rest >>= λ n. all_at (item_at levels) n.0 [] n.1 >>= λ items. Some (v.List items.0, items.1)
 item_at zero (suc (suc (suc zero)) ∷ rest) = None
 item_at (suc levels) (suc (suc (suc zero)) ∷ rest) =
-    number_at w32 rest >>= λ n. all_at (pair_at (item_at levels)) n.0 [] n.1 >>= λ pairs. if are_keys (map key_of pairs.0) then Some (v.Table pairs.0, pairs.1) else None
+    number_at w32 rest >>= λ n. all_at (pair_at (item_at levels)) n.0 [] n.1 >>= λ pairs.
+    if are_keys (map key_of pairs.0) then Some (v.Table pairs.0, pairs.1) else None
 item_at levels (suc (suc (suc (suc b))) ∷ rest) = None
 
 -- an error, or a value that a list or table may contain, of a depth of at most `levels`

@@ -12,12 +12,20 @@ nothing None = tt
 nothing (Some bytes) = sym (append-nil bytes)
 
 pub none : (known : Option (List ℕ)) → BeginsText known known
-none known = record { text = []; well = well_text [] (is_utf8-from_IsUtf8 [] IsUtf8-nil) (omega arith); beginning = record { prefix = []; rest = []; cut = refl; put = nothing known } }
+none known =
+    record {
+      text = [];
+      well = well_text [] (is_utf8-from_IsUtf8 [] IsUtf8-nil) (omega arith);
+      beginning = record { prefix = []; rest = []; cut = refl; put = nothing known };
+    }
 
-pub some : (old new : Option (List ℕ)) (text lent : List ℕ) → IsWellText text → lent ≡ text → AppendsBeginning old new lent → BeginsText old new
-some old new text lent well same beginning = record { text = text; well = well; beginning = subst (AppendsBeginning old new) same beginning }
+pub some : (old new : Option (List ℕ)) (text lent : List ℕ) → IsWellText text → lent ≡ text → AppendsBeginning old new lent
+    → BeginsText old new
+some old new text lent well same beginning =
+    record { text = text; well = well; beginning = subst (AppendsBeginning old new) same beginning }
 
-pub whole : (old new : Option (List ℕ)) (text lent : List ℕ) → IsWellText text → lent ≡ text → Appends old new lent → WritesText old new
+pub whole : (old new : Option (List ℕ)) (text lent : List ℕ) → IsWellText text → lent ≡ text → Appends old new lent
+    → WritesText old new
 whole old new text lent well same written = record { text = text; well = well; output = subst (Appends old new) same written }
 
 pub ruleset begun = (none, some, whole)

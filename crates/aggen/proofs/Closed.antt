@@ -37,8 +37,10 @@ wanted text (TooDeep k) at none occurs = absurd (none occurs.expr occurs.reads)
 wanted text NoMemory at none occurs = tt
 
 -- the first occurrence of the one expression of the text is the first of any
-pub same_offset : (text : List ℕ) (e : Node × List Occ) (at : ℕ) → ReadsAsExpr text e → OccursAt text at → first_offset e.1 ≡ Some at
-same_offset text e at reads occurs = ap (λ (f : Node × List Occ). first_offset f.1) (one_expression text e occurs.expr reads occurs.reads) ∙ occurs.offset
+pub same_offset : (text : List ℕ) (e : Node × List Occ) (at : ℕ) → ReadsAsExpr text e → OccursAt text at
+    → first_offset e.1 ≡ Some at
+same_offset text e at reads occurs =
+    ap (λ (f : Node × List Occ). first_offset f.1) (one_expression text e occurs.expr reads occurs.reads) ∙ occurs.offset
 
 -- a text with occurrences has no value
 pub no_value : (text : List ℕ) (at : ℕ) (is : Value) → OccursAt text at → HasValue text is → ⊥

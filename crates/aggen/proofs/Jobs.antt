@@ -11,12 +11,21 @@ use Rattle.ag_fault.specs.declared.build_fault.BuildFault.{BuildFault}
 use Rattle.ag_fault.specs.declared.fault.Fault.{Fault}
 use Rattle.aggen.specs.declared.translations.report.Report.{Report}
 
-module _ (known : Option (List ℕ)) (text sentence : List ℕ) (ha hb : Bool) (old new : Option (List ℕ)) (job : HasJob known text sentence) where
+module _ (known : Option (List ℕ)) (text sentence : List ℕ) (ha hb : Bool) (old new : Option (List ℕ))
+    (job : HasJob known text sentence) where
   -- the text makes no translator
   pub no_translator : (b : BuildFault) → IsBuildFault text b → IsJobRefusal known ha hb old new (build_fault_of b)
-  no_translator b exact = inr (record { text = text; sentence = sentence; job = job; exact = inl (record { reason = b; named = refl; exact = exact }) })
+  no_translator b exact =
+      inr
+      (record {
+        text = text;
+        sentence = sentence;
+        job = job;
+        exact = inl (record { reason = b; named = refl; exact = exact });
+      })
 
   -- the translation of the sentence by the grammar fails
-  pub no_translation : (g : Grammar) → IsGrammarOf text g → (r : Result Report Fault) → IfErr r (λ e. IsTranslationFault g sentence ha hb old new e) → IfErr r (λ e. IsJobRefusal known ha hb old new e)
+  pub no_translation : (g : Grammar) → IsGrammarOf text g → (r : Result Report Fault)
+      → IfErr r (λ e. IsTranslationFault g sentence ha hb old new e) → IfErr r (λ e. IsJobRefusal known ha hb old new e)
   no_translation g is (Ok report) exact = tt
   no_translation g is (Err e) exact = inr (record { text = text; sentence = sentence; job = job; exact = inr (g, is, exact) })

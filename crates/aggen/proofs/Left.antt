@@ -39,7 +39,8 @@ use Rattle.ag_fault.specs.declared.fault.Fault.TheVariants as fault
 use Rattle.aggen.specs.declared.translations.report.Report.{Report}
 
 -- the file of pass 0 of a tree is a prefix of a file of pass 0: all of it
-pub first_begins : (g : Grammar) (t : Tree) (content : List ℕ) → IsAccepted g → IsTreeOf g t → IsFirstFile version_two g t content → BeginsFile 0 content
+pub first_begins : (g : Grammar) (t : Tree) (content : List ℕ) → IsAccepted g → IsTreeOf g t → IsFirstFile version_two g t content
+    → BeginsFile 0 content
 first_begins g t content accepted tree is =
     let texts = texts_are_given g t in
     let first : IsFileOfTree version_two g no_passes 0 t texts.0 content = is no_passes texts.0 unassigned_from_one texts.1 in
@@ -83,12 +84,14 @@ no_parse_of_build (build.Assign e) is = is
 no_parse_of_build build.NoMemory is = is
 
 -- faults before all passes ran
-pub none_after_files : (g : Grammar) (sentence : List ℕ) (ha hb : Bool) (f : Fault) → IsFaultBeforeText g sentence ha hb f → IsAfterPasses f → ⊥
+pub none_after_files : (g : Grammar) (sentence : List ℕ) (ha hb : Bool) (f : Fault) → IsFaultBeforeText g sentence ha hb f
+    → IsAfterPasses f → ⊥
 none_after_files g sentence ha hb (fault.NoText x) exact is = exact
 none_after_files g sentence ha hb fault.Write exact is = exact
 none_after_files g sentence ha hb f exact is = is
 
-pub none_after_passes : (g : Grammar) (ht ha hb : Bool) (content : List ℕ) (f : Fault) → IsTreeFaultBeforeText g ht ha hb content f → IsAfterPasses f → ⊥
+pub none_after_passes : (g : Grammar) (ht ha hb : Bool) (content : List ℕ) (f : Fault)
+    → IsTreeFaultBeforeText g ht ha hb content f → IsAfterPasses f → ⊥
 none_after_passes g ht ha hb content (fault.NoText x) exact is = exact
 none_after_passes g ht ha hb content fault.Write exact is = exact
 none_after_passes g ht ha hb content f exact is = is
@@ -105,8 +108,10 @@ none_after_build (build.Assign e) is = is
 none_after_build build.NoMemory is = is
 
 -- the files are also left by a call that keeps the contents
-pub files_kept : (g : Grammar) (sentence : List ℕ) (rows : List (List ℕ)) (ha hb ha' hb' : Bool) (a b a' b' : List ℕ) (report : Report)
-    → (ha' ≡ true → ha ≡ true) → (hb' ≡ true → hb ≡ true) → WhenHonest ha' (a' ≡ a) → WhenHonest hb' (b' ≡ b) → LeavesFiles g sentence rows ha hb a b report → LeavesFiles g sentence rows ha' hb' a' b' report
+pub files_kept : (g : Grammar) (sentence : List ℕ) (rows : List (List ℕ)) (ha hb ha' hb' : Bool) (a b a' b' : List ℕ)
+    (report : Report)
+    → (ha' ≡ true → ha ≡ true) → (hb' ≡ true → hb ≡ true) → WhenHonest ha' (a' ≡ a) → WhenHonest hb' (b' ≡ b)
+    → LeavesFiles g sentence rows ha hb a b report → LeavesFiles g sentence rows ha' hb' a' b' report
 files_kept g sentence rows ha hb ha' hb' a b a' b' report first second same_a same_b files = record {
   tree = files.tree;
   one = files.one;
@@ -114,15 +119,20 @@ files_kept g sentence rows ha hb ha' hb' a b a' b' report first second same_a sa
   left = λ x y. rw (same_a x, same_b y) (files.left (first x) (second y));
 }
 
-pub files_of_tree_kept : (g : Grammar) (rows : List (List ℕ)) (ht ha hb ha' hb' : Bool) (content a b a' b' : List ℕ) (report : Report)
-    → (ha' ≡ true → ha ≡ true) → (hb' ≡ true → hb ≡ true) → WhenHonest ha' (a' ≡ a) → WhenHonest hb' (b' ≡ b) → LeavesFilesOfTree g rows ht ha hb content a b report → LeavesFilesOfTree g rows ht ha' hb' content a' b' report
+pub files_of_tree_kept : (g : Grammar) (rows : List (List ℕ)) (ht ha hb ha' hb' : Bool) (content a b a' b' : List ℕ)
+    (report : Report)
+    → (ha' ≡ true → ha ≡ true) → (hb' ≡ true → hb ≡ true) → WhenHonest ha' (a' ≡ a) → WhenHonest hb' (b' ≡ b)
+    → LeavesFilesOfTree g rows ht ha hb content a b report → LeavesFilesOfTree g rows ht ha' hb' content a' b' report
 files_of_tree_kept g rows ht ha hb ha' hb' content a b a' b' report first second same_a same_b files = record {
   greatest = files.greatest;
   left = λ h x y. rw (same_a x, same_b y) (files.left h (first x) (second y));
 }
 
 -- the files of a job's sentence are those of the job
-pub files_of_job : (known : Option (List ℕ)) (text sentence : List ℕ) (ha hb : Bool) (a b : List ℕ) (g : Grammar) → HasJob known text sentence → IsGrammarOf text g
-    → (r : Result Report Fault) → IfErr r (λ e. IsAfterPasses e → LeavesLastFiles g sentence ha hb a b) → IfErr r (λ e. IsAfterPasses e → LeavesLastFilesOfJob known ha hb a b)
+pub files_of_job : (known : Option (List ℕ)) (text sentence : List ℕ) (ha hb : Bool) (a b : List ℕ) (g : Grammar)
+    → HasJob known text sentence → IsGrammarOf text g
+    → (r : Result Report Fault) → IfErr r (λ e. IsAfterPasses e → LeavesLastFiles g sentence ha hb a b)
+    → IfErr r (λ e. IsAfterPasses e → LeavesLastFilesOfJob known ha hb a b)
 files_of_job known text sentence ha hb a b g job is (Ok report) files = tt
-files_of_job known text sentence ha hb a b g job is (Err e) files = λ after. record { text = text; sentence = sentence; job = job; grammar = g; is = is; files = files after }
+files_of_job known text sentence ha hb a b g job is (Err e) files =
+    λ after. record { text = text; sentence = sentence; job = job; grammar = g; is = is; files = files after }

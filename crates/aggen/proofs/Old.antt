@@ -8,7 +8,8 @@ use Rattle.treefile.specs.devices.Device.{WhenHonest}
 use Rattle.ag_fault.specs.Faults.{run_fault_of}
 use Rattle.aggen.specs.Upgrading.{IsOldFileFault}
 
-pub old_fault : (g : Grammar) (ho hm : Bool) (content : List ℕ) (f : RunFault) → WhenHonest ho (WhenHonest hm (IsUpgradeFault g content f)) → IsOldFileFault g ho hm content (run_fault_of f)
+pub old_fault : (g : Grammar) (ho hm : Bool) (content : List ℕ) (f : RunFault)
+    → WhenHonest ho (WhenHonest hm (IsUpgradeFault g content f)) → IsOldFileFault g ho hm content (run_fault_of f)
 old_fault g ho hm content (run.Damaged at) exact = exact
 old_fault g ho hm content run.TooDeep exact = exact
 old_fault g ho hm content run.TooManyNodes exact = exact

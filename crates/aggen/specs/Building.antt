@@ -23,7 +23,8 @@ use Rattle.ag_fault.specs.declared.stuck_grammar.StuckGrammar.{StuckGrammar}
 
 -- L1: the text is an accepted grammar, whose least conflict this is; NoMemory is not L1
 abbrev pub IsConflictOf : List ℕ → TableFault → Type 0
-IsConflictOf t (table.Conflict symbol first second ahead) = (g : Grammar) × IsGrammarOf t g × IsLeastConflict g symbol first second ahead
+IsConflictOf t (table.Conflict symbol first second ahead) =
+    (g : Grammar) × IsGrammarOf t g × IsLeastConflict g symbol first second ahead
 IsConflictOf t table.NoMemory = ⊥
 
 -- A1: the text is an accepted grammar without a conflict. It has no legal assignment, as the certificate

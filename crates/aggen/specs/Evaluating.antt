@@ -22,7 +22,8 @@ use Rattle.ag_fault.specs.declared.fault.Fault.TheVariants as fault
 use Rattle.aggen.specs.declared.translations.report.Report.{Report}
 
 -- the translation theorem for the file of a tree: its passes are those of the least plan
-abbrev pub EvaluatesTree : Grammar → (honest_tree honest_a honest_b : Bool) → (content a b : List ℕ) → (old new : Option (List ℕ)) → Report → Type 0
+abbrev pub EvaluatesTree : Grammar → (honest_tree honest_a honest_b : Bool) → (content a b : List ℕ) → (old new : Option (List ℕ))
+    → Report → Type 0
 EvaluatesTree g = Evaluates (ArePassesOf g) g
 
 -- All passes ran over the one tree that a content is the file of: the last two tree files have its solution, and
@@ -31,14 +32,17 @@ pub record AreLeftOfTree (g : Grammar) (m : Passes) (content a b : List ℕ) (re
   pub tree : Tree
   pub one : IsOneTree (IsTreeInFile g content) tree
   pub values : Valuation
-  pub leaves : LeavesSolution g m report.passes tree values (last_content report.last a b) (before_last report.passes report.last content a b)
+  pub leaves : LeavesSolution g m report.passes tree values (last_content report.last a b)
+      (before_last report.passes report.last content a b)
   pub report_is : IsReport g report.passes tree report
 
 -- The report has the greatest pass of an assignment, and if the devices are honest all its passes ran over
 -- the tree of a content.
-pub record LeavesFilesOfTree (g : Grammar) (rows : List (List ℕ)) (honest_tree honest_a honest_b : Bool) (content a b : List ℕ) (report : Report) : Type 0 where
+pub record LeavesFilesOfTree (g : Grammar) (rows : List (List ℕ)) (honest_tree honest_a honest_b : Bool) (content a b : List ℕ)
+    (report : Report) : Type 0 where
   pub greatest : IsGreatest report.passes rows
-  pub left : WhenHonest honest_tree (WhenHonest honest_a (WhenHonest honest_b (AreLeftOfTree g (passes_of rows) content a b report)))
+  pub left : WhenHonest honest_tree
+      (WhenHonest honest_a (WhenHonest honest_b (AreLeftOfTree g (passes_of rows) content a b report)))
 
 -- All passes of a least plan ran over the one tree of a content, and if the devices are honest they have its
 -- last two files.
@@ -53,22 +57,26 @@ pub record LeavesLastFilesOfTree (g : Grammar) (honest_tree honest_a honest_b : 
 -- grammar, or a limit that is exceeded before one. Records of pass 0 have no values of attributes, so all
 -- plans find the same.
 abbrev pub ShowsInFile : Grammar → List ℕ → RunFault → Type 0
-ShowsInFile g content f = (plan : List (List ℕ) × Lists) × AreFromOne (passes_of plan.0) × Shows (source (setting_of g plan 1)) content f
+ShowsInFile g content f =
+    (plan : List (List ℕ) × Lists) × AreFromOne (passes_of plan.0) × Shows (source (setting_of g plan 1)) content f
 
 -- R1: the content is the file of no tree of the grammar, and this shows at the offset. P2: it is the file of
 -- none within the limit of levels, which is exceeded before a fault is found. P3: the same with the limit of
 -- stored nodes. The other faults have no meaning for it.
 abbrev pub IsTreeFileFault : Grammar → List ℕ → RunFault → Type 0
 IsTreeFileFault g content (run.Damaged at) = ((t : Tree) → IsTreeInFile g content t → ⊥) × ShowsInFile g content (run.Damaged at)
-IsTreeFileFault g content run.TooDeep = ((t : Tree) → IsTreeInFile g content t → depth_of t ≤ max_depth → ⊥) × ShowsInFile g content run.TooDeep
-IsTreeFileFault g content run.TooManyNodes = ((t : Tree) → IsTreeInFile g content t → node_count t ≤ max_nodes → ⊥) × ShowsInFile g content run.TooManyNodes
+IsTreeFileFault g content run.TooDeep =
+    ((t : Tree) → IsTreeInFile g content t → depth_of t ≤ max_depth → ⊥) × ShowsInFile g content run.TooDeep
+IsTreeFileFault g content run.TooManyNodes =
+    ((t : Tree) → IsTreeInFile g content t → node_count t ≤ max_nodes → ⊥) × ShowsInFile g content run.TooManyNodes
 IsTreeFileFault g content run.Device = Unit {0}
 IsTreeFileFault g content run.NoMemory = Unit {0}
 
 -- The meaning of a fault of `run_tree`, before the text of the root is read: R1, P2 and P3 are true of the content.
 -- A device failure and NoMemory have no meaning, and no other fault is possible.
 abbrev pub IsTreeFaultBeforeText : Grammar → (honest_tree honest_a honest_b : Bool) → List ℕ → Fault → Type 0
-IsTreeFaultBeforeText g ht ha hb content (fault.Run f) = WhenHonest ht (WhenHonest ha (WhenHonest hb (IsTreeFileFault g content f)))
+IsTreeFaultBeforeText g ht ha hb content (fault.Run f) =
+    WhenHonest ht (WhenHonest ha (WhenHonest hb (IsTreeFileFault g content f)))
 IsTreeFaultBeforeText g ht ha hb content fault.Device = Unit {0}
 IsTreeFaultBeforeText g ht ha hb content fault.NoMemory = Unit {0}
 IsTreeFaultBeforeText g ht ha hb content _ = ⊥
@@ -77,12 +85,16 @@ IsTreeFaultBeforeText g ht ha hb content _ = ⊥
 -- of the tree's file, and O1 of its one tree; B1 and B2 are impossible on honest devices; after O2 a prefix
 -- of the translation was written. A device failure and NoMemory have no meaning, and no other fault is
 -- possible.
-abbrev pub IsEvaluationFault : Grammar → (honest_tree honest_a honest_b : Bool) → List ℕ → (old new : Option (List ℕ)) → Fault → Type 0
-IsEvaluationFault g ht ha hb content old new (fault.Run f) = WhenHonest ht (WhenHonest ha (WhenHonest hb (IsTreeFileFault g content f)))
-IsEvaluationFault g ht ha hb content old new (fault.NoText x) = WhenHonest ht (WhenHonest ha (WhenHonest hb (HasNoText (IsTreeInFile g content) g x)))
+abbrev pub IsEvaluationFault : Grammar → (honest_tree honest_a honest_b : Bool) → List ℕ → (old new : Option (List ℕ)) → Fault
+    → Type 0
+IsEvaluationFault g ht ha hb content old new (fault.Run f) =
+    WhenHonest ht (WhenHonest ha (WhenHonest hb (IsTreeFileFault g content f)))
+IsEvaluationFault g ht ha hb content old new (fault.NoText x) =
+    WhenHonest ht (WhenHonest ha (WhenHonest hb (HasNoText (IsTreeInFile g content) g x)))
 IsEvaluationFault g ht ha hb content old new fault.NotATreeFile = WhenHonest ht (WhenHonest ha (WhenHonest hb ⊥))
 IsEvaluationFault g ht ha hb content old new (fault.Damaged at) = WhenHonest ht (WhenHonest ha (WhenHonest hb ⊥))
-IsEvaluationFault g ht ha hb content old new fault.Write = WhenHonest ht (WhenHonest ha (WhenHonest hb (BeginsTranslation (IsTreeInFile g content) g old new)))
+IsEvaluationFault g ht ha hb content old new fault.Write =
+    WhenHonest ht (WhenHonest ha (WhenHonest hb (BeginsTranslation (IsTreeInFile g content) g old new)))
 IsEvaluationFault g ht ha hb content old new fault.Device = Unit {0}
 IsEvaluationFault g ht ha hb content old new fault.NoMemory = Unit {0}
 IsEvaluationFault g ht ha hb content old new _ = ⊥

@@ -19,7 +19,8 @@ abbrev pub HasJob : Option (List ℕ) → (text sentence : List ℕ) → Type 0
 HasJob known text sentence = IfSome known (λ bytes. IsJob bytes text sentence)
 
 -- The sentence of a job was translated by its grammar, in the sense of the translation theorem.
-pub record TranslatesJob (known : Option (List ℕ)) (honest_a honest_b : Bool) (a b : List ℕ) (old new : Option (List ℕ)) (report : Report) : Type 0 where
+pub record TranslatesJob (known : Option (List ℕ)) (honest_a honest_b : Bool) (a b : List ℕ) (old new : Option (List ℕ))
+    (report : Report) : Type 0 where
   pub text : List ℕ
   pub sentence : List ℕ
   pub job : HasJob known text sentence
@@ -41,11 +42,13 @@ pub record IsNoTranslator (text : List ℕ) (e : Fault) : Type 0 where
 
 -- A job fails: its grammar makes no translator, or the translation of its sentence by that grammar
 -- fails.
-pub record IsRefusedJob (known : Option (List ℕ)) (honest_a honest_b : Bool) (old new : Option (List ℕ)) (e : Fault) : Type 0 where
+pub record IsRefusedJob (known : Option (List ℕ)) (honest_a honest_b : Bool) (old new : Option (List ℕ))
+    (e : Fault) : Type 0 where
   pub text : List ℕ
   pub sentence : List ℕ
   pub job : HasJob known text sentence
-  pub exact : IsNoTranslator text e ⊎ ((grammar : Grammar) × IsGrammarOf text grammar × IsTranslationFault grammar sentence honest_a honest_b old new e)
+  pub exact : IsNoTranslator text e
+      ⊎ ((grammar : Grammar) × IsGrammarOf text grammar × IsTranslationFault grammar sentence honest_a honest_b old new e)
 
 -- All passes of a least plan ran over the one tree of a job's sentence by its grammar, and if the devices are honest
 -- they have its last two files.

@@ -25,7 +25,8 @@ pub record ArePassesOf (g : Grammar) (m : Passes) (passes : ℕ) : Type 0 where
   pub greatest : IsGreatest passes rows
 
 -- the translation theorem for a sentence: its trees are those of the sentence, and its passes those of the least plan
-abbrev pub TranslatesSentence : Grammar → (sentence : List ℕ) → (honest_a honest_b : Bool) → (a b : List ℕ) → (old new : Option (List ℕ)) → Report → Type 0
+abbrev pub TranslatesSentence : Grammar → (sentence : List ℕ) → (honest_a honest_b : Bool) → (a b : List ℕ)
+    → (old new : Option (List ℕ)) → Report → Type 0
 TranslatesSentence g sentence = Translates (IsTreeOfSentence g sentence) (ArePassesOf g) g
 
 -- All passes ran over a tree: the contents a and b are its last two tree files, with its solution, and the report is true.
@@ -35,7 +36,8 @@ pub record AreLeft (g : Grammar) (m : Passes) (t : Tree) (a b : List ℕ) (repor
   pub report_is : IsReport g report.passes t report
 
 -- The sentence has one tree, and if the devices are honest all passes of an assignment ran over it.
-pub record LeavesFiles (g : Grammar) (sentence : List ℕ) (rows : List (List ℕ)) (honest_a honest_b : Bool) (a b : List ℕ) (report : Report) : Type 0 where
+pub record LeavesFiles (g : Grammar) (sentence : List ℕ) (rows : List (List ℕ)) (honest_a honest_b : Bool) (a b : List ℕ)
+    (report : Report) : Type 0 where
   pub tree : Tree
   pub one : IsOneTree (IsTreeOfSentence g sentence) tree
   pub greatest : IsGreatest report.passes rows
@@ -64,14 +66,17 @@ IsFaultBeforeText g sentence ha hb _ = ⊥
 -- The meaning of a fault of a translation: S, P and O1 are true of the sentence; R1, B1, B2, and P2 and P3 of
 -- a tree file are impossible on honest devices; after O2 a prefix of the translation was written. A device
 -- failure and NoMemory have no meaning, and no other fault is possible.
-abbrev pub IsTranslationFault : Grammar → (sentence : List ℕ) → (honest_a honest_b : Bool) → (old new : Option (List ℕ)) → Fault → Type 0
+abbrev pub IsTranslationFault : Grammar → (sentence : List ℕ) → (honest_a honest_b : Bool) → (old new : Option (List ℕ)) → Fault
+    → Type 0
 IsTranslationFault g sentence ha hb old new (fault.Scan f) = IsScanFaultOf g sentence f
 IsTranslationFault g sentence ha hb old new (fault.Parse f) = IsParseFaultOf g sentence f
 IsTranslationFault g sentence ha hb old new (fault.Run f) = WhenHonest ha (WhenHonest hb ⊥)
-IsTranslationFault g sentence ha hb old new (fault.NoText x) = WhenHonest ha (WhenHonest hb (HasNoText (IsTreeOfSentence g sentence) g x))
+IsTranslationFault g sentence ha hb old new (fault.NoText x) =
+    WhenHonest ha (WhenHonest hb (HasNoText (IsTreeOfSentence g sentence) g x))
 IsTranslationFault g sentence ha hb old new fault.NotATreeFile = WhenHonest ha (WhenHonest hb ⊥)
 IsTranslationFault g sentence ha hb old new (fault.Damaged at) = WhenHonest ha (WhenHonest hb ⊥)
-IsTranslationFault g sentence ha hb old new fault.Write = WhenHonest ha (WhenHonest hb (BeginsTranslation (IsTreeOfSentence g sentence) g old new))
+IsTranslationFault g sentence ha hb old new fault.Write =
+    WhenHonest ha (WhenHonest hb (BeginsTranslation (IsTreeOfSentence g sentence) g old new))
 IsTranslationFault g sentence ha hb old new fault.Device = Unit {0}
 IsTranslationFault g sentence ha hb old new fault.NoMemory = Unit {0}
 IsTranslationFault g sentence ha hb old new _ = ⊥

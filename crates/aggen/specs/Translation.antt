@@ -35,7 +35,8 @@ pub record IsReport (g : Grammar) (passes : ℕ) (t : Tree) (report : Report) : 
 
 -- The translation of a tree was written: the last two tree files (`last`, `previous`) have its solution, the bytes
 -- that were added to the output are the text of its root, and the report is true.
-pub record IsTranslated (g : Grammar) (m : Passes) (passes : ℕ) (t : Tree) (last previous : List ℕ) (old new : Option (List ℕ)) (report : Report) : Type 0 where
+pub record IsTranslated (g : Grammar) (m : Passes) (passes : ℕ) (t : Tree) (last previous : List ℕ) (old new : Option (List ℕ))
+    (report : Report) : Type 0 where
   pub values : Valuation
   pub leaves : LeavesSolution g m passes t values last previous
   pub text : List ℕ
@@ -46,13 +47,16 @@ pub record IsTranslated (g : Grammar) (m : Passes) (passes : ℕ) (t : Tree) (la
 -- The translation theorem: there is exactly one tree; the values in the last tree file meet every equation at every node; no
 -- other values meet them all; and the bytes written are the root's text. `IsTree` defines the trees of the input, and `ArePasses`
 -- the assignment of the passes and their number. The statements about files and bytes hold if the devices are honest.
-pub record Translates (IsTree : Tree → Type 0) (ArePasses : Passes → ℕ → Type 0) (g : Grammar) (honest_a honest_b : Bool) (a b : List ℕ) (old new : Option (List ℕ)) (report : Report) : Type 0 where
+pub record Translates (IsTree : Tree → Type 0) (ArePasses : Passes → ℕ → Type 0) (g : Grammar) (honest_a honest_b : Bool)
+    (a b : List ℕ) (old new : Option (List ℕ)) (report : Report) : Type 0 where
   pub tree : Tree
   pub one : IsOneTree IsTree tree
   pub assignment : Passes
   pub passes : ℕ
   pub plan : ArePasses assignment passes
-  pub translated : WhenHonest honest_a (WhenHonest honest_b (IsTranslated g assignment passes tree (last_content report.last a b) (other_content report.last a b) old new report))
+  pub translated : WhenHonest honest_a
+      (WhenHonest honest_b
+      (IsTranslated g assignment passes tree (last_content report.last a b) (other_content report.last a b) old new report))
 
 -- O1: there is one tree, whose translation is this value, which is not a text.
 pub record HasNoText (IsTree : Tree → Type 0) (g : Grammar) (value : Value) : Type 0 where
@@ -99,14 +103,18 @@ before_last (suc zero) last tree a b = tree
 before_last (suc (suc k)) last tree a b = other_content last a b
 
 -- There is exactly one tree whose file the content is, and its translation was written.
-pub record IsEvaluated (g : Grammar) (m : Passes) (passes : ℕ) (content a b : List ℕ) (old new : Option (List ℕ)) (report : Report) : Type 0 where
+pub record IsEvaluated (g : Grammar) (m : Passes) (passes : ℕ) (content a b : List ℕ) (old new : Option (List ℕ))
+    (report : Report) : Type 0 where
   pub tree : Tree
   pub one : IsOneTree (IsTreeInFile g content) tree
-  pub translated : IsTranslated g m passes tree (last_content report.last a b) (before_last passes report.last content a b) old new report
+  pub translated : IsTranslated g m passes tree (last_content report.last a b)
+      (before_last passes report.last content a b) old new report
 
 -- The translation theorem for the file of a tree: it holds of the one tree whose file the content is.
-pub record Evaluates (ArePasses : Passes → ℕ → Type 0) (g : Grammar) (honest_tree honest_a honest_b : Bool) (content a b : List ℕ) (old new : Option (List ℕ)) (report : Report) : Type 0 where
+pub record Evaluates (ArePasses : Passes → ℕ → Type 0) (g : Grammar) (honest_tree honest_a honest_b : Bool) (content a b : List ℕ)
+    (old new : Option (List ℕ)) (report : Report) : Type 0 where
   pub assignment : Passes
   pub passes : ℕ
   pub plan : ArePasses assignment passes
-  pub evaluated : WhenHonest honest_tree (WhenHonest honest_a (WhenHonest honest_b (IsEvaluated g assignment passes content a b old new report)))
+  pub evaluated : WhenHonest honest_tree
+      (WhenHonest honest_a (WhenHonest honest_b (IsEvaluated g assignment passes content a b old new report)))

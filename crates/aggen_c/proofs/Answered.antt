@@ -17,15 +17,19 @@ pub is_some : (P : Grammar → Type 0) (value : Option Grammar) (g : Grammar) �
 is_some P value g same is = subst (λ (o : Option Grammar). IsSomeAnd o P) (sym same) is
 
 -- the result of a call on the translator that a handle had
-pub of_handle : (V E : Type 0) (P : Grammar → V → Type 0) (value : Option Grammar) (g lent : Grammar) (r : Result V E) → value ≡ Some g → lent ≡ g
+pub of_handle : (V E : Type 0) (P : Grammar → V → Type 0) (value : Option Grammar) (g lent : Grammar) (r : Result V E)
+    → value ≡ Some g → lent ≡ g
     → IfOk r (P lent) → IfOk r (λ v. IsSomeAnd value (λ x. P x v))
 of_handle V E P value g lent r same was held =
-    subst (λ (o : Option Grammar). IfOk r (λ v. IsSomeAnd o (λ x. P x v))) (sym same) (subst (λ (x : Grammar). IfOk r (P x)) was held)
+    subst (λ (o : Option Grammar). IfOk r (λ v. IsSomeAnd o (λ x. P x v))) (sym same)
+    (subst (λ (x : Grammar). IfOk r (P x)) was held)
 
-pub refused_of_handle : (V E : Type 0) (N : E → Type 0) (P : Grammar → E → Type 0) (value : Option Grammar) (g lent : Grammar) (r : Result V E)
+pub refused_of_handle : (V E : Type 0) (N : E → Type 0) (P : Grammar → E → Type 0) (value : Option Grammar) (g lent : Grammar)
+    (r : Result V E)
     → value ≡ Some g → lent ≡ g → IfErr r (P lent) → IfErr r (λ e. MatchOption value (N e) (λ x. P x e))
 refused_of_handle V E N P value g lent r same was held =
-    subst (λ (o : Option Grammar). IfErr r (λ e. MatchOption o (N e) (λ x. P x e))) (sym same) (subst (λ (x : Grammar). IfErr r (P x)) was held)
+    subst (λ (o : Option Grammar). IfErr r (λ e. MatchOption o (N e) (λ x. P x e))) (sym same)
+    (subst (λ (x : Grammar). IfErr r (P x)) was held)
 
 -- the refusals of making a translator are those of the text
 pub translator_fault : (text : List ℕ) (e : BuildFault) → IsBuildFault text e → IsTranslatorFault text (build_fault_of e)
@@ -42,15 +46,20 @@ has_reason IsTrue status was fields were same it = record { reason = it.reason; 
 
 -- `bytes_of`, `status_of` and `fields_of` are what the result of a call has, in its own types
 module _ (V E : Type 0) (bytes_of : V → List ℕ) (status_of : E → ℕ) (fields_of : E → RefusalFields) where
-  pub answered : (Is : Grammar → List ℕ → Type 0) (IsTrue : Grammar → Fault → Type 0) (value : Option Grammar) (old new : List ℕ) (count status : ℕ) (fields : RefusalFields) (r : Result V E)
+  pub answered : (Is : Grammar → List ℕ → Type 0) (IsTrue : Grammar → Fault → Type 0) (value : Option Grammar) (old new : List ℕ)
+      (count status : ℕ) (fields : RefusalFields) (r : Result V E)
       → IfOk r (λ v. IsSomeAnd value (λ g. Is g (bytes_of v)))
-      → IfErr r (λ e. MatchOption value (numbers (status_of e) (fields_of e) ≡ numbers 1 no_fields) (λ g. HasReason (IsTrue g) (status_of e) (fields_of e)))
+      → IfErr r
+      (λ e. MatchOption value (numbers (status_of e) (fields_of e) ≡ numbers 1 no_fields)
+      (λ g. HasReason (IsTrue g) (status_of e) (fields_of e)))
       → IfOk r (λ v. IsWritten (bytes_of v) old new count status fields)
       → IfErr r (λ e. numbers status fields ≡ numbers (status_of e) (fields_of e))
       → IfErr r (λ e. IsUnwritten old new count)
       → Answers Is IsTrue value old new count status fields
-  answered Is IsTrue (Some g) old new count status fields (Ok v) is refused written same kept = inl (record { bytes = bytes_of v; is = is; written = written })
-  answered Is IsTrue (Some g) old new count status fields (Err e) is refused written same kept = inr (record { reason = has_reason (IsTrue g) status (status_of e) fields (fields_of e) same refused; unwritten = kept })
+  answered Is IsTrue (Some g) old new count status fields (Ok v) is refused written same kept =
+      inl (record { bytes = bytes_of v; is = is; written = written })
+  answered Is IsTrue (Some g) old new count status fields (Err e) is refused written same kept =
+      inr (record { reason = has_reason (IsTrue g) status (status_of e) fields (fields_of e) same refused; unwritten = kept })
   answered Is IsTrue None old new count status fields (Ok v) is refused written same kept = absurd is
   answered Is IsTrue None old new count status fields (Err e) is refused written same kept = (same ∙ refused, kept)
 
@@ -64,4 +73,5 @@ module _ (E : Type 0) (status_of : E → ℕ) (fields_of : E → RefusalFields) 
   built text (Some g) status fields (Ok u) is emptied refused zero same = (is, zero.0, zero.1)
   built text None status fields (Ok u) is emptied refused zero same = absurd is
   built text value status fields (Err e) is emptied refused zero same =
-      subst (λ (x : Option Grammar). IsBuilt text x status fields) (sym emptied) (has_reason (IsTranslatorFault text) status (status_of e) fields (fields_of e) same refused)
+      subst (λ (x : Option Grammar). IsBuilt text x status fields) (sym emptied)
+      (has_reason (IsTranslatorFault text) status (status_of e) fields (fields_of e) same refused)

@@ -19,11 +19,13 @@ use Rattle.aggen.specs.Translation.{IsOneTree, IsTranslated}
 use Rattle.aggen.specs.declared.translations.report.Report.{Report}
 use Rattle.ag_fault.specs.declared.fault.Fault.{Fault}
 use Rattle.ag_fault.specs.declared.fault.Fault.TheVariants as fault
-use Rattle.aggen_c.specs.Results.{HasTranslation, IsEvaluationOf, IsEvaluationRefusal, IsPlanTextOf, IsTranslationOf, IsTranslationRefusal}
+use Rattle.aggen_c.specs.Results.{HasTranslation, IsEvaluationOf, IsEvaluationRefusal, IsPlanTextOf, IsTranslationOf}
+use Rattle.aggen_c.specs.Results.{IsTranslationRefusal}
 use Rattle.aggen_c.specs.Results.{IsTreeFileOf, IsTreeRefusal}
 
 -- what went out after nothing is the translation of the one tree
-has_translation : (IsTree : Tree → Type 0) (g : Grammar) (m : Passes) (passes : ℕ) (tree : Tree) (now before text : List ℕ) (report : Report)
+has_translation : (IsTree : Tree → Type 0) (g : Grammar) (m : Passes) (passes : ℕ) (tree : Tree) (now before text : List ℕ)
+    (report : Report)
     → IsOneTree IsTree tree → ArePassesOf g m passes → IsTranslated g m passes tree now before (Some []) (Some text) report
     → HasTranslation IsTree g text
 has_translation IsTree g m passes tree now before text report one plan is = record {
@@ -67,7 +69,8 @@ has_tree_file g sentence content lent copy found one limits file same copied = r
 }
 
 -- the plan of the grammar was listed after nothing
-pub plan_text_of : (g lent : Grammar) (rows : List (List ℕ)) (code : Lists) (start text : List ℕ) → IsLeastPlan g rows code → lent ≡ g → start ≡ []
+pub plan_text_of : (g lent : Grammar) (rows : List (List ℕ)) (code : Lists) (start text : List ℕ) → IsLeastPlan g rows code
+    → lent ≡ g → start ≡ []
     → AppendsPlan lent rows (Some start) (Some text) → IsPlanTextOf g text
 plan_text_of g lent rows code start text least same empty was =
     let listed : AppendsPlan g rows (Some []) (Some text) =
@@ -116,7 +119,8 @@ evaluation_true g file old new (fault.Scan f) device write is = is
 evaluation_true g file old new (fault.Parse f) device write is = is
 evaluation_true g file old new (fault.Job f) device write is = is
 
-tree_true : (g : Grammar) (sentence : List ℕ) (e : Fault) → e ≢ fault.Device → IsSentenceFault g sentence e → IsTreeRefusal g sentence e
+tree_true : (g : Grammar) (sentence : List ℕ) (e : Fault) → e ≢ fault.Device → IsSentenceFault g sentence e
+    → IsTreeRefusal g sentence e
 tree_true g sentence (fault.Scan f) device is = is
 tree_true g sentence (fault.Parse f) device is = is
 tree_true g sentence fault.Device device is = absurd (device refl)
@@ -141,17 +145,21 @@ pub translation_refused : (g : Grammar) (sentence : List ℕ) (old new : Option 
     → IsTranslationRefusal g sentence r
 translation_refused g sentence old new e r is (inl same) device write =
     translation_true g sentence old new r device write (subst (IsTranslationFault g sentence true true old new) (sym same) is)
-translation_refused g sentence old new e r is (inr resource) device write = subst (IsTranslationRefusal g sentence) (sym resource) tt
+translation_refused g sentence old new e r is (inr resource) device write =
+    subst (IsTranslationRefusal g sentence) (sym resource) tt
 
 pub evaluation_refused : (g : Grammar) (file content : List ℕ) (old new : Option (List ℕ)) (e r : Fault) → content ≡ file
     → IsEvaluationFault g true true true content old new e → (r ≡ e) ⊎ (r ≡ fault.NoMemory) → r ≢ fault.Device → r ≢ fault.Write
     → IsEvaluationRefusal g file r
 evaluation_refused g file content old new e r from is (inl same) device write =
     evaluation_true g file old new r device write
-    (subst (λ (w : List ℕ). IsEvaluationFault g true true true w old new r) from (subst (IsEvaluationFault g true true true content old new) (sym same) is))
-evaluation_refused g file content old new e r from is (inr resource) device write = subst (IsEvaluationRefusal g file) (sym resource) tt
+    (subst (λ (w : List ℕ). IsEvaluationFault g true true true w old new r) from
+    (subst (IsEvaluationFault g true true true content old new) (sym same) is))
+evaluation_refused g file content old new e r from is (inr resource) device write =
+    subst (IsEvaluationRefusal g file) (sym resource) tt
 
 pub tree_refused : (g : Grammar) (sentence : List ℕ) (e r : Fault)
     → IsSentenceFault g sentence e → (r ≡ e) ⊎ (r ≡ fault.NoMemory) → r ≢ fault.Device → IsTreeRefusal g sentence r
-tree_refused g sentence e r is (inl same) device = tree_true g sentence r device (subst (IsSentenceFault g sentence) (sym same) is)
+tree_refused g sentence e r is (inl same) device =
+    tree_true g sentence r device (subst (IsSentenceFault g sentence) (sym same) is)
 tree_refused g sentence e r is (inr resource) device = subst (IsTreeRefusal g sentence) (sym resource) tt

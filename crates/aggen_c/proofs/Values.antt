@@ -70,50 +70,83 @@ Boxed a p g = box_owns (ghosts.dealloc_token a) R p g
 module _ {M : Type 1} {𝓤 : Ura M} (𝓛 : Logic 𝓤) where
   tested : (a : Global) (p : Ptr) (g : Grammar) → ent 𝓤 (sem 𝓛 (Boxed a p g)) (guard 𝓤 (Testable p) (sem 𝓛 (Boxed a p g)))
   tested a p g =
-      fact_use 𝓤 (Testable p) (via 𝓤 _ (snd∗ 𝓤 (sem 𝓛 (lies_at R full_share p g)) (sem 𝓛 (ghosts.dealloc_token a (bare (lone R.mir)) p))) (dealloc_token-Testable 𝓛 a (bare (lone R.mir)) p))
+      fact_use 𝓤 (Testable p)
+      (via 𝓤 _ (snd∗ 𝓤 (sem 𝓛 (lies_at R full_share p g)) (sem 𝓛 (ghosts.dealloc_token a (bare (lone R.mir)) p)))
+      (dealloc_token-Testable 𝓛 a (bare (lone R.mir)) p))
       (guard_i 𝓤 (Testable p) (sem 𝓛 (Boxed a p g)))
 
 module _ {M : Type 1} {𝓤 : Ura M} {𝓛 : Logic 𝓤} {K : Type 0} {Γ : List (Item 𝓤)} {G : Goal 𝓤 𝓛.H} where
   pub raw_out : K → (d : RawBox.Denot) (vs : List Val)
-      → ((b o : ℕ) (h : Val) → d.ptr ≡ block_ptr b o → vs ≡ both (vptr b o) h ∷ [] → Good (layout Z) h → Seq K 𝓛 (‵ (box_owns (ghosts.dealloc_token d.alloc) R (block_ptr b o) d.value) ∷ ‵ (Z.own_val d.alloc (h ∷ [])) ∷ Γ) G)
+      → ((b o : ℕ) (h : Val) → d.ptr ≡ block_ptr b o → vs ≡ both (vptr b o) h ∷ [] → Good (layout Z) h
+      → Seq K 𝓛 (‵ (box_owns (ghosts.dealloc_token d.alloc) R (block_ptr b o) d.value) ∷ ‵ (Z.own_val d.alloc (h ∷ [])) ∷ Γ)
+      G)
       → Seq K 𝓛 (‵ (RawBox.own_val d vs) ∷ Γ) G
   raw_out t d vs k =
-      fsplit t $ fpick t (λ vss. fsplit t $ feq_l t (λ ev. fsplit t $ feq_l t (λ ep. fsplit t $ handle_tells al t d.alloc vss.1.0 (λ h ea fits. move t (1 ∷ []) $ drop t $ move t (1 ∷ []) $
-      in_a_block t d.ptr (λ p. box_owns (ghosts.dealloc_token d.alloc) R p d.value) (fst∗ 𝓤 (never 𝓤) (sem 𝓛 (ghosts.dealloc_token d.alloc (bare (lone R.mir)) null_ptr))) (λ b o e. k b o h e
+      fsplit t $ fpick t
+      (λ vss.
+      fsplit t $ feq_l t
+      (λ ev.
+      fsplit t $ feq_l t
+      (λ ep. fsplit t $ handle_tells al t d.alloc vss.1.0
+      (λ h ea fits. move t (1 ∷ []) $ drop t $ move t (1 ∷ []) $
+      in_a_block t d.ptr (λ p. box_owns (ghosts.dealloc_token d.alloc) R p d.value)
+      (fst∗ 𝓤 (never 𝓤) (sem 𝓛 (ghosts.dealloc_token d.alloc (bare (lone R.mir)) null_ptr))) (λ b o e. k b o h e
       (subst (λ (p : Ptr). vs ≡ vstruct (of_list (ptr_val p ∷ h ∷ [])) ∷ []) e
-      (subst (λ (ws : List Val). vs ≡ vstruct (of_list (ptr_val d.ptr ∷ (ws ++ []))) ∷ []) ea (subst (λ (ps : List Val). vs ≡ vstruct (of_list (ps ++ (vss.1.0 ++ []))) ∷ []) ep ev))) fits)))))
+      (subst (λ (ws : List Val). vs ≡ vstruct (of_list (ptr_val d.ptr ∷ (ws ++ []))) ∷ []) ea
+      (subst (λ (ps : List Val). vs ≡ vstruct (of_list (ps ++ (vss.1.0 ++ []))) ∷ []) ep ev))) fits)))))
 
   pub raw_in : K → (b o : ℕ) (h : Val) (a : Global) (x : Grammar)
-      → Step K 𝓛 (‵ (RawBox.own_val (record { ptr = block_ptr b o; alloc = a; value = x }) (both (vptr b o) h ∷ [])) ∷ Γ) G (‵ (box_owns (ghosts.dealloc_token a) R (block_ptr b o) x) ∷ ‵ (Z.own_val a (h ∷ [])) ∷ Γ) G
+      → Step K 𝓛 (‵ (RawBox.own_val (record { ptr = block_ptr b o; alloc = a; value = x }) (both (vptr b o) h ∷ [])) ∷ Γ) G
+      (‵ (box_owns (ghosts.dealloc_token a) R (block_ptr b o) x) ∷ ‵ (Z.own_val a (h ∷ [])) ∷ Γ) G
   raw_in t b o h a x = step (λ s. let v : Val = both (vptr b o) h in
-      nothing t $ move t (2 ∷ 0 ∷ []) $ fjoin t $ feq_i t (List Val) (vptr b o ∷ []) (vptr b o ∷ []) refl $ fjoin t $ feq_i t (List Val) (v ∷ []) (v ∷ []) refl $ fjoin t $
-      fpack t (Valss (RawPtr ∷ Z ∷ [])) (within (shape (raw_box.the_type R Z ghosts)) (block_ptr b o, (a, tt)) (v ∷ [])) (vptr b o ∷ [], (h ∷ [], tt)) $ fjoin t $ s)
+      nothing t $ move t (2 ∷ 0 ∷ []) $ fjoin t $ feq_i t (List Val) (vptr b o ∷ []) (vptr b o ∷ []) refl $ fjoin t $ feq_i t
+      (List Val) (v ∷ []) (v ∷ []) refl $ fjoin t $
+      fpack t (Valss (RawPtr ∷ Z ∷ [])) (within (shape (raw_box.the_type R Z ghosts)) (block_ptr b o, (a, tt)) (v ∷ []))
+      (vptr b o ∷ [], (h ∷ [], tt)) $ fjoin t $ s)
 
   pub some_in : K → (b o : ℕ) (h : Val) (a : Global) (x : Grammar)
-      → Step K 𝓛 (‵ (Handle.own_val (record { at = block_ptr b o; alloc = a; value = Some x }) (both (vptr b o) h ∷ [])) ∷ Γ) G (‵ (box_owns (ghosts.dealloc_token a) R (block_ptr b o) x) ∷ ‵ (Z.own_val a (h ∷ [])) ∷ Γ) G
+      → Step K 𝓛 (‵ (Handle.own_val (record { at = block_ptr b o; alloc = a; value = Some x }) (both (vptr b o) h ∷ [])) ∷ Γ) G
+      (‵ (box_owns (ghosts.dealloc_token a) R (block_ptr b o) x) ∷ ‵ (Z.own_val a (h ∷ [])) ∷ Γ) G
   some_in t b o h a x = step (λ s. let v : Val = both (vptr b o) h in
-      nothing t $ move t (2 ∷ 0 ∷ []) $ fjoin t $ feq_i t (List Val) (vptr b o ∷ []) (vptr b o ∷ []) refl $ fjoin t $ feq_i t (List Val) (v ∷ []) (v ∷ []) refl $ fjoin t $
-      fpack t (Valss (RawPtr ∷ Z ∷ [])) (within (shape handle.the_type) (to handle.the_type (record { at = block_ptr b o; alloc = a; value = Some x })) (v ∷ [])) (vptr b o ∷ [], (h ∷ [], tt)) $ fjoin t $ s)
+      nothing t $ move t (2 ∷ 0 ∷ []) $ fjoin t $ feq_i t (List Val) (vptr b o ∷ []) (vptr b o ∷ []) refl $ fjoin t $ feq_i t
+      (List Val) (v ∷ []) (v ∷ []) refl $ fjoin t $
+      fpack t (Valss (RawPtr ∷ Z ∷ []))
+      (within (shape handle.the_type) (to handle.the_type (record { at = block_ptr b o; alloc = a; value = Some x }))
+      (v ∷ [])) (vptr b o ∷ [], (h ∷ [], tt)) $ fjoin t $ s)
 
   pub none_in : K → (h : Val) (a : Global)
-      → Step K 𝓛 (‵ (Handle.own_val (record { at = null_ptr; alloc = a; value = None }) (both vnull h ∷ [])) ∷ Γ) G (‵ (feq Ptr null_ptr null_ptr) ∷ ‵ (Z.own_val a (h ∷ [])) ∷ Γ) G
+      → Step K 𝓛 (‵ (Handle.own_val (record { at = null_ptr; alloc = a; value = None }) (both vnull h ∷ [])) ∷ Γ) G
+      (‵ (feq Ptr null_ptr null_ptr) ∷ ‵ (Z.own_val a (h ∷ [])) ∷ Γ) G
   none_in t h a = step (λ s. let v : Val = both vnull h in
-      nothing t $ move t (2 ∷ 0 ∷ []) $ fjoin t $ feq_i t (List Val) (vnull ∷ []) (vnull ∷ []) refl $ fjoin t $ feq_i t (List Val) (v ∷ []) (v ∷ []) refl $ fjoin t $
-      fpack t (Valss (RawPtr ∷ Z ∷ [])) (within (shape handle.the_type) (to handle.the_type (record { at = null_ptr; alloc = a; value = None })) (v ∷ [])) (vnull ∷ [], (h ∷ [], tt)) $ fjoin t $ s)
+      nothing t $ move t (2 ∷ 0 ∷ []) $ fjoin t $ feq_i t (List Val) (vnull ∷ []) (vnull ∷ []) refl $ fjoin t $ feq_i t (List Val)
+      (v ∷ []) (v ∷ []) refl $ fjoin t $
+      fpack t (Valss (RawPtr ∷ Z ∷ []))
+      (within (shape handle.the_type) (to handle.the_type (record { at = null_ptr; alloc = a; value = None })) (v ∷ []))
+      (vnull ∷ [], (h ∷ [], tt)) $ fjoin t $ s)
 
   pub handle_out : K → (d : Handle.Denot) (vs : List Val)
-      → ((h : Val) → vs ≡ both (ptr_val d.at) h ∷ [] → Good (layout Z) h → Seq K 𝓛 (‵ (holds d.alloc d.at d.value) ∷ ‵ (Z.own_val d.alloc (h ∷ [])) ∷ Γ) G)
+      → ((h : Val) → vs ≡ both (ptr_val d.at) h ∷ [] → Good (layout Z) h
+      → Seq K 𝓛 (‵ (holds d.alloc d.at d.value) ∷ ‵ (Z.own_val d.alloc (h ∷ [])) ∷ Γ) G)
       → Seq K 𝓛 (‵ (Handle.own_val d vs) ∷ Γ) G
   handle_out t d vs k =
-      fsplit t $ fpick t (λ vss. fsplit t $ feq_l t (λ ev. fsplit t $ feq_l t (λ ep. fsplit t $ handle_tells al t d.alloc vss.1.0 (λ h ea fits. move t (1 ∷ []) $ drop t $ move t (1 ∷ []) $ k h
-      (subst (λ (ws : List Val). vs ≡ vstruct (of_list (ptr_val d.at ∷ (ws ++ []))) ∷ []) ea (subst (λ (ps : List Val). vs ≡ vstruct (of_list (ps ++ (vss.1.0 ++ []))) ∷ []) ep ev)) fits))))
+      fsplit t $ fpick t
+      (λ vss.
+      fsplit t $ feq_l t
+      (λ ev.
+      fsplit t $ feq_l t
+      (λ ep. fsplit t $ handle_tells al t d.alloc vss.1.0
+      (λ h ea fits. move t (1 ∷ []) $ drop t $ move t (1 ∷ []) $ k h
+      (subst (λ (ws : List Val). vs ≡ vstruct (of_list (ptr_val d.at ∷ (ws ++ []))) ∷ []) ea
+      (subst (λ (ps : List Val). vs ≡ vstruct (of_list (ps ++ (vss.1.0 ++ []))) ∷ []) ep ev)) fits))))
 
   -- what a handle holds is a box in a block, whose pointer may be tested, or it is null
   pub held : K → (a : Global) (p : Ptr) (x : Option Grammar)
       → (p ≡ null_ptr → x ≡ None → Seq K 𝓛 Γ G)
-      → ((b o : ℕ) (g : Grammar) → p ≡ block_ptr b o → x ≡ Some g → Testable (block_ptr b o) → Seq K 𝓛 (‵ (Boxed a (block_ptr b o) g) ∷ Γ) G)
+      → ((b o : ℕ) (g : Grammar) → p ≡ block_ptr b o → x ≡ Some g → Testable (block_ptr b o)
+      → Seq K 𝓛 (‵ (Boxed a (block_ptr b o) g) ∷ Γ) G)
       → Seq K 𝓛 (‵ (holds a p x) ∷ Γ) G
   held t a p None none some = feq_l t (λ e. none e refl)
   held t a p (Some g) none some =
       in_a_block t p (λ q. Boxed a q g) (fst∗ 𝓤 (never 𝓤) (sem 𝓛 (ghosts.dealloc_token a (bare (lone R.mir)) null_ptr))) (λ b o e.
-      use1 𝓛 (given (Testable (block_ptr b o)) (‵ (Boxed a (block_ptr b o) g))) (tested 𝓛 a (block_ptr b o) g) $ learn t (λ may. some b o g e refl may))
+      use1 𝓛 (given (Testable (block_ptr b o)) (‵ (Boxed a (block_ptr b o) g))) (tested 𝓛 a (block_ptr b o) g) $ learn t
+      (λ may. some b o g e refl may))

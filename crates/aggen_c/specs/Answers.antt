@@ -13,7 +13,8 @@ use Rattle.aggen_c.specs.declared.refusal.RefusalFields.{RefusalFields}
 abbrev pub IsCopied : (bytes old new : List ℕ) → Type 0
 IsCopied bytes old new = new ≡ take (min (length bytes) (length old)) bytes ++ drop (min (length bytes) (length old)) old
 
--- The buffer of a message has a message of this length, or as many of its first bytes as there is room for. The length of none is 0.
+-- The buffer of a message has a message of this length, or as many of its first bytes as there is room for. The length of none is
+-- 0.
 pub record HasMessage (old new : List ℕ) (count : ℕ) : Type 0 where
   pub message : List ℕ
   pub copied : IsCopied message old new
@@ -43,8 +44,10 @@ pub record IsRefused (IsTrue : Fault → Type 0) (old new : List ℕ) (count sta
 
 -- What a call on a handle answers by the grammar of its translator: a result with status 0, or a refusal with a true reason. The
 -- status is 1 if the handle has no translator.
-abbrev pub Answers : (Is : Grammar → List ℕ → Type 0) → (IsTrue : Grammar → Fault → Type 0) → Option Grammar → (old new : List ℕ) → (count status : ℕ) → RefusalFields → Type 0
-Answers Is IsTrue (Some g) old new count status fields = IsAnswered (Is g) old new count status fields ⊎ IsRefused (IsTrue g) old new count status fields
+abbrev pub Answers : (Is : Grammar → List ℕ → Type 0) → (IsTrue : Grammar → Fault → Type 0) → Option Grammar → (old new : List ℕ)
+    → (count status : ℕ) → RefusalFields → Type 0
+Answers Is IsTrue (Some g) old new count status fields =
+    IsAnswered (Is g) old new count status fields ⊎ IsRefused (IsTrue g) old new count status fields
 Answers Is IsTrue None old new count status fields = (numbers status fields ≡ numbers 1 no_fields) × IsUnwritten old new count
 
 -- The grammar is that of a text, it has no conflict, and an assignment of passes to its attributes is legal.
@@ -53,7 +56,8 @@ pub record IsTranslatorOf (text : List ℕ) (g : Grammar) : Type 0 where
   pub free : HasNoConflict g
   pub alternating : IsAlternating g
 
--- The text of a grammar was read: the handle has its translator, and the status is 0; or the handle has none, and the refusal has a
+-- The text of a grammar was read: the handle has its translator, and the status is 0; or the handle has none, and the refusal has
+-- a
 -- true reason.
 abbrev pub IsBuilt : (text : List ℕ) → Option Grammar → (status : ℕ) → RefusalFields → Type 0
 IsBuilt text (Some g) status fields = IsTranslatorOf text g × (status ≡ 0) × (fields ≡ no_fields)

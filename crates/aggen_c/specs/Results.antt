@@ -1,4 +1,5 @@
--- What the calls on a translator return, in the words of the translation theorem, and why they fail. All of this is this project's.
+-- What the calls on a translator return, in the words of the translation theorem, and why they fail. All of this is this
+-- project's.
 use Rattle.std.specs.Prelude.{ℕ, ◌≡◌, List}
 use Rattle.ag_value.specs.declared.value.Value.{Text}
 use Rattle.ag_grammar.specs.grammars.AttributeGrammar.{Grammar}
@@ -18,7 +19,8 @@ use Rattle.aggen.specs.Translation.{HasNoText, IsOneTree, IsTreeInFile}
 use Rattle.ag_fault.specs.declared.fault.Fault.{Fault}
 use Rattle.ag_fault.specs.declared.fault.Fault.TheVariants as fault
 
--- Of the trees of a kind there is exactly one, and it is within the limits. The values meet every equation of the grammar at every
+-- Of the trees of a kind there is exactly one, and it is within the limits. The values meet every equation of the grammar at
+-- every
 -- node of it, no other values do, and the text is the value of the root's `out`.
 pub record HasTranslation (IsTree : Tree → Type 0) (g : Grammar) (text : List ℕ) : Type 0 where
   pub tree : Tree

@@ -1,5 +1,6 @@
 -- What holds of a translation into memory holds once its bytes are printed and the files are written out.
-use Rattle.std.proofs.Common.{◌≡◌, ◌≢◌, ◌⊎◌, inl, inr, List, [], ℕ, Bool, true, Option, Some, Result, Ok, Err, refl, sym, subst, ◌∙◌}
+use Rattle.std.proofs.Common.{◌≡◌, ◌≢◌, ◌⊎◌, inl, inr, List, [], ℕ, Bool, true, Option, Some, Result, Ok, Err, refl, sym, subst}
+use Rattle.std.proofs.Common.{◌∙◌}
 use Rattle.std.specs.Result.{IfErr, IfOk}
 use Rattle.std.specs.Io.KnownBytes.{Appends}
 use Rattle.ag_grammar.specs.grammars.AttributeGrammar.{Grammar}
@@ -14,7 +15,8 @@ use Rattle.ag_fault.specs.declared.fault.Fault.{Fault}
 use Rattle.ag_fault.specs.declared.fault.Fault.TheVariants as fault
 use Rattle.aggen.specs.declared.translations.report.Report.{Report}
 
-module _ (g : Grammar) (sentence : List ℕ) (ha hb ha' hb' : Bool) (first : ha' ≡ true → ha ≡ true) (second : hb' ≡ true → hb ≡ true) where
+module _ (g : Grammar) (sentence : List ℕ) (ha hb ha' hb' : Bool) (first : ha' ≡ true → ha ≡ true)
+    (second : hb' ≡ true → hb ≡ true) where
   -- all bytes were printed
   pub translated : (a b a' b' bytes : List ℕ) (old new : Option (List ℕ)) (report : Report)
       → (ha' ≡ true → a' ≡ a) → (hb' ≡ true → b' ≡ b)
@@ -124,21 +126,26 @@ module _ (g : Grammar) (sentence : List ℕ) (ha hb ha' hb' : Bool) (first : ha'
       → TranslatesSentence g sentence ha hb a b (Some []) (Some bytes) report
   reported_of start a b bytes r report empty exact is =
       subst (λ (w : List ℕ). TranslatesSentence g sentence ha hb a b (Some w) (Some bytes) report) empty
-      (subst (λ (z : Result Report Fault). IfOk z (λ it. TranslatesSentence g sentence ha hb a b (Some start) (Some bytes) it)) is exact)
+      (subst (λ (z : Result Report Fault). IfOk z (λ it. TranslatesSentence g sentence ha hb a b (Some start) (Some bytes) it)) is
+      exact)
 
-  pub translated_result : (start a b a' b' bytes lent : List ℕ) (old new : Option (List ℕ)) (r : Result Report Fault) (report : Report)
+  pub translated_result : (start a b a' b' bytes lent : List ℕ) (old new : Option (List ℕ)) (r : Result Report Fault)
+      (report : Report)
       → start ≡ [] → lent ≡ bytes → (ha' ≡ true → a' ≡ a) → (hb' ≡ true → b' ≡ b)
       → IfOk r (λ it. TranslatesSentence g sentence ha hb a b (Some start) (Some bytes) it) → r ≡ Ok report
       → Appends old new lent → TranslatesSentence g sentence ha' hb' a' b' old new report
   translated_result start a b a' b' bytes lent old new r report empty same same_a same_b exact is printed =
-      translated a b a' b' bytes old new report same_a same_b (reported_of start a b bytes r report empty exact is) (subst (Appends old new) same printed)
+      translated a b a' b' bytes old new report same_a same_b (reported_of start a b bytes r report empty exact is)
+      (subst (Appends old new) same printed)
 
   pub begun_result : (start a b bytes lent : List ℕ) (old new : Option (List ℕ)) (r : Result Report Fault) (report : Report)
       → start ≡ [] → lent ≡ bytes
       → IfOk r (λ it. TranslatesSentence g sentence ha hb a b (Some start) (Some bytes) it) → r ≡ Ok report
-      → AppendsBeginning old new lent → WhenHonest ha' (WhenHonest hb' (BeginsTranslation (IsTreeOfSentence g sentence) g old new))
+      → AppendsBeginning old new lent
+      → WhenHonest ha' (WhenHonest hb' (BeginsTranslation (IsTreeOfSentence g sentence) g old new))
   begun_result start a b bytes lent old new r report empty same exact is printed =
-      begun a b bytes old new report (reported_of start a b bytes r report empty exact is) (subst (AppendsBeginning old new) same printed)
+      begun a b bytes old new report (reported_of start a b bytes r report empty exact is)
+      (subst (AppendsBeginning old new) same printed)
 
   pub files_result : (start a b a' b' bytes : List ℕ) (r : Result Report Fault) (report : Report)
       → start ≡ [] → (ha' ≡ true → a' ≡ a) → (hb' ≡ true → b' ≡ b)
@@ -151,13 +158,18 @@ module _ (g : Grammar) (sentence : List ℕ) (ha hb ha' hb' : Bool) (first : ha'
       → IfErr r (λ it. IsTranslationFault g sentence ha hb old new it) → (r ≡ Err e) ⊎ (e ≡ fault.NoMemory) → e ≢ fault.Write
       → IsTranslationFault g sentence ha' hb' old' new' e
   refused_result old new old' new' r e exact (inl same) other =
-      refused old new old' new' e other (subst (λ (z : Result Report Fault). IfErr z (λ it. IsTranslationFault g sentence ha hb old new it)) same exact)
-  refused_result old new old' new' r e exact (inr resource) other = subst (λ (z : Fault). IsTranslationFault g sentence ha' hb' old' new' z) (sym resource) tt
+      refused old new old' new' e other
+      (subst (λ (z : Result Report Fault). IfErr z (λ it. IsTranslationFault g sentence ha hb old new it)) same exact)
+  refused_result old new old' new' r e exact (inr resource) other =
+      subst (λ (z : Fault). IsTranslationFault g sentence ha' hb' old' new' z) (sym resource) tt
 
   pub refused_files_result : (a b a' b' : List ℕ) (r : Result Report Fault) (e : Fault)
       → (ha' ≡ true → a' ≡ a) → (hb' ≡ true → b' ≡ b)
       → IfErr r (λ it. IsAfterPasses it → LeavesLastFiles g sentence ha hb a b) → (r ≡ Err e) ⊎ (e ≡ fault.NoMemory)
       → IsAfterPasses e → LeavesLastFiles g sentence ha' hb' a' b'
   refused_files_result a b a' b' r e same_a same_b exact (inl same) after =
-      refused_files a b a' b' same_a same_b (subst (λ (z : Result Report Fault). IfErr z (λ it. IsAfterPasses it → LeavesLastFiles g sentence ha hb a b)) same exact after)
-  refused_files_result a b a' b' r e same_a same_b exact (inr resource) after = absurd (subst (λ (z : Fault). IsAfterPasses z) resource after)
+      refused_files a b a' b' same_a same_b
+      (subst (λ (z : Result Report Fault). IfErr z (λ it. IsAfterPasses it → LeavesLastFiles g sentence ha hb a b)) same exact
+      after)
+  refused_files_result a b a' b' r e same_a same_b exact (inr resource) after =
+      absurd (subst (λ (z : Fault). IsAfterPasses z) resource after)

@@ -1,5 +1,6 @@
 -- What holds of the evaluation of a tree into memory holds once its bytes are printed and the files are written out.
-use Rattle.std.proofs.Common.{◌≡◌, ◌≢◌, ◌⊎◌, inl, inr, List, [], ℕ, Bool, true, Option, Some, Result, Ok, Err, refl, sym, subst, ◌∙◌}
+use Rattle.std.proofs.Common.{◌≡◌, ◌≢◌, ◌⊎◌, inl, inr, List, [], ℕ, Bool, true, Option, Some, Result, Ok, Err, refl, sym, subst}
+use Rattle.std.proofs.Common.{◌∙◌}
 use Rattle.std.specs.Result.{IfErr, IfOk}
 use Rattle.std.specs.Io.KnownBytes.{Appends}
 use Rattle.ag_grammar.specs.grammars.AttributeGrammar.{Grammar}
@@ -13,7 +14,8 @@ use Rattle.ag_fault.specs.declared.fault.Fault.{Fault}
 use Rattle.ag_fault.specs.declared.fault.Fault.TheVariants as fault
 use Rattle.aggen.specs.declared.translations.report.Report.{Report}
 
-module _ (g : Grammar) (content : List ℕ) (ht ha hb ha' hb' : Bool) (first : ha' ≡ true → ha ≡ true) (second : hb' ≡ true → hb ≡ true) where
+module _ (g : Grammar) (content : List ℕ) (ht ha hb ha' hb' : Bool) (first : ha' ≡ true → ha ≡ true)
+    (second : hb' ≡ true → hb ≡ true) where
   -- all bytes were printed
   pub evaluated : (a b a' b' bytes : List ℕ) (old new : Option (List ℕ)) (report : Report)
       → (ha' ≡ true → a' ≡ a) → (hb' ≡ true → b' ≡ b)
@@ -49,7 +51,9 @@ module _ (g : Grammar) (content : List ℕ) (ht ha hb ha' hb' : Bool) (first : h
     solves = is.translated.leaves.solution.solves;
     prefix = printed.prefix;
     rest = printed.rest;
-    root = subst (λ (w : List ℕ). IsTranslation g is.translated.values (Text w)) (sym is.translated.output ∙ printed.cut) is.translated.root;
+    root =
+        subst (λ (w : List ℕ). IsTranslation g is.translated.values (Text w))
+        (sym is.translated.output ∙ printed.cut) is.translated.root;
     output = printed.put;
   }
 
@@ -80,14 +84,17 @@ module _ (g : Grammar) (content : List ℕ) (ht ha hb ha' hb' : Bool) (first : h
       → EvaluatesTree g ht ha hb content a b (Some []) (Some bytes) report
   reported_of start a b bytes r report empty exact is =
       subst (λ (w : List ℕ). EvaluatesTree g ht ha hb content a b (Some w) (Some bytes) report) empty
-      (subst (λ (z : Result Report Fault). IfOk z (λ it. EvaluatesTree g ht ha hb content a b (Some start) (Some bytes) it)) is exact)
+      (subst (λ (z : Result Report Fault). IfOk z (λ it. EvaluatesTree g ht ha hb content a b (Some start) (Some bytes) it)) is
+      exact)
 
-  pub evaluated_result : (start a b a' b' bytes lent : List ℕ) (old new : Option (List ℕ)) (r : Result Report Fault) (report : Report)
+  pub evaluated_result : (start a b a' b' bytes lent : List ℕ) (old new : Option (List ℕ)) (r : Result Report Fault)
+      (report : Report)
       → start ≡ [] → lent ≡ bytes → (ha' ≡ true → a' ≡ a) → (hb' ≡ true → b' ≡ b)
       → IfOk r (λ it. EvaluatesTree g ht ha hb content a b (Some start) (Some bytes) it) → r ≡ Ok report
       → Appends old new lent → EvaluatesTree g ht ha' hb' content a' b' old new report
   evaluated_result start a b a' b' bytes lent old new r report empty same same_a same_b exact is printed =
-      evaluated a b a' b' bytes old new report same_a same_b (reported_of start a b bytes r report empty exact is) (subst (Appends old new) same printed)
+      evaluated a b a' b' bytes old new report same_a same_b (reported_of start a b bytes r report empty exact is)
+      (subst (Appends old new) same printed)
 
   pub begun_result : (start a b bytes lent : List ℕ) (old new : Option (List ℕ)) (r : Result Report Fault) (report : Report)
       → start ≡ [] → lent ≡ bytes
@@ -95,11 +102,14 @@ module _ (g : Grammar) (content : List ℕ) (ht ha hb ha' hb' : Bool) (first : h
       → AppendsBeginning old new lent
       → WhenHonest ht (WhenHonest ha' (WhenHonest hb' (BeginsTranslation (IsTreeInFile g content) g old new)))
   begun_result start a b bytes lent old new r report empty same exact is printed =
-      begun a b bytes old new report (reported_of start a b bytes r report empty exact is) (subst (AppendsBeginning old new) same printed)
+      begun a b bytes old new report (reported_of start a b bytes r report empty exact is)
+      (subst (AppendsBeginning old new) same printed)
 
   pub refused_result : (old new old' new' : Option (List ℕ)) (r : Result Report Fault) (e : Fault)
       → IfErr r (λ it. IsEvaluationFault g ht ha hb content old new it) → (r ≡ Err e) ⊎ (e ≡ fault.NoMemory) → e ≢ fault.Write
       → IsEvaluationFault g ht ha' hb' content old' new' e
   refused_result old new old' new' r e exact (inl same) other =
-      refused old new old' new' e other (subst (λ (z : Result Report Fault). IfErr z (λ it. IsEvaluationFault g ht ha hb content old new it)) same exact)
-  refused_result old new old' new' r e exact (inr resource) other = subst (λ (z : Fault). IsEvaluationFault g ht ha' hb' content old' new' z) (sym resource) tt
+      refused old new old' new' e other
+      (subst (λ (z : Result Report Fault). IfErr z (λ it. IsEvaluationFault g ht ha hb content old new it)) same exact)
+  refused_result old new old' new' r e exact (inr resource) other =
+      subst (λ (z : Fault). IsEvaluationFault g ht ha' hb' content old' new' z) (sym resource) tt

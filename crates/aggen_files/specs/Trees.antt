@@ -24,7 +24,8 @@ IsFileEvaluationFault g honest content old new e = IsEvaluationFault g honest tr
 
 -- the tree of the old file is in the new one; some file (`between`) was in memory on the way
 abbrev pub UpgradesFile : Grammar → (honest_old : Bool) → List ℕ → (honest_tree : Bool) → List ℕ → ℕ → Type 0
-UpgradesFile g honest_old content honest_tree tree count = WhenHonest honest_old ((between : List ℕ) × IsUpgraded g content between honest_tree tree count)
+UpgradesFile g honest_old content honest_tree tree count =
+    WhenHonest honest_old ((between : List ℕ) × IsUpgraded g content between honest_tree tree count)
 
 -- The sentence has a tree with this number of nodes, and if the file is honest its content is the file of the tree.
 pub record ParsesSentence (g : Grammar) (sentence : List ℕ) (honest : Bool) (content : List ℕ) (count : ℕ) : Type 0 where
@@ -36,7 +37,8 @@ pub record ParsesSentence (g : Grammar) (sentence : List ℕ) (honest : Bool) (c
 -- What a failed conversion leaves on the new device: the previous content, a prefix of a file of pass 0, or the file of the old
 -- tree. If the old device is dishonest, nothing is said of the last case.
 abbrev pub LeavesConversion : Grammar → (honest_old : Bool) → List ℕ → (old new : List ℕ) → Type 0
-LeavesConversion g honest content old new = LeavesBeginning 0 old new ⊎ ((count : ℕ) × UpgradesFile g honest content true new count)
+LeavesConversion g honest content old new =
+    LeavesBeginning 0 old new ⊎ ((count : ℕ) × UpgradesFile g honest content true new count)
 
 -- S1 to S4 and P1 to P3 are true of the sentence. O2 (the line could not be printed), a failed device and NoMemory
 -- have no meaning for it, and no other fault is possible.

@@ -5,11 +5,14 @@ use Rattle.std.specs.List.{flat_map, zip}
 
 -- a loop that has appended a text for each yielded item has appended a text for each item of the list; v maps the former to
 -- the latter
-pub shown_all : {A B : Type 0} (f : B → List ℕ) (v : A → B) (start out : List ℕ) (yielded : List A) (all : List B) → out ≡ start ++ flat_map (λ x. f (v x)) yielded → map v yielded ≡ all → out ≡ start ++ flat_map f all
-shown_all f v start out yielded all e is = e ∙ ap (λ (text : List ℕ). start ++ text) (sym (flat_map-map f v yielded) ∙ ap (flat_map f) is)
+pub shown_all : {A B : Type 0} (f : B → List ℕ) (v : A → B) (start out : List ℕ) (yielded : List A) (all : List B)
+    → out ≡ start ++ flat_map (λ x. f (v x)) yielded → map v yielded ≡ all → out ≡ start ++ flat_map f all
+shown_all f v start out yielded all e is =
+    e ∙ ap (λ (text : List ℕ). start ++ text) (sym (flat_map-map f v yielded) ∙ ap (flat_map f) is)
 
 -- the texts for pairs whose second parts are mapped by h
-pub through : {A B C : Type 0} (f : A × C → List ℕ) (h : B → C) (xs : List A) (ys : List B) → flat_map (λ p. f (p.0, h p.1)) (zip xs ys) ≡ flat_map f (zip xs (map h ys))
+pub through : {A B C : Type 0} (f : A × C → List ℕ) (h : B → C) (xs : List A) (ys : List B)
+    → flat_map (λ p. f (p.0, h p.1)) (zip xs ys) ≡ flat_map f (zip xs (map h ys))
 through f h [] ys = refl
 through f h (x ∷ xs) [] = refl
 through f h (x ∷ xs) (y ∷ ys) = ap (λ (text : List ℕ). f (x, h y) ++ text) (through f h xs ys)

@@ -16,17 +16,23 @@ kept (Some os) None new xs p q = absurd p
 kept (Some os) (Some ms) None xs p q = absurd q
 kept (Some os) (Some ms) (Some ns) xs p q = q ∙ p
 
-pub one_more : (old mid new : Option (List ℕ)) (bytes rest : List ℕ) (n : ℕ) → HasWritten old mid bytes rest → Appends mid new (take n rest) → HasWritten old new bytes (drop n rest)
+pub one_more : (old mid new : Option (List ℕ)) (bytes rest : List ℕ) (n : ℕ) → HasWritten old mid bytes rest
+    → Appends mid new (take n rest) → HasWritten old new bytes (drop n rest)
 one_more old mid new bytes rest n so_far more = record {
   prefix = so_far.prefix ++ take n rest;
-  cut = so_far.cut ∙ ap (λ (w : List ℕ). so_far.prefix ++ w) (sym (take-append-drop n rest)) ∙ sym (append_assoc so_far.prefix (take n rest) (drop n rest));
+  cut =
+      so_far.cut ∙ ap (λ (w : List ℕ). so_far.prefix ++ w) (sym (take-append-drop n rest))
+      ∙ sym (append_assoc so_far.prefix (take n rest) (drop n rest));
   put = appended old mid new so_far.prefix (take n rest) so_far.put more;
 }
 
-pub none_more : (old mid new : Option (List ℕ)) (bytes rest : List ℕ) → HasWritten old mid bytes rest → Keeps mid new → AppendsBeginning old new bytes
-none_more old mid new bytes rest so_far same = record { prefix = so_far.prefix; rest = rest; cut = so_far.cut; put = kept old mid new so_far.prefix so_far.put same }
+pub none_more : (old mid new : Option (List ℕ)) (bytes rest : List ℕ) → HasWritten old mid bytes rest → Keeps mid new
+    → AppendsBeginning old new bytes
+none_more old mid new bytes rest so_far same =
+    record { prefix = so_far.prefix; rest = rest; cut = so_far.cut; put = kept old mid new so_far.prefix so_far.put same }
 
-pub so_far_written : (old new : Option (List ℕ)) (bytes rest : List ℕ) → HasWritten old new bytes rest → AppendsBeginning old new bytes
+pub so_far_written : (old new : Option (List ℕ)) (bytes rest : List ℕ) → HasWritten old new bytes rest
+    → AppendsBeginning old new bytes
 so_far_written old new bytes rest so_far = record { prefix = so_far.prefix; rest = rest; cut = so_far.cut; put = so_far.put }
 
 pub ruleset beginning = (none_more, so_far_written)

@@ -26,7 +26,9 @@ symbol_text k x = flat_map (attribute_text k x.0.name) (zip (attribute_names x.0
 
 -- the line of pass k: its number, its direction, and the attributes that it computes, symbol by symbol
 abbrev pub pass_line : Grammar → List (List ℕ) → ℕ → List ℕ
-pass_line g rows k = codes "pass " ++ decimal k ++ codes " " ++ direction_name (direction_of k) ++ codes ":" ++ flat_map (symbol_text k) (zip g.symbols rows) ++ codes "\n"
+pass_line g rows k =
+    codes "pass " ++ decimal k ++ codes " " ++ direction_name (direction_of k) ++ codes ":" ++ flat_map (symbol_text k)
+    (zip g.symbols rows) ++ codes "\n"
 
 -- the lines of the passes from 1 to n
 abbrev pub plan_text : Grammar → List (List ℕ) → ℕ → List ℕ
@@ -46,7 +48,8 @@ attribute_name g q j a = slice_index_or (item_names g (item_at q j)) a []
 -- the text of an instruction for a node of a production, with the names of attributes instead of their numbers
 abbrev pub instruction_text : Grammar → Production → Instr → List ℕ
 instruction_text g q (instr.Get j) = codes "get " ++ decimal j
-instruction_text g q (instr.Set j a r) = codes "set " ++ decimal j ++ codes "." ++ attribute_name g q j a ++ codes " rule " ++ decimal r
+instruction_text g q (instr.Set j a r) =
+    codes "set " ++ decimal j ++ codes "." ++ attribute_name g q j a ++ codes " rule " ++ decimal r
 instruction_text g q (instr.Go j) = codes "go " ++ decimal j
 instruction_text g q (instr.Put j) = codes "put " ++ decimal j
 instruction_text g q (instr.Def a r) = codes "def " ++ attribute_name g q 0 a ++ codes " rule " ++ decimal r
@@ -55,7 +58,8 @@ instruction_text g q instr.End = codes "end"
 -- the line of production q, whose number is p, and a pass: both numbers, and the instructions, separated by a comma and a space.
 -- x has the number of the pass, and its instructions
 abbrev pub code_line : Grammar → ℕ → Production → ℕ × List Instr → List ℕ
-code_line g p q x = decimal p ++ codes " pass " ++ decimal x.0 ++ codes ": " ++ separated (map (instruction_text g q) x.1) ++ codes "\n"
+code_line g p q x =
+    decimal p ++ codes " pass " ++ decimal x.0 ++ codes ": " ++ separated (map (instruction_text g q) x.1) ++ codes "\n"
 
 -- the lines of a production, one for each pass from 1. x has the production with its number, and its lists of instructions
 abbrev pub production_text : Grammar → (ℕ × Production) × List (List Instr) → List ℕ

@@ -1,11 +1,13 @@
 -- The part of a buffer that agrees with a content before an offset.
-use Rattle.std.proofs.Common.{◌≡◌, ℕ, zero, suc, ◌+◌, ◌-◌, ◌≤◌, List, [], ◌∷◌, ◌++◌, length, take, drop, slice_range, Result, Ok, Err, sym, ap, subst, ◌∙◌, arith, lit<}
+use Rattle.std.proofs.Common.{◌≡◌, ℕ, zero, suc, ◌+◌, ◌-◌, ◌≤◌, List, [], ◌∷◌, ◌++◌, length, take, drop, slice_range, Result, Ok}
+use Rattle.std.proofs.Common.{Err, sym, ap, subst, ◌∙◌, arith, lit<}
 use Rattle.std.proofs.lemmas.List.{drop-drop, drop-take, take-append-drop, take-take}
 use Rattle.std.proofs.lemmas.List.Folds.{drop_split}
 use lib.Seq.{take-add}
 use Rattle.backreader.specs.BackState.{IsOver, BackState, EndsAt, buffer_bytes}
 use Rattle.std.specs.Int.{w32, from_be_bytes}
-use Rattle.treefile.specs.framing.Ending.{IsBytes, ReadsAs, body_before, greatest_body, header_bytes, least_body, length_bytes, number_before}
+use Rattle.treefile.specs.framing.Ending.{IsBytes, ReadsAs, body_before, greatest_body, header_bytes, least_body, length_bytes}
+use Rattle.treefile.specs.framing.Ending.{number_before}
 use Rattle.treefile.specs.records.TreeFile.{Version, version_of}
 use Rattle.treefile.specs.declared.layout.FileVersion.{FileVersion}
 use Rattle.treefile.specs.declared.layout.FileVersion.TheVariants.{One, Two}
@@ -16,7 +18,8 @@ use Rattle.treefile.proofs.records.Frames.{bytes_part, fits, length_part, read_a
 -- ---- parts of lists
 
 -- a part of a part
-range_part : (xs : List ℕ) (a b i j : ℕ) → i ≤ j → a + j ≤ b → slice_range (slice_range xs a b) i j ≡ slice_range xs (a + i) (a + j)
+range_part : (xs : List ℕ) (a b i j : ℕ) → i ≤ j → a + j ≤ b
+    → slice_range (slice_range xs a b) i j ≡ slice_range xs (a + i) (a + j)
 range_part xs a b i j less within =
     let k = b - a - i in
     let whole : b - a ≡ i + k = omega arith in
@@ -59,7 +62,9 @@ kept_after xs ys from to same = ap (take (to - from)) same
 -- ---- bytes before an offset
 
 -- a part of them, by the numbers of bytes after its ends
-pub part_occurs : (content xs : List ℕ) (at from to n m : ℕ) → from ≤ to → to ≤ length xs → to - from ≤ at → EndsAt content at (slice_range xs from to) → n ≤ to - from → m ≤ n → slice_range xs (to - n) (to - m) ≡ slice_range content (at - n) (at - m)
+pub part_occurs : (content xs : List ℕ) (at from to n m : ℕ) → from ≤ to → to ≤ length xs → to - from ≤ at
+    → EndsAt content at (slice_range xs from to) → n ≤ to - from → m ≤ n
+    → slice_range xs (to - n) (to - m) ≡ slice_range content (at - n) (at - m)
 part_occurs content xs at from to n m p q r s small less =
     let count = to - from in
     let i = count - n in
@@ -69,13 +74,17 @@ part_occurs content xs at from to n m p q r s small less =
     let ends : from + j ≡ to - m = omega arith in
     let starts : at - count + i ≡ at - n = omega arith in
     let stops : at - count + j ≡ at - m = omega arith in
-    let same : slice_range xs from to ≡ slice_range content (at - count) at = s.occur ∙ ap (λ (k : ℕ). slice_range content (at - k) at) long in
-    let mine : slice_range (slice_range xs from to) i j ≡ slice_range xs (to - n) (to - m) = range_part xs from to i j (omega arith) (omega arith) ∙ (λ t. slice_range xs (begins t) (ends t)) in
-    let theirs : slice_range (slice_range content (at - count) at) i j ≡ slice_range content (at - n) (at - m) = range_part content (at - count) at i j (omega arith) (omega arith) ∙ (λ t. slice_range content (starts t) (stops t)) in
+    let same : slice_range xs from to ≡ slice_range content (at - count) at =
+    s.occur ∙ ap (λ (k : ℕ). slice_range content (at - k) at) long in
+    let mine : slice_range (slice_range xs from to) i j ≡ slice_range xs (to - n) (to - m) =
+    range_part xs from to i j (omega arith) (omega arith) ∙ (λ t. slice_range xs (begins t) (ends t)) in
+    let theirs : slice_range (slice_range content (at - count) at) i j ≡ slice_range content (at - n) (at - m) =
+    range_part content (at - count) at i j (omega arith) (omega arith) ∙ (λ t. slice_range content (starts t) (stops t)) in
     sym mine ∙ ap (λ (l : List ℕ). slice_range l i j) same ∙ theirs
 
 -- the bytes that are left after `n` were taken
-pub taken_occurs : (content xs : List ℕ) (at from to n : ℕ) → from ≤ to → to ≤ length xs → to - from ≤ at → EndsAt content at (slice_range xs from to) → n ≤ to - from → EndsAt content (at - n) (slice_range xs from (to - n))
+pub taken_occurs : (content xs : List ℕ) (at from to n : ℕ) → from ≤ to → to ≤ length xs → to - from ≤ at
+    → EndsAt content at (slice_range xs from to) → n ≤ to - from → EndsAt content (at - n) (slice_range xs from (to - n))
 taken_occurs content xs at from to n p q r s small =
     let count = to - from in
     let left = slice_range xs from (to - n) in
@@ -84,7 +93,8 @@ taken_occurs content xs at from to n p q r s small =
     let start : from ≡ to - count = omega arith in
     let begins : at - count ≡ at - n - length left = omega (arith, long) in
     let same : at - length (slice_range xs from to) ≡ at - n - length left = ap (λ (k : ℕ). at - k) were ∙ begins in
-    let prefix : slice_range xs (to - count) (to - n) ≡ slice_range content (at - count) (at - n) = part_occurs content xs at from to count n p q r s (omega arith) small in
+    let prefix : slice_range xs (to - count) (to - n) ≡ slice_range content (at - count) (at - n) =
+    part_occurs content xs at from to count n p q r s (omega arith) small in
     let within = s.within in
     record {
       within = omega arith;
@@ -93,15 +103,22 @@ taken_occurs content xs at from to n p q r s small =
     }
 
 -- the number in the last four of them
-pub number_occurs : (content xs : List ℕ) (at from to : ℕ) → from ≤ to → to ≤ length xs → to - from ≤ at → EndsAt content at (slice_range xs from to) → length_bytes ≤ to - from → from_be_bytes w32 (slice_range xs (to - length_bytes) to) ≡ number_before content at
+pub number_occurs : (content xs : List ℕ) (at from to : ℕ) → from ≤ to → to ≤ length xs → to - from ≤ at
+    → EndsAt content at (slice_range xs from to) → length_bytes ≤ to - from
+    → from_be_bytes w32 (slice_range xs (to - length_bytes) to) ≡ number_before content at
 number_occurs content xs at from to p q r s enough =
     let here : to ≡ to - 0 = omega arith in
     let there : at - 0 ≡ at = omega arith in
-    let four : slice_range xs (to - 4) (to - 0) ≡ slice_range content (at - 4) (at - 0) = part_occurs content xs at from to 4 0 p q r s enough (omega arith) in
-    ap (from_be_bytes w32) (ap (λ (k : ℕ). slice_range xs (to - 4) k) here ∙ four ∙ ap (λ (k : ℕ). slice_range content (at - 4) k) there)
+    let four : slice_range xs (to - 4) (to - 0) ≡ slice_range content (at - 4) (at - 0) =
+    part_occurs content xs at from to 4 0 p q r s enough (omega arith) in
+    ap (from_be_bytes w32) (ap (λ (k : ℕ). slice_range xs (to - 4) k) here ∙ four
+    ∙ ap (λ (k : ℕ). slice_range content (at - 4) k) there)
 
 -- the body of the last frame of them
-pub body_occurs : (content xs : List ℕ) (at from to n : ℕ) → from ≤ to → to ≤ length xs → to - from ≤ at → EndsAt content at (slice_range xs from to) → n + length_bytes ≤ to - from → slice_range xs (to - (n + length_bytes)) (to - (n + length_bytes) + n) ≡ slice_range content (at - length_bytes - n) (at - length_bytes)
+pub body_occurs : (content xs : List ℕ) (at from to n : ℕ) → from ≤ to → to ≤ length xs → to - from ≤ at
+    → EndsAt content at (slice_range xs from to) → n + length_bytes ≤ to - from
+    → slice_range xs (to - (n + length_bytes)) (to - (n + length_bytes) + n) ≡ slice_range content (at - length_bytes - n)
+    (at - length_bytes)
 body_occurs content xs at from to n p q r s enough =
     let ends : to - (n + 4) + n ≡ to - 4 = omega arith in
     let begins : at - (n + 4) ≡ at - 4 - n = omega arith in
@@ -110,13 +127,19 @@ body_occurs content xs at from to n p q r s enough =
     ∙ ap (λ (k : ℕ). slice_range content k (at - 4)) begins
 
 -- the body of the frame that ends there, if its length is known
-pub body_at_hand : (version : Version) (content : List ℕ) (at n : ℕ) → n ≡ number_before content at → least_body ≤ n → n ≤ greatest_body version → header_bytes + n + length_bytes ≤ at → body_before version content at ≡ Ok (slice_range content (at - length_bytes - n) (at - length_bytes))
+pub body_at_hand : (version : Version) (content : List ℕ) (at n : ℕ) → n ≡ number_before content at → least_body ≤ n
+    → n ≤ greatest_body version → header_bytes + n + length_bytes ≤ at
+    → body_before version content at ≡ Ok (slice_range content (at - length_bytes - n) (at - length_bytes))
 body_at_hand version content at n is least greatest room =
     let ends : at - 4 - n + n ≡ at - 4 = omega arith in
-    read_at version content (slice_range content (at - 4 - n) (at - 4)) at n (sym is) (ap (slice_range content (at - 4 - n)) ends) (omega arith) (fits version at n least greatest room)
+    read_at version content (slice_range content (at - 4 - n) (at - 4)) at n (sym is) (ap (slice_range content (at - 4 - n)) ends)
+    (omega arith) (fits version at n least greatest room)
 
 -- all bytes after `n` more were read before them
-pub read_occurs : (content xs ys : List ℕ) (at from to n : ℕ) → from ≤ to → to ≤ length xs → length ys ≡ length xs → IsBytes ys → EndsAt content at (slice_range xs from to) → n ≤ from → to - from + n ≤ at → drop from ys ≡ drop from xs → slice_range ys (from - n) from ≡ slice_range content (at - (to - from + n)) (at - (to - from + n) + (from - (from - n))) → EndsAt content at (slice_range ys (from - n) to)
+pub read_occurs : (content xs ys : List ℕ) (at from to n : ℕ) → from ≤ to → to ≤ length xs → length ys ≡ length xs → IsBytes ys
+    → EndsAt content at (slice_range xs from to) → n ≤ from → to - from + n ≤ at → drop from ys ≡ drop from xs
+    → slice_range ys (from - n) from ≡ slice_range content (at - (to - from + n)) (at - (to - from + n) + (from - (from - n)))
+    → EndsAt content at (slice_range ys (from - n) to)
 read_occurs content xs ys at from to n p q size bytes s free room same read =
     let count = to - from in
     let start = at - (count + n) in
@@ -124,11 +147,14 @@ read_occurs content xs ys at from to n p q size bytes s free room same read =
     let long : length (slice_range xs from to) ≡ count = length_part xs from to p q in
     let longer : length all ≡ count + n = length_part ys (from - n) to (omega arith) (omega arith) ∙ omega arith in
     let middle : start + (from - (from - n)) ≡ at - count = omega arith in
-    let were : slice_range ys from to ≡ slice_range content (at - count) at = kept_after xs ys from to same ∙ s.occur ∙ ap (λ (k : ℕ). slice_range content (at - k) at) long in
-    let first : slice_range ys (from - n) from ≡ slice_range content start (at - count) = read ∙ ap (slice_range content start) middle in
+    let were : slice_range ys from to ≡ slice_range content (at - count) at =
+    kept_after xs ys from to same ∙ s.occur ∙ ap (λ (k : ℕ). slice_range content (at - k) at) long in
+    let first : slice_range ys (from - n) from ≡ slice_range content start (at - count) =
+    read ∙ ap (slice_range content start) middle in
     let before : IsBytes (slice_range content start (at - count)) = subst IsBytes first (bytes_part ys (from - n) from bytes) in
     let following : IsBytes (drop (at - count) content) = subst (λ (k : ℕ). IsBytes (drop (at - k) content)) long s.known in
-    let whole : IsBytes (drop start content) = subst IsBytes (sym (drop_split content start (at - count) (omega arith))) (bytes_join _ _ before following) in
+    let whole : IsBytes (drop start content) =
+    subst IsBytes (sym (drop_split content start (at - count) (omega arith))) (bytes_join _ _ before following) in
     record {
       within = s.within;
       occur =
@@ -147,13 +173,16 @@ same_occur content xs ys at same s = subst (EndsAt content at) (sym same) s
 pub all_bytes : (content : List ℕ) (state : BackState) → IsOver content state → state.progress.at ≡ header_bytes → IsBytes content
 all_bytes content state over at =
     let from = state.progress.at - length state.window in
-    let following : IsBytes (drop header_bytes content) = bytes_later content from header_bytes (omega (arith, at)) over.window.known in
-    subst IsBytes (take-append-drop header_bytes content) (bytes_join (take header_bytes content) (drop header_bytes content) over.header following)
+    let following : IsBytes (drop header_bytes content) =
+    bytes_later content from header_bytes (omega (arith, at)) over.window.known in
+    subst IsBytes (take-append-drop header_bytes content)
+    (bytes_join (take header_bytes content) (drop header_bytes content) over.header following)
 
 -- ---- results
 
 -- a fault has the same meaning for every view of a body
-pub exact_as_well : {X Y Z : Type 0} (view : X → Z) (another : Y → Z) (fault : FrameFault) (read : Result Z FrameFault) → ReadsAs view (Err fault) read → ReadsAs another (Err fault) read
+pub exact_as_well : {X Y Z : Type 0} (view : X → Z) (another : Y → Z) (fault : FrameFault) (read : Result Z FrameFault)
+    → ReadsAs view (Err fault) read → ReadsAs another (Err fault) read
 exact_as_well view another NotATreeFile read exact = exact
 exact_as_well view another (Damaged at) read exact = exact
 exact_as_well view another Device read exact = exact

@@ -1,5 +1,6 @@
 -- The body of a frame comes before its end.
-use Rattle.std.proofs.Common.{◌≡◌, ◌<◌, ◌≤◌, ◌-◌, ℕ, List, [], Some, Ok, false, length, take, drop, refl, sym, ap, subst, ◌∙◌, arith}
+use Rattle.std.proofs.Common.{◌≡◌, ◌<◌, ◌≤◌, ◌-◌, ℕ, List, [], Some, Ok, false, length, take, drop, refl, sym, ap, subst, ◌∙◌}
+use Rattle.std.proofs.Common.{arith}
 use Rattle.std.specs.Prelude.{nat_eq}
 use Rattle.std.proofs.lemmas.Bool.{ne_eqb}
 use Rattle.treefile.specs.framing.Backward.{next_before}
@@ -7,14 +8,16 @@ use Rattle.backreader.specs.BackState.{EndsAt}
 use Rattle.treefile.specs.framing.Ending.{IsBytes, body_before, header_bytes}
 use Rattle.treefile.specs.records.TreeFile.{Version}
 
-pub next_is_body : (version : Version) (content body : List ℕ) (at : ℕ) → header_bytes < at → body_before version content at ≡ Ok body → next_before version content at ≡ Ok (Some body)
+pub next_is_body : (version : Version) (content body : List ℕ) (at : ℕ) → header_bytes < at
+    → body_before version content at ≡ Ok body → next_before version content at ≡ Ok (Some body)
 unfolding next_before
 next_is_body version content body at far e =
     let apart : nat_eq at header_bytes ≡ false = ne_eqb at header_bytes (λ same. absurd (omega arith)) in
     rw (apart, e) refl
 
 -- no bytes were read before an offset
-pub none_occur : (content : List ℕ) (at : ℕ) (bytes : List ℕ) → at ≤ length content → bytes ≡ [] → IsBytes (drop at content) → EndsAt content at bytes
+pub none_occur : (content : List ℕ) (at : ℕ) (bytes : List ℕ) → at ≤ length content → bytes ≡ [] → IsBytes (drop at content)
+    → EndsAt content at bytes
 none_occur content at bytes within e known =
     let z : at - 0 ≡ at = omega arith in
     let y : at - at ≡ 0 = omega arith in

@@ -1,5 +1,6 @@
 -- The steps of a walk along a chain.
-use Rattle.std.proofs.Common.{◌≡◌, ◌+◌, ◌<◌, List, length, get_or, ℕ, suc, true, ◌&&◌, Some, slice_get, ap, subst, sym, ◌∙◌, arith}
+use Rattle.std.proofs.Common.{◌≡◌, ◌+◌, ◌<◌, List, length, get_or, ℕ, suc, true, ◌&&◌, Some, slice_get, ap, subst, sym, ◌∙◌}
+use Rattle.std.proofs.Common.{arith}
 use Rattle.std.specs.Prelude.{IfSome, Result, Ok, Err, nat_eq}
 use Rattle.std.specs.Result.{OkIff, result_ok}
 use Rattle.std.proofs.lemmas.Bool.{and_parts, eqb-true}

@@ -1,5 +1,6 @@
 -- What is read along the nodes of an index is what the tree has there.
-use Rattle.std.proofs.Common.{ℕ, zero, suc, ◌≡◌, ◌-◌, ◌≤◌, List, [], ◌∷◌, ◌++◌, All, map, reverse, length, Bool, true, false, cond, Option, Some, None, Result, Ok, Err, slice_get, refl, ap, sym, subst, ◌∙◌, arith}
+use Rattle.std.proofs.Common.{ℕ, zero, suc, ◌≡◌, ◌-◌, ◌≤◌, List, [], ◌∷◌, ◌++◌, All, map, reverse, length, Bool, true, false}
+use Rattle.std.proofs.Common.{cond, Option, Some, None, Result, Ok, Err, slice_get, refl, ap, sym, subst, ◌∙◌, arith}
 use Rattle.std.specs.Prelude.{nat_eq}
 use Rattle.std.proofs.lemmas.List.{map-append, reverse-append, reverse-reverse}
 use Rattle.std.proofs.lemmas.Option.{slice_get_within}
@@ -15,7 +16,8 @@ use Rattle.ag_grammar.specs.grammars.Accepted.{IsAccepted, IsNormal}
 use Rattle.ag_grammar.specs.grammars.AttributeGrammar.{Grammar, stored_items}
 use Rattle.ag_grammar.specs.grammars.Passes.{IsLegal, Passes}
 use Rattle.ag_grammar.specs.grammars.Running.{IsLastPass}
-use Rattle.ag_grammar.specs.grammars.Solution.{NoRule, SolvesAll, AtEachNodeOf, Valuation, WellAt, at, below, children, left_passes, rest}
+use Rattle.ag_grammar.specs.grammars.Solution.{NoRule, SolvesAll, AtEachNodeOf, Valuation, WellAt, at, below, children}
+use Rattle.ag_grammar.specs.grammars.Solution.{left_passes, rest}
 use Rattle.ag_grammar.specs.grammars.Tree.{Fits, FitsAll, Forest, Tree, leaf, more, node, none}
 use Rattle.treefile.specs.declared.reading.FrameFault.{FrameFault}
 use Rattle.treefile.specs.records.OneTree.{IsRecorded}

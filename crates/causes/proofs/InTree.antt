@@ -37,10 +37,15 @@ last_place (x ∷ xs) (y ∷ ys) place e =
     let tail : map suc xs ≡ map suc ys ++ place ∷ [] = cc in
     let first : x ≡ y = omega arith in
     let last = last_place xs ys place tail in
-    record { number = last.number; counted = last.counted; path = ap (λ (zs : List ℕ). x ∷ zs) last.path ∙ ap (λ (z : ℕ). z ∷ ys ++ last.number ∷ []) first }
+    record {
+      number = last.number;
+      counted = last.counted;
+      path = ap (λ (zs : List ℕ). x ∷ zs) last.path ∙ ap (λ (z : ℕ). z ∷ ys ++ last.number ∷ []) first;
+    }
 
 -- the instance that an argument stands for is the one that the rule for it computes
-same_instance : (path beyond : List ℕ) (argument from : Target) → GoesTo (map suc path) argument (map suc beyond) from → place_path path argument.place ≡ place_path beyond from.place
+same_instance : (path beyond : List ℕ) (argument from : Target) → GoesTo (map suc path) argument (map suc beyond) from
+    → place_path path argument.place ≡ place_path beyond from.place
 same_instance path beyond argument from (attr, inl (own, up)) =
     let last = last_place path beyond from.place up in
     ap (place_path path) own ∙ last.path ∙ sym (ap (place_path beyond) last.counted)
@@ -54,35 +59,67 @@ module _ (g : Grammar) (t : Tree) (v : Valuation) where
   IsCaused path target = HasCause g t v (place_path path target.place) target.attr
 
   -- an error that arises is its own cause
-  arises : (places path : List ℕ) (target : Target) (number : ℕ) → places ≡ map suc path → IsInTree g t v places target (rule_does.Arises number) → IsCaused path target
+  arises : (places path : List ℕ) (target : Target) (number : ℕ) → places ≡ map suc path
+      → IsInTree g t v places target (rule_does.Arises number) → IsCaused path target
   arises places path target number counted found =
       let same : found.path ≡ path = same_path found.path path (sym found.counted ∙ counted) in
       let rule = found.next.rule in
-      let caused : HasCause g t v (place_path found.path rule.target.place) rule.target.attr = here found.path rule (at (values_at v found.path)) (record { production = found.production; trees = found.trees; there = found.there; of = found.of; is = found.is; rule = (number, found.next.there); values = refl }) found.next.arises in
+      let caused : HasCause g t v (place_path found.path rule.target.place) rule.target.attr =
+      here found.path rule (at (values_at v found.path))
+      (record {
+        production = found.production;
+        trees = found.trees;
+        there = found.there;
+        of = found.of;
+        is = found.is;
+        rule = (number, found.next.there);
+        values = refl;
+      }) found.next.arises in
       subst (λ (p : List ℕ). IsCaused p target) same (subst (IsCaused found.path) found.next.gives caused)
 
   -- one that is passed on has the cause of the error that it was
-  passes : (path : List ℕ) (target : Target) (beyond : List ℕ) (from : Target) → IsPassedFrom (in_tree g t v) (map suc path) target (map suc beyond) from → IsCaused beyond from → IsCaused path target
+  passes : (path : List ℕ) (target : Target) (beyond : List ℕ) (from : Target)
+      → IsPassedFrom (in_tree g t v) (map suc path) target (map suc beyond) from → IsCaused beyond from → IsCaused path target
   passes path target beyond from link cause =
       let found = link.passes in
       let argument = link.argument in
       let same : path ≡ found.path = same_path path found.path found.counted in
       let rule = found.next.rule in
-      let instance : place_path path argument.place ≡ place_path beyond from.place = same_instance path beyond argument from link.goes in
-      let of_argument : HasCause g t v (place_path found.path argument.place) argument.attr = subst (λ (p : List ℕ). HasCause g t v (place_path p argument.place) argument.attr) same (subst (λ (p : List ℕ). HasCause g t v p argument.attr) (sym instance) (subst (HasCause g t v (place_path beyond from.place)) link.goes.0 cause)) in
-      let caused : HasCause g t v (place_path found.path rule.target.place) rule.target.attr = passed found.path rule (at (values_at v found.path)) found.next.index argument (record { production = found.production; trees = found.trees; there = found.there; of = found.of; is = found.is; rule = (found.next.number, found.next.there); values = refl }) found.next.source found.next.takes of_argument in
+      let instance : place_path path argument.place ≡ place_path beyond from.place =
+      same_instance path beyond argument from link.goes in
+      let of_argument : HasCause g t v (place_path found.path argument.place) argument.attr =
+      subst (λ (p : List ℕ). HasCause g t v (place_path p argument.place) argument.attr) same
+      (subst (λ (p : List ℕ). HasCause g t v p argument.attr) (sym instance)
+      (subst (HasCause g t v (place_path beyond from.place)) link.goes.0 cause)) in
+      let caused : HasCause g t v (place_path found.path rule.target.place) rule.target.attr =
+      passed found.path rule (at (values_at v found.path)) found.next.index argument
+      (record {
+        production = found.production;
+        trees = found.trees;
+        there = found.there;
+        of = found.of;
+        is = found.is;
+        rule = (found.next.number, found.next.there);
+        values = refl;
+      }) found.next.source found.next.takes of_argument in
       subst (λ (p : List ℕ). IsCaused p target) (sym same) (subst (IsCaused found.path) found.next.gives caused)
 
   -- so has the error at the beginning of a chain that of the one at its end
-  along : (places : List ℕ) (target : Target) {there : List ℕ} {from : Target} {n : ℕ} → IsChain (in_tree g t v) places target there from n → (path : List ℕ) → places ≡ map suc path → (beyond : List ℕ) → there ≡ map suc beyond → IsCaused beyond from → IsCaused path target
-  along places target itself path begins beyond ends cause = subst (λ (p : List ℕ). IsCaused p target) (same_path beyond path (sym ends ∙ begins)) cause
+  along : (places : List ℕ) (target : Target) {there : List ℕ} {from : Target} {n : ℕ}
+      → IsChain (in_tree g t v) places target there from n → (path : List ℕ) → places ≡ map suc path → (beyond : List ℕ)
+      → there ≡ map suc beyond → IsCaused beyond from → IsCaused path target
+  along places target itself path begins beyond ends cause =
+      subst (λ (p : List ℕ). IsCaused p target) (same_path beyond path (sym ends ∙ begins)) cause
   along places target (longer there from n beyond origin chain link) path begins end ends cause =
       let between = link.passes.path in
       let is = link.passes.counted in
-      let there_is = subst (λ (p : List ℕ). IsPassedFrom (in_tree g t v) p from (map suc end) origin) is (subst (λ (p : List ℕ). IsPassedFrom (in_tree g t v) there from p origin) ends link) in
+      let there_is =
+      subst (λ (p : List ℕ). IsPassedFrom (in_tree g t v) p from (map suc end) origin) is
+      (subst (λ (p : List ℕ). IsPassedFrom (in_tree g t v) there from p origin) ends link) in
       along places target chain path begins between is (passes between from end origin there_is cause)
 
 pub found_is_cause : FoundIsCause
 found_is_cause g t v path target there number n cause =
     let end = cause.arises in
-    along g t v (map suc path) target cause.chain path refl end.path end.counted (arises g t v there end.path cause.from number end.counted end)
+    along g t v (map suc path) target cause.chain path refl end.path end.counted
+    (arises g t v there end.path cause.from number end.counted end)

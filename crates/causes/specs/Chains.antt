@@ -74,10 +74,14 @@ in_content g content places target does = IsInRecord g content target does
 abbrev pub places_of : List PathNode → List ℕ
 places_of nodes = map (λ (n : PathNode). n.place) nodes
 
--- Where the rule for an argument of a rule is: for an attribute of the node itself at its parent, whose rule has it as a target at the
+-- Where the rule for an argument of a rule is: for an attribute of the node itself at its parent, whose rule has it as a target
+-- at the
 -- node's place; for an attribute of a child at the child. The places lead from the root to the nodes.
 abbrev pub GoesTo : List ℕ → Target → List ℕ → Target → Type 0
-GoesTo places argument there target = (target.attr ≡ argument.attr) × (((argument.place ≡ 0) × (places ≡ there ++ target.place ∷ [])) ⊎ ((0 < argument.place) × (there ≡ places ++ argument.place ∷ []) × (target.place ≡ 0)))
+GoesTo places argument there target =
+    (target.attr ≡ argument.attr)
+    × (((argument.place ≡ 0) × (places ≡ there ++ target.place ∷ []))
+    ⊎ ((0 < argument.place) × (there ≡ places ++ argument.place ∷ []) × (target.place ≡ 0)))
 
 -- The rule for a target at one node passes on the error of the rule for another target at another node.
 pub record IsPassedFrom (R : Reading) (places : List ℕ) (target : Target) (there : List ℕ) (from : Target) : Type 0 where
@@ -94,9 +98,11 @@ Follows R places target there step.Nothing = Unit {0}
 -- A chain of n rules that passed an error on, from the rule for a target at a node back to the rule whose error it was.
 pub data IsChain (R : Reading) (places : List ℕ) (target : Target) : List ℕ → Target → ℕ → Type 0 where
   itself : IsChain R places target places target 0
-  longer : (there : List ℕ) (from : Target) (n : ℕ) (beyond : List ℕ) (origin : Target) → IsChain R places target there from n → IsPassedFrom R there from beyond origin → IsChain R places target beyond origin (suc n)
+  longer : (there : List ℕ) (from : Target) (n : ℕ) (beyond : List ℕ) (origin : Target) → IsChain R places target there from n
+      → IsPassedFrom R there from beyond origin → IsChain R places target beyond origin (suc n)
 
--- The cause of the error that the rule for a target computes at the node at the end of some places: the rule of a number, at the node
+-- The cause of the error that the rule for a target computes at the node at the end of some places: the rule of a number, at the
+-- node
 -- at the end of other places. The error arises in it, and n rules passed it on.
 pub record IsCause (R : Reading) (places : List ℕ) (target : Target) (there : List ℕ) (number : ℕ) (n : ℕ) : Type 0 where
   pub from : Target

@@ -10,7 +10,8 @@ use Rattle.origins.specs.Causes.{HasCause, place_path, tree_at, values_at}
 use Rattle.causes.specs.declared.next_rule.Next.{Next}
 use Rattle.causes.specs.Chains.{DoesNext, IsCause, Reading}
 
--- The node of a tree at the end of some places, which count from 1, says what the rule for a target does there, with the tree's values.
+-- The node of a tree at the end of some places, which count from 1, says what the rule for a target does there, with the tree's
+-- values.
 pub record IsInTree (g : Grammar) (t : Tree) (v : Valuation) (places : List ℕ) (target : Target) (does : Next) : Type 0 where
   pub path : List ℕ
   pub counted : places ≡ map suc path
@@ -27,9 +28,11 @@ in_tree g t v places target does = IsInTree g t v places target does
 
 -- A cause that is found along the nodes of a tree is one: the error of the attribute that the first rule computes has it.
 abbrev pub FoundIsCause : Type 0
-FoundIsCause = (g : Grammar) (t : Tree) (v : Valuation) (path : List ℕ) (target : Target) (there : List ℕ) (number n : ℕ) → IsCause (in_tree g t v) (map suc path) target there number n → HasCause g t v (place_path path target.place) target.attr
+FoundIsCause = (g : Grammar) (t : Tree) (v : Valuation) (path : List ℕ) (target : Target) (there : List ℕ) (number n : ℕ)
+    → IsCause (in_tree g t v) (map suc path) target there number n → HasCause g t v (place_path path target.place) target.attr
 
--- The error of an attribute instance has a cause that is found along the nodes of a tree, from the rule for a target at one of them.
+-- The error of an attribute instance has a cause that is found along the nodes of a tree, from the rule for a target at one of
+-- them.
 pub record IsFound (g : Grammar) (t : Tree) (v : Valuation) (instance : List ℕ) (attr : ℕ) : Type 0 where
   pub path : List ℕ
   pub target : Target
@@ -42,4 +45,5 @@ pub record IsFound (g : Grammar) (t : Tree) (v : Valuation) (instance : List ℕ
 
 -- If the error of an attribute instance of an accepted grammar has a cause, it has one that is found so.
 abbrev pub CauseIsFound : Type 0
-CauseIsFound = (g : Grammar) (t : Tree) (v : Valuation) (instance : List ℕ) (attr : ℕ) → IsAccepted g → HasCause g t v instance attr → IsFound g t v instance attr
+CauseIsFound = (g : Grammar) (t : Tree) (v : Valuation) (instance : List ℕ) (attr : ℕ) → IsAccepted g
+    → HasCause g t v instance attr → IsFound g t v instance attr

@@ -1,5 +1,6 @@
 -- A list of additions grows at its end.
-use Rattle.std.proofs.Common.{ℕ, zero, suc, ◌≡◌, ◌⊎◌, List, [], ◌∷◌, ◌++◌, Some, slice_get, length, get_or, refl, sym, inl, inr, arith}
+use Rattle.std.proofs.Common.{ℕ, zero, suc, ◌≡◌, ◌⊎◌, List, [], ◌∷◌, ◌++◌, Some, slice_get, length, get_or, refl, sym, inl, inr}
+use Rattle.std.proofs.Common.{arith}
 use Rattle.std.proofs.lemmas.Option.{slice_get_within}
 use Rattle.closure.specs.Additions.{IsAdded, IsAddedBefore, IsReason, AreInOrder}
 use Rattle.closure.specs.declared.addition.Addition.{Addition}
@@ -15,7 +16,8 @@ pub added_here : (xs : List Addition) (y : Addition) → IsAdded (xs ++ y ∷ []
 added_here xs y = (length xs, y, get_push_end xs y, refl)
 
 -- a reason stays one if more numbers are there
-pub reason_more : (clauses : List Clause) (seeds : List ℕ) (P Q : ℕ → Type 0) → ((t : ℕ) → P t → Q t) → (n : ℕ) (r : Reason) → IsReason clauses seeds P n r → IsReason clauses seeds Q n r
+pub reason_more : (clauses : List Clause) (seeds : List ℕ) (P Q : ℕ → Type 0) → ((t : ℕ) → P t → Q t) → (n : ℕ) (r : Reason)
+    → IsReason clauses seeds P n r → IsReason clauses seeds Q n r
 reason_more clauses seeds P Q more n (reason.Seed i) h = h
 reason_more clauses seeds P Q more n (reason.Clause p) h = (h.0, h.1, h.2, λ k d lt. more (get_or h.0.body k d) (h.3 k d lt))
 
@@ -26,13 +28,16 @@ before_end : (xs : List Addition) (y : Addition) (t : ℕ) → IsAdded xs t → 
 before_end xs y t h = (h.0, h.1, slice_get_within xs h.0 h.1 h.2, get_push_front xs y h.1 h.0 h.2, h.3)
 
 -- one more number is added, which was not there
-pub order_more : (clauses : List Clause) (seeds : List ℕ) (xs : List Addition) (y : Addition) → (IsAdded xs y.number → ⊥) → IsReason clauses seeds (IsAdded xs) y.number y.reason → AreInOrder clauses seeds xs → AreInOrder clauses seeds (xs ++ y ∷ [])
+pub order_more : (clauses : List Clause) (seeds : List ℕ) (xs : List Addition) (y : Addition) → (IsAdded xs y.number → ⊥)
+    → IsReason clauses seeds (IsAdded xs) y.number y.reason → AreInOrder clauses seeds xs
+    → AreInOrder clauses seeds (xs ++ y ∷ [])
 order_more clauses seeds xs y fresh why order = record { once = once; reasoned = reasoned }
   where
     is_new : (i : ℕ) (x : Addition) → slice_get xs i ≡ Some x → x.number ≡ y.number → ⊥
     is_new i x e same = fresh (i, x, e, same)
 
-    once : (i j : ℕ) (x z : Addition) → slice_get (xs ++ y ∷ []) i ≡ Some x → slice_get (xs ++ y ∷ []) j ≡ Some z → x.number ≡ z.number → i ≡ j
+    once : (i j : ℕ) (x z : Addition) → slice_get (xs ++ y ∷ []) i ≡ Some x → slice_get (xs ++ y ∷ []) j ≡ Some z
+        → x.number ≡ z.number → i ≡ j
     once i j x z e f same = elim (get_push_cases xs y x i e) [
       | inl old ↦ elim (get_push_cases xs y z j f) [
         | inl older ↦ order.once i j x z old older same
@@ -44,8 +49,12 @@ order_more clauses seeds xs y fresh why order = record { once = once; reasoned =
       ]
     ]
 
-    reasoned : (i : ℕ) (x : Addition) → slice_get (xs ++ y ∷ []) i ≡ Some x → IsReason clauses seeds (IsAddedBefore (xs ++ y ∷ []) i) x.number x.reason
+    reasoned : (i : ℕ) (x : Addition) → slice_get (xs ++ y ∷ []) i ≡ Some x
+        → IsReason clauses seeds (IsAddedBefore (xs ++ y ∷ []) i) x.number x.reason
     reasoned i x e = elim (get_push_cases xs y x i e) [
-      | inl old ↦ reason_more clauses seeds (IsAddedBefore xs i) (IsAddedBefore (xs ++ y ∷ []) i) (before_more xs y i) x.number x.reason (order.reasoned i x old)
-      | inr last ↦ rw (last.0, ← last.1) (reason_more clauses seeds (IsAdded xs) (IsAddedBefore (xs ++ y ∷ []) (length xs)) (before_end xs y) y.number y.reason why)
+      | inl old ↦ reason_more clauses seeds (IsAddedBefore xs i) (IsAddedBefore (xs ++ y ∷ []) i)
+          (before_more xs y i) x.number x.reason (order.reasoned i x old)
+      | inr last ↦ rw (last.0, ← last.1)
+          (reason_more clauses seeds (IsAdded xs) (IsAddedBefore (xs ++ y ∷ []) (length xs))
+          (before_end xs y) y.number y.reason why)
     ]

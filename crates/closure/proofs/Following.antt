@@ -7,19 +7,26 @@ use Rattle.closure.specs.Following.{Follows, FollowAll, seed, by_clause, nothing
 -- Induction: a property that the seeds have and that is closed under the clauses holds of all numbers that
 -- follow.
 mutual
-  pub follows_in : (cs : List Clause) (seeds : List ℕ) (P : ℕ → Type 0) → ((t : ℕ) → Contains seeds t → P t) → ((p : ℕ) (c : Clause) → slice_get cs p ≡ Some c → All P c.body → P c.head) → (s : ℕ) → Follows cs seeds s → P s
+  pub follows_in : (cs : List Clause) (seeds : List ℕ) (P : ℕ → Type 0) → ((t : ℕ) → Contains seeds t → P t)
+      → ((p : ℕ) (c : Clause) → slice_get cs p ≡ Some c → All P c.body → P c.head) → (s : ℕ) → Follows cs seeds s → P s
   follows_in cs seeds P start closed s (seed h) = start s h
-  follows_in cs seeds P start closed s (by_clause p c e l all) = subst P l (closed p c e (all_in cs seeds P start closed c.body all))
+  follows_in cs seeds P start closed s (by_clause p c e l all) =
+      subst P l (closed p c e (all_in cs seeds P start closed c.body all))
 
-  all_in : (cs : List Clause) (seeds : List ℕ) (P : ℕ → Type 0) → ((t : ℕ) → Contains seeds t → P t) → ((p : ℕ) (c : Clause) → slice_get cs p ≡ Some c → All P c.body → P c.head) → (ns : List ℕ) → FollowAll cs seeds ns → All P ns
+  all_in : (cs : List Clause) (seeds : List ℕ) (P : ℕ → Type 0) → ((t : ℕ) → Contains seeds t → P t)
+      → ((p : ℕ) (c : Clause) → slice_get cs p ≡ Some c → All P c.body → P c.head) → (ns : List ℕ) → FollowAll cs seeds ns
+      → All P ns
   all_in cs seeds P start closed [] nothing = All-nil P
-  all_in cs seeds P start closed (n ∷ ns) (one_more h k) = All-cons P n ns (follows_in cs seeds P start closed n h) (all_in cs seeds P start closed ns k)
+  all_in cs seeds P start closed (n ∷ ns) (one_more h k) =
+      All-cons P n ns (follows_in cs seeds P start closed n h) (all_in cs seeds P start closed ns k)
 
 -- numbers follow if each of them does
 pub follow_all : (cs : List Clause) (seeds ns : List ℕ) → All (Follows cs seeds) ns → FollowAll cs seeds ns
 follow_all cs seeds [] all = nothing
-follow_all cs seeds (n ∷ ns) all = one_more (All-head (Follows cs seeds) n ns all) (follow_all cs seeds ns (All-tail (Follows cs seeds) n ns all))
+follow_all cs seeds (n ∷ ns) all =
+    one_more (All-head (Follows cs seeds) n ns all) (follow_all cs seeds ns (All-tail (Follows cs seeds) n ns all))
 
 -- the numbers that follow are closed under the clauses
-pub head_follows : (cs : List Clause) (seeds : List ℕ) (p : ℕ) (c : Clause) → slice_get cs p ≡ Some c → All (Follows cs seeds) c.body → Follows cs seeds c.head
+pub head_follows : (cs : List Clause) (seeds : List ℕ) (p : ℕ) (c : Clause) → slice_get cs p ≡ Some c
+    → All (Follows cs seeds) c.body → Follows cs seeds c.head
 head_follows cs seeds p c e all = by_clause p c e refl (follow_all cs seeds c.body all)

@@ -1,5 +1,7 @@
 -- One more mark, and its effects.
-use Rattle.std.proofs.Common.{ℕ, zero, suc, ◌⊎◌, Contains, ◌+◌, ◌≡◌, ◌<◌, ◌≤◌, ◌↔◌, Bool, true, false, ◌&&◌, List, [], ◌∷◌, ◌++◌, length, get_or, take, replicate, count_by, Some, slice_get, slice_index, nat_eq, refl, sym, subst, ◌∙◌, inl, inr, set, arith, length-set}
+use Rattle.std.proofs.Common.{ℕ, zero, suc, ◌⊎◌, Contains, ◌+◌, ◌≡◌, ◌<◌, ◌≤◌, ◌↔◌, Bool, true, false, ◌&&◌, List, [], ◌∷◌, ◌++◌}
+use Rattle.std.proofs.Common.{length, get_or, take, replicate, count_by, Some, slice_get, slice_index, nat_eq, refl, sym, subst}
+use Rattle.std.proofs.Common.{◌∙◌, inl, inr, set, arith, length-set}
 use Rattle.std.proofs.lemmas.Bool.{cases_eq, cases_lt, false≢true}
 use Rattle.std.proofs.lemmas.Bool.Decides.{nat_tests}
 use Rattle.std.proofs.lemmas.Grind.{common_steps}
@@ -26,37 +28,49 @@ both true b h = (refl, h)
 both false b h = absurd (cc)
 
 -- a subset of a set is a subset of a larger one
-pub list_all-within : (s t : ℕ → Bool) → ((n : ℕ) → s n ≡ true → t n ≡ true) → (xs : List ℕ) → list_all s xs ≡ true → list_all t xs ≡ true
+pub list_all-within : (s t : ℕ → Bool) → ((n : ℕ) → s n ≡ true → t n ≡ true) → (xs : List ℕ) → list_all s xs ≡ true
+    → list_all t xs ≡ true
 list_all-within s t le [] h = refl
 list_all-within s t le (x ∷ xs) h = let p = both (s x) (list_all s xs) h in rw (le x p.0) (list_all-within s t le xs p.1)
 
 -- a number that is not marked is open
-pub waits : (marks : List Bool) (added : List Addition) (v : ℕ) (q : Clause) (n : ℕ) (d : ℕ) → n < length q.body → is_marked marks (get_or q.body n d) ≡ false → IsSettled marks added v q
+pub waits : (marks : List Bool) (added : List Addition) (v : ℕ) (q : Clause) (n : ℕ) (d : ℕ) → n < length q.body
+    → is_marked marks (get_or q.body n d) ≡ false → IsSettled marks added v q
 waits marks added v q n d lt h = inr (get_or q.body n d, Contains-get_or q.body n d lt, inl h)
 
 -- the same in the form of the code
-pub waits_at : (marks : List Bool) (added : List Addition) (v : ℕ) (clauses : List Clause) (clause : ℕ) (q : Clause) (body : List ℕ) (n : ℕ) (d : Clause) → clause < length clauses → body ≡ (get_or clauses clause q).body → n ≤ length body
-    → ((e : ℕ) → n < length body → is_marked marks (get_or body n e) ≡ false) → nat_eq n (length body) ≡ false → IsSettled marks added v (get_or clauses clause d)
+pub waits_at : (marks : List Bool) (added : List Addition) (v : ℕ) (clauses : List Clause) (clause : ℕ) (q : Clause)
+    (body : List ℕ) (n : ℕ) (d : Clause) → clause < length clauses → body ≡ (get_or clauses clause q).body → n ≤ length body
+    → ((e : ℕ) → n < length body → is_marked marks (get_or body n e) ≡ false) → nat_eq n (length body) ≡ false
+    → IsSettled marks added v (get_or clauses clause d)
 waits_at marks added v clauses clause q body n d inside is most stops differs =
     let lt : n < length body = grind (arith, nat_tests) in
-    rw (get_or_default clauses clause d q inside) (waits marks added v (get_or clauses clause q) n 0 (rw (← is) lt) (rw (← is) (stops 0 lt)))
+    rw (get_or_default clauses clause d q inside)
+    (waits marks added v (get_or clauses clause q) n 0 (rw (← is) lt) (rw (← is) (stops 0 lt)))
 
-marks_stay : (marks : List Bool) (u : ℕ) → u < length marks → (t : ℕ) → is_marked marks t ≡ true → is_marked (set marks u true) t ≡ true
+marks_stay : (marks : List Bool) (u : ℕ) → u < length marks → (t : ℕ) → is_marked marks t ≡ true
+    → is_marked (set marks u true) t ≡ true
 marks_stay marks u lt t h = elim (cases_eq t u) [
   | inl same ↦ rw same (get_or-set_same marks u true false lt)
   | inr other ↦ get_or-set_other marks u t true false other ∙ h
 ]
 
-count_one : (marks : List Bool) (k : ℕ) → k < length marks → is_marked marks k ≡ false → count_by (λ b. b) (set marks k true) ≡ count_by (λ b. b) marks + 1
+count_one : (marks : List Bool) (k : ℕ) → k < length marks → is_marked marks k ≡ false
+    → count_by (λ b. b) (set marks k true) ≡ count_by (λ b. b) marks + 1
 count_one marks k lt e = grind (arith, common_steps)
 
 -- a number that is added for a reason follows if the numbers there do
-reason_follows : (clauses : List Clause) (seeds : List ℕ) (there : ℕ → Type 0) → ((t : ℕ) → there t → Follows clauses seeds t) → (n : ℕ) (r : Reason) → IsReason clauses seeds there n r → Follows clauses seeds n
-reason_follows clauses seeds there follow n (reason.Seed i) h = seed (i, slice_get_within seeds i n h, get_or_from_slice_get seeds i n n h)
-reason_follows clauses seeds there follow n (reason.Clause p) h = subst (Follows clauses seeds) h.2 (head_follows clauses seeds p h.0 h.1 (λ k d lt. follow (get_or h.0.body k d) (h.3 k d lt)))
+reason_follows : (clauses : List Clause) (seeds : List ℕ) (there : ℕ → Type 0) → ((t : ℕ) → there t → Follows clauses seeds t)
+    → (n : ℕ) (r : Reason) → IsReason clauses seeds there n r → Follows clauses seeds n
+reason_follows clauses seeds there follow n (reason.Seed i) h =
+    seed (i, slice_get_within seeds i n h, get_or_from_slice_get seeds i n n h)
+reason_follows clauses seeds there follow n (reason.Clause p) h =
+    subst (Follows clauses seeds) h.2 (head_follows clauses seeds p h.0 h.1 (λ k d lt. follow (get_or h.0.body k d) (h.3 k d lt)))
 
 -- a search continues with a new number, added for a reason
-pub marked_more : (clauses : List Clause) (seeds : List ℕ) (marks : List Bool) (added : List Addition) (v : ℕ) (passed : List ℕ) (x : Addition) → x.number < length marks → is_marked marks x.number ≡ false → IsReason clauses seeds (IsAdded added) x.number x.reason → IsSearch clauses seeds marks added v passed
+pub marked_more : (clauses : List Clause) (seeds : List ℕ) (marks : List Bool) (added : List Addition) (v : ℕ) (passed : List ℕ)
+    (x : Addition) → x.number < length marks → is_marked marks x.number ≡ false
+    → IsReason clauses seeds (IsAdded added) x.number x.reason → IsSearch clauses seeds marks added v passed
     → IsSearch clauses seeds (set marks x.number true) (added ++ x ∷ []) v passed
 marked_more clauses seeds marks added v passed x lt new why search = record {
   below = rw length-set search.below;
@@ -75,15 +89,19 @@ marked_more clauses seeds marks added v passed x lt new why search = record {
   );
   order = order_more clauses seeds added x (λ h. false≢true (sym new ∙ (search.is_added x.number).1 h)) why search.order;
   sound = λ t h. elim (cases_eq t x.number) [
-    | inl same ↦ rw same (reason_follows clauses seeds (IsAdded added) (λ u k. search.sound u ((search.is_added u).1 k)) x.number x.reason why)
+    | inl same ↦ rw same
+        (reason_follows clauses seeds (IsAdded added) (λ u k. search.sound u ((search.is_added u).1 k)) x.number x.reason why)
     | inr other ↦ search.sound t (sym (get_or-set_other marks x.number t true false other) ∙ h)
   ];
   within = search.within;
-  marked = λ p d inside. list_all-within (is_marked marks) (is_marked (set marks x.number true)) (marks_stay marks x.number lt) (take (slice_index passed p) (get_or clauses p d).body) (search.marked p d inside);
+  marked =
+      λ p d inside. list_all-within (is_marked marks) (is_marked (set marks x.number true)) (marks_stay marks x.number lt)
+      (take (slice_index passed p) (get_or clauses p d).body) (search.marked p d inside);
 }
 
 -- open numbers stay open with one more
-pub grows_one : (marks : List Bool) (added : List Addition) (v : ℕ) (x : Addition) → x.number < length marks → v ≤ length added → Grows v marks added (set marks x.number true) (added ++ x ∷ [])
+pub grows_one : (marks : List Bool) (added : List Addition) (v : ℕ) (x : Addition) → x.number < length marks → v ≤ length added
+    → Grows v marks added (set marks x.number true) (added ++ x ∷ [])
 grows_one marks added v x lt most = record {
   count = length-set marks x.number true;
   marked = marks_stay marks x.number lt;
@@ -97,52 +115,79 @@ grows_one marks added v x lt most = record {
 }
 
 -- a clause whose body is marked is a reason to add its head
-pub clause_reason : (clauses : List Clause) (seeds : List ℕ) (marks : List Bool) (added : List Addition) → ((t : ℕ) → is_marked marks t ≡ true ↔ IsAdded added t) → (p : ℕ) (d : Clause) → p < length clauses → list_all (is_marked marks) (get_or clauses p d).body ≡ true → IsReason clauses seeds (IsAdded added) (get_or clauses p d).head (reason.Clause p)
-clause_reason clauses seeds marks added is p d lt h =
-    (get_or clauses p d, slice_get-get_or clauses p d lt, refl, λ k e inside. (is (get_or (get_or clauses p d).body k e)).0 (AllPass-from_list_all (is_marked marks) (get_or clauses p d).body h k e inside))
+pub clause_reason : (clauses : List Clause) (seeds : List ℕ) (marks : List Bool) (added : List Addition)
+    → ((t : ℕ) → is_marked marks t ≡ true ↔ IsAdded added t) → (p : ℕ) (d : Clause) → p < length clauses
+    → list_all (is_marked marks) (get_or clauses p d).body ≡ true
+    → IsReason clauses seeds (IsAdded added) (get_or clauses p d).head (reason.Clause p)
+clause_reason clauses seeds marks added is p d lt h = (
+  get_or clauses p d,
+  slice_get-get_or clauses p d lt,
+  refl,
+  λ k e inside. (is (get_or (get_or clauses p d).body k e)).0
+      (AllPass-from_list_all (is_marked marks) (get_or clauses p d).body h k e inside),
+)
 
 -- a settled clause stays so
-pub settled_stays : (v : ℕ) (marks : List Bool) (added : List Addition) (marks' : List Bool) (added' : List Addition) → Grows v marks added marks' added' → (q : Clause) → IsSettled marks added v q → IsSettled marks' added' v q
+pub settled_stays : (v : ℕ) (marks : List Bool) (added : List Addition) (marks' : List Bool) (added' : List Addition)
+    → Grows v marks added marks' added' → (q : Clause) → IsSettled marks added v q → IsSettled marks' added' v q
 settled_stays v marks added marks' added' grows q (inl h) = inl (grows.marked q.head h)
 settled_stays v marks added marks' added' grows q (inr w) = inr (w.0, w.1, grows.open_stays w.0 w.2)
 
 pub grows_none : (v : ℕ) (marks : List Bool) (added : List Addition) → Grows v marks added marks added
 grows_none v marks added = record { count = refl; marked = λ t h. h; open_stays = λ t h. h }
 
-pub grows_on : (v : ℕ) (a : List Bool) (x : List Addition) (b : List Bool) (y : List Addition) (c : List Bool) (z : List Addition) → Grows v a x b y → Grows v b y c z → Grows v a x c z
-grows_on v a x b y c z m n = record { count = n.count ∙ m.count; marked = λ t h. n.marked t (m.marked t h); open_stays = λ t h. n.open_stays t (m.open_stays t h) }
+pub grows_on : (v : ℕ) (a : List Bool) (x : List Addition) (b : List Bool) (y : List Addition) (c : List Bool) (z : List Addition)
+    → Grows v a x b y → Grows v b y c z → Grows v a x c z
+grows_on v a x b y c z m n =
+    record {
+      count = n.count ∙ m.count;
+      marked = λ t h. n.marked t (m.marked t h);
+      open_stays = λ t h. n.open_stays t (m.open_stays t h);
+    }
 
 -- one more seed is marked
-pub seeded_more : (marks marks' : List Bool) (seeds : List ℕ) (i : ℕ) → i < length seeds → ((t : ℕ) → is_marked marks t ≡ true → is_marked marks' t ≡ true) → ((t : ℕ) → Contains (take i seeds) t → is_marked marks t ≡ true) → is_marked marks' (get_or seeds i 0) ≡ true
+pub seeded_more : (marks marks' : List Bool) (seeds : List ℕ) (i : ℕ) → i < length seeds
+    → ((t : ℕ) → is_marked marks t ≡ true → is_marked marks' t ≡ true)
+    → ((t : ℕ) → Contains (take i seeds) t → is_marked marks t ≡ true) → is_marked marks' (get_or seeds i 0) ≡ true
     → (t : ℕ) → Contains (take (i + 1) seeds) t → is_marked marks' t ≡ true
-seeded_more marks marks' seeds i lt kept before here t h = elim (Contains-push_cases (take i seeds) (get_or seeds i 0) t (rw (← take_more seeds i 0 lt) h)) [
-  | inl old ↦ kept t (before t old)
-  | inr e ↦ rw (← e) here
-]
+seeded_more marks marks' seeds i lt kept before here t h =
+    elim (Contains-push_cases (take i seeds) (get_or seeds i 0) t (rw (← take_more seeds i 0 lt) h)) [
+      | inl old ↦ kept t (before t old)
+      | inr e ↦ rw (← e) here
+    ]
 
 -- one more clause is visited
-pub settled_more : (B : Type 0) (v : ℕ) (marks : List Bool) (added : List Addition) (marks' : List Bool) (added' : List Addition) (q : Clause) (visited : List ℕ) (i p : ℕ) → i < length visited → Grows v marks added marks' added'
-    → (B ⊎ Contains (take i visited) p → IsSettled marks added v q) → (get_or visited i 0 ≡ p → IsSettled marks' added' v q) → B ⊎ Contains (take (i + 1) visited) p → IsSettled marks' added' v q
-settled_more B v marks added marks' added' q visited i p lt grows before here (inl b) = settled_stays v marks added marks' added' grows q (before (inl b))
-settled_more B v marks added marks' added' q visited i p lt grows before here (inr h) = elim (Contains-push_cases (take i visited) (get_or visited i 0) p (rw (← take_more visited i 0 lt) h)) [
-  | inl old ↦ settled_stays v marks added marks' added' grows q (before (inr old))
-  | inr e ↦ here e
-]
+pub settled_more : (B : Type 0) (v : ℕ) (marks : List Bool) (added : List Addition) (marks' : List Bool) (added' : List Addition)
+    (q : Clause) (visited : List ℕ) (i p : ℕ) → i < length visited → Grows v marks added marks' added'
+    → (B ⊎ Contains (take i visited) p → IsSettled marks added v q) → (get_or visited i 0 ≡ p → IsSettled marks' added' v q)
+    → B ⊎ Contains (take (i + 1) visited) p → IsSettled marks' added' v q
+settled_more B v marks added marks' added' q visited i p lt grows before here (inl b) =
+    settled_stays v marks added marks' added' grows q (before (inl b))
+settled_more B v marks added marks' added' q visited i p lt grows before here (inr h) =
+    elim (Contains-push_cases (take i visited) (get_or visited i 0) p (rw (← take_more visited i 0 lt) h)) [
+      | inl old ↦ settled_stays v marks added marks' added' grows q (before (inr old))
+      | inr e ↦ here e
+    ]
 
 -- if nothing is left to visit and all clauses are settled, the marks are closed under the clauses, so all
 -- numbers that follow are marked
-pub complete : (clauses : List Clause) (seeds : List ℕ) (marks : List Bool) (added : List Addition) (v : ℕ) → length added ≤ v → ((p : ℕ) (d : Clause) → p < length clauses → IsSettled marks added v (get_or clauses p d)) → ((t : ℕ) → Contains seeds t → is_marked marks t ≡ true)
+pub complete : (clauses : List Clause) (seeds : List ℕ) (marks : List Bool) (added : List Addition) (v : ℕ) → length added ≤ v
+    → ((p : ℕ) (d : Clause) → p < length clauses → IsSettled marks added v (get_or clauses p d))
+    → ((t : ℕ) → Contains seeds t → is_marked marks t ≡ true)
     → (s : ℕ) → Follows clauses seeds s → is_marked marks s ≡ true
-complete clauses seeds marks added v most settled seeded = follows_in clauses seeds (λ t. is_marked marks t ≡ true) seeded (λ p q e all. elim (rw (get_or_from_slice_get clauses p q q e) at (settled p q (slice_get_within clauses p q e))) [
-  | inl m ↦ m
-  | inr w ↦ elim w.2 [
-    | inl no_mark ↦ absurd (false≢true (sym no_mark ∙ All-contains (λ t. is_marked marks t ≡ true) q.body w.0 all w.1))
-    | inr among ↦ absurd (let w = slice_get_within added among.0 among.1 among.3 in let l = among.2 in omega arith)
-  ]
-])
+complete clauses seeds marks added v most settled seeded =
+    follows_in clauses seeds (λ t. is_marked marks t ≡ true) seeded
+    (λ p q e all. elim (rw (get_or_from_slice_get clauses p q q e) at (settled p q (slice_get_within clauses p q e))) [
+      | inl m ↦ m
+      | inr w ↦ elim w.2 [
+        | inl no_mark ↦ absurd (false≢true (sym no_mark ∙ All-contains (λ t. is_marked marks t ≡ true) q.body w.0 all w.1))
+        | inr among ↦ absurd (let w = slice_get_within added among.0 among.1 among.3 in let l = among.2 in omega arith)
+      ]
+    ])
 
 -- a clause with a body is settled if no number is marked
-pub settled_first : (marks : List Bool) (added : List Addition) (v : ℕ) (q : Clause) (facts : List ℕ) (p : ℕ) → ((t : ℕ) → is_marked marks t ≡ false) → (q.body ≡ [] → Contains facts p) → IsSettled marks added v q ⊎ Contains facts p
+pub settled_first : (marks : List Bool) (added : List Addition) (v : ℕ) (q : Clause) (facts : List ℕ) (p : ℕ)
+    → ((t : ℕ) → is_marked marks t ≡ false) → (q.body ≡ [] → Contains facts p) → IsSettled marks added v q ⊎ Contains facts p
 settled_first marks added v q facts p blank listed = go q.body refl
   where
     go : (xs : List ℕ) → q.body ≡ xs → IsSettled marks added v q ⊎ Contains facts p
@@ -163,11 +208,17 @@ marked_within marks t h = elim (cases_lt t (length marks)) [
 ]
 
 -- the next number to be visited is below the count
-pub next_within : (clauses : List Clause) (seeds : List ℕ) (marks : List Bool) (added : List Addition) (v : ℕ) (passed : List ℕ) (x : Addition) (count : ℕ) → length marks ≡ count → v < length added → x ≡ get_or added v x → IsSearch clauses seeds marks added v passed → x.number < count
-next_within clauses seeds marks added v passed x count len lt is search = rw (← len) (marked_within marks x.number ((search.is_added x.number).1 (v, x, slice_get_read added (length added) v x refl lt is, refl)))
+pub next_within : (clauses : List Clause) (seeds : List ℕ) (marks : List Bool) (added : List Addition) (v : ℕ) (passed : List ℕ)
+    (x : Addition) (count : ℕ) → length marks ≡ count → v < length added → x ≡ get_or added v x
+    → IsSearch clauses seeds marks added v passed → x.number < count
+next_within clauses seeds marks added v passed x count len lt is search =
+    rw (← len)
+    (marked_within marks x.number
+    ((search.is_added x.number).1 (v, x, slice_get_read added (length added) v x refl lt is, refl)))
 
 -- the next number is visited
-pub search_taken : (clauses : List Clause) (seeds : List ℕ) (marks : List Bool) (added : List Addition) (v : ℕ) (passed : List ℕ) → v < length added → IsSearch clauses seeds marks added v passed → IsSearch clauses seeds marks added (v + 1) passed
+pub search_taken : (clauses : List Clause) (seeds : List ℕ) (marks : List Bool) (added : List Addition) (v : ℕ) (passed : List ℕ)
+    → v < length added → IsSearch clauses seeds marks added v passed → IsSearch clauses seeds marks added (v + 1) passed
 search_taken clauses seeds marks added v passed lt search = record {
   below = search.below;
   count = search.count;
@@ -181,7 +232,8 @@ search_taken clauses seeds marks added v passed lt search = record {
 }
 
 -- a clause that was settled still is, or its body contains the number
-pub settled_taken : (marks : List Bool) (added : List Addition) (v p : ℕ) (x : Addition) (q : Clause) (uses : List (List ℕ)) → slice_get added v ≡ Some x → ((t : ℕ) → Contains q.body t → Contains (row uses t) p)
+pub settled_taken : (marks : List Bool) (added : List Addition) (v p : ℕ) (x : Addition) (q : Clause) (uses : List (List ℕ))
+    → slice_get added v ≡ Some x → ((t : ℕ) → Contains q.body t → Contains (row uses t) p)
     → IsSettled marks added v q → IsSettled marks added (v + 1) q ⊎ Contains (row uses x.number) p
 settled_taken marks added v p x q uses is listed (inl m) = inl (inl m)
 settled_taken marks added v p x q uses is listed (inr w) = elim w.2 [

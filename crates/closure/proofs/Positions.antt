@@ -1,14 +1,17 @@
 -- Elements of lists by their positions.
-use Rattle.std.proofs.Common.{ℕ, zero, suc, ◌≡◌, ◌⊎◌, List, [], ◌∷◌, ◌++◌, map, length, Contains, Some, slice_get, refl, ap, ◌∙◌, inl, inr, arith}
+use Rattle.std.proofs.Common.{ℕ, zero, suc, ◌≡◌, ◌⊎◌, List, [], ◌∷◌, ◌++◌, map, length, Contains, Some, slice_get, refl, ap, ◌∙◌}
+use Rattle.std.proofs.Common.{inl, inr, arith}
 use Rattle.std.proofs.lemmas.Option.{slice_get-get_or, slice_get_within, get_or_from_slice_get}
 
 -- an element of a mapped list is the image of the element at the same position, and the converse
-pub mapped_at : {X Y : Type 0} (f : X → Y) (xs : List X) (i : ℕ) (y : Y) → slice_get (map f xs) i ≡ Some y → (x : X) × (slice_get xs i ≡ Some x) × (f x ≡ y)
+pub mapped_at : {X Y : Type 0} (f : X → Y) (xs : List X) (i : ℕ) (y : Y) → slice_get (map f xs) i ≡ Some y
+    → (x : X) × (slice_get xs i ≡ Some x) × (f x ≡ y)
 mapped_at f [] i y e = absurd (cc)
 mapped_at f (x ∷ xs) zero y e = (x, refl, cc)
 mapped_at f (x ∷ xs) (suc i) y e = mapped_at f xs i y e
 
-pub at_mapped : {X Y : Type 0} (f : X → Y) (xs : List X) (i : ℕ) (x : X) → slice_get xs i ≡ Some x → slice_get (map f xs) i ≡ Some (f x)
+pub at_mapped : {X Y : Type 0} (f : X → Y) (xs : List X) (i : ℕ) (x : X) → slice_get xs i ≡ Some x
+    → slice_get (map f xs) i ≡ Some (f x)
 at_mapped f [] i x e = absurd (cc)
 at_mapped f (z ∷ xs) zero x e = let same : z ≡ x = cc in ap (λ w. Some (f w)) same
 at_mapped f (z ∷ xs) (suc i) x e = at_mapped f xs i x e
@@ -30,7 +33,8 @@ pub get_push_end : {A : Type 0} (xs : List A) (y : A) → slice_get (xs ++ y ∷
 get_push_end [] y = refl
 get_push_end (z ∷ xs) y = get_push_end xs y
 
-pub get_push_cases : {A : Type 0} (xs : List A) (y x : A) (i : ℕ) → slice_get (xs ++ y ∷ []) i ≡ Some x → (slice_get xs i ≡ Some x) ⊎ ((i ≡ length xs) × (y ≡ x))
+pub get_push_cases : {A : Type 0} (xs : List A) (y x : A) (i : ℕ) → slice_get (xs ++ y ∷ []) i ≡ Some x
+    → (slice_get xs i ≡ Some x) ⊎ ((i ≡ length xs) × (y ≡ x))
 get_push_cases [] y x zero e = inr (refl, cc)
 get_push_cases [] y x (suc i) e = absurd (let bad : ⊥ = cc in bad)
 get_push_cases (z ∷ xs) y x zero e = inl e

@@ -6,7 +6,8 @@ use Rattle.closure.specs.declared.clause.Clause.{Clause}
 mutual
   pub data Follows (clauses : List Clause) (seeds : List ℕ) : ℕ → Type 0 where
     seed : {s : ℕ} → Contains seeds s → Follows clauses seeds s
-    by_clause : (p : ℕ) (q : Clause) {s : ℕ} → slice_get clauses p ≡ Some q → q.head ≡ s → FollowAll clauses seeds q.body → Follows clauses seeds s
+    by_clause : (p : ℕ) (q : Clause) {s : ℕ} → slice_get clauses p ≡ Some q → q.head ≡ s → FollowAll clauses seeds q.body
+        → Follows clauses seeds s
 
   pub data FollowAll (clauses : List Clause) (seeds : List ℕ) : List ℕ → Type 0 where
     nothing : FollowAll clauses seeds []

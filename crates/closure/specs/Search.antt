@@ -1,5 +1,6 @@
 -- The invariants of the search for the closure.
-use Rattle.std.specs.Prelude.{ℕ, ◌≡◌, ◌<◌, ◌≤◌, ◌⊎◌, ◌↔◌, Bool, true, false, List, Some, length, take, slice_get, slice_index, slice_index_or, count_by, All, Contains}
+use Rattle.std.specs.Prelude.{ℕ, ◌≡◌, ◌<◌, ◌≤◌, ◌⊎◌, ◌↔◌, Bool, true, false, List, Some, length, take, slice_get, slice_index}
+use Rattle.std.specs.Prelude.{slice_index_or, count_by, All, Contains}
 use Rattle.std.specs.List.{list_all}
 use Rattle.closure.specs.Additions.{IsAdded, AreInOrder}
 use Rattle.closure.specs.Clauses.{IsClauseBelow}
@@ -9,21 +10,24 @@ use Rattle.closure.specs.declared.clause.Clause.{Clause}
 
 -- a number that is not marked, or that is added but not yet visited
 abbrev pub IsOpen : List Bool → List Addition → (visited : ℕ) → ℕ → Type 0
-IsOpen marks added visited t = (is_marked marks t ≡ false) ⊎ ((i : ℕ) × (x : Addition) × (visited ≤ i) × (slice_get added i ≡ Some x) × (x.number ≡ t))
+IsOpen marks added visited t =
+    (is_marked marks t ≡ false) ⊎ ((i : ℕ) × (x : Addition) × (visited ≤ i) × (slice_get added i ≡ Some x) × (x.number ≡ t))
 
 -- a clause whose head is marked, or that has an open number
 abbrev pub IsSettled : List Bool → List Addition → ℕ → Clause → Type 0
 IsSettled marks added visited q = (is_marked marks q.head ≡ true) ⊎ ((t : ℕ) × Contains q.body t × IsOpen marks added visited t)
 
 -- marks stay set, and open numbers stay open
-pub record Grows (visited : ℕ) (marks : List Bool) (added : List Addition) (marks' : List Bool) (added' : List Addition) : Type 0 where
+pub record Grows (visited : ℕ) (marks : List Bool) (added : List Addition) (marks' : List Bool)
+    (added' : List Addition) : Type 0 where
   pub count : length marks' ≡ length marks
   pub marked : (t : ℕ) → is_marked marks t ≡ true → is_marked marks' t ≡ true
   pub open_stays : (t : ℕ) → IsOpen marks added visited t → IsOpen marks' added' visited t
 
 -- The invariant of a search: marked numbers follow and are added, in order, and the passed prefix of each
 -- clause's body is marked.
-pub record IsSearch (clauses : List Clause) (seeds : List ℕ) (marks : List Bool) (added : List Addition) (visited : ℕ) (passed : List ℕ) : Type 0 where
+pub record IsSearch (clauses : List Clause) (seeds : List ℕ) (marks : List Bool) (added : List Addition) (visited : ℕ)
+    (passed : List ℕ) : Type 0 where
   pub below : All (IsClauseBelow (length marks)) clauses
   pub count : length passed ≡ length clauses
   pub visited_within : visited ≤ length added
@@ -32,4 +36,5 @@ pub record IsSearch (clauses : List Clause) (seeds : List ℕ) (marks : List Boo
   pub order : AreInOrder clauses seeds added
   pub sound : (t : ℕ) → is_marked marks t ≡ true → Follows clauses seeds t
   pub within : (p : ℕ) (d : Clause) → p < length clauses → slice_index passed p ≤ length (slice_index_or clauses p d).body
-  pub marked : (p : ℕ) (d : Clause) → p < length clauses → list_all (is_marked marks) (take (slice_index passed p) (slice_index_or clauses p d).body) ≡ true
+  pub marked : (p : ℕ) (d : Clause) → p < length clauses
+      → list_all (is_marked marks) (take (slice_index passed p) (slice_index_or clauses p d).body) ≡ true

@@ -24,7 +24,8 @@ mutual
 -- nullable and the terminal is in FIRST of the rest.
 mutual
   pub data InFirst (g : Grammar) : ℕ → Terminal → Type 0 where
-    of_production : (p : ℕ) (q : Production) {s : ℕ} {a : Terminal} → IsProduction g p q → q.left ≡ s → InFirstOf g q.items a → InFirst g s a
+    of_production : (p : ℕ) (q : Production) {s : ℕ} {a : Terminal} → IsProduction g p q → q.left ≡ s → InFirstOf g q.items a
+        → InFirst g s a
 
   pub data InFirstOf (g : Grammar) : List Item → Terminal → Type 0 where
     here : {a : Terminal} {xs : List Item} → InFirstOf g (item.Terminal a ∷ xs) a
@@ -35,8 +36,10 @@ mutual
 -- the symbol follows it; and if that rest is nullable, each look-ahead that follows the left side does.
 pub data InFollow (g : Grammar) : ℕ → Ahead → Type 0 where
   at_end : InFollow g g.start ahead.End
-  next : (p : ℕ) (q : Production) {s : ℕ} {a : Terminal} (xs ys : List Item) → IsProduction g p q → q.items ≡ xs ++ item.Symbol s ∷ ys → InFirstOf g ys a → InFollow g s (ahead.Terminal a)
-  last : (p : ℕ) (q : Production) {s : ℕ} {x : Ahead} (xs ys : List Item) → IsProduction g p q → q.items ≡ xs ++ item.Symbol s ∷ ys → AreNullable g ys → InFollow g q.left x → InFollow g s x
+  next : (p : ℕ) (q : Production) {s : ℕ} {a : Terminal} (xs ys : List Item) → IsProduction g p q
+      → q.items ≡ xs ++ item.Symbol s ∷ ys → InFirstOf g ys a → InFollow g s (ahead.Terminal a)
+  last : (p : ℕ) (q : Production) {s : ℕ} {x : Ahead} (xs ys : List Item) → IsProduction g p q
+      → q.items ≡ xs ++ item.Symbol s ∷ ys → AreNullable g ys → InFollow g q.left x → InFollow g s x
 
 -- a look-ahead is in FIRST of items; the end is in none
 abbrev pub IsInFirstOf : Grammar → List Item → Ahead → Type 0

@@ -14,7 +14,8 @@ OneTree = (g : Grammar) → HasNoConflict g → (t u : Tree) → IsTreeOf g t �
 
 -- If words leave only trees beyond a limit, each tree of these words is beyond it.
 abbrev pub LeftTreesAreBeyondTheLimit : Type 0
-LeftTreesAreBeyondTheLimit = (g : Grammar) (words : List Lexeme) (size : Tree → ℕ) (begun : List Open → ℕ) (limit : ℕ) (t : Tree) → LeavesOnly g words size begun limit → IsTreeWith g words t → limit < size t
+LeftTreesAreBeyondTheLimit = (g : Grammar) (words : List Lexeme) (size : Tree → ℕ) (begun : List Open → ℕ) (limit : ℕ) (t : Tree)
+    → LeavesOnly g words size begun limit → IsTreeWith g words t → limit < size t
 
 -- Each tree has values that give each of its leaves its text, so that its file of pass 0 is defined.
 abbrev pub TextsAreGiven : Type 0

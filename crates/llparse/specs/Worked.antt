@@ -22,7 +22,14 @@ production_one = production_of (item.Terminal (Literal 0) ∷ [])
 
 -- the grammar of the two
 abbrev pub left_recursive : Grammar
-left_recursive = record { symbols = []; productions = production_more ∷ production_one ∷ []; literals = (120 ∷ []) ∷ []; classes = []; start = 0 }
+left_recursive =
+    record {
+      symbols = [];
+      productions = production_more ∷ production_one ∷ [];
+      literals = (120 ∷ []) ∷ [];
+      classes = [];
+      start = 0;
+    }
 
 -- tables of a grammar with one literal and one symbol: production 0 at the literal, production 1 at the end
 abbrev pub small_tables : Choices

@@ -1,5 +1,6 @@
 -- How a report is printed: one line, which begins with the number of the fault. This project's.
-use Rattle.std.specs.Prelude.{ℕ, List, [], ◌++◌, ◌==◌, Option, Some, None, String, if◌then◌else◌, codes, decimal, length, string_bytes}
+use Rattle.std.specs.Prelude.{ℕ, List, [], ◌++◌, ◌==◌, Option, Some, None, String, if◌then◌else◌, codes, decimal, length}
+use Rattle.std.specs.Prelude.{string_bytes}
 use Rattle.std.specs.declared.alloc.Global.{Global}
 use Rattle.ag_fault.specs.Printed.{printed}
 use Rattle.message_texts.specs.Printed.{position_text}

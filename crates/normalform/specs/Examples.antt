@@ -55,7 +55,8 @@ rules_fault raw = first_wrong (further_checks raw)
 -- N1: S = T {}, where no T is declared. N2: S is declared again. N3: the start symbol A has no `out`.
 abbrev pub WorkedNames : Type 0
 WorkedNames = (names_fault (with_production 83 (raw_item.Name (name_at 84 50) ∷ []) []) ≡ Some (fault.UnknownName 50))
-    × (names_fault (with_symbols 83 (first_symbol ∷ record { name = name_at 83 34; syn = []; inh = [] } ∷ [])) ≡ Some (fault.DoubledName 34))
+    × (names_fault (with_symbols 83 (first_symbol ∷ record { name = name_at 83 34; syn = []; inh = [] } ∷ [])) ≡ Some
+    (fault.DoubledName 34))
     × (names_fault (with_symbols 65 the_symbols) ≡ Some fault.BadStart)
 
 -- N6: S = {}. N7: S = { $0.out = e; $0.out = e; }. N8: A = { $0.i = e; }. N9: S = { $0.out = e; }, where
@@ -63,7 +64,8 @@ WorkedNames = (names_fault (with_production 83 (raw_item.Name (name_at 84 50) �
 abbrev pub WorkedRules : Type 0
 WorkedRules = (e : Node) →
     (rules_fault (with_production 83 [] []) ≡ Some (fault.RuleMissing 0 0 0))
-    × (rules_fault (with_production 83 [] (rule_at e out_name 52 [] ∷ rule_at e out_name 64 [] ∷ [])) ≡ Some (fault.RuleDoubled 64))
+    × (rules_fault (with_production 83 [] (rule_at e out_name 52 [] ∷ rule_at e out_name 64 [] ∷ [])) ≡ Some
+    (fault.RuleDoubled 64))
     × (rules_fault (with_production 65 [] (rule_at e (105 ∷ []) 52 [] ∷ [])) ≡ Some (fault.NotDefinedHere 52))
     × (rules_fault (with_production 83 [] (rule_at e out_name 52 (here out_name 60 ∷ []) ∷ [])) ≡ Some (fault.NotNormal 60))
     × (rules_fault (with_production 83 [] (rule_at e out_name 52 [] ∷ [])) ≡ None)

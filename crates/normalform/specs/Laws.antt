@@ -13,7 +13,8 @@ use Rattle.normalform.specs.faults.Faults.{IsFirstFault, HasNoFault, IsReadable,
 use Rattle.normalform.specs.numbers.Numbers.{numbered}
 
 abbrev pub AcceptedWithoutFault : Type 0
-AcceptedWithoutFault = (raw : RawGrammar) → IsReadable raw → All AreListedIn (numbered raw).productions → HasNoFault raw → IsAccepted (numbered raw)
+AcceptedWithoutFault = (raw : RawGrammar) → IsReadable raw → All AreListedIn (numbered raw).productions → HasNoFault raw
+    → IsAccepted (numbered raw)
 
 abbrev pub NoFaultWhereAccepted : Type 0
 NoFaultWhereAccepted = (raw : RawGrammar) → IsAccepted (numbered raw) → HasNoFault raw
@@ -31,7 +32,9 @@ named c = record { name = c ∷ []; at = 0 }
 abbrev worked : RawProduction
 worked = record {
   left = named 83;
-  items = raw_item.Literal (120 ∷ []) ∷ raw_item.Class 0 ∷ raw_item.Literal (121 ∷ []) ∷ raw_item.Literal (120 ∷ []) ∷ raw_item.Name (named 83) ∷ [];
+  items =
+      raw_item.Literal (120 ∷ []) ∷ raw_item.Class 0 ∷ raw_item.Literal (121 ∷ []) ∷ raw_item.Literal (120 ∷ []) ∷ raw_item.Name
+      (named 83) ∷ [];
   rules = [];
 }
 
@@ -46,7 +49,9 @@ WorkedNumbers = numbered worked_grammar ≡ record {
   symbols = record { name = 83 ∷ []; syn = []; inh = [] } ∷ [];
   productions = record {
     left = 0;
-    items = item.Terminal (Literal 0) ∷ item.Terminal (Class 0) ∷ item.Terminal (Literal 1) ∷ item.Terminal (Literal 0) ∷ item.Symbol 0 ∷ [];
+    items =
+        item.Terminal (Literal 0) ∷ item.Terminal (Class 0) ∷ item.Terminal (Literal 1) ∷ item.Terminal (Literal 0)
+        ∷ item.Symbol 0 ∷ [];
     rules = [];
   } ∷ [];
   literals = (120 ∷ []) ∷ (121 ∷ []) ∷ [];

@@ -17,7 +17,9 @@ use crate::fault::NormalFault;
 use crate::faults::clause::{clauses_of, reach_edges};
 use crate::faults::limits::first_limit;
 use crate::faults::naming::{first_doubled, first_unknown};
-use crate::faults::rules::{first_doubled_rule, first_missing, first_not_defined, first_not_normal};
+use crate::faults::rules::{
+    first_doubled_rule, first_missing, first_not_defined, first_not_normal,
+};
 use crate::faults::underivable::first_underivable;
 use crate::numbers::declared::Declared;
 use crate::numbers::moving::{move_symbols, name_at};

@@ -1,6 +1,7 @@
 -- The entries of a record of calls on a file, and a replay of them: the content that the file must have, and whether the
 -- returned lengths and bytes agree with it. All of this is this project's.
-use Rattle.std.specs.Prelude.{◌≡◌, ℕ, zero, suc, ◌==◌, Bool, true, false, not, ◌&&◌, ◌||◌, if◌then◌else◌, List, [], ◌∷◌, ◌++◌, length, take, drop, slice_index, bytes_eq, refl}
+use Rattle.std.specs.Prelude.{◌≡◌, ℕ, zero, suc, ◌==◌, Bool, true, false, not, ◌&&◌, ◌||◌, if◌then◌else◌, List, [], ◌∷◌, ◌++◌}
+use Rattle.std.specs.Prelude.{length, take, drop, slice_index, bytes_eq, refl}
 
 -- A call with its result: the kind of call (0 to 5), an offset or a length in bytes, whether it succeeded, and bytes.
 abbrev pub Event : Type 0
@@ -49,9 +50,11 @@ has_bytes_at stored at bytes = bytes_eq (take (length bytes) (drop at stored)) b
 abbrev pub after_call : ℕ → ℕ → Bool → List ℕ → Replay → Replay
 after_call zero number ok bytes file = record file { stored = bytes }
 after_call (suc zero) number ok bytes file = file
-after_call (suc (suc zero)) len ok bytes file = record file { is_honest = file.is_honest && (not ok || (len == length file.stored)) }
+after_call (suc (suc zero)) len ok bytes file =
+    record file { is_honest = file.is_honest && (not ok || (len == length file.stored)) }
 after_call (suc (suc (suc zero))) number ok bytes file = record file { stored = if ok then file.stored ++ bytes else file.stored }
-after_call (suc (suc (suc (suc zero)))) at ok bytes file = record file { is_honest = file.is_honest && (not ok || has_bytes_at file.stored at bytes) }
+after_call (suc (suc (suc (suc zero)))) at ok bytes file =
+    record file { is_honest = file.is_honest && (not ok || has_bytes_at file.stored at bytes) }
 after_call (suc (suc (suc (suc (suc more))))) number ok bytes file = record file { stored = if ok then [] else file.stored }
 
 -- the replay of these calls, newest first
@@ -64,17 +67,24 @@ abbrev pub IsFresh : List Event → Type 0
 IsFresh events = (bytes : List ℕ) × (events ≡ initial_event bytes ∷ [])
 
 -- a file of one byte, to which two are appended, is three bytes long
-pub length_of_three : (replay (length_event true 3 ∷ append_event true (8 ∷ 9 ∷ []) ∷ open_event [] ∷ initial_event (7 ∷ []) ∷ [])).is_honest ≡ true
+pub length_of_three : (replay
+    (length_event true 3 ∷ append_event true (8 ∷ 9 ∷ []) ∷ open_event [] ∷ initial_event (7 ∷ []) ∷ [])).is_honest ≡ true
 length_of_three = refl
 
 -- a file that returns the length 2 is not honest, and does not become honest again when it returns 3
-pub length_of_two : (replay (length_event true 3 ∷ length_event true 2 ∷ append_event true (8 ∷ 9 ∷ []) ∷ open_event [] ∷ initial_event (7 ∷ []) ∷ [])).is_honest ≡ false
+pub length_of_two : (replay
+    (length_event true 3 ∷ length_event true 2 ∷ append_event true (8 ∷ 9 ∷ []) ∷ open_event [] ∷ initial_event (7 ∷ [])
+    ∷ [])).is_honest ≡ false
 length_of_two = refl
 
 -- a truncated file contains only what was appended since
-pub content_after_truncation : (replay (read_event 0 true (9 ∷ []) ∷ append_event true (9 ∷ []) ∷ truncate_event true ∷ open_event [] ∷ initial_event (7 ∷ []) ∷ [])) ≡ record { stored = 9 ∷ []; is_honest = true }
+pub content_after_truncation : (replay
+    (read_event 0 true (9 ∷ []) ∷ append_event true (9 ∷ []) ∷ truncate_event true ∷ open_event [] ∷ initial_event (7 ∷ []) ∷ []))
+    ≡ record { stored = 9 ∷ []; is_honest = true }
 content_after_truncation = refl
 
 -- a file that returns a byte from before its truncation is not honest
-pub byte_from_before : (replay (read_event 0 true (7 ∷ []) ∷ append_event true (9 ∷ []) ∷ truncate_event true ∷ open_event [] ∷ initial_event (7 ∷ []) ∷ [])).is_honest ≡ false
+pub byte_from_before : (replay
+    (read_event 0 true (7 ∷ []) ∷ append_event true (9 ∷ []) ∷ truncate_event true ∷ open_event [] ∷ initial_event (7 ∷ [])
+    ∷ [])).is_honest ≡ false
 byte_from_before = refl

@@ -1,5 +1,6 @@
 -- The indices of the values of arguments in the record of a node in the file of the last pass.
-use Rattle.std.proofs.Common.{◌≡◌, ℕ, zero, suc, ◌+◌, ◌<◌, ◌≤◌, cond, true, List, [], ◌∷◌, ◌++◌, length, get_or, take, map, Option, Some, None, slice_get, refl, ap, sym, subst, ◌∙◌, arith, add_assoc, zero-add, pos}
+use Rattle.std.proofs.Common.{◌≡◌, ℕ, zero, suc, ◌+◌, ◌<◌, ◌≤◌, cond, true, List, [], ◌∷◌, ◌++◌, length, get_or, take, map}
+use Rattle.std.proofs.Common.{Option, Some, None, slice_get, refl, ap, sym, subst, ◌∙◌, arith, add_assoc, zero-add, pos}
 use Rattle.std.specs.Prelude.{nat_le}
 use Rattle.std.proofs.lemmas.Bool.{le-leb}
 use Rattle.std.proofs.lemmas.List.{get_or-append-add, length-take-le}
@@ -12,29 +13,34 @@ use Rattle.ag_grammar.specs.declared.grammar.Production.{Production}
 use Rattle.ag_grammar.specs.declared.grammar.Symbol.{Symbol}
 use Rattle.ag_grammar.specs.declared.grammar.Target.{Target}
 use Rattle.ag_grammar.specs.declared.grammar.Terminal.TheVariants.{Literal, Class}
-use Rattle.ag_grammar.specs.grammars.AttributeGrammar.{Grammar, HasKind, Inherited, Kind, Synthesized, used_kind, item_at, item_kinds, stored_items, symbol_kinds}
+use Rattle.ag_grammar.specs.grammars.AttributeGrammar.{Grammar, HasKind, Inherited, Kind, Synthesized, used_kind, item_at}
+use Rattle.ag_grammar.specs.grammars.AttributeGrammar.{item_kinds, stored_items, symbol_kinds}
 use Rattle.ag_grammar.specs.grammars.Passes.{IsLegal, Passes}
 use Rattle.ag_grammar.specs.grammars.Running.{IsLastPass}
 use Rattle.ag_grammar.specs.grammars.Solution.{NoRule, SolvesAll, Valuation, at, children, rest}
 use Rattle.ag_grammar.specs.grammars.Tree.{Fits, FitsAll, Forest, Tree, leaf, node, none, more}
-use Rattle.treefile.specs.records.Records.{copies_of, copy_of, left_synthesized, synthesized_count, synthesized_passes, values_up_to}
+use Rattle.treefile.specs.records.Records.{copies_of, copy_of, left_synthesized, synthesized_count, synthesized_passes}
+use Rattle.treefile.specs.records.Records.{values_up_to}
 use Rattle.origins.specs.Rows.{attribute_count, copied, copies_before, count_of_symbol, table_of}
 
 -- where each pass is at most k, all values are there, each at its number
-own_value : (k : ℕ) (ps : List ℕ) (e : ℕ → Value) (following : List Value) (a : ℕ) (d : Value) → Each (λ p. p ≤ k) ps → a < length ps → get_or (values_up_to k ps e ++ following) a d ≡ e a
+own_value : (k : ℕ) (ps : List ℕ) (e : ℕ → Value) (following : List Value) (a : ℕ) (d : Value) → Each (λ p. p ≤ k) ps
+    → a < length ps → get_or (values_up_to k ps e ++ following) a d ≡ e a
 own_value k [] e following a d all less = absurd (omega arith)
 own_value k (p ∷ ps) e following zero d all less =
     let test : nat_le p k ≡ true = le-leb p k (all 0 p refl) in
     ap (λ b. get_or ((cond b (e 0 ∷ []) [] ++ values_up_to k ps (λ a. e (suc a))) ++ following) 0 d) test
 own_value k (p ∷ ps) e following (suc a) d all less =
     let test : nat_le p k ≡ true = le-leb p k (all 0 p refl) in
-    ap (λ b. get_or ((cond b (e 0 ∷ []) [] ++ values_up_to k ps (λ a. e (suc a))) ++ following) (suc a) d) test ∙ own_value k ps (λ a. e (suc a)) following a d (λ i n h. all (suc i) n h) (omega arith)
+    ap (λ b. get_or ((cond b (e 0 ∷ []) [] ++ values_up_to k ps (λ a. e (suc a))) ++ following) (suc a) d) test
+    ∙ own_value k ps (λ a. e (suc a)) following a d (λ i n h. all (suc i) n h) (omega arith)
 
 own_length : (k : ℕ) (ps : List ℕ) (e : ℕ → Value) → Each (λ p. p ≤ k) ps → length (values_up_to k ps e) ≡ length ps
 own_length k [] e all = refl
 own_length k (p ∷ ps) e all =
     let test : nat_le p k ≡ true = le-leb p k (all 0 p refl) in
-    ap (λ b. length (cond b (e 0 ∷ []) [] ++ values_up_to k ps (λ a. e (suc a)))) test ∙ ap suc (own_length k ps (λ a. e (suc a)) (λ i n h. all (suc i) n h))
+    ap (λ b. length (cond b (e 0 ∷ []) [] ++ values_up_to k ps (λ a. e (suc a)))) test
+    ∙ ap suc (own_length k ps (λ a. e (suc a)) (λ i n h. all (suc i) n h))
 
 -- the value at an index after some values
 after : (xs ys : List Value) (n j : ℕ) (d : Value) → length xs ≡ n → get_or (xs ++ ys) (n + j) d ≡ get_or ys j d
@@ -48,7 +54,8 @@ each_of_first P (suc n) (y ∷ xs) all zero x e = all 0 x e
 each_of_first P (suc n) (y ∷ xs) all (suc i) x e = each_of_first P n xs (λ j z h. all (suc j) z h) i x e
 
 -- the kinds of a symbol's attributes: the synthesized ones come first
-kinds_within : (syn inh : List (List ℕ)) (a : ℕ) → slice_get (map (λ n. Synthesized) syn ++ map (λ n. Inherited) inh) a ≡ Some Synthesized → a < length syn
+kinds_within : (syn inh : List (List ℕ)) (a : ℕ)
+    → slice_get (map (λ n. Synthesized) syn ++ map (λ n. Inherited) inh) a ≡ Some Synthesized → a < length syn
 kinds_within [] [] a e = absurd (let bad : ⊥ = cc in bad)
 kinds_within [] (n ∷ inh) zero e = absurd (let bad : ⊥ = cc in bad)
 kinds_within [] (n ∷ inh) (suc a) e = absurd (let less = kinds_within [] inh a e in omega arith)
@@ -98,10 +105,13 @@ module _ (g : Grammar) (m : Passes) (k : ℕ) (legal : IsLegal g m) (last : IsLa
   copy_length (item.Terminal (Class c)) (node p ts) v f = elim f [ ]
   copy_length (item.Terminal (Literal l)) (node p ts) v f = elim f [ ]
   copy_length (item.Symbol s) (node p ts) v f =
-      let passes : left_synthesized g m (slice_get g.productions p) ≡ synthesized_passes g m s = ap (left_synthesized g m) f.1 ∙ ap (synthesized_passes g m) f.2 in
-      ap (λ ps. length (values_up_to k ps (v []))) passes ∙ own_length k (synthesized_passes g m s) (v []) (synthesized_last s) ∙ synthesized_length s
+      let passes : left_synthesized g m (slice_get g.productions p) ≡ synthesized_passes g m s =
+      ap (left_synthesized g m) f.1 ∙ ap (synthesized_passes g m) f.2 in
+      ap (λ ps. length (values_up_to k ps (v []))) passes ∙ own_length k (synthesized_passes g m s) (v []) (synthesized_last s)
+      ∙ synthesized_length s
 
-  copy_value : (x : Item) (t : Tree) (v : Valuation) (following : List Value) (a : ℕ) (d : Value) → Fits g x t → SolvesAll NoRule g (more t none) (λ i. v) → a < copied g x → get_or (copy_of g m k t v ++ following) a d ≡ v [] a
+  copy_value : (x : Item) (t : Tree) (v : Valuation) (following : List Value) (a : ℕ) (d : Value) → Fits g x t
+      → SolvesAll NoRule g (more t none) (λ i. v) → a < copied g x → get_or (copy_of g m k t v ++ following) a d ≡ v [] a
   copy_value (item.Symbol s) (leaf c text) v following a d f solves less = elim f [ ]
   copy_value (item.Terminal (Literal l)) (leaf c text) v following a d f solves less = elim f [ ]
   copy_value (item.Terminal (Class c)) (leaf e text) v following zero d f solves less = sym solves.0
@@ -109,11 +119,15 @@ module _ (g : Grammar) (m : Passes) (k : ℕ) (legal : IsLegal g m) (last : IsLa
   copy_value (item.Terminal (Class c)) (node p ts) v following a d f solves less = elim f [ ]
   copy_value (item.Terminal (Literal l)) (node p ts) v following a d f solves less = elim f [ ]
   copy_value (item.Symbol s) (node p ts) v following a d f solves less =
-      let passes : left_synthesized g m (slice_get g.productions p) ≡ synthesized_passes g m s = ap (left_synthesized g m) f.1 ∙ ap (synthesized_passes g m) f.2 in
+      let passes : left_synthesized g m (slice_get g.productions p) ≡ synthesized_passes g m s =
+      ap (left_synthesized g m) f.1 ∙ ap (synthesized_passes g m) f.2 in
       let long = synthesized_length s in
-      ap (λ ps. get_or (values_up_to k ps (v []) ++ following) a d) passes ∙ own_value k (synthesized_passes g m s) (v []) following a d (synthesized_last s) (omega arith)
+      ap (λ ps. get_or (values_up_to k ps (v []) ++ following) a d) passes
+      ∙ own_value k (synthesized_passes g m s) (v []) following a d (synthesized_last s) (omega arith)
 
-  copied_value : (xs : List Item) (ts : Forest) (vs : ℕ → Valuation) (j a : ℕ) (x : Item) (d : Value) → FitsAll g xs ts → SolvesAll NoRule g ts vs → slice_get xs j ≡ Some x → a < copied g x → get_or (copies_of g m k ts vs) (copies_before g xs j + a) d ≡ vs j [] a
+  copied_value : (xs : List Item) (ts : Forest) (vs : ℕ → Valuation) (j a : ℕ) (x : Item) (d : Value) → FitsAll g xs ts
+      → SolvesAll NoRule g ts vs → slice_get xs j ≡ Some x → a < copied g x
+      → get_or (copies_of g m k ts vs) (copies_before g xs j + a) d ≡ vs j [] a
   copied_value [] ts vs j a x d f solves e less = absurd (let bad : ⊥ = cc in bad)
   copied_value (y ∷ xs) none vs j a x d f solves e less = elim f [ ]
   copied_value (y ∷ xs) (more t ts) vs zero a x d f solves e less =
@@ -121,28 +135,38 @@ module _ (g : Grammar) (m : Passes) (k : ℕ) (legal : IsLegal g m) (last : IsLa
       ap (λ (z : ℕ). get_or (copy_of g m k t (vs 0) ++ copies_of g m k ts (rest vs)) z d) (zero-add a)
       ∙ copy_value x t (vs 0) (copies_of g m k ts (rest vs)) a d (subst (λ z. Fits g z t) same f.0) (solves.0, tt) less
   copied_value (y ∷ xs) (more t ts) vs (suc j) a x d f solves e less =
-      ap (λ (z : ℕ). get_or (copy_of g m k t (vs 0) ++ copies_of g m k ts (rest vs)) z d) (add_assoc (copied g y) (copies_before g xs j) a)
-      ∙ after (copy_of g m k t (vs 0)) (copies_of g m k ts (rest vs)) (copied g y) (copies_before g xs j + a) d (copy_length y t (vs 0) f.0)
+      ap (λ (z : ℕ). get_or (copy_of g m k t (vs 0) ++ copies_of g m k ts (rest vs)) z d)
+      (add_assoc (copied g y) (copies_before g xs j) a)
+      ∙ after (copy_of g m k t (vs 0)) (copies_of g m k ts (rest vs)) (copied g y) (copies_before g xs j + a) d
+      (copy_length y t (vs 0) f.0)
       ∙ copied_value xs ts (rest vs) j a x d f.1 solves.1 e less
 
   attribute_length : (s : ℕ) → length (m s) ≡ attribute_count g s
   attribute_length s = legal.whole s ∙ symbol_length (slice_get g.symbols s)
 
   -- what an argument stands for is where it should be
-  pub argument_value : (q : Production) (ts : Forest) (v : Valuation) (o : Target) → FitsAll g (stored_items q.items) ts → SolvesAll NoRule g ts (children v) → HasKind g q o (used_kind o.place) → table_of g q (row g m k q ts v) o.place o.attr ≡ at v o.place o.attr
+  pub argument_value : (q : Production) (ts : Forest) (v : Valuation) (o : Target) → FitsAll g (stored_items q.items) ts
+      → SolvesAll NoRule g ts (children v) → HasKind g q o (used_kind o.place)
+      → table_of g q (row g m k q ts v) o.place o.attr ≡ at v o.place o.attr
   argument_value q ts v o fits solves kind = go o.place o.attr kind
     where
-      go : (j a : ℕ) → slice_get (item_kinds g (item_at q j)) a ≡ Some (used_kind j) → table_of g q (row g m k q ts v) j a ≡ at v j a
+      go : (j a : ℕ) → slice_get (item_kinds g (item_at q j)) a ≡ Some (used_kind j)
+          → table_of g q (row g m k q ts v) j a ≡ at v j a
       go zero a kind =
           let less = slice_get_within (symbol_kinds (slice_get g.symbols q.left)) a Inherited kind in
           let whole = legal.whole q.left in
-          ap (λ (z : ℕ). get_or (row g m k q ts v) z (Num (pos 0))) (zero-add a) ∙ own_value k (m q.left) (v []) (copies_of g m k ts (children v)) a (Num (pos 0)) (last q.left) (omega arith)
+          ap (λ (z : ℕ). get_or (row g m k q ts v) z (Num (pos 0))) (zero-add a)
+          ∙ own_value k (m q.left) (v []) (copies_of g m k ts (children v)) a (Num (pos 0)) (last q.left) (omega arith)
       go (suc j) a kind = by_item (slice_get (stored_items q.items) j) refl
         where
-          found : (x : Item) → slice_get (stored_items q.items) j ≡ Some x → a < copied g x → table_of g q (row g m k q ts v) (suc j) a ≡ at v (suc j) a
+          found : (x : Item) → slice_get (stored_items q.items) j ≡ Some x → a < copied g x
+              → table_of g q (row g m k q ts v) (suc j) a ≡ at v (suc j) a
           found x e less =
-              ap (λ (z : ℕ). get_or (row g m k q ts v) z (Num (pos 0))) (add_assoc (attribute_count g q.left) (copies_before g (stored_items q.items) j) a)
-              ∙ after (values_up_to k (m q.left) (v [])) (copies_of g m k ts (children v)) (attribute_count g q.left) (copies_before g (stored_items q.items) j + a) (Num (pos 0)) (own_length k (m q.left) (v []) (last q.left) ∙ attribute_length q.left)
+              ap (λ (z : ℕ). get_or (row g m k q ts v) z (Num (pos 0)))
+              (add_assoc (attribute_count g q.left) (copies_before g (stored_items q.items) j) a)
+              ∙ after (values_up_to k (m q.left) (v [])) (copies_of g m k ts (children v)) (attribute_count g q.left)
+              (copies_before g (stored_items q.items) j + a) (Num (pos 0))
+              (own_length k (m q.left) (v []) (last q.left) ∙ attribute_length q.left)
               ∙ copied_value (stored_items q.items) ts (children v) j a x (Num (pos 0)) fits solves e less
 
           there : (x : Option Item) → slice_get (stored_items q.items) j ≡ x → slice_get (item_kinds g x) a ≡ Some Synthesized
@@ -154,8 +178,11 @@ module _ (g : Grammar) (m : Passes) (k : ℕ) (legal : IsLegal g m) (last : IsLa
           nothing : slice_get {X = Kind} [] a ≡ Some Synthesized → ⊥
           nothing e = let bad : ⊥ = cc in bad
 
-          by_item : (x : Option Item) → slice_get (stored_items q.items) j ≡ x → table_of g q (row g m k q ts v) (suc j) a ≡ at v (suc j) a
+          by_item : (x : Option Item) → slice_get (stored_items q.items) j ≡ x
+              → table_of g q (row g m k q ts v) (suc j) a ≡ at v (suc j) a
           by_item None e = absurd (nothing (there None e))
-          by_item (Some (item.Symbol s)) e = found (item.Symbol s) e (synthesized_within (slice_get g.symbols s) a (there (Some (item.Symbol s)) e))
-          by_item (Some (item.Terminal (Class c))) e = found (item.Terminal (Class c)) e (one a (there (Some (item.Terminal (Class c))) e))
+          by_item (Some (item.Symbol s)) e =
+              found (item.Symbol s) e (synthesized_within (slice_get g.symbols s) a (there (Some (item.Symbol s)) e))
+          by_item (Some (item.Terminal (Class c))) e =
+              found (item.Terminal (Class c)) e (one a (there (Some (item.Terminal (Class c))) e))
           by_item (Some (item.Terminal (Literal l))) e = absurd (nothing (there (Some (item.Terminal (Literal l))) e))

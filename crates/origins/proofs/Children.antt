@@ -1,5 +1,6 @@
 -- The children of a node in the order of a walk.
-use Rattle.std.proofs.Common.{◌≡◌, ℕ, zero, suc, ◌+◌, ◌-◌, ◌<◌, ◌≤◌, inl, inr, List, [], ◌∷◌, ◌++◌, length, drop, map, reverse, get_or, Some, None, slice_get, refl, ap, sym, subst, ◌∙◌, arith}
+use Rattle.std.proofs.Common.{◌≡◌, ℕ, zero, suc, ◌+◌, ◌-◌, ◌<◌, ◌≤◌, inl, inr, List, [], ◌∷◌, ◌++◌, length, drop, map, reverse}
+use Rattle.std.proofs.Common.{get_or, Some, None, slice_get, refl, ap, sym, subst, ◌∙◌, arith}
 use Rattle.std.specs.List.{flat_map}
 use Rattle.std.proofs.lemmas.Grind.{flat_map-append}
 use Rattle.std.proofs.lemmas.List.{append-nil, get_or-reverse, length-reverse, map-append, reverse-append, reverse-reverse}
@@ -25,7 +26,9 @@ reverse_more x xs = reverse-append (x ∷ []) xs
 -- the path below open nodes, the root's first
 way_turned : (d : Direction) (os : List Open) → way d os ≡ map (last_of d) (reverse os)
 way_turned d [] = refl
-way_turned d (o ∷ os) = ap (λ (z : List ℕ). z ++ last_of d o ∷ []) (way_turned d os) ∙ sym (map-append (last_of d) (reverse os) (o ∷ [])) ∙ ap (map (last_of d)) (sym (reverse_more o os))
+way_turned d (o ∷ os) =
+    ap (λ (z : List ℕ). z ++ last_of d o ∷ []) (way_turned d os) ∙ sym (map-append (last_of d) (reverse os) (o ∷ []))
+    ∙ ap (map (last_of d)) (sym (reverse_more o os))
 
 pub way_of : (d : Direction) (nodes : List Open) → way d (reverse nodes) ≡ map (last_of d) nodes
 way_of d nodes = way_turned d (reverse nodes) ∙ ap (map (last_of d)) (reverse-reverse nodes)
@@ -36,20 +39,27 @@ kid_of n t v = record { number = n; tree = t; values = v }
 
 module _ (g : Grammar) (m : Passes) (k : ℕ) where
   -- the records of all children
-  pub kids_bodies : (d : Direction) (n : ℕ) (ts : Forest) (vs : ℕ → Valuation) → flat_map (bodies_of_kid g m k d) (in_order d (kids n ts vs)) ≡ prefix_all d (bodies_of_all version_two g m k ts vs)
+  pub kids_bodies : (d : Direction) (n : ℕ) (ts : Forest) (vs : ℕ → Valuation)
+      → flat_map (bodies_of_kid g m k d) (in_order d (kids n ts vs)) ≡ prefix_all d (bodies_of_all version_two g m k ts vs)
   kids_bodies LeftToRight n none vs = refl
   kids_bodies RightToLeft n none vs = refl
-  kids_bodies LeftToRight n (more t ts) vs = ap (λ (bodies : List (List ℕ)). prefix LeftToRight (bodies_of version_two g m k t (vs 0)) ++ bodies) (kids_bodies LeftToRight (suc n) ts (rest vs))
+  kids_bodies LeftToRight n (more t ts) vs =
+      ap (λ (bodies : List (List ℕ)). prefix LeftToRight (bodies_of version_two g m k t (vs 0)) ++ bodies)
+      (kids_bodies LeftToRight (suc n) ts (rest vs))
   kids_bodies RightToLeft n (more t ts) vs =
       let kid : Kid = kid_of n t (vs 0) in
       let others : List Kid = kids (suc n) ts (rest vs) in
       ap (flat_map (bodies_of_kid g m k RightToLeft)) (reverse_more kid others)
       ∙ flat_map-append (bodies_of_kid g m k RightToLeft) (reverse others) (kid ∷ [])
-      ∙ ap (λ (bodies : List (List ℕ)). bodies ++ (prefix RightToLeft (bodies_of version_two g m k t (vs 0)) ++ [])) (kids_bodies RightToLeft (suc n) ts (rest vs))
-      ∙ ap (λ (bodies : List (List ℕ)). prefix_all RightToLeft (bodies_of_all version_two g m k ts (rest vs)) ++ bodies) (append-nil (prefix RightToLeft (bodies_of version_two g m k t (vs 0))))
+      ∙ ap (λ (bodies : List (List ℕ)). bodies ++ (prefix RightToLeft (bodies_of version_two g m k t (vs 0)) ++ []))
+      (kids_bodies RightToLeft (suc n) ts (rest vs))
+      ∙ ap (λ (bodies : List (List ℕ)). prefix_all RightToLeft (bodies_of_all version_two g m k ts (rest vs)) ++ bodies)
+      (append-nil (prefix RightToLeft (bodies_of version_two g m k t (vs 0))))
 
   -- a child fits the item of its number
-  pub kid_recorded : (xs : List Item) (n : ℕ) (ts : Forest) (vs : ℕ → Valuation) (i : ℕ) (kid : Kid) (x : Item) → FitsAll g xs ts → SolvesAll NoRule g ts vs → AtEachNodeOf (WellAt (λ p. p ≤ k)) g m ts vs vs → slice_get (kids n ts vs) i ≡ Some kid → slice_get xs i ≡ Some x → IsRecorded g m k x kid.tree kid.values
+  pub kid_recorded : (xs : List Item) (n : ℕ) (ts : Forest) (vs : ℕ → Valuation) (i : ℕ) (kid : Kid) (x : Item) → FitsAll g xs ts
+      → SolvesAll NoRule g ts vs → AtEachNodeOf (WellAt (λ p. p ≤ k)) g m ts vs vs → slice_get (kids n ts vs) i ≡ Some kid
+      → slice_get xs i ≡ Some x → IsRecorded g m k x kid.tree kid.values
   kid_recorded xs n none vs i kid x f s w at is = absurd (let bad : ⊥ = cc in bad)
   kid_recorded [] n (more t ts) vs i kid x f s w at is = elim f [ ]
   kid_recorded (y ∷ xs) n (more t ts) vs zero kid x f s w at is =
@@ -57,10 +67,12 @@ module _ (g : Grammar) (m : Passes) (k : ℕ) where
       let item : y ≡ x = cc in
       let one : IsRecorded g m k y t (vs 0) = record { fits = f.0; texts = s.0; well = w.0 } in
       subst (λ (z : Kid). IsRecorded g m k x z.tree z.values) same (subst (λ z. IsRecorded g m k z t (vs 0)) item one)
-  kid_recorded (y ∷ xs) n (more t ts) vs (suc i) kid x f s w at is = kid_recorded xs (suc n) ts (rest vs) i kid x f.1 s.1 w.1 at is
+  kid_recorded (y ∷ xs) n (more t ts) vs (suc i) kid x f s w at is =
+      kid_recorded xs (suc n) ts (rest vs) i kid x f.1 s.1 w.1 at is
 
 -- a child has its number
-pub kid_number : (n : ℕ) (ts : Forest) (vs : ℕ → Valuation) (i : ℕ) (kid : Kid) → slice_get (kids n ts vs) i ≡ Some kid → kid.number ≡ n + i
+pub kid_number : (n : ℕ) (ts : Forest) (vs : ℕ → Valuation) (i : ℕ) (kid : Kid) → slice_get (kids n ts vs) i ≡ Some kid
+    → kid.number ≡ n + i
 kid_number n none vs i kid e = absurd (let bad : ⊥ = cc in bad)
 kid_number n (more t ts) vs zero kid e =
     let same : kid_of n t (vs 0) ≡ kid = cc in
@@ -69,7 +81,8 @@ kid_number n (more t ts) vs zero kid e =
 kid_number n (more t ts) vs (suc i) kid e = let later = kid_number (suc n) ts (rest vs) i kid e in omega arith
 
 -- and there are as many as items
-pub kids_length : (g : Grammar) (xs : List Item) (n : ℕ) (ts : Forest) (vs : ℕ → Valuation) → FitsAll g xs ts → length (kids n ts vs) ≡ length xs
+pub kids_length : (g : Grammar) (xs : List Item) (n : ℕ) (ts : Forest) (vs : ℕ → Valuation) → FitsAll g xs ts
+    → length (kids n ts vs) ≡ length xs
 kids_length g [] n none vs f = refl
 kids_length g [] n (more t ts) vs f = elim f [ ]
 kids_length g (x ∷ xs) n none vs f = elim f [ ]
@@ -80,14 +93,16 @@ order_length LeftToRight xs = refl
 order_length RightToLeft xs = length-reverse xs
 
 -- the child at an index in the order of the walk
-pub ordered_at : {X : Type 0} (d : Direction) (xs : List X) (i : ℕ) (x : X) → slice_get (in_order d xs) i ≡ Some x → slice_get xs (nth d (length xs) i) ≡ Some x
+pub ordered_at : {X : Type 0} (d : Direction) (xs : List X) (i : ℕ) (x : X) → slice_get (in_order d xs) i ≡ Some x
+    → slice_get xs (nth d (length xs) i) ≡ Some x
 ordered_at LeftToRight xs i x e = e
 ordered_at RightToLeft xs i x e =
     let within = slice_get_within (reverse xs) i x e in
     let long = length-reverse xs in
     let less : i < length xs = omega arith in
     let place : length xs - suc i ≡ length xs - 1 - i = omega arith in
-    let value : get_or xs (length xs - 1 - i) x ≡ x = sym (get_or-reverse xs i x less) ∙ get_or_from_slice_get (reverse xs) i x x e in
+    let value : get_or xs (length xs - 1 - i) x ≡ x =
+    sym (get_or-reverse xs i x less) ∙ get_or_from_slice_get (reverse xs) i x x e in
     ap (slice_get xs) place ∙ slice_get-get_or xs (length xs - 1 - i) x (omega arith) ∙ ap Some value
 
 pub is_there : {X : Type 0} (xs : List X) (i : ℕ) → i < length xs → (x : X) × (slice_get xs i ≡ Some x)
@@ -107,13 +122,15 @@ module _ (g : Grammar) where
 
   count_reverse : (xs : List Kid) → count_in g (reverse xs) ≡ count_in g xs
   count_reverse [] = refl
-  count_reverse (x ∷ xs) = ap (count_in g) (reverse_more x xs) ∙ omega (arith, count_append (reverse xs) (x ∷ []), count_reverse xs)
+  count_reverse (x ∷ xs) =
+      ap (count_in g) (reverse_more x xs) ∙ omega (arith, count_append (reverse xs) (x ∷ []), count_reverse xs)
 
   count_kids : (n : ℕ) (ts : Forest) (vs : ℕ → Valuation) → count_in g (kids n ts vs) ≡ origin_counts g ts vs
   count_kids n none vs = refl
   count_kids n (more t ts) vs = ap (λ z. origin_count g t (vs 0) + z) (count_kids (suc n) ts (rest vs))
 
-  pub count_ordered : (d : Direction) (n : ℕ) (ts : Forest) (vs : ℕ → Valuation) → count_in g (in_order d (kids n ts vs)) ≡ origin_counts g ts vs
+  pub count_ordered : (d : Direction) (n : ℕ) (ts : Forest) (vs : ℕ → Valuation)
+      → count_in g (in_order d (kids n ts vs)) ≡ origin_counts g ts vs
   count_ordered LeftToRight n ts vs = count_kids n ts vs
   count_ordered RightToLeft n ts vs = count_reverse (kids n ts vs) ∙ count_kids n ts vs
 
@@ -132,7 +149,13 @@ module _ (g : Grammar) where
 
   occurs_reversed : (xs : List Kid) (path : List ℕ) → OccursIn g xs path → OccursIn g (reverse xs) path
   occurs_reversed [] path h = absurd h
-  occurs_reversed (x ∷ xs) path h = subst (λ (zs : List Kid). OccursIn g zs path) (sym (reverse_more x xs)) (elim h [ inl a ↦ occurs_right (reverse xs) (x ∷ []) path (inl a) | inr b ↦ occurs_left (reverse xs) (x ∷ []) path (occurs_reversed xs path b) ])
+  occurs_reversed (x ∷ xs) path h =
+      subst (λ (zs : List Kid). OccursIn g zs path) (sym (reverse_more x xs))
+      (elim h [
+        | inl a ↦ occurs_right (reverse xs) (x ∷ []) path (inl a)
+        | inr b ↦ occurs_left (reverse xs) (x ∷ []) path
+            (occurs_reversed xs path b)
+      ])
 
   occurs_ordered : (d : Direction) (xs : List Kid) (path : List ℕ) → OccursIn g xs path → OccursIn g (in_order d xs) path
   occurs_ordered LeftToRight xs path h = h
@@ -140,9 +163,11 @@ module _ (g : Grammar) where
 
   occurs_unordered : (d : Direction) (xs : List Kid) (path : List ℕ) → OccursIn g (in_order d xs) path → OccursIn g xs path
   occurs_unordered LeftToRight xs path h = h
-  occurs_unordered RightToLeft xs path h = subst (λ (zs : List Kid). OccursIn g zs path) (reverse-reverse xs) (occurs_reversed (reverse xs) path h)
+  occurs_unordered RightToLeft xs path h =
+      subst (λ (zs : List Kid). OccursIn g zs path) (reverse-reverse xs) (occurs_reversed (reverse xs) path h)
 
-  stands_at : (n : ℕ) (ts : Forest) (vs : ℕ → Valuation) (i : ℕ) (path : List ℕ) → HasOrigin g path (child ts i) (vs i) → OccursIn g (kids n ts vs) ((n + i) ∷ path)
+  stands_at : (n : ℕ) (ts : Forest) (vs : ℕ → Valuation) (i : ℕ) (path : List ℕ) → HasOrigin g path (child ts i) (vs i)
+      → OccursIn g (kids n ts vs) ((n + i) ∷ path)
   stands_at n none vs i path h = absurd (none_below path (vs i) h)
   stands_at n (more t ts) vs zero path h = let number : n + 0 ≡ n = omega arith in inl (path, ap (λ z. z ∷ path) number, h)
   stands_at n (more t ts) vs (suc i) path h =
@@ -159,18 +184,27 @@ module _ (g : Grammar) where
   is_below : (n : ℕ) (ts : Forest) (vs : ℕ → Valuation) (path : List ℕ) → OccursIn g (kids n ts vs) path → IsBelow n ts vs path
   is_below n none vs path h = absurd h
   is_below n (more t ts) vs path h = elim h [
-    | inl a ↦ (let number : n ≡ n + 0 = omega arith in record { number = 0; deeper = a.0; path_is = a.1 ∙ ap (λ z. z ∷ a.0) number; has = a.2 })
+    | inl a ↦ (let number : n ≡ n + 0 = omega arith in
+        record { number = 0; deeper = a.0; path_is = a.1 ∙ ap (λ z. z ∷ a.0) number; has = a.2 })
     | inr b ↦ (let later = is_below (suc n) ts (rest vs) path b in
         let number : suc n + later.number ≡ n + suc later.number = omega arith in
-        record { number = suc later.number; deeper = later.deeper; path_is = later.path_is ∙ ap (λ z. z ∷ later.deeper) number; has = later.has })
+        record {
+          number = suc later.number;
+          deeper = later.deeper;
+          path_is = later.path_is ∙ ap (λ z. z ∷ later.deeper) number;
+          has = later.has;
+        })
   ]
 
   -- an origin below a child is in the children in any order,
-  pub occurs_below : (d : Direction) (ts : Forest) (vs : ℕ → Valuation) (i : ℕ) (path : List ℕ) → HasOrigin g path (child ts i) (vs i) → OccursIn g (in_order d (kids 0 ts vs)) (i ∷ path)
+  pub occurs_below : (d : Direction) (ts : Forest) (vs : ℕ → Valuation) (i : ℕ) (path : List ℕ)
+      → HasOrigin g path (child ts i) (vs i) → OccursIn g (in_order d (kids 0 ts vs)) (i ∷ path)
   occurs_below d ts vs i path h =
       let number : 0 + i ≡ i = omega arith in
-      occurs_ordered d (kids 0 ts vs) (i ∷ path) (subst (λ z. OccursIn g (kids 0 ts vs) (z ∷ path)) number (stands_at 0 ts vs i path h))
+      occurs_ordered d (kids 0 ts vs) (i ∷ path)
+      (subst (λ z. OccursIn g (kids 0 ts vs) (z ∷ path)) number (stands_at 0 ts vs i path h))
 
   -- and an origin in them is below one
-  pub below_occurs : (d : Direction) (ts : Forest) (vs : ℕ → Valuation) (path : List ℕ) → OccursIn g (in_order d (kids 0 ts vs)) path → IsBelow 0 ts vs path
+  pub below_occurs : (d : Direction) (ts : Forest) (vs : ℕ → Valuation) (path : List ℕ)
+      → OccursIn g (in_order d (kids 0 ts vs)) path → IsBelow 0 ts vs path
   below_occurs d ts vs path h = is_below 0 ts vs path (occurs_unordered d (kids 0 ts vs) path h)

@@ -1,5 +1,6 @@
 -- An error that has a cause comes from an origin: so where a tree has none, no value of its solution is an error.
-use Rattle.std.proofs.Common.{ℕ, zero, suc, ◌≡◌, ◌<◌, ◌⊎◌, inl, inr, Bool, true, cond, List, [], ◌∷◌, ◌++◌, Option, Some, None, slice_get, refl, ap, ◌∙◌, sym, subst, arith}
+use Rattle.std.proofs.Common.{ℕ, zero, suc, ◌≡◌, ◌<◌, ◌⊎◌, inl, inr, Bool, true, cond, List, [], ◌∷◌, ◌++◌, Option, Some, None}
+use Rattle.std.proofs.Common.{slice_get, refl, ap, ◌∙◌, sym, subst, arith}
 use Rattle.std.specs.List.{count_by}
 use Rattle.std.proofs.lemmas.List.Sums.{sum_by-cons}
 use Rattle.ag_grammar.specs.declared.grammar.Rule.{Rule}
@@ -16,7 +17,8 @@ use Rattle.origins.proofs.Caused.{errors_have_causes}
 use Rattle.origins.proofs.Children.{none_below}
 
 -- an origin at the end of a path
-origin_at : (g : Grammar) (path : List ℕ) (o : Option Tree) (v : Valuation) → 0 < arising_at g (tree_at o path) (values_at v path) → HasOrigin g path o v
+origin_at : (g : Grammar) (path : List ℕ) (o : Option Tree) (v : Valuation) → 0 < arising_at g (tree_at o path) (values_at v path)
+    → HasOrigin g path o v
 origin_at g [] o v h = h
 origin_at g (i ∷ path) o v h = origin_at g path (child_of o i) (below i v) h
 
@@ -31,17 +33,21 @@ count_some f (s ∷ rs) (suc i) r e on =
     let later = count_some f rs i r e on in
     let sum = sum_by-cons (λ x. cond (f x) 1 0) s rs in omega arith
 
-rule_counted : (g : Grammar) (t : Tree) (v : Valuation) (path : List ℕ) (r : Rule) (e : Table) → IsRuleAt g t v path r e → is_arising e r ≡ true → HasOrigin g path (Some t) v
+rule_counted : (g : Grammar) (t : Tree) (v : Valuation) (path : List ℕ) (r : Rule) (e : Table) → IsRuleAt g t v path r e
+    → is_arising e r ≡ true → HasOrigin g path (Some t) v
 rule_counted g t v path r e is on =
     let values = at (values_at v path) in
     let here_on : is_arising values r ≡ true = ap (λ z. is_arising z r) (sym is.values) ∙ on in
-    let some : 0 < arising_count (slice_get g.productions is.production) values = subst (λ o. 0 < arising_count o values) (sym is.is) (count_some (is_arising values) is.of.rules is.rule.0 r is.rule.1 here_on) in
+    let some : 0 < arising_count (slice_get g.productions is.production) values =
+    subst (λ o. 0 < arising_count o values) (sym is.is)
+    (count_some (is_arising values) is.of.rules is.rule.0 r is.rule.1 here_on) in
     origin_at g path (Some t) v (subst (λ o. 0 < arising_at g o (values_at v path)) (sym is.there) some)
 
 -- at the end of a cause there is an origin
 pub causes_have_origins : CausesHaveOrigins
 causes_have_origins g t v path a (here at_path r e is on) = (at_path, rule_counted g t v at_path r e is on)
-causes_have_origins g t v path a (passed at_path r e k o is source occurs cause) = causes_have_origins g t v (place_path at_path o.place) o.attr cause
+causes_have_origins g t v path a (passed at_path r e k o is source occurs cause) =
+    causes_have_origins g t v (place_path at_path o.place) o.attr cause
 
 -- what holds at each node as far as something else does
 module _ (R S : List ℕ → List ℕ → Type 0) (g : Grammar) (m : Passes) (h : (path ps : List ℕ) → R path ps → S path ps) where
@@ -56,8 +62,14 @@ module _ (R S : List ℕ → List ℕ → Type 0) (g : Grammar) (m : Passes) (h 
 
 pub none_is_clean : NoneIsClean
 none_is_clean g m t v accepted legal fits solves first =
-    holds_map (λ path ps. (a p : ℕ) → slice_get ps a ≡ Some p → (fault_of (values_at v path [] a) ≡ None) ⊎ HasCause g t v path a) (λ path ps. (a p : ℕ) → slice_get ps a ≡ Some p → fault_of (values_at v path [] a) ≡ None) g m
-    (λ path ps r a p e. elim (r a p e) [ inl clean ↦ clean | inr cause ↦ absurd (let origin = causes_have_origins g t v path a cause in first origin.0 origin.1) ]) t [] (errors_have_causes g m t v accepted legal fits solves)
+    holds_map (λ path ps. (a p : ℕ) → slice_get ps a ≡ Some p → (fault_of (values_at v path [] a) ≡ None) ⊎ HasCause g t v path a)
+    (λ path ps. (a p : ℕ) → slice_get ps a ≡ Some p → fault_of (values_at v path [] a) ≡ None) g m
+    (λ path ps r a p e. elim (r a p e) [
+      | inl clean ↦ clean
+      | inr cause ↦ absurd
+          (let origin = causes_have_origins g t v path a cause in first origin.0 origin.1)
+    ]) t []
+    (errors_have_causes g m t v accepted legal fits solves)
 
 zero_from : (n : ℕ) → (0 < n → ⊥) → n ≡ 0
 zero_from zero h = refl
@@ -65,15 +77,18 @@ zero_from (suc n) h = absurd (h (omega arith))
 
 -- where no path leads to an origin none is counted,
 mutual
-  no_path : (g : Grammar) (t : Tree) (v : Valuation) → ((path : List ℕ) → HasOrigin g path (Some t) v → ⊥) → origin_count g t v ≡ 0
+  no_path : (g : Grammar) (t : Tree) (v : Valuation) → ((path : List ℕ) → HasOrigin g path (Some t) v → ⊥)
+      → origin_count g t v ≡ 0
   no_path g (leaf c x) v h = refl
   no_path g (node p ts) v h =
       let none_here : 0 < arising_count (slice_get g.productions p) (at v) → ⊥ = λ some. h [] some in
-      let first : arising_count (slice_get g.productions p) (at v) ≡ 0 = zero_from (arising_count (slice_get g.productions p) (at v)) none_here in
+      let first : arising_count (slice_get g.productions p) (at v) ≡ 0 =
+      zero_from (arising_count (slice_get g.productions p) (at v)) none_here in
       let others = no_paths g ts (children v) (λ i path some. h (i ∷ path) some) in
       omega arith
 
-  no_paths : (g : Grammar) (ts : Forest) (vs : ℕ → Valuation) → ((i : ℕ) (path : List ℕ) → HasOrigin g path (child ts i) (vs i) → ⊥) → origin_counts g ts vs ≡ 0
+  no_paths : (g : Grammar) (ts : Forest) (vs : ℕ → Valuation)
+      → ((i : ℕ) (path : List ℕ) → HasOrigin g path (child ts i) (vs i) → ⊥) → origin_counts g ts vs ≡ 0
   no_paths g none vs h = refl
   no_paths g (more t ts) vs h =
       let first = no_path g t (vs 0) (λ path some. h 0 path some) in
@@ -88,7 +103,8 @@ mutual
   no_origin g (node p ts) v [] n h = omega arith
   no_origin g (node p ts) v (i ∷ path) n h = no_origin_in g ts (children v) i path (omega arith) h
 
-  no_origin_in : (g : Grammar) (ts : Forest) (vs : ℕ → Valuation) (i : ℕ) (path : List ℕ) → origin_counts g ts vs ≡ 0 → HasOrigin g path (child ts i) (vs i) → ⊥
+  no_origin_in : (g : Grammar) (ts : Forest) (vs : ℕ → Valuation) (i : ℕ) (path : List ℕ) → origin_counts g ts vs ≡ 0
+      → HasOrigin g path (child ts i) (vs i) → ⊥
   no_origin_in g none vs i path n h = none_below g path (vs i) h
   no_origin_in g (more t ts) vs zero path n h = no_origin g t (vs 0) path (omega arith) h
   no_origin_in g (more t ts) vs (suc i) path n h = no_origin_in g ts (rest vs) i path (omega arith) h

@@ -17,16 +17,20 @@ use Rattle.ag_grammar.specs.values.Arguments.{fault_at, fault_of}
 use Rattle.origins.specs.Arising.{arises, exchanged, exchanged_to, is_same_error}
 
 value_of_occurrence : (k : ℕ) (env : ℕ → Value) → value_of (node_of.Occurrence k) env ≡ env k
-value_of_occurrence k env = ap (λ (e : Node). value_of e env) (sym (node_of.rolls-Occurrence k)) ∙ ap (λ (f : Meaning). f env []) (fold-roll-Node Meaning value_step (Node-F.Occurrence k))
+value_of_occurrence k env =
+    ap (λ (e : Node). value_of e env) (sym (node_of.rolls-Occurrence k))
+    ∙ ap (λ (f : Meaning). f env []) (fold-roll-Node Meaning value_step (Node-F.Occurrence k))
 
 -- another error is another one
-another_error : (c : ErrorCode) (v : Value) (b : Bool) → nat_eq (number_of c) 1 ≡ b → is_same_error (Some c) (fault_of (cond b (value.Fault Divide) (value.Fault Overflow))) ≡ false
+another_error : (c : ErrorCode) (v : Value) (b : Bool) → nat_eq (number_of c) 1 ≡ b
+    → is_same_error (Some c) (fault_of (cond b (value.Fault Divide) (value.Fault Overflow))) ≡ false
 another_error c v true e =
     let one : number_of c ≡ 1 = eqb-true (number_of c) 1 e in
     ap (is_same_error (Some c)) (ap fault_at (outs-Fault Divide)) ∙ ap (λ n. nat_eq n 2) one
 another_error c v false e = ap (is_same_error (Some c)) (ap fault_at (outs-Fault Overflow)) ∙ e
 
-exchanged_differs : (v : Value) (o : Option ErrorCode) → is_same_error o (fault_of (exchanged_to (value.Fault Divide) (value.Fault Overflow) o v)) ≡ false
+exchanged_differs : (v : Value) (o : Option ErrorCode)
+    → is_same_error o (fault_of (exchanged_to (value.Fault Divide) (value.Fault Overflow) o v)) ≡ false
 exchanged_differs v None = refl
 exchanged_differs v (Some c) = another_error c v (nat_eq (number_of c) 1) refl
 
@@ -34,7 +38,8 @@ pub occurrence_is_quiet : (e : Node) (k : ℕ) (env : ℕ → Value) → e ≡ n
 unfolding arises
 occurrence_is_quiet e k env is =
     let one : value_of e env ≡ env k = ap (λ (z : Node). value_of z env) is ∙ value_of_occurrence k env in
-    let other : value_of e (λ k. exchanged (env k)) ≡ exchanged (env k) = ap (λ (z : Node). value_of z (λ k. exchanged (env k))) is ∙ value_of_occurrence k (λ k. exchanged (env k)) in
+    let other : value_of e (λ k. exchanged (env k)) ≡ exchanged (env k) =
+    ap (λ (z : Node). value_of z (λ k. exchanged (env k))) is ∙ value_of_occurrence k (λ k. exchanged (env k)) in
     ap (λ (v : Value). is_same_error (fault_of v) (fault_of (value_of e (λ k. exchanged (env k))))) one
     ∙ ap (λ (v : Value). is_same_error (fault_of (env k)) (fault_of v)) other
     ∙ exchanged_differs (env k) (fault_of (env k))

@@ -1,5 +1,6 @@
 -- What the record of a node in the file of the last pass says of its rules.
-use Rattle.std.proofs.Common.{◌≡◌, ℕ, suc, ◌^◌, ◌<◌, Bool, cond, List, [], ◌∷◌, ◌++◌, drop, take, All, Option, Some, None, slice_get, refl, ap, sym, ◌∙◌, arith}
+use Rattle.std.proofs.Common.{◌≡◌, ℕ, suc, ◌^◌, ◌<◌, Bool, cond, List, [], ◌∷◌, ◌++◌, drop, take, All, Option, Some, None}
+use Rattle.std.proofs.Common.{slice_get, refl, ap, sym, ◌∙◌, arith}
 use Rattle.std.specs.Int.{w16, from_be_bytes, to_be_bytes}
 use Rattle.std.specs.List.{count_by, flat_map}
 use Rattle.std.proofs.lemmas.List.{drop_at, take_at}
@@ -29,7 +30,8 @@ use Rattle.origins.specs.Rows.{table_of}
 use Rattle.origins.proofs.Arguments.{argument_value, row}
 
 -- the count of what passes two tests, which agree on each member
-count_same : (f h : Rule → Bool) (rs : List Rule) → ((i : ℕ) (r : Rule) → slice_get rs i ≡ Some r → f r ≡ h r) → count_by f rs ≡ count_by h rs
+count_same : (f h : Rule → Bool) (rs : List Rule) → ((i : ℕ) (r : Rule) → slice_get rs i ≡ Some r → f r ≡ h r)
+    → count_by f rs ≡ count_by h rs
 count_same f h [] same = refl
 count_same f h (r ∷ rs) same =
     let first : ◌≡◌ {A = ℕ} (cond (f r) 1 0) (cond (h r) 1 0) = ap (λ b. cond b 1 0) (same 0 r refl) in
@@ -37,7 +39,8 @@ count_same f h (r ∷ rs) same =
     sum_by-cons (λ x. cond (f x) 1 0) r rs ∙ omega (arith, first, others) ∙ sym (sum_by-cons (λ x. cond (h x) 1 0) r rs)
 
 -- an error arises in a rule by what its arguments are
-arises_same : (r : Rule) (e f : Table) → ((k : ℕ) (o : Target) → slice_get r.args k ≡ Some o → e o.place o.attr ≡ f o.place o.attr) → is_arising e r ≡ is_arising f r
+arises_same : (r : Rule) (e f : Table)
+    → ((k : ℕ) (o : Target) → slice_get r.args k ≡ Some o → e o.place o.attr ≡ f o.place o.attr) → is_arising e r ≡ is_arising f r
 arises_same r e f same =
     let lent : environment r e ≡ environment r f = λ i k. each k i in
     ap (arises r.expr.0) lent
@@ -49,15 +52,21 @@ arises_same r e f same =
     each : (k : ℕ) → environment r e k ≡ environment r f k
     each k = by_argument (slice_get r.args k) k refl
 
-pub row_count : (g : Grammar) (m : Passes) (k : ℕ) (q : Production) (ts : Forest) (v : Valuation) → IsLegal g m → IsLastPass k m → IsNormal g q → FitsAll g (stored_items q.items) ts → SolvesAll NoRule g ts (children v) → arising_count (Some q) (table_of g q (row g m k q ts v)) ≡ arising_count (Some q) (at v)
+pub row_count : (g : Grammar) (m : Passes) (k : ℕ) (q : Production) (ts : Forest) (v : Valuation) → IsLegal g m → IsLastPass k m
+    → IsNormal g q → FitsAll g (stored_items q.items) ts → SolvesAll NoRule g ts (children v)
+    → arising_count (Some q) (table_of g q (row g m k q ts v)) ≡ arising_count (Some q) (at v)
 row_count g m k q ts v legal last normal fits solves =
     count_same (is_arising (table_of g q (row g m k q ts v))) (is_arising (at v)) q.rules (λ i r is.
-    arises_same r (table_of g q (row g m k q ts v)) (at v) (λ j o arg. argument_value g m k legal last q ts v o fits solves (normal i r is j o arg)))
+    arises_same r (table_of g q (row g m k q ts v)) (at v)
+    (λ j o arg. argument_value g m k legal last q ts v o fits solves (normal i r is j o arg)))
 
 -- a number in two bytes, and the bytes after it
-numbered_apart : (p r : ℕ) (xs ys : List ℕ) → p < 2 ^ 16 → r < 2 ^ 16 → to_be_bytes w16 p ++ xs ≡ to_be_bytes w16 r ++ ys → (p ≡ r) × (xs ≡ ys)
+numbered_apart : (p r : ℕ) (xs ys : List ℕ) → p < 2 ^ 16 → r < 2 ^ 16 → to_be_bytes w16 p ++ xs ≡ to_be_bytes w16 r ++ ys
+    → (p ≡ r) × (xs ≡ ys)
 numbered_apart p r xs ys a b e = (
-  sym (from_be_bytes-to_be_bytes_2 p a) ∙ ap (from_be_bytes w16) (sym (take_at (to_be_bytes w16 p) xs 2 refl) ∙ ap (take 2) e ∙ take_at (to_be_bytes w16 r) ys 2 refl) ∙ from_be_bytes-to_be_bytes_2 r b,
+  sym (from_be_bytes-to_be_bytes_2 p a)
+      ∙ ap (from_be_bytes w16) (sym (take_at (to_be_bytes w16 p) xs 2 refl) ∙ ap (take 2) e
+      ∙ take_at (to_be_bytes w16 r) ys 2 refl) ∙ from_be_bytes-to_be_bytes_2 r b,
   sym (drop_at (to_be_bytes w16 p) xs 2 refl) ∙ ap (drop 2) e ∙ drop_at (to_be_bytes w16 r) ys 2 refl,
 )
 
@@ -73,10 +82,14 @@ spelled_once [] [] a b e = refl
 spelled_once [] (w ∷ ws) a b e = absurd (not_empty w (flat_map spelling_of ws) (All-head IsWell w ws b) (sym e))
 spelled_once (v ∷ vs) [] a b e = absurd (not_empty v (flat_map spelling_of vs) (All-head IsWell v vs a) e)
 spelled_once (v ∷ vs) (w ∷ ws) a b e =
-    let apart = spelled_apart v w (flat_map spelling_of vs) (flat_map spelling_of ws) (All-head IsWell v vs a) (All-head IsWell w ws b) e in
-    ap (λ (z : Value). z ∷ vs) apart.0 ∙ ap (λ (zs : List Value). w ∷ zs) (spelled_once vs ws (All-tail IsWell v vs a) (All-tail IsWell w ws b) apart.1)
+    let apart =
+    spelled_apart v w (flat_map spelling_of vs) (flat_map spelling_of ws) (All-head IsWell v vs a)
+    (All-head IsWell w ws b) e in
+    ap (λ (z : Value). z ∷ vs) apart.0
+    ∙ ap (λ (zs : List Value). w ∷ zs) (spelled_once vs ws (All-tail IsWell v vs a) (All-tail IsWell w ws b) apart.1)
 
-pub one_body : (p r : ℕ) (vs ws : List Value) → p < 2 ^ 16 → r < 2 ^ 16 → All IsWell vs → All IsWell ws → body_of Node p vs ≡ body_of Node r ws → (p ≡ r) × (vs ≡ ws)
+pub one_body : (p r : ℕ) (vs ws : List Value) → p < 2 ^ 16 → r < 2 ^ 16 → All IsWell vs → All IsWell ws
+    → body_of Node p vs ≡ body_of Node r ws → (p ≡ r) × (vs ≡ ws)
 one_body p r vs ws a b well_v well_w e =
     let tails : to_be_bytes w16 p ++ flat_map spelling_of vs ≡ to_be_bytes w16 r ++ flat_map spelling_of ws = ap (drop 1) e in
     let apart = numbered_apart p r (flat_map spelling_of vs) (flat_map spelling_of ws) a b tails in

@@ -1,6 +1,8 @@
--- The cause of an error: the chain of values through which it was passed on, down to the rule in which it arises. All of this is this
+-- The cause of an error: the chain of values through which it was passed on, down to the rule in which it arises. All of this is
+-- this
 -- project's.
-use Rattle.std.specs.Prelude.{ℕ, zero, suc, ◌≡◌, ◌⊎◌, true, false, nat_lt, List, [], ◌∷◌, ◌++◌, Option, Some, None, slice_get, if◌then◌else◌, Bool}
+use Rattle.std.specs.Prelude.{ℕ, zero, suc, ◌≡◌, ◌⊎◌, true, false, nat_lt, List, [], ◌∷◌, ◌++◌, Option, Some, None, slice_get}
+use Rattle.std.specs.Prelude.{if◌then◌else◌, Bool}
 use Rattle.ag_value.specs.declared.value.Value.{Value}
 use Rattle.ag_grammar.specs.declared.grammar.Production.{Production}
 use Rattle.ag_grammar.specs.declared.grammar.Rule.{Rule}
@@ -15,7 +17,8 @@ use Rattle.ag_grammar.specs.grammars.Tree.{Forest, IsTreeOf, Tree, leaf, node, n
 use Rattle.origins.specs.Arising.{Table, environment, exchanged, is_arising, is_same_error}
 use Rattle.origins.specs.Origins.{child_of}
 
--- The instance that a rule's target or argument stands for at the node of a path: the path of its node. Place 0 is the node itself.
+-- The instance that a rule's target or argument stands for at the node of a path: the path of its node. Place 0 is the node
+-- itself.
 abbrev pub place_path : List ℕ → ℕ → List ℕ
 place_path path zero = path
 place_path path (suc i) = path ++ i ∷ []
@@ -26,9 +29,12 @@ exchanged_below n env k = if nat_lt k n then exchanged (env k) else env k
 
 -- a rule has the same error with other errors in the place of those among its first n arguments
 unfoldable pub is_still : Rule → Table → ℕ → Bool
-is_still r e n = is_same_error (fault_of (value_of r.expr.0 (environment r e))) (fault_of (value_of r.expr.0 (exchanged_below n (environment r e))))
+is_still r e n =
+    is_same_error (fault_of (value_of r.expr.0 (environment r e)))
+    (fault_of (value_of r.expr.0 (exchanged_below n (environment r e))))
 
--- A rule's error is passed on from the argument of this number: it is the same error with other errors in the place of those before
+-- A rule's error is passed on from the argument of this number: it is the same error with other errors in the place of those
+-- before
 -- it, and not with another one in its place too.
 pub record IsSource (r : Rule) (e : Table) (k : ℕ) : Type 0 where
   pub before : is_still r e k ≡ true
@@ -58,11 +64,15 @@ pub record IsRuleAt (g : Grammar) (t : Tree) (v : Valuation) (path : List ℕ) (
   pub rule : IsRule of r
   pub values : e ≡ at (values_at v path)
 
--- The error of an attribute instance has a cause: it arises in the rule that gives it, or is passed on by that rule from an argument,
+-- The error of an attribute instance has a cause: it arises in the rule that gives it, or is passed on by that rule from an
+-- argument,
 -- whose error has one.
 pub data HasCause (g : Grammar) (t : Tree) (v : Valuation) : List ℕ → ℕ → Type 0 where
-  here : (path : List ℕ) (r : Rule) (e : Table) → IsRuleAt g t v path r e → is_arising e r ≡ true → HasCause g t v (place_path path r.target.place) r.target.attr
-  passed : (path : List ℕ) (r : Rule) (e : Table) (k : ℕ) (o : Target) → IsRuleAt g t v path r e → IsSource r e k → slice_get r.args k ≡ Some o → HasCause g t v (place_path path o.place) o.attr → HasCause g t v (place_path path r.target.place) r.target.attr
+  here : (path : List ℕ) (r : Rule) (e : Table) → IsRuleAt g t v path r e → is_arising e r ≡ true
+      → HasCause g t v (place_path path r.target.place) r.target.attr
+  passed : (path : List ℕ) (r : Rule) (e : Table) (k : ℕ) (o : Target) → IsRuleAt g t v path r e → IsSource r e k
+      → slice_get r.args k ≡ Some o → HasCause g t v (place_path path o.place) o.attr
+      → HasCause g t v (place_path path r.target.place) r.target.attr
 
 -- at each node of a tree something holds of the attributes of its symbol, with their passes
 abbrev mutual
@@ -76,5 +86,7 @@ abbrev mutual
 
 -- each error of a tree has a cause
 abbrev pub ErrorsHaveCauses : Type 0
-ErrorsHaveCauses = (g : Grammar) (m : Passes) (t : Tree) (v : Valuation) → IsAccepted g → IsLegal g m → IsTreeOf g t → Solves AnyRule g t v
-    → HoldsAt (λ path ps. (a p : ℕ) → slice_get ps a ≡ Some p → (fault_of (values_at v path [] a) ≡ None) ⊎ HasCause g t v path a) g m t []
+ErrorsHaveCauses = (g : Grammar) (m : Passes) (t : Tree) (v : Valuation) → IsAccepted g → IsLegal g m → IsTreeOf g t
+    → Solves AnyRule g t v
+    → HoldsAt (λ path ps. (a p : ℕ) → slice_get ps a ≡ Some p → (fault_of (values_at v path [] a) ≡ None) ⊎ HasCause g t v path a)
+    g m t []

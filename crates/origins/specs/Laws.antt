@@ -11,11 +11,13 @@ use Rattle.origins.specs.Origins.{HasOrigin, IsFirst, origin_count}
 
 -- A cause ends at an origin.
 abbrev pub CausesHaveOrigins : Type 0
-CausesHaveOrigins = (g : Grammar) (t : Tree) (v : Valuation) (path : List ℕ) (a : ℕ) → HasCause g t v path a → (origin : List ℕ) × HasOrigin g origin (Some t) v
+CausesHaveOrigins = (g : Grammar) (t : Tree) (v : Valuation) (path : List ℕ) (a : ℕ) → HasCause g t v path a
+    → (origin : List ℕ) × HasOrigin g origin (Some t) v
 
 -- Where a tree has no origin, no value of its solution is an error. So errors don't come from nothing.
 abbrev pub NoneIsClean : Type 0
-NoneIsClean = (g : Grammar) (m : Passes) (t : Tree) (v : Valuation) → IsAccepted g → IsLegal g m → IsTreeOf g t → Solves AnyRule g t v → IsFirst g t v None
+NoneIsClean = (g : Grammar) (m : Passes) (t : Tree) (v : Valuation) → IsAccepted g → IsLegal g m → IsTreeOf g t
+    → Solves AnyRule g t v → IsFirst g t v None
     → HoldsAt (λ path ps. (a p : ℕ) → slice_get ps a ≡ Some p → fault_of (values_at v path [] a) ≡ None) g m t []
 
 -- A tree has no origin exactly if none is counted.

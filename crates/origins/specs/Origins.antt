@@ -1,5 +1,6 @@
 -- The origins of errors in a tree: the nodes that have a rule in which an error arises. All of this is this project's.
-use Rattle.std.specs.Prelude.{ℕ, zero, suc, ◌≡◌, ◌+◌, ◌^◌, ◌<◌, Bool, true, false, ◌&&◌, ◌||◌, nat_lt, nat_eq, List, [], ◌∷◌, Option, Some, None, slice_get}
+use Rattle.std.specs.Prelude.{ℕ, zero, suc, ◌≡◌, ◌+◌, ◌^◌, ◌<◌, Bool, true, false, ◌&&◌, ◌||◌, nat_lt, nat_eq, List, [], ◌∷◌}
+use Rattle.std.specs.Prelude.{Option, Some, None, slice_get}
 use Rattle.ag_grammar.specs.grammars.AttributeGrammar.{Grammar}
 use Rattle.ag_grammar.specs.grammars.Passes.{Passes, IsLegal}
 use Rattle.ag_grammar.specs.grammars.Running.{IsLastPass}
@@ -52,7 +53,8 @@ is_before (i ∷ p) (j ∷ q) = nat_lt i j || (nat_eq i j && is_before p q)
 -- The path leads to the first origin of a tree: to one, and none comes before it. Or there is none.
 abbrev pub IsFirst : Grammar → Tree → Valuation → Option (List ℕ) → Type 0
 IsFirst g t v None = (path : List ℕ) → HasOrigin g path (Some t) v → ⊥
-IsFirst g t v (Some path) = HasOrigin g path (Some t) v × ((other : List ℕ) → HasOrigin g other (Some t) v → is_before other path ≡ false)
+IsFirst g t v (Some path) =
+    HasOrigin g path (Some t) v × ((other : List ℕ) → HasOrigin g other (Some t) v → is_before other path ≡ false)
 
 -- the origins of a tree
 pub record AreOrigins (g : Grammar) (t : Tree) (v : Valuation) (first : Option (List ℕ)) (count : ℕ) : Type 0 where
@@ -61,4 +63,5 @@ pub record AreOrigins (g : Grammar) (t : Tree) (v : Valuation) (first : Option (
 
 -- the origins in a content: those of each tree and values whose file of the last pass it is
 abbrev pub AreOriginsIn : Grammar → List ℕ → Option (List ℕ) → ℕ → Type 0
-AreOriginsIn g content first count = (m : Passes) (k : ℕ) (t : Tree) (v : Valuation) → k < 2 ^ 16 → IsLegal g m → IsLastPass k m → IsTreeOf g t → IsFileOfTree version_two g m k t v content → AreOrigins g t v first count
+AreOriginsIn g content first count = (m : Passes) (k : ℕ) (t : Tree) (v : Valuation) → k < 2 ^ 16 → IsLegal g m → IsLastPass k m
+    → IsTreeOf g t → IsFileOfTree version_two g m k t v content → AreOrigins g t v first count

@@ -1,4 +1,5 @@
--- The indices of the values that a rule uses in a node's record in the file of the last pass, which has all values. All of this is
+-- The indices of the values that a rule uses in a node's record in the file of the last pass, which has all values. All of this
+-- is
 -- this project's.
 use Rattle.std.specs.Prelude.{ℕ, zero, suc, ◌+◌, pos, get_or, List, [], ◌∷◌, Option, Some, None, slice_get, length}
 use Rattle.ag_value.specs.declared.value.Value.{Value, Num}
@@ -32,7 +33,8 @@ copies_before g [] j = 0
 copies_before g (x ∷ xs) zero = 0
 copies_before g (x ∷ xs) (suc j) = copied g x + copies_before g xs j
 
--- the index at which the values at a place begin: the node's own come first, and the copies of its children's after them, from left to right
+-- the index at which the values at a place begin: the node's own come first, and the copies of its children's after them, from
+-- left to right
 abbrev pub start : Grammar → Production → ℕ → ℕ
 start g q zero = 0
 start g q (suc j) = attribute_count g q.left + copies_before g (stored_items q.items) j

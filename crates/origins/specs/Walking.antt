@@ -1,5 +1,6 @@
 -- A walk over the file of the last pass from its end: what was met, and what is still to come. All of this is this project's.
-use Rattle.std.specs.Prelude.{ℕ, zero, suc, ◌≡◌, ◌+◌, ◌-◌, ◌^◌, ◌<◌, ◌≤◌, ◌⊎◌, Bool, false, List, [], ◌∷◌, ◌++◌, Option, Some, None, Ok, drop, reverse, length, if◌then◌else◌}
+use Rattle.std.specs.Prelude.{ℕ, zero, suc, ◌≡◌, ◌+◌, ◌-◌, ◌^◌, ◌<◌, ◌≤◌, ◌⊎◌, Bool, false, List, [], ◌∷◌, ◌++◌, Option, Some}
+use Rattle.std.specs.Prelude.{None, Ok, drop, reverse, length, if◌then◌else◌}
 use Rattle.std.specs.List.{flat_map}
 use Rattle.ag_value.specs.declared.value.Value.{Value}
 use Rattle.ag_grammar.specs.declared.grammar.Item.{Item}
@@ -81,13 +82,15 @@ pending_count g d (o ∷ os) (f ∷ fs) = count_in g (upcoming d o f) + pending_
 -- An origin is in one of some children, at the end of a path from their node.
 abbrev pub OccursIn : Grammar → List Kid → List ℕ → Type 0
 OccursIn g [] path = ⊥
-OccursIn g (kid ∷ others) path = ((deeper : List ℕ) × (path ≡ kid.number ∷ deeper) × HasOrigin g deeper (Some kid.tree) kid.values) ⊎ OccursIn g others path
+OccursIn g (kid ∷ others) path =
+    ((deeper : List ℕ) × (path ≡ kid.number ∷ deeper) × HasOrigin g deeper (Some kid.tree) kid.values) ⊎ OccursIn g others path
 
 -- and in what is to come below open nodes
 abbrev pub ArePending : Grammar → Direction → List Open → List Family → List ℕ → Type 0
 ArePending g d [] fs path = ⊥
 ArePending g d (o ∷ os) [] path = ⊥
-ArePending g d (o ∷ os) (f ∷ fs) path = ((deeper : List ℕ) × (path ≡ way d os ++ deeper) × OccursIn g (upcoming d o f) deeper) ⊎ ArePending g d os fs path
+ArePending g d (o ∷ os) (f ∷ fs) path =
+    ((deeper : List ℕ) × (path ≡ way d os ++ deeper) × OccursIn g (upcoming d o f) deeper) ⊎ ArePending g d os fs path
 
 -- Open nodes are of their productions, and their children are trees of the items.
 abbrev pub AreOpen : Grammar → Passes → ℕ → List Open → List Family → Type 0
@@ -105,7 +108,8 @@ IsNotBefore None path = ⊥
 IsNotBefore (Some first) path = is_before path first ≡ false
 
 -- The walk over a tree has come so far. What it found, and what is to come, are all origins of the tree.
-pub record IsSoFar (g : Grammar) (m : Passes) (k : ℕ) (d : Direction) (t : Tree) (v : Valuation) (content : List ℕ) (at : ℕ) (open_nodes : List Open) (first : Option (List ℕ)) (count : ℕ) : Type 0 where
+pub record IsSoFar (g : Grammar) (m : Passes) (k : ℕ) (d : Direction) (t : Tree) (v : Valuation) (content : List ℕ) (at : ℕ)
+    (open_nodes : List Open) (first : Option (List ℕ)) (count : ℕ) : Type 0 where
   pub families : List Family
   pub fit : AreOpen g m k open_nodes families
   pub read : ReadsBack version_two content at (pending_bodies g m k d open_nodes families)
@@ -115,28 +119,35 @@ pub record IsSoFar (g : Grammar) (m : Passes) (k : ℕ) (d : Direction) (t : Tre
   pub all : (path : List ℕ) → HasOrigin g path (Some t) v → ArePending g d open_nodes families path ⊎ IsNotBefore first path
 
 -- It comes to a child next, below open nodes.
-pub record IsPending (g : Grammar) (m : Passes) (k : ℕ) (d : Direction) (t : Tree) (v : Valuation) (content : List ℕ) (at : ℕ) (x : Item) (open_nodes : List Open) (first : Option (List ℕ)) (count : ℕ) : Type 0 where
+pub record IsPending (g : Grammar) (m : Passes) (k : ℕ) (d : Direction) (t : Tree) (v : Valuation) (content : List ℕ) (at : ℕ)
+    (x : Item) (open_nodes : List Open) (first : Option (List ℕ)) (count : ℕ) : Type 0 where
   pub tree : Tree
   pub values : Valuation
   pub recorded : IsRecorded g m k x tree values
   pub families : List Family
   pub fit : AreOpen g m k open_nodes families
-  pub read : ReadsBack version_two content at (prefix d (bodies_of version_two g m k tree values) ++ pending_bodies g m k d open_nodes families)
+  pub read : ReadsBack version_two content at
+      (prefix d (bodies_of version_two g m k tree values) ++ pending_bodies g m k d open_nodes families)
   pub counted : count + (origin_count g tree values + pending_count g d open_nodes families) ≡ origin_count g t v
   pub there : (path : List ℕ) → first ≡ Some path → HasOrigin g path (Some t) v
   pub below : (deeper : List ℕ) → HasOrigin g deeper (Some tree) values → HasOrigin g (way d open_nodes ++ deeper) (Some t) v
   pub pending : (path : List ℕ) → ArePending g d open_nodes families path → HasOrigin g path (Some t) v
-  pub all : (path : List ℕ) → HasOrigin g path (Some t) v → ((deeper : List ℕ) × (path ≡ way d open_nodes ++ deeper) × HasOrigin g deeper (Some tree) values) ⊎ ArePending g d open_nodes families path ⊎ IsNotBefore first path
+  pub all : (path : List ℕ) → HasOrigin g path (Some t) v
+      → ((deeper : List ℕ) × (path ≡ way d open_nodes ++ deeper) × HasOrigin g deeper (Some tree) values)
+      ⊎ ArePending g d open_nodes families path ⊎ IsNotBefore first path
 
 -- So it is of each tree and values whose file of the last pass the content is.
 abbrev pub OfEach : (Passes → ℕ → Tree → Valuation → Type 0) → Grammar → List ℕ → Type 0
-OfEach P g content = (m : Passes) (k : ℕ) (t : Tree) (v : Valuation) → k < 2 ^ 16 → IsLegal g m → IsLastPass k m → IsTreeOf g t → IsFileOfTree version_two g m k t v content → P m k t v
+OfEach P g content = (m : Passes) (k : ℕ) (t : Tree) (v : Valuation) → k < 2 ^ 16 → IsLegal g m → IsLastPass k m → IsTreeOf g t
+    → IsFileOfTree version_two g m k t v content → P m k t v
 
 abbrev pub HasComeTo : Grammar → Direction → List ℕ → ℕ → List Open → Option (List ℕ) → ℕ → Type 0
-HasComeTo g d content at open_nodes first count = OfEach (λ m k t v. IsSoFar g m k d t v content at open_nodes first count) g content
+HasComeTo g d content at open_nodes first count =
+    OfEach (λ m k t v. IsSoFar g m k d t v content at open_nodes first count) g content
 
 abbrev pub IsNextRecord : Grammar → Direction → List ℕ → ℕ → Item → List Open → Option (List ℕ) → ℕ → Type 0
-IsNextRecord g d content at x open_nodes first count = OfEach (λ m k t v. IsPending g m k d t v content at x open_nodes first count) g content
+IsNextRecord g d content at x open_nodes first count =
+    OfEach (λ m k t v. IsPending g m k d t v content at x open_nodes first count) g content
 
 -- A reader is one of the content, of version 2, and no failure is final.
 pub record IsReady (honest : Bool) (content : List ℕ) (state : BackState) : Type 0 where
@@ -162,9 +173,12 @@ first_after first zero path = first
 first_after first (suc n) path = Some (earlier first path)
 
 -- A node was entered: it is open, none of its children is visited, and where it has origins they are counted.
-pub record HasEntered (g : Grammar) (d : Direction) (p : ℕ) (vs : List Value) (open_old open_new : List Open) (first_old first_new : Option (List ℕ)) (count_old count_new : ℕ) : Type 0 where
+pub record HasEntered (g : Grammar) (d : Direction) (p : ℕ) (vs : List Value) (open_old open_new : List Open)
+    (first_old first_new : Option (List ℕ)) (count_old count_new : ℕ) : Type 0 where
   pub production : Production
   pub there : IsProduction g p production
-  pub opened : open_new ≡ open_old ++ record { production = p; children = length (stored_items production.items); visited = 0 } ∷ []
+  pub opened : open_new ≡ open_old ++ record { production = p; children = length (stored_items production.items); visited = 0 }
+      ∷ []
   pub count : count_new ≡ count_old + arising_count (Some production) (table_of g production vs)
-  pub first : first_new ≡ first_after first_old (arising_count (Some production) (table_of g production vs)) (way d (reverse open_old))
+  pub first : first_new ≡ first_after first_old (arising_count (Some production) (table_of g production vs))
+      (way d (reverse open_old))

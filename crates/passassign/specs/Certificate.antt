@@ -70,7 +70,8 @@ IsGood g d candidate struck x = IsGoodWhere g d candidate (IsStruckBy struck) x
 abbrev pub AreGood : Grammar → Direction → Attributes → List Strike → List Strike → Type 0
 AreGood g d candidate struck [] = Unit {0}
 AreGood g d candidate struck (x ∷ xs) =
-    candidate x.symbol x.attr × (IsStruckBy struck x.symbol x.attr → ⊥) × IsGood g d candidate struck x × AreGood g d candidate (x ∷ struck) xs
+    candidate x.symbol x.attr × (IsStruckBy struck x.symbol x.attr → ⊥) × IsGood g d candidate struck x
+    × AreGood g d candidate (x ∷ struck) xs
 
 -- Good strikes, one after the other, of each attribute of `later`, and of no others, in a pass of this
 -- direction with these candidates: the candidates of `later` can't have this pass (this project's).

@@ -48,7 +48,8 @@ pub record WaitsFor (g : Grammar) (d : Direction) (x : Strike) (s a : ℕ) : Typ
 
 -- a strike waits for no attribute
 abbrev pub WaitsForNone : Grammar → Direction → Strike → Type 0
-WaitsForNone g d x = (q : Production) (u : Rule) (o : Target) (s : ℕ) → Names g x q u o → item_at q o.place ≡ Some (item.Symbol s) → IsSameOrLater d u.target.place o.place
+WaitsForNone g d x = (q : Production) (u : Rule) (o : Target) (s : ℕ) → Names g x q u o → item_at q o.place ≡ Some (item.Symbol s)
+    → IsSameOrLater d u.target.place o.place
 
 -- the attribute that a strike waits for; for None, it waits for none
 abbrev pub IsWait : Grammar → Direction → Strike → Option (ℕ × ℕ) → Type 0
@@ -58,7 +59,8 @@ IsWait g d x (Some w) = WaitsFor g d x w.0 w.1
 -- the attribute that a strike by this argument of a rule waits for; for None, it waits for none
 abbrev pub IsAwaited : Direction → Production → Rule → Target → Option (ℕ × ℕ) → Type 0
 IsAwaited d q u o None = (s : ℕ) → item_at q o.place ≡ Some (item.Symbol s) → IsSameOrLater d u.target.place o.place
-IsAwaited d q u o (Some w) = (IsSameOrLater d u.target.place o.place → ⊥) × (item_at q o.place ≡ Some (item.Symbol w.0)) × (o.attr ≡ w.1)
+IsAwaited d q u o (Some w) =
+    (IsSameOrLater d u.target.place o.place → ⊥) × (item_at q o.place ≡ Some (item.Symbol w.0)) × (o.attr ≡ w.1)
 
 -- the strike at an index
 abbrev pub strike_at : List Strike → ℕ → Strike
@@ -84,4 +86,5 @@ AreLinked g d (x ∷ xs) = IsLink g d x xs × AreLinked g d xs
 
 -- in a list, the attribute that a strike waits for is struck before it
 abbrev pub AreAwaitedBefore : Grammar → Direction → List Strike → Type 0
-AreAwaitedBefore g d xs = (i : ℕ) (x : Strike) → slice_get xs i ≡ Some x → (s a : ℕ) → WaitsFor g d x s a → IsStruckBy (take i xs) s a
+AreAwaitedBefore g d xs = (i : ℕ) (x : Strike) → slice_get xs i ≡ Some x → (s a : ℕ) → WaitsFor g d x s a
+    → IsStruckBy (take i xs) s a

@@ -59,7 +59,8 @@ pub record Adds {X : Type 0} (P : X → Type 0) (old new : List X) : Type 0 wher
 
 -- a dependency on argument i, which is an attribute of a symbol
 abbrev pub IsByArgument : List Item → Strike → ℕ → ℕ → Target → Dependency → Type 0
-IsByArgument places head j i o u = (k : ℕ) × (table_slot (symbol_of (slice_get places o.place)) o.attr ≡ Some k) × (u ≡ dependency_of head j i k o.place)
+IsByArgument places head j i o u =
+    (k : ℕ) × (table_slot (symbol_of (slice_get places o.place)) o.attr ≡ Some k) × (u ≡ dependency_of head j i k o.place)
 
 -- a strike of a rule's target, whose place has this symbol, by argument 0
 abbrev pub head_of : ℕ → ℕ → Rule → ℕ → Strike
@@ -67,7 +68,9 @@ head_of p r rule s = record { symbol = s; attr = rule.target.attr; production = 
 
 -- a dependency of rule r of production p
 abbrev pub IsByRule : List Item → ℕ → ℕ → Rule → Dependency → Type 0
-IsByRule places p r rule u = (s : ℕ) × (symbol_of (slice_get places rule.target.place) ≡ Some s) × OfEach (IsByArgument places (head_of p r rule s) rule.target.place) rule.args u
+IsByRule places p r rule u =
+    (s : ℕ) × (symbol_of (slice_get places rule.target.place) ≡ Some s)
+    × OfEach (IsByArgument places (head_of p r rule s) rule.target.place) rule.args u
 
 -- a dependency of production p
 abbrev pub IsByProduction : ℕ → Production → Dependency → Type 0

@@ -9,7 +9,8 @@ use Rattle.passassign.specs.declared.stuck.Strike.{Strike}
 use Rattle.passassign.specs.declared.stuck.Stuck.{Stuck}
 use Rattle.passassign.specs.Certificate.{Members, IsStruckBy, IsGood, AreGood, IsCertificate, stuck_of}
 use Rattle.passassign.specs.Chains.{IsChainOf}
-use Rattle.passassign.specs.Least.{Partial, partial_of, IsAttribute, AssignsOnlyAttributes, IsLegalPartial, IsStuck, IsLeast, IsAlternating}
+use Rattle.passassign.specs.Least.{Partial, partial_of, IsAttribute, AssignsOnlyAttributes, IsLegalPartial, IsStuck, IsLeast}
+use Rattle.passassign.specs.Least.{IsAlternating}
 use Rattle.passassign.specs.Making.{IsOpen, AreFinished, IsPass, IsMade, AreIdle, AreMarks, pass_after}
 use Rattle.passassign.specs.PassStrikes.{HasPassFrom, HasPassAfter, AreStrikesAt, AreStrikesOf, list_for}
 use Rattle.passassign.specs.Rows.{passes_of, IsGreatest}
@@ -28,63 +29,88 @@ CertifiedIsRefused = (g : Grammar) (c : Stuck) → Each (IsComplete g) g.product
 
 -- The passes before pass k assign no attribute a later pass than a legal partial assignment does,
 abbrev pub MadeIsAtMost : Type 0
-MadeIsAtMost = (g : Grammar) (k : ℕ) (m n : Partial) → IsMade g k m → IsLegalPartial g n → (s a p q : ℕ) → m s a ≡ Some p → n s a ≡ Some q → p ≤ q
+MadeIsAtMost = (g : Grammar) (k : ℕ) (m n : Partial) → IsMade g k m → IsLegalPartial g n → (s a p q : ℕ) → m s a ≡ Some p
+    → n s a ≡ Some q → p ≤ q
 
 -- and an attribute that they leave open has there no pass before k.
 abbrev pub LeftIsLater : Type 0
-LeftIsLater = (g : Grammar) (k : ℕ) (m n : Partial) → IsMade g k m → IsLegalPartial g n → (s a q : ℕ) → m s a ≡ None → n s a ≡ Some q → k ≤ q
+LeftIsLater = (g : Grammar) (k : ℕ) (m n : Partial) → IsMade g k m → IsLegalPartial g n → (s a q : ℕ) → m s a ≡ None
+    → n s a ≡ Some q → k ≤ q
 
 -- The assignment that the passes make is legal, if each production is complete and normal.
 abbrev pub MadeIsLegal : Type 0
-MadeIsLegal = (g : Grammar) (k : ℕ) (m : Partial) → Each (IsComplete g) g.productions → Each (IsNormal g) g.productions → IsMade g k m → IsLegalPartial g m
+MadeIsLegal = (g : Grammar) (k : ℕ) (m : Partial) → Each (IsComplete g) g.productions → Each (IsNormal g) g.productions
+    → IsMade g k m → IsLegalPartial g m
 
 -- If they assign a pass to every attribute, that is the least assignment.
 abbrev pub WholeIsLeast : Type 0
-WholeIsLeast = (g : Grammar) (k : ℕ) (n : Partial) (m : Passes) → Each (IsComplete g) g.productions → Each (IsNormal g) g.productions → IsMade g k n → ((s : ℕ) → length (m s) ≡ length (symbol_kinds (slice_get g.symbols s))) → ((s a : ℕ) → partial_of m s a ≡ n s a) → IsLeast g m
+WholeIsLeast = (g : Grammar) (k : ℕ) (n : Partial) (m : Passes) → Each (IsComplete g) g.productions
+    → Each (IsNormal g) g.productions → IsMade g k n → ((s : ℕ) → length (m s) ≡ length (symbol_kinds (slice_get g.symbols s)))
+    → ((s a : ℕ) → partial_of m s a ≡ n s a) → IsLeast g m
 
 -- A least assignment has the fewest passes: the greatest one of a legal assignment is no less than its own.
 abbrev pub LeastHasFewest : Type 0
-LeastHasFewest = (g : Grammar) (rows other : List (List ℕ)) (n k : ℕ) → IsLeast g (passes_of rows) → IsLegal g (passes_of other) → IsGreatest n rows → IsGreatest k other → n ≤ k
+LeastHasFewest = (g : Grammar) (rows other : List (List ℕ)) (n k : ℕ) → IsLeast g (passes_of rows) → IsLegal g (passes_of other)
+    → IsGreatest n rows → IsGreatest k other → n ≤ k
 
 -- The attributes left open by two consecutive passes that assign nothing are stuck,
 abbrev pub RestIsStuck : Type 0
-RestIsStuck = (g : Grammar) (k : ℕ) (m : Partial) (first second : List Strike) → AreIdle g k m first second → (s a : ℕ) → IsOpen g m s a → IsStuck g s a
+RestIsStuck = (g : Grammar) (k : ℕ) (m : Partial) (first second : List Strike) → AreIdle g k m first second → (s a : ℕ)
+    → IsOpen g m s a → IsStuck g s a
 
 -- and no others are, if passes have made the assignment before them, and each production is complete and
 -- normal.
 abbrev pub StuckIsLeft : Type 0
-StuckIsLeft = (g : Grammar) (k : ℕ) (m : Partial) (first second : List Strike) → Each (IsComplete g) g.productions → Each (IsNormal g) g.productions → IsMade g k m → AreIdle g k m first second → (s a : ℕ) → IsAttribute g s a → (m s a ≡ None) ↔ IsStuck g s a
+StuckIsLeft = (g : Grammar) (k : ℕ) (m : Partial) (first second : List Strike) → Each (IsComplete g) g.productions
+    → Each (IsNormal g) g.productions → IsMade g k m → AreIdle g k m first second → (s a : ℕ) → IsAttribute g s a
+    → (m s a ≡ None) ↔ IsStuck g s a
 
 -- A list of the attributes that two such passes leave open, if there are any, is certified by their strikes.
 abbrev pub RestIsCertified : Type 0
-RestIsCertified = (g : Grammar) (k : ℕ) (m : Partial) (first second : List Strike) → AreIdle g k m first second → (set : List (ℕ × ℕ)) → Differ set → ((x : ℕ × ℕ) × Has set x) → ((s a : ℕ) → Members set s a ↔ IsOpen g m s a) → IsCertificate g (stuck_of (direction_of k) set first second)
+RestIsCertified = (g : Grammar) (k : ℕ) (m : Partial) (first second : List Strike) → AreIdle g k m first second
+    → (set : List (ℕ × ℕ)) → Differ set → ((x : ℕ × ℕ) × Has set x) → ((s a : ℕ) → Members set s a ↔ IsOpen g m s a)
+    → IsCertificate g (stuck_of (direction_of k) set first second)
 
 -- A list of good strikes is continued by a good one of a candidate that it does not strike.
 abbrev pub StrikesGrow : Type 0
-StrikesGrow = (g : Grammar) (d : Direction) (m : Partial) (xs : List Strike) (x : Strike) → AreGood g d (IsOpen g m) [] xs → IsOpen g m x.symbol x.attr → (IsStruckBy xs x.symbol x.attr → ⊥) → IsGood g d (IsOpen g m) xs x → AreGood g d (IsOpen g m) [] (xs ++ x ∷ [])
+StrikesGrow = (g : Grammar) (d : Direction) (m : Partial) (xs : List Strike) (x : Strike) → AreGood g d (IsOpen g m) [] xs
+    → IsOpen g m x.symbol x.attr → (IsStruckBy xs x.symbol x.attr → ⊥) → IsGood g d (IsOpen g m) xs x
+    → AreGood g d (IsOpen g m) [] (xs ++ x ∷ [])
 
 -- Good strikes to which no other can be added make a pass, if marks are those of the struck attributes.
 abbrev pub MarksMakePass : Type 0
-MarksMakePass = (g : Grammar) (k : ℕ) (m after : Partial) (xs : List Strike) (hit : ℕ → ℕ → Bool) → AssignsOnlyAttributes g m → AssignsOnlyAttributes g after → AreGood g (direction_of k) (IsOpen g m) [] xs → AreFinished g (direction_of k) (IsOpen g m) xs → AreMarks hit xs → ((s a : ℕ) → IsAttribute g s a → after s a ≡ pass_after k (m s a) (hit s a)) → IsPass g k m after xs
+MarksMakePass = (g : Grammar) (k : ℕ) (m after : Partial) (xs : List Strike) (hit : ℕ → ℕ → Bool) → AssignsOnlyAttributes g m
+    → AssignsOnlyAttributes g after → AreGood g (direction_of k) (IsOpen g m) [] xs
+    → AreFinished g (direction_of k) (IsOpen g m) xs → AreMarks hit xs
+    → ((s a : ℕ) → IsAttribute g s a → after s a ≡ pass_after k (m s a) (hit s a)) → IsPass g k m after xs
 
 -- If an assignment has strikes, no legal assignment gives any attribute an earlier pass;
 abbrev pub NoneIsEarlier : Type 0
-NoneIsEarlier = (g : Grammar) (rows : List (List ℕ)) (lists : List (List Strike)) (other : Passes) → AreStrikesOf g rows lists → IsLegal g other → (s a p q : ℕ) → partial_of (passes_of rows) s a ≡ Some p → partial_of other s a ≡ Some q → p ≤ q
+NoneIsEarlier = (g : Grammar) (rows : List (List ℕ)) (lists : List (List Strike)) (other : Passes) → AreStrikesOf g rows lists
+    → IsLegal g other → (s a p q : ℕ) → partial_of (passes_of rows) s a ≡ Some p → partial_of other s a ≡ Some q → p ≤ q
 
 -- so if it is legal it is the least one.
 abbrev pub StrikesShowLeast : Type 0
-StrikesShowLeast = (g : Grammar) (rows : List (List ℕ)) (lists : List (List Strike)) → IsLegal g (passes_of rows) → AreStrikesOf g rows lists → IsLeast g (passes_of rows)
+StrikesShowLeast = (g : Grammar) (rows : List (List ℕ)) (lists : List (List Strike)) → IsLegal g (passes_of rows)
+    → AreStrikesOf g rows lists → IsLeast g (passes_of rows)
 
 -- A certificate meets the same definition: if just its members have pass k or a later one, and none has pass k, its list for
 -- that direction has the strikes of pass k.
 abbrev pub CertificatesAreStrikes : Type 0
-CertificatesAreStrikes = (g : Grammar) (c : Stuck) (m : Passes) (k : ℕ) → IsCertificate g c → ((s a : ℕ) → Members c.set s a ↔ HasPassFrom m k s a) → ((s a : ℕ) → Members c.set s a ↔ HasPassAfter m k s a) → AreStrikesAt g m k (list_for c (direction_of k))
+CertificatesAreStrikes = (g : Grammar) (c : Stuck) (m : Passes) (k : ℕ) → IsCertificate g c
+    → ((s a : ℕ) → Members c.set s a ↔ HasPassFrom m k s a) → ((s a : ℕ) → Members c.set s a ↔ HasPassAfter m k s a)
+    → AreStrikesAt g m k (list_for c (direction_of k))
 
 -- A chain shows that its attribute has a later pass in every legal assignment, if strikes show that its candidates have no
 -- earlier pass than this one.
 abbrev pub ChainsShowLater : Type 0
-ChainsShowLater = (g : Grammar) (rows : List (List ℕ)) (lists : List (List Strike)) (k s a : ℕ) (xs : List Strike) (other : Passes) → AreStrikesOf g rows lists → k ≤ length lists → IsChainOf g (direction_of (suc k)) (HasPassFrom (passes_of rows) (suc k)) s a xs → IsLegal g other → (p : ℕ) → partial_of other s a ≡ Some p → suc k < p
+ChainsShowLater =
+    (g : Grammar) (rows : List (List ℕ)) (lists : List (List Strike)) (k s a : ℕ) (xs : List Strike) (other : Passes)
+    → AreStrikesOf g rows lists → k ≤ length lists
+    → IsChainOf g (direction_of (suc k)) (HasPassFrom (passes_of rows) (suc k)) s a xs → IsLegal g other → (p : ℕ)
+    → partial_of other s a ≡ Some p → suc k < p
 
 -- Each attribute that has a later pass has a chain in the strikes of a pass.
 abbrev pub ChainsAreThere : Type 0
-ChainsAreThere = (g : Grammar) (m : Passes) (k : ℕ) (xs : List Strike) → AreStrikesAt g m k xs → (s a : ℕ) → HasPassAfter m k s a → (ys : List Strike) × IsChainOf g (direction_of k) (HasPassFrom m k) s a ys
+ChainsAreThere = (g : Grammar) (m : Passes) (k : ℕ) (xs : List Strike) → AreStrikesAt g m k xs → (s a : ℕ) → HasPassAfter m k s a
+    → (ys : List Strike) × IsChainOf g (direction_of k) (HasPassFrom m k) s a ys

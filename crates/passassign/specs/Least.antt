@@ -53,7 +53,8 @@ IsStuck g s a = (n : Partial) → IsLegalPartial g n → n s a ≡ None
 -- Jazayeri and Walter 1975).
 pub record IsLeast (g : Grammar) (m : Passes) : Type 0 where
   pub legal : IsLegal g m
-  pub least : (other : Passes) → IsLegal g other → (s a p q : ℕ) → partial_of m s a ≡ Some p → partial_of other s a ≡ Some q → p ≤ q
+  pub least : (other : Passes) → IsLegal g other → (s a p q : ℕ) → partial_of m s a ≡ Some p → partial_of other s a ≡ Some q
+      → p ≤ q
 
 -- An alternating grammar: there is a legal assignment, with any number of passes (after Jazayeri and Walter
 -- 1975).

@@ -13,7 +13,8 @@ IsOpen g m s a = IsAttribute g s a × (m s a ≡ None)
 
 -- no other candidate can be struck
 abbrev pub AreFinished : Grammar → Direction → Attributes → List Strike → Type 0
-AreFinished g d candidate xs = (x : Strike) → candidate x.symbol x.attr → IsGood g d candidate xs x → IsStruckBy xs x.symbol x.attr
+AreFinished g d candidate xs = (x : Strike) → candidate x.symbol x.attr → IsGood g d candidate xs x
+    → IsStruckBy xs x.symbol x.attr
 
 -- Pass k extends a partial assignment: of the attributes without a pass some are struck, one by one, until no
 -- other can be, and the rest get pass k (after Jazayeri and Walter 1975). An attribute keeps its pass (`kept`), or it
@@ -29,7 +30,8 @@ pub record IsPass (g : Grammar) (k : ℕ) (before after : Partial) (strikes : Li
 -- 1975).
 pub data IsMade (g : Grammar) : ℕ → Partial → Type 0 where
   start : (m : Partial) → ((s a : ℕ) → m s a ≡ None) → IsMade g 1 m
-  passed : (k : ℕ) (m after : Partial) (strikes : List Strike) → IsMade g k m → IsPass g k m after strikes → IsMade g (suc k) after
+  passed : (k : ℕ) (m after : Partial) (strikes : List Strike) → IsMade g k m → IsPass g k m after strikes
+      → IsMade g (suc k) after
 
 -- Two idle passes: pass k and the next one assign no attribute a pass (this project's).
 pub record AreIdle (g : Grammar) (k : ℕ) (m : Partial) (first second : List Strike) : Type 0 where

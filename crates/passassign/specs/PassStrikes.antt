@@ -50,7 +50,8 @@ HasNoPassUpTo g m k s a = IsAttribute g s a × ((p : ℕ) → m s a ≡ Some p �
 -- Lists are the strikes of the passes before `next`, which have made a partial assignment.
 pub record AreStrikesSoFar (g : Grammar) (next : ℕ) (m : Partial) (lists : List (List Strike)) : Type 0 where
   pub count : length lists + 1 ≡ next
-  pub each : (i : ℕ) (xs : List Strike) → slice_get lists i ≡ Some xs → StrikesExactly g (direction_of (i + 1)) (HasNoPassBelow g m (i + 1)) (HasNoPassUpTo g m (i + 1)) xs
+  pub each : (i : ℕ) (xs : List Strike) → slice_get lists i ≡ Some xs
+      → StrikesExactly g (direction_of (i + 1)) (HasNoPassBelow g m (i + 1)) (HasNoPassUpTo g m (i + 1)) xs
 
 -- some attribute has the pass before `next`
 abbrev pub IsLastInUse : ℕ → Partial → Type 0

@@ -79,7 +79,8 @@ pub record BelongTo (g : Grammar) (all : List Dependency) (states : List State) 
 
 -- The strikes of a pass and the marks of the struck attributes: the strikes are good, and no other attribute
 -- can be struck.
-pub record IsSearch (all : List Dependency) (d : Direction) (states : List State) (xs : List Strike) (marks : List Bool) : Type 0 where
+pub record IsSearch (all : List Dependency) (d : Direction) (states : List State) (xs : List Strike)
+    (marks : List Bool) : Type 0 where
   pub marked : (k : ℕ) → (is_marked marks k ≡ true) ↔ IsStruckAt xs k
   pub closed : (u : Dependency) → Has all u → is_marked marks u.argument ≡ true → is_marked marks (target_of u) ≡ true
   pub good : (g : Grammar) → BelongTo g all states → AreGood g d (IsOpen g (table_passes states)) [] xs

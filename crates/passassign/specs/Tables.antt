@@ -1,5 +1,6 @@
 -- The table in which the program records the passes of the attributes.
-use Rattle.std.specs.Prelude.{ℕ, ◌≡◌, ◌+◌, ◌*◌, ◌<◌, ◌↔◌, List, Option, Some, None, Bool, true, false, cond, nat_lt, slice_get, slice_index_or, length, unwrap_or}
+use Rattle.std.specs.Prelude.{ℕ, ◌≡◌, ◌+◌, ◌*◌, ◌<◌, ◌↔◌, List, Option, Some, None, Bool, true, false, cond, nat_lt, slice_get}
+use Rattle.std.specs.Prelude.{slice_index_or, length, unwrap_or}
 use Rattle.ag_grammar.specs.declared.grammar.Symbol.{Symbol}
 use Rattle.ag_grammar.specs.grammars.Accepted.{max_attributes, max_symbols}
 use Rattle.ag_grammar.specs.grammars.AttributeGrammar.{Kind, symbol_names, symbol_kinds}
@@ -51,7 +52,8 @@ first_state count a = cond (nat_lt a count) Open Absent
 -- the initial table of some symbols
 pub record IsFirstTable (symbols : List Symbol) (states : List State) : Type 0 where
   pub len : length states ≡ length symbols * max_attributes
-  pub at : (s a : ℕ) → a < max_attributes → s < length symbols → state_at states (slot_of s a) ≡ first_state (attribute_count (slice_get symbols s)) a
+  pub at : (s a : ℕ) → a < max_attributes → s < length symbols
+      → state_at states (slot_of s a) ≡ first_state (attribute_count (slice_get symbols s)) a
 
 -- a symbol of this number has an attribute of this number
 abbrev pub IsDeclared : List Symbol → ℕ → ℕ → Type 0
@@ -78,4 +80,5 @@ after_pass p (Assigned q) struck = Assigned q
 pub record AreRowsOfTable (symbols : List Symbol) (states : List State) (rows : List (List ℕ)) : Type 0 where
   pub count : length rows ≡ length symbols
   pub len : (s : ℕ) → length (passes_of rows s) ≡ attribute_count (slice_get symbols s)
-  pub passes : (s a : ℕ) → a < attribute_count (slice_get symbols s) → slice_get (passes_of rows s) a ≡ Some (unwrap_or (pass_of_state (state_at states (slot_of s a))) 0)
+  pub passes : (s a : ℕ) → a < attribute_count (slice_get symbols s)
+      → slice_get (passes_of rows s) a ≡ Some (unwrap_or (pass_of_state (state_at states (slot_of s a))) 0)

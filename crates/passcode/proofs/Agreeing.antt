@@ -15,7 +15,8 @@ use Rattle.ag_grammar.specs.grammars.Passes.{Passes, HasPass, IsBefore, directio
 use Rattle.passcode.specs.declared.instr.Instr.{Instr}
 use Rattle.passcode.specs.declared.instr.Instr.TheVariants as instr
 use Rattle.passcode.specs.Agreement.{ComputesTargets, HasArguments, HasPlace, IsAvailableAt, IsChild, IsComputation}
-use Rattle.passcode.specs.Agreement.{ListAgrees, IsRuleAt, Precedes, OccursBefore, OccursOnceIf, VisitsPlaces, set_or_def, instruction_of}
+use Rattle.passcode.specs.Agreement.{ListAgrees, IsRuleAt, Precedes, OccursBefore, OccursOnceIf, VisitsPlaces, set_or_def}
+use Rattle.passcode.specs.Agreement.{instruction_of}
 use Rattle.passcode.specs.Course as Course
 use Rattle.passcode.specs.Course.{Phase, State, Between, Got, Gone, Ended, MayCompute, MayRun, IsTurnOf, Runs, after, arity}
 use Rattle.passcode.specs.Course.{place_of, start, state_at}
@@ -58,7 +59,8 @@ module _ (m : Passes) (q : Production) (k : ℕ) (xs : List Instr) (one : 1 ≤ 
   -- the mark of an instruction decides what is before an index, and what is in the list at all
   module _ (A : State → Type 0) (x : Instr) (mark : IsMark m q k A x) where
     before_it : (i j : ℕ) (y : Instr) → slice_get xs i ≡ Some x → slice_get xs j ≡ Some y → A (state_at q start xs j) → i < j
-    before_it i j y a b = precedes m q k xs (length xs) may_to A x mark i j (slice_get_within xs i x a) (slice_get_within xs j y b)
+    before_it i j y a b =
+        precedes m q k xs (length xs) may_to A x mark i j (slice_get_within xs i x a) (slice_get_within xs j y b)
         a
 
     there : A (state_at q start xs (length xs)) → Has xs x
@@ -151,7 +153,8 @@ module _ (m : Passes) (q : Production) (k : ℕ) (xs : List Instr) (one : 1 ≤ 
         (λ h. (let e = turn_final in omega arith)) (λ h. is_stored_child q k t within)
 
     go_once : IsChild q (place_of q k t) → OccursOnceIf (IsChild q (place_of q k t)) xs (instr.Go (place_of q k t))
-    go_once is = occurring (λ s. t < run_in s) (instr.Go (place_of q k t)) (go_mark m q k t within is) (IsChild q (place_of q k t))
+    go_once is =
+        occurring (λ s. t < run_in s) (instr.Go (place_of q k t)) (go_mark m q k t within is) (IsChild q (place_of q k t))
         (λ h. (let e = run_final in omega arith)) (λ h. is)
 
   -- What is there once if a place is of some kind: it is enough to know it of each place of that kind.

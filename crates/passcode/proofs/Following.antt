@@ -142,7 +142,8 @@ module _ (m : Passes) (q : Production) (k : ℕ) (xs : List Instr) (one : 1 ≤ 
         → ((i : ℕ) → slice_get xs i ≡ Some (instruction_of u r) → i < n) → Has (state_at q start xs n).done r
     was_given r u at passed prefix =
         let run_rule = (list.computes.computed r u at).there passed in
-        seen (λ s. Has s.done r) (instruction_of u r) (rule_mark m q k r u at) run_rule.0 (prefix run_rule.0 run_rule.1) run_rule.1
+        seen (λ s. Has s.done r) (instruction_of u r) (rule_mark m q k r u at) run_rule.0
+        (prefix run_rule.0 run_rule.1) run_rule.1
 
     turn_here : (p : Phase) (t j : ℕ) → t < arity q → j ≡ place_of q k t → s.phase ≡ p → t ≡ s.turn → IsTurnOf q k s p j
     turn_here p t j within place phase same = record

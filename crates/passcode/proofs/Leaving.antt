@@ -409,7 +409,8 @@ module _ (m : Passes) (q : Production) (k : ℕ) (one : 1 ≤ k) (single : Diffe
       following s' (inr h) way = absurd (let none = h.3 in omega arith)
 
   own_runs : (s : State) → IsBetween (arity q) s → Runs m q k s (own_part m q k old)
-  own_runs s (phase, turn, way) = run_rule (attribute_count 0) (arity q) 0 0 s (instr.End ∷ []) (inr (phase, turn, refl, refl)) way
+  own_runs s (phase, turn, way) =
+      run_rule (attribute_count 0) (arity q) 0 0 s (instr.End ∷ []) (inr (phase, turn, refl, refl)) way
       following
     where
       following : (s' : State) → IsComputingAt (arity q) 0 s' → Way (arity q) 0 (0 + attribute_count 0) s'
@@ -442,7 +443,8 @@ module _ (m : Passes) (q : Production) (k : ℕ) (one : 1 ≤ k) (single : Diffe
       at_item : ((s' : State) → IsBetween (suc t) s' → Runs m q k s' (visits m q k old (t + 1) n ++ own_part m q k old))
           → (o : Option Item) → item_at q (place_of q k t) ≡ o
           → Runs m q k s (visit m q k old (place_of q k t) o ++ (visits m q k old (t + 1) n ++ own_part m q k old))
-      at_item next None e = absurd (let x = is_stored_child q k t (omega arith) in let both = sym e ∙ x.1.1 in let bad : ⊥ = cc in bad)
+      at_item next None e =
+          absurd (let x = is_stored_child q k t (omega arith) in let both = sym e ∙ x.1.1 in let bad : ⊥ = cc in bad)
       at_item next (Some (item.Symbol x)) e = (
         turn_now,
         child_runs t (after q s (instr.Get (place_of q k t))) (visits m q k old (t + 1) n ++ own_part m q k old) (omega arith)

@@ -1,7 +1,8 @@
 -- The offset at which a content shows that it is the file of no tree, or of none within the limits: such a
 -- content is one, and shows at most one fault.
 use Rattle.std.specs.List.{flat_map}
-use Rattle.std.proofs.Common.{ℕ, suc, ◌≡◌, ◌≢◌, ◌+◌, ◌^◌, ◌<◌, ◌≤◌, ◌⊎◌, inl, inr, Bool, true, false, if◌then◌else◌, List, [], ◌∷◌, ◌++◌, Some, Ok, Err, length, refl, ap, ◌∙◌, sym, subst, arith}
+use Rattle.std.proofs.Common.{ℕ, suc, ◌≡◌, ◌≢◌, ◌+◌, ◌^◌, ◌<◌, ◌≤◌, ◌⊎◌, inl, inr, Bool, true, false, if◌then◌else◌, List, []}
+use Rattle.std.proofs.Common.{◌∷◌, ◌++◌, Some, Ok, Err, length, refl, ap, ◌∙◌, sym, subst, arith}
 use Rattle.ag_grammar.specs.declared.direction.Direction.{Direction}
 use Rattle.ag_grammar.specs.grammars.Passes.{direction_of, other}
 use Rattle.treefile.specs.declared.reading.FrameFault.{FrameFault}
@@ -15,36 +16,51 @@ use Rattle.treefile.specs.records.Records.{FitsVersion, bodies_of}
 use Rattle.treefile.specs.records.TreeFile.{frame}
 use Rattle.treefile.proofs.framing.Files.{begins}
 use Rattle.treefile.proofs.records.Fitting.{fits_version_two, numbered}
-use Rattle.treefile.proofs.framing.Way.{no_file_has_no_tree, one_record, reading_begins, way_breaks, reading_continues, reading_is_too_long}
+use Rattle.treefile.proofs.framing.Way.{no_file_has_no_tree, one_record, reading_begins, way_breaks, reading_continues}
+use Rattle.treefile.proofs.framing.Way.{reading_is_too_long}
 use Rattle.planchecker.specs.courses.Settings.{Setting}
 use Rattle.planchecker.specs.courses.Sound.{IsSound}
 use Rattle.passrun.specs.declared.run_fault.RunFault.{RunFault}
 use Rattle.passrun.specs.declared.run_fault.RunFault.TheVariants as fault
-use Rattle.passrun.specs.Damage.{BreaksAt, ArrivesAt, ExceedsDepth, ExceedsNodes, HasTooManyNodes, IsDamaged, IsReadable, IsTooDeep, IsWithin, Leaves, Shows, Source, source}
+use Rattle.passrun.specs.Damage.{BreaksAt, ArrivesAt, ExceedsDepth, ExceedsNodes, HasTooManyNodes, IsDamaged, IsReadable}
+use Rattle.passrun.specs.Damage.{IsTooDeep, IsWithin, Leaves, Shows, Source, source}
 use Rattle.passrun.specs.Laws.{ShowsOnce}
 
 -- One more record was read.
-pub leaves_on : (s : Source) (d : Direction) (bodies : List (List ℕ)) (body : List ℕ) (level : ℕ) (x : Child) (ys : List Child) (todo left : Pending) → Leaves s d todo bodies ((level, x) ∷ left) → level ≤ s.depth → IsRecordOf s.version s.grammar s.passes s.pass x body ys
+pub leaves_on : (s : Source) (d : Direction) (bodies : List (List ℕ)) (body : List ℕ) (level : ℕ) (x : Child) (ys : List Child)
+    (todo left : Pending) → Leaves s d todo bodies ((level, x) ∷ left) → level ≤ s.depth
+    → IsRecordOf s.version s.grammar s.passes s.pass x body ys
     → Leaves s d todo (bodies ++ body ∷ []) (before_others d (suc level) ys left)
-leaves_on s d [] body level x ys todo left h le is = subst (λ (t : Pending). Leaves s d t (body ∷ []) (before_others d (suc level) ys left)) (sym h) (ys, le, is, refl)
+leaves_on s d [] body level x ys todo left h le is =
+    subst (λ (t : Pending). Leaves s d t (body ∷ []) (before_others d (suc level) ys left)) (sym h) (ys, le, is, refl)
 leaves_on s d (first ∷ bodies) body level x ys [] left h le is = elim h [ ]
-leaves_on s d (first ∷ bodies) body level x ys (y ∷ todo) left h le is = (h.0, h.1, h.2, leaves_on s d bodies body level x ys (before_others d (suc y.0) h.0 todo) left h.3 le is)
+leaves_on s d (first ∷ bodies) body level x ys (y ∷ todo) left h le is =
+    (h.0, h.1, h.2, leaves_on s d bodies body level x ys (before_others d (suc y.0) h.0 todo) left h.3 le is)
 
 -- The children still to be read after some bodies are those of reading up to that offset.
-continues_on : (s : Source) (content : List ℕ) (bodies : List (List ℕ)) (at count start : ℕ) (todo left : Pending) → IsNumbered s.grammar → ReadSoFar s.version s.grammar s.passes s.pass content at count todo → ReadsTo s.version content at bodies start
-    → Leaves s (other (direction_of s.pass)) todo bodies left → ReadSoFar s.version s.grammar s.passes s.pass content start (count + length bodies) left
+continues_on : (s : Source) (content : List ℕ) (bodies : List (List ℕ)) (at count start : ℕ) (todo left : Pending)
+    → IsNumbered s.grammar → ReadSoFar s.version s.grammar s.passes s.pass content at count todo
+    → ReadsTo s.version content at bodies start
+    → Leaves s (other (direction_of s.pass)) todo bodies left
+    → ReadSoFar s.version s.grammar s.passes s.pass content start (count + length bodies) left
 continues_on s content [] at count start todo left few arrival read h =
     let same : count ≡ count + length {A = List ℕ} [] = omega arith in
-    subst (λ (t : Pending). ReadSoFar s.version s.grammar s.passes s.pass content start (count + 0) t) h (subst (λ a. ReadSoFar s.version s.grammar s.passes s.pass content a (count + 0) todo) read (subst (λ n. ReadSoFar s.version s.grammar s.passes s.pass content at n todo) same arrival))
+    subst (λ (t : Pending). ReadSoFar s.version s.grammar s.passes s.pass content start (count + 0) t) h
+    (subst (λ a. ReadSoFar s.version s.grammar s.passes s.pass content a (count + 0) todo) read
+    (subst (λ n. ReadSoFar s.version s.grammar s.passes s.pass content at n todo) same arrival))
 continues_on s content (body ∷ bodies) at count start [] left few arrival read h = elim h [ ]
 continues_on s content (body ∷ bodies) at count start ((level, x) ∷ todo) left few arrival read h =
-    let on = reading_continues s.version s.grammar s.passes s.pass content body at count level x h.0 todo few arrival read.0 h.2 in
+    let on =
+    reading_continues s.version s.grammar s.passes s.pass content body at count level x h.0 todo few arrival read.0 h.2 in
     let sum : suc count + length bodies ≡ count + suc (length bodies) = omega arith in
-    subst (λ n. ReadSoFar s.version s.grammar s.passes s.pass content start n left) sum (continues_on s content bodies (before_frame at body) (suc count) start (before_others (other (direction_of s.pass)) (suc level) h.0 todo) left few on read.1 h.3)
+    subst (λ n. ReadSoFar s.version s.grammar s.passes s.pass content start n left) sum
+    (continues_on s content bodies (before_frame at body) (suc count) start
+    (before_others (other (direction_of s.pass)) (suc level) h.0 todo) left few on read.1 h.3)
 
 -- The fault at which reading stops after a number of bodies: damage at the offset, or an exceeded limit.
 abbrev Stops : Source → List ℕ → (at count : ℕ) → Pending → RunFault → Type 0
-Stops s content at count todo (fault.Damaged there) = (there ≡ at) × IsWithin s todo count × Breaks s.version s.grammar s.passes s.pass todo (next_before s.version content at)
+Stops s content at count todo (fault.Damaged there) =
+    (there ≡ at) × IsWithin s todo count × Breaks s.version s.grammar s.passes s.pass todo (next_before s.version content at)
 Stops s content at count [] fault.TooDeep = ⊥
 Stops s content at count (x ∷ xs) fault.TooDeep = s.depth < x.0
 Stops s content at count [] fault.TooManyNodes = ⊥
@@ -53,18 +69,21 @@ Stops s content at count todo fault.Device = ⊥
 Stops s content at count todo fault.NoMemory = ⊥
 
 -- Reading stops at one offset for at most one fault.
-same_stop : (s : Source) (content : List ℕ) (at count : ℕ) (todo : Pending) (e f : RunFault) → Stops s content at count todo e → Stops s content at count todo f → e ≡ f
+same_stop : (s : Source) (content : List ℕ) (at count : ℕ) (todo : Pending) (e f : RunFault) → Stops s content at count todo e
+    → Stops s content at count todo f → e ≡ f
 same_stop s content at count todo (fault.Damaged a) (fault.Damaged b) p q = ap fault.Damaged (p.0 ∙ sym q.0)
 same_stop s content at count [] (fault.Damaged a) fault.TooDeep p q = absurd q
 same_stop s content at count (x ∷ xs) (fault.Damaged a) fault.TooDeep p q = let le = p.1.0 in absurd (omega arith)
 same_stop s content at count [] (fault.Damaged a) fault.TooManyNodes p q = absurd q
-same_stop s content at count (x ∷ xs) (fault.Damaged a) fault.TooManyNodes p q = let less = p.1.1 in let many = q.1 in absurd (omega arith)
+same_stop s content at count (x ∷ xs) (fault.Damaged a) fault.TooManyNodes p q = let less = p.1.1 in let many = q.1 in
+    absurd (omega arith)
 same_stop s content at count [] fault.TooDeep f p q = absurd p
 same_stop s content at count (x ∷ xs) fault.TooDeep (fault.Damaged b) p q = let le = q.1.0 in absurd (omega arith)
 same_stop s content at count (x ∷ xs) fault.TooDeep fault.TooDeep p q = refl
 same_stop s content at count (x ∷ xs) fault.TooDeep fault.TooManyNodes p q = let le = q.0 in absurd (omega arith)
 same_stop s content at count [] fault.TooManyNodes f p q = absurd p
-same_stop s content at count (x ∷ xs) fault.TooManyNodes (fault.Damaged b) p q = let less = q.1.1 in let many = p.1 in absurd (omega arith)
+same_stop s content at count (x ∷ xs) fault.TooManyNodes (fault.Damaged b) p q = let less = q.1.1 in let many = p.1 in
+    absurd (omega arith)
 same_stop s content at count (x ∷ xs) fault.TooManyNodes fault.TooDeep p q = let le = p.0 in absurd (omega arith)
 same_stop s content at count (x ∷ xs) fault.TooManyNodes fault.TooManyNodes p q = refl
 same_stop s content at count todo fault.Device f p q = absurd p
@@ -73,10 +92,12 @@ same_stop s content at count todo e fault.Device p q = absurd q
 same_stop s content at count todo e fault.NoMemory p q = absurd q
 
 -- If reading continues within the limits, it does not stop.
-never_stops : (s : Source) (content body : List ℕ) (at count level : ℕ) (x : Child) (ys : List Child) (todo : Pending) (f : RunFault) → level ≤ s.depth → count < s.nodes → next_before s.version content at ≡ Ok (Some body)
+never_stops : (s : Source) (content body : List ℕ) (at count level : ℕ) (x : Child) (ys : List Child) (todo : Pending)
+    (f : RunFault) → level ≤ s.depth → count < s.nodes → next_before s.version content at ≡ Ok (Some body)
     → IsRecordOf s.version s.grammar s.passes s.pass x body ys → Stops s content at count ((level, x) ∷ todo) f → ⊥
 never_stops s content body at count level x ys todo (fault.Damaged there) le less found is stops =
-    let so : Breaks s.version s.grammar s.passes s.pass ((level, x) ∷ todo) (Ok (Some body)) = subst (Breaks s.version s.grammar s.passes s.pass ((level, x) ∷ todo)) found stops.2 in
+    let so : Breaks s.version s.grammar s.passes s.pass ((level, x) ∷ todo) (Ok (Some body)) =
+    subst (Breaks s.version s.grammar s.passes s.pass ((level, x) ∷ todo)) found stops.2 in
     so ys is
 never_stops s content body at count level x ys todo fault.TooDeep le less found is stops = omega arith
 never_stops s content body at count level x ys todo fault.TooManyNodes le less found is stops = let many = stops.1 in omega arith
@@ -84,32 +105,54 @@ never_stops s content body at count level x ys todo fault.Device le less found i
 never_stops s content body at count level x ys todo fault.NoMemory le less found is stops = stops
 
 -- Reading from one offset stops for at most one fault.
-one_stop : (s : Source) (content : List ℕ) (bodies others : List (List ℕ)) (from at there count : ℕ) (todo left rest : Pending) (e f : RunFault) → IsNumbered s.grammar → ReadsTo s.version content from bodies at → ReadsTo s.version content from others there
-    → Leaves s (other (direction_of s.pass)) todo bodies left → Leaves s (other (direction_of s.pass)) todo others rest → count + length bodies ≤ s.nodes → count + length others ≤ s.nodes
+one_stop : (s : Source) (content : List ℕ) (bodies others : List (List ℕ)) (from at there count : ℕ) (todo left rest : Pending)
+    (e f : RunFault) → IsNumbered s.grammar → ReadsTo s.version content from bodies at
+    → ReadsTo s.version content from others there
+    → Leaves s (other (direction_of s.pass)) todo bodies left → Leaves s (other (direction_of s.pass)) todo others rest
+    → count + length bodies ≤ s.nodes → count + length others ≤ s.nodes
     → Stops s content at (count + length bodies) left e → Stops s content there (count + length others) rest f → e ≡ f
 one_stop s content [] [] from at there count todo left rest e f few read read' h h' most most' stops stops' =
-    same_stop s content at (count + 0) left e f stops (subst (λ n. Stops s content n (count + 0) left f) (sym read' ∙ read) (subst (λ (t : Pending). Stops s content there (count + 0) t f) (sym h' ∙ h) stops'))
-one_stop s content (body ∷ bodies) others from at there count [] left rest e f few read read' h h' most most' stops stops' = elim h [ ]
-one_stop s content [] (another ∷ others) from at there count [] left rest e f few read read' h h' most most' stops stops' = elim h' [ ]
-one_stop s content [] (another ∷ others) from at there count ((level, x) ∷ todo) left rest e f few read read' h h' most most' stops stops' =
-    let here : Stops s content from (count + 0) ((level, x) ∷ todo) e = subst (λ n. Stops s content n (count + 0) ((level, x) ∷ todo) e) (sym read) (subst (λ (t : Pending). Stops s content at (count + 0) t e) (sym h) stops) in
+    same_stop s content at (count + 0) left e f stops
+    (subst (λ n. Stops s content n (count + 0) left f) (sym read' ∙ read)
+    (subst (λ (t : Pending). Stops s content there (count + 0) t f) (sym h' ∙ h) stops'))
+one_stop s content (body ∷ bodies) others from at there count [] left rest e f few read read' h h' most most' stops stops' =
+    elim h [ ]
+one_stop s content [] (another ∷ others) from at there count [] left rest e f few read read' h h' most most' stops stops' =
+    elim h' [ ]
+one_stop s content [] (another ∷ others) from at there count
+    ((level, x) ∷ todo) left rest e f few read read' h h' most most' stops stops' =
+    let here : Stops s content from (count + 0) ((level, x) ∷ todo) e =
+    subst (λ n. Stops s content n (count + 0) ((level, x) ∷ todo) e) (sym read)
+    (subst (λ (t : Pending). Stops s content at (count + 0) t e) (sym h) stops) in
     absurd (never_stops s content another from (count + 0) level x h'.0 todo e h'.1 (omega arith) read'.0 h'.2 here)
-one_stop s content (body ∷ bodies) [] from at there count ((level, x) ∷ todo) left rest e f few read read' h h' most most' stops stops' =
-    let here : Stops s content from (count + 0) ((level, x) ∷ todo) f = subst (λ n. Stops s content n (count + 0) ((level, x) ∷ todo) f) (sym read') (subst (λ (t : Pending). Stops s content there (count + 0) t f) (sym h') stops') in
+one_stop s content (body ∷ bodies) [] from at there count
+    ((level, x) ∷ todo) left rest e f few read read' h h' most most' stops stops' =
+    let here : Stops s content from (count + 0) ((level, x) ∷ todo) f =
+    subst (λ n. Stops s content n (count + 0) ((level, x) ∷ todo) f) (sym read')
+    (subst (λ (t : Pending). Stops s content there (count + 0) t f) (sym h') stops') in
     absurd (never_stops s content body from (count + 0) level x h.0 todo f h.1 (omega arith) read.0 h.2 here)
-one_stop s content (body ∷ bodies) (another ∷ others) from at there count ((level, x) ∷ todo) left rest e f few read read' h h' most most' stops stops' =
+one_stop s content (body ∷ bodies) (another ∷ others) from at there count
+    ((level, x) ∷ todo) left rest e f few read read' h h' most most' stops stops' =
     let next = before_others (other (direction_of s.pass)) (suc level) h.0 todo in
     let found : Ok (Some another) ≡ Ok (Some body) = sym read'.0 ∙ read.0 in
     let same : another ≡ body = cc in
-    let items : h'.0 ≡ h.0 = one_record s.version s.grammar s.passes s.pass x body h'.0 h.0 few (subst (λ (b : List ℕ). IsRecordOf s.version s.grammar s.passes s.pass x b h'.0) same h'.2) h.2 in
+    let items : h'.0 ≡ h.0 =
+    one_record s.version s.grammar s.passes s.pass x body h'.0 h.0 few
+    (subst (λ (b : List ℕ). IsRecordOf s.version s.grammar s.passes s.pass x b h'.0) same h'.2) h.2 in
     let sum : count + suc (length bodies) ≡ suc count + length bodies = omega arith in
     let sum' : count + suc (length others) ≡ suc count + length others = omega arith in
-    one_stop s content bodies others (before_frame from body) at there (suc count) next left rest e f few read.1 (subst (λ (b : List ℕ). ReadsTo s.version content (before_frame from b) others there) same read'.1)
-    h.3 (subst (λ (ys : List Child). Leaves s (other (direction_of s.pass)) (before_others (other (direction_of s.pass)) (suc level) ys todo) others rest) items h'.3) (omega arith) (omega arith)
+    one_stop s content bodies others (before_frame from body) at there (suc count) next left rest e f few read.1
+    (subst (λ (b : List ℕ). ReadsTo s.version content (before_frame from b) others there) same read'.1)
+    h.3
+    (subst
+    (λ (ys : List Child). Leaves s (other (direction_of s.pass))
+    (before_others (other (direction_of s.pass)) (suc level) ys todo) others rest) items h'.3) (omega arith)
+    (omega arith)
     (subst (λ n. Stops s content at n left e) sum stops) (subst (λ n. Stops s content there n rest f) sum' stops')
 
 -- The content does not begin as a tree file.
-no_file : (is : Bool) (pass : ℕ) (f : FrameFault) → (if is then Ok pass else Err frame_fault.NotATreeFile) ≡ Err f → (is ≡ false) × (f ≡ frame_fault.NotATreeFile)
+no_file : (is : Bool) (pass : ℕ) (f : FrameFault) → (if is then Ok pass else Err frame_fault.NotATreeFile) ≡ Err f
+    → (is ≡ false) × (f ≡ frame_fault.NotATreeFile)
 no_file true pass f e = absurd cc
 no_file false pass f e = (refl, cc)
 
@@ -132,11 +175,13 @@ decidable c sound =
 
 module _ (s : Source) (sound : IsDecidable s) where
   -- Reading up to an offset.
-  pub way_to : (content : List ℕ) (at : ℕ) (todo : Pending) (h : ArrivesAt s content at todo) → ReadSoFar s.version s.grammar s.passes s.pass content at (length h.bodies) todo
+  pub way_to : (content : List ℕ) (at : ℕ) (todo : Pending) (h : ArrivesAt s content at todo)
+      → ReadSoFar s.version s.grammar s.passes s.pass content at (length h.bodies) todo
   way_to content at todo h =
       let begins = reading_begins s.version s.grammar s.passes s.pass content sound.usable sound.fits in
       let sum : 0 + length h.bodies ≡ length h.bodies = omega arith in
-      subst (λ n. ReadSoFar s.version s.grammar s.passes s.pass content at n todo) sum (continues_on s content h.bodies (length content) 0 at (pending_root s.grammar) todo sound.few begins h.read h.records)
+      subst (λ n. ReadSoFar s.version s.grammar s.passes s.pass content at n todo) sum
+      (continues_on s content h.bodies (length content) 0 at (pending_root s.grammar) todo sound.few begins h.read h.records)
 
   -- The content is the file of no tree if reading meets damage.
   pub broken : (content : List ℕ) (at : ℕ) → IsReadable s content → BreaksAt s content at → IsDamaged s content at
@@ -148,7 +193,10 @@ module _ (s : Source) (sound : IsDecidable s) where
   -- The content is the file of no tree within the limits if one is exceeded.
   pub too_deep : (content : List ℕ) → ExceedsDepth s content → IsTooDeep s content
   too_deep content h = record {
-    none = λ nodes. reading_is_too_long s.version s.grammar s.passes s.pass content h.at (length h.arrival.bodies) h.level s.depth nodes h.next h.others (way_to content h.at ((h.level, h.next) ∷ h.others) h.arrival) (inl h.deep);
+    none =
+        λ nodes. reading_is_too_long s.version s.grammar s.passes s.pass content h.at
+        (length h.arrival.bodies) h.level s.depth nodes h.next h.others
+        (way_to content h.at ((h.level, h.next) ∷ h.others) h.arrival) (inl h.deep);
     shown = h;
   }
 
@@ -156,18 +204,26 @@ module _ (s : Source) (sound : IsDecidable s) where
   too_many content h =
       let full = h.full in
       record {
-        none = λ depth. reading_is_too_long s.version s.grammar s.passes s.pass content h.at (length h.arrival.bodies) h.level depth s.nodes h.next h.others (way_to content h.at ((h.level, h.next) ∷ h.others) h.arrival) (inr (omega arith));
+        none =
+            λ depth. reading_is_too_long s.version s.grammar s.passes s.pass content h.at
+            (length h.arrival.bodies) h.level depth s.nodes h.next h.others
+            (way_to content h.at ((h.level, h.next) ∷ h.others) h.arrival) (inr (omega arith));
         shown = h;
       }
 
   -- The content is the file of no tree if reading its header fails, since it does not begin as a tree file.
-  pub unstarted : (content : List ℕ) (f : FrameFault) → pass_in s.version content ≡ Err f → (f ≡ frame_fault.NotATreeFile) × IsDamaged s content 0
+  pub unstarted : (content : List ℕ) (f : FrameFault) → pass_in s.version content ≡ Err f
+      → (f ≡ frame_fault.NotATreeFile) × IsDamaged s content 0
   unstarted content f exact =
       let is = no_file (is_tree_file s.version content) (pass_of content) f exact in (
         is.1,
         record {
           none = λ t v tree file.
-              let begun : is_tree_file s.version content ≡ true = ap (is_tree_file s.version) file.occurs ∙ begins s.version s.pass (flat_map frame (postfix (direction_of s.pass) (bodies_of s.version s.grammar s.passes s.pass t v))) sound.usable in
+              let begun : is_tree_file s.version content ≡ true =
+              ap (is_tree_file s.version) file.occurs
+              ∙ begins s.version s.pass
+              (flat_map frame (postfix (direction_of s.pass) (bodies_of s.version s.grammar s.passes s.pass t v)))
+              sound.usable in
               let not_true : false ≡ true = sym is.0 ∙ begun in
               cc;
           shown = inl (is.0, refl);
@@ -175,7 +231,8 @@ module _ (s : Source) (sound : IsDecidable s) where
       )
 
   -- The content is the file of no tree of this pass if it is the file of another pass.
-  pub other_pass : (content : List ℕ) (pass : ℕ) → s.pass < 2 ^ 16 → pass_in s.version content ≡ Ok pass → pass ≢ s.pass → IsDamaged s content 4
+  pub other_pass : (content : List ℕ) (pass : ℕ) → s.pass < 2 ^ 16 → pass_in s.version content ≡ Ok pass → pass ≢ s.pass
+      → IsDamaged s content 4
   other_pass content pass small exact not =
       let is = is_file (is_tree_file s.version content) (pass_of content) pass exact in
       let otherwise : pass_of content ≢ s.pass = λ same. not (sym is.1 ∙ same) in
@@ -194,17 +251,24 @@ module _ (s : Source) (sound : IsDecidable s) where
 
 -- The header of a content shows a fault, or reading stops for one.
 abbrev ShowsOnWay : Source → List ℕ → RunFault → Type 0
-ShowsOnWay s content f = IsReadable s content × ((todo : Pending) × (at : ℕ) × (arrival : ArrivesAt s content at todo) × Stops s content at (length arrival.bodies) todo f)
+ShowsOnWay s content f =
+    IsReadable s content
+    × ((todo : Pending) × (at : ℕ) × (arrival : ArrivesAt s content at todo)
+    × Stops s content at (length arrival.bodies) todo f)
 
 abbrev ShowsSomewhere : Source → List ℕ → RunFault → Type 0
-ShowsSomewhere s content f = ((is_tree_file s.version content ≡ false) × (f ≡ fault.Damaged 0)) ⊎ (((is_tree_file s.version content ≡ true) × (pass_of content ≢ s.pass) × (f ≡ fault.Damaged 4)) ⊎ ShowsOnWay s content f)
+ShowsSomewhere s content f =
+    ((is_tree_file s.version content ≡ false) × (f ≡ fault.Damaged 0))
+    ⊎ (((is_tree_file s.version content ≡ true) × (pass_of content ≢ s.pass) × (f ≡ fault.Damaged 4))
+    ⊎ ShowsOnWay s content f)
 
 somewhere : (s : Source) (content : List ℕ) (f : RunFault) → Shows s content f → ShowsSomewhere s content f
 somewhere s content (fault.Damaged at) (inl a) = inl (a.0, ap fault.Damaged a.1)
 somewhere s content (fault.Damaged at) (inr (inl a)) = inr (inl (a.0, a.1, ap fault.Damaged a.2))
 somewhere s content (fault.Damaged at) (inr (inr a)) = inr (inr (a.0, (a.1.0, at, a.1.1, (refl, a.1.2, a.1.3))))
 somewhere s content fault.TooDeep h = inr (inr (h.readable, ((h.level, h.next) ∷ h.others, h.at, h.arrival, h.deep)))
-somewhere s content fault.TooManyNodes h = let full = h.full in inr (inr (h.readable, ((h.level, h.next) ∷ h.others, h.at, h.arrival, (h.within, omega arith))))
+somewhere s content fault.TooManyNodes h = let full = h.full in
+    inr (inr (h.readable, ((h.level, h.next) ∷ h.others, h.at, h.arrival, (h.within, omega arith))))
 somewhere s content fault.Device h = absurd h
 somewhere s content fault.NoMemory h = absurd h
 
@@ -227,5 +291,6 @@ shows_once s content e f accepted one another = go (somewhere s content e one) (
         let most' = second.few in
         let sum : length first.bodies ≡ 0 + length first.bodies = omega arith in
         let sum' : length second.bodies ≡ 0 + length second.bodies = omega arith in
-        one_stop s content first.bodies second.bodies (length content) a.1.1 b.1.1 0 (pending_root s.grammar) a.1.0 b.1.0 e f (numbered s.grammar accepted) first.read second.read first.records second.records (omega arith) (omega arith)
+        one_stop s content first.bodies second.bodies (length content) a.1.1 b.1.1 0 (pending_root s.grammar) a.1.0 b.1.0 e f
+        (numbered s.grammar accepted) first.read second.read first.records second.records (omega arith) (omega arith)
         (subst (λ n. Stops s content a.1.1 n a.1.0 e) sum a.1.3) (subst (λ n. Stops s content b.1.1 n b.1.0 f) sum' b.1.3)

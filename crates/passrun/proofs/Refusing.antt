@@ -1,7 +1,8 @@
 -- The reasons for which a fault holds.
 use Rattle.std.specs.Option.{option_map}
 use Rattle.std.specs.Prelude.{IsTrue}
-use Rattle.std.proofs.Common.{ℕ, suc, ◌≡◌, ◌+◌, ◌-◌, Bool, true, List, [], ◌∷◌, ◌++◌, Option, Some, None, Ok, Err, is_some, Bor, slice_get, length, drop, reverse, refl, ap, ◌∙◌, sym, subst, arith}
+use Rattle.std.proofs.Common.{ℕ, suc, ◌≡◌, ◌+◌, ◌-◌, Bool, true, List, [], ◌∷◌, ◌++◌, Option, Some, None, Ok, Err, is_some, Bor}
+use Rattle.std.proofs.Common.{slice_get, length, drop, reverse, refl, ap, ◌∙◌, sym, subst, arith}
 use Rattle.std.proofs.lemmas.List.{length-reverse}
 use Rattle.ag_grammar.specs.declared.grammar.Item.{Item}
 use Rattle.ag_grammar.specs.declared.grammar.Item.TheVariants as item
@@ -39,7 +40,8 @@ use Rattle.passrun.proofs.steps.Steps.{get_first}
 use Rattle.passrun.proofs.steps.MachineSteps.{Answers, begins_so, got_place}
 
 -- A body was returned.
-pub some_lent : (found : Option (Bor (List ℕ))) → is_some found ≡ true → (body : List ℕ) × (option_map (λ (b : Bor (List ℕ)). b.now) found ≡ Some body)
+pub some_lent : (found : Option (Bor (List ℕ))) → is_some found ≡ true
+    → (body : List ℕ) × (option_map (λ (b : Bor (List ℕ)). b.now) found ≡ Some body)
 some_lent (Some body) e = (body.now, refl)
 some_lent None e = absurd cc
 
@@ -48,26 +50,34 @@ record FirstCome (c : Setting) (content : List ℕ) (m : Machine) (x : OpenNode)
   values : ℕ → Value
   left : Pending
   readable : IsReadable (source c) content
-  here : ArrivesAt (source c) content m.back.progress.at ((suc (length m.waiting.items + 1), (row.item, Some (values_up_to c.read (copied_passes c row.item) values))) ∷ left)
+  here : ArrivesAt (source c) content m.back.progress.at
+      ((suc (length m.waiting.items + 1), (row.item, Some (values_up_to c.read (copied_passes c row.item) values))) ∷ left)
   count : m.back.progress.records ≡ length here.bodies
-  found : (more : List Value) → (rest : List Value) × (drop (x.base + row.start) (m.values.items ++ more) ≡ values_up_to c.write (copied_passes c row.item) values ++ rest)
+  found : (more : List Value) → (rest : List Value)
+      × (drop (x.base + row.start) (m.values.items ++ more) ≡ values_up_to c.write (copied_passes c row.item) values ++ rest)
 
 abbrev before_it : ℕ → Item → List Value → Pending → Pending
 before_it n x copy left = (n, (x, Some copy)) ∷ left
 
 -- The values that were read come after the other values.
-pub read_row : (c : Setting) (x : Item) (p : ℕ) (body : List ℕ) (old new : List Value) → IsRead c x p body old new → (row : List Value) × (new ≡ old ++ row)
-read_row c (item.Symbol s) p body old new h = (values_up_to c.write (c.passes s) h.values ++ copies c c.write (stored_items h.production.items) h.table, h.row)
+pub read_row : (c : Setting) (x : Item) (p : ℕ) (body : List ℕ) (old new : List Value) → IsRead c x p body old new
+    → (row : List Value) × (new ≡ old ++ row)
+read_row c (item.Symbol s) p body old new h =
+    (values_up_to c.write (c.passes s) h.values ++ copies c c.write (stored_items h.production.items) h.table, h.row)
 read_row c (item.Terminal (Class d)) p body old new h = (Text h.1.text ∷ [], h.1.row)
 read_row c (item.Terminal (Literal l)) p body old new h = elim h [ ]
 
 module _ (c : Setting) (sound : IsSound c) where
   -- The first child to be read when the record of a child is fetched.
-  first_come : (honest : Bool) (content : List ℕ) (m : Machine) (x : OpenNode) (j : ℕ) (row : PlaceRow) → RunsFrom c honest content m (Some x) → slice_get (list_at c x.production) x.at ≡ Some (instr.Get j) → Answers c x j (Some row) → honest ≡ true → FirstCome c content m x j row
+  first_come : (honest : Bool) (content : List ℕ) (m : Machine) (x : OpenNode) (j : ℕ) (row : PlaceRow)
+      → RunsFrom c honest content m (Some x) → slice_get (list_at c x.production) x.at ≡ Some (instr.Get j)
+      → Answers c x j (Some row) → honest ≡ true → FirstCome c content m x j row
   first_come honest content m x j row (to_honest, to, meter, r) at is w =
       let xs = reverse m.waiting.items in
       let i = got_place c sound honest content m x j row (to_honest, to, meter, r) at is in
-      let first = get_first c sound m.root x xs m.values.items r.running.transcript (meter - m.begun) r.running.todo j i.production row.item at i.there i.occurs r.running.invariant in
+      let first =
+      get_first c sound m.root x xs m.values.items r.running.transcript
+      (meter - m.begun) r.running.todo j i.production row.item at i.there i.occurs r.running.invariant in
       let l = length-reverse m.waiting.items in
       let level : suc (suc (length xs)) ≡ suc (length m.waiting.items + 1) = omega arith in
       record {
@@ -77,24 +87,37 @@ module _ (c : Setting) (sound : IsSound c) where
         here = record {
           bodies = r.running.transcript.read;
           read = r.running.read w;
-          records = subst (AreRecords (source c) r.running.transcript.read) (first.2 ∙ ap (λ n. before_it n row.item (values_up_to c.read (copied_passes c row.item) first.0) first.1) level) r.running.ahead;
+          records =
+              subst (AreRecords (source c) r.running.transcript.read)
+              (first.2 ∙ ap (λ n. before_it n row.item (values_up_to c.read (copied_passes c row.item) first.0) first.1)
+              level) r.running.ahead;
           few = r.running.few;
         };
         count = r.running.records;
         found = λ more. let z = first.3 more in (z.0, ap (λ n. drop (x.base + n) (m.values.items ++ more)) i.start ∙ z.1);
       }
 
-  pub get_refused : (honest : Bool) (content : List ℕ) (m : Machine) (x : OpenNode) (j n : ℕ) (row : PlaceRow) (f : RunFault) → RunsFrom c honest content m (Some x) → slice_get (list_at c x.production) x.at ≡ Some (instr.Get j) → Answers c x j (Some row) → n ≡ length m.waiting.items + 1
+  pub get_refused : (honest : Bool) (content : List ℕ) (m : Machine) (x : OpenNode) (j n : ℕ) (row : PlaceRow) (f : RunFault)
+      → RunsFrom c honest content m (Some x) → slice_get (list_at c x.production) x.at ≡ Some (instr.Get j)
+      → Answers c x j (Some row) → n ≡ length m.waiting.items + 1
       → WhenHonest honest (IsUnfetched c row.item n content m.back f) → WhenHonest honest (IsRunFault c content f)
   get_refused honest content m x j n row f runs at is count h w =
       let z = first_come honest content m x j row runs at is w in
-      unfetched c sound row.item (Some (values_up_to c.read (copied_passes c row.item) z.values)) (length m.waiting.items + 1) content m.back z.left f z.readable z.here z.count (subst (λ n. IsUnfetched c row.item n content m.back f) count (h w))
+      unfetched c sound row.item (Some (values_up_to c.read (copied_passes c row.item) z.values))
+      (length m.waiting.items + 1) content m.back z.left f z.readable z.here z.count
+      (subst (λ n. IsUnfetched c row.item n content m.back f) count (h w))
 
   -- The record of a child does not agree with its copy.
-  pub get_differs : (honest : Bool) (content : List ℕ) (m : Machine) (x : OpenNode) (j p n : ℕ) (row : PlaceRow) (back : BackState) (read ours theirs : List Value) (from start : ℕ) (answer : Bool) → RunsFrom c honest content m (Some x) → slice_get (list_at c x.production) x.at ≡ Some (instr.Get j) → Answers c x j (Some row) → n ≡ length m.waiting.items + 1
-      → HasFetched c row.item p n honest content m.back back m.values.items read → Agrees c row.item ours theirs answer → (IsTrue answer → ⊥) → ours ≡ drop from read → theirs ≡ drop start read → from ≡ x.base + row.start → start ≡ length m.values.items
+  pub get_differs : (honest : Bool) (content : List ℕ) (m : Machine) (x : OpenNode) (j p n : ℕ) (row : PlaceRow)
+      (back : BackState) (read ours theirs : List Value) (from start : ℕ) (answer : Bool) → RunsFrom c honest content m (Some x)
+      → slice_get (list_at c x.production) x.at ≡ Some (instr.Get j) → Answers c x j (Some row)
+      → n ≡ length m.waiting.items + 1
+      → HasFetched c row.item p n honest content m.back back m.values.items read → Agrees c row.item ours theirs answer
+      → (IsTrue answer → ⊥) → ours ≡ drop from read → theirs ≡ drop start read → from ≡ x.base + row.start
+      → start ≡ length m.values.items
       → WhenHonest honest (IsDamaged (source c) content m.back.progress.at)
-  get_differs honest content m x j p n row back read ours theirs from start answer runs at is level h agrees not_true ours_are theirs_are from_is start_is w =
+  get_differs honest content m x j p n row back read ours theirs from start answer runs at is level h agrees not_true ours_are
+      theirs_are from_is start_is w =
       let z = first_come honest content m x j row runs at is w in
       let back_row = begins_so c row.item p h.body m.values.items read h.taken in
       let more = read_row c row.item p h.body m.values.items read h.taken in
@@ -103,37 +126,67 @@ module _ (c : Setting) (sound : IsSound c) where
       let deep = h.deep in
       let few = h.few in
       let count = z.count in
-      let other = agrees z.values (read_values c row.item p h.body m.values.items read h.taken) found.0 back_row.0 prefix (theirs_are ∙ ap (λ n. drop n read) start_is ∙ back_row.1) in
-      disagreed c sound row.item p (suc (length m.waiting.items + 1)) content h.body m.back.progress.at z.left m.values.items read h.taken z.values (λ same. not_true (other.1 same)) z.readable z.here (omega arith) (omega arith) (h.found w)
+      let other =
+      agrees z.values (read_values c row.item p h.body m.values.items read h.taken) found.0 back_row.0 prefix
+      (theirs_are ∙ ap (λ n. drop n read) start_is ∙ back_row.1) in
+      disagreed c sound row.item p (suc (length m.waiting.items + 1)) content h.body m.back.progress.at z.left m.values.items read
+      h.taken z.values (λ same. not_true (other.1 same)) z.readable z.here (omega arith) (omega arith) (h.found w)
 
   -- The content does not begin as a tree file.
-  pub not_started : (content : List ℕ) (view : BackState → ℕ) (f : FrameFault) → ReadsAs view (Err f) (pass_in version_two content) → IsRunFault c content (run_fault_of_frame f)
-  not_started content view frame_fault.NotATreeFile exact = (unstarted (source c) (decidable c sound) content frame_fault.NotATreeFile exact).1
-  not_started content view (frame_fault.Damaged at) exact = absurd (let z = (unstarted (source c) (decidable c sound) content (frame_fault.Damaged at) exact).0 in cc)
+  pub not_started : (content : List ℕ) (view : BackState → ℕ) (f : FrameFault)
+      → ReadsAs view (Err f) (pass_in version_two content) → IsRunFault c content (run_fault_of_frame f)
+  not_started content view frame_fault.NotATreeFile exact =
+      (unstarted (source c) (decidable c sound) content frame_fault.NotATreeFile exact).1
+  not_started content view (frame_fault.Damaged at) exact =
+      absurd (let z = (unstarted (source c) (decidable c sound) content (frame_fault.Damaged at) exact).0 in cc)
   not_started content view frame_fault.Device exact = tt
   not_started content view frame_fault.NoMemory exact = tt
 
-  pub root_unfetched : (start : ℕ) (content : List ℕ) (state : BackState) (f : RunFault) → start ≡ c.grammar.start → IsReadable (source c) content → state.progress.at ≡ length content → state.progress.records ≡ 0 → IsUnfetched c (item.Symbol start) 0 content state f → IsRunFault c content f
+  pub root_unfetched : (start : ℕ) (content : List ℕ) (state : BackState) (f : RunFault) → start ≡ c.grammar.start
+      → IsReadable (source c) content → state.progress.at ≡ length content → state.progress.records ≡ 0
+      → IsUnfetched c (item.Symbol start) 0 content state f → IsRunFault c content f
   root_unfetched start content state f is readable end fresh h =
-      let here : ArrivesAt (source c) content state.progress.at ((1, (item.Symbol c.grammar.start, None)) ∷ []) = record { bodies = []; read = sym end; records = refl; few = omega arith } in
-      unfetched c sound (item.Symbol c.grammar.start) None 0 content state [] f readable here fresh (subst (λ s. IsUnfetched c (item.Symbol s) 0 content state f) is h)
+      let here : ArrivesAt (source c) content state.progress.at ((1, (item.Symbol c.grammar.start, None)) ∷ []) =
+      record { bodies = []; read = sym end; records = refl; few = omega arith } in
+      unfetched c sound (item.Symbol c.grammar.start) None 0 content state [] f readable here fresh
+      (subst (λ s. IsUnfetched c (item.Symbol s) 0 content state f) is h)
 
   -- No child is to be read, and a frame is left.
-  pub left_over : (content : List ℕ) (at : ℕ) (body : List ℕ) → IsReadable (source c) content → ArrivesAt (source c) content at [] → next_before version_two content at ≡ Ok (Some body) → IsDamaged (source c) content at
-  left_over content at body readable here found = broken (source c) (decidable c sound) content at readable ([], here, tt, subst (Breaks version_two c.grammar c.passes c.read []) (sym found) tt)
+  pub left_over : (content : List ℕ) (at : ℕ) (body : List ℕ) → IsReadable (source c) content → ArrivesAt (source c) content at []
+      → next_before version_two content at ≡ Ok (Some body) → IsDamaged (source c) content at
+  left_over content at body readable here found =
+      broken (source c) (decidable c sound) content at readable
+      ([], here, tt, subst (Breaks version_two c.grammar c.passes c.read []) (sym found) tt)
 
-  pub end_refused : (content : List ℕ) (at : ℕ) (view : Option (Bor (List ℕ)) → Option (List ℕ)) (f : FrameFault) → IsReadable (source c) content → ArrivesAt (source c) content at [] → ReadsAs view (Err f) (next_before version_two content at) → IsRunFault c content (run_fault_of_frame f)
+  pub end_refused : (content : List ℕ) (at : ℕ) (view : Option (Bor (List ℕ)) → Option (List ℕ)) (f : FrameFault)
+      → IsReadable (source c) content → ArrivesAt (source c) content at []
+      → ReadsAs view (Err f) (next_before version_two content at) → IsRunFault c content (run_fault_of_frame f)
   end_refused content at view frame_fault.NotATreeFile readable here exact = absurd (never_no_file version_two content at exact)
-  end_refused content at view (frame_fault.Damaged b) readable here exact = subst (IsDamaged (source c) content) (sym (damage_is_there version_two content at b exact)) (broken (source c) (decidable c sound) content at readable ([], here, tt, subst (Breaks version_two c.grammar c.passes c.read []) (sym exact) tt))
+  end_refused content at view (frame_fault.Damaged b) readable here exact =
+      subst (IsDamaged (source c) content) (sym (damage_is_there version_two content at b exact))
+      (broken (source c) (decidable c sound) content at readable
+      ([], here, tt, subst (Breaks version_two c.grammar c.passes c.read []) (sym exact) tt))
   end_refused content at view frame_fault.Device readable here exact = tt
   end_refused content at view frame_fault.NoMemory readable here exact = tt
 
   -- All records of a tree were read.
-  pub end_come : (honest : Bool) (content : List ℕ) (to_honest : Bool) (to : List ℕ) (m : Machine) → RunsBetween c honest content to_honest to m None → WhenHonest honest (IsReadable (source c) content × ArrivesAt (source c) content m.back.progress.at [])
-  end_come honest content to_honest to m (meter, r) w = (r.running.readable w, record { bodies = r.running.transcript.read; read = r.running.read w; records = subst (AreRecords (source c) r.running.transcript.read) r.running.invariant.nothing r.running.ahead; few = r.running.few })
+  pub end_come : (honest : Bool) (content : List ℕ) (to_honest : Bool) (to : List ℕ) (m : Machine)
+      → RunsBetween c honest content to_honest to m None
+      → WhenHonest honest (IsReadable (source c) content × ArrivesAt (source c) content m.back.progress.at [])
+  end_come honest content to_honest to m (meter, r) w = (
+    r.running.readable w,
+    record {
+      bodies = r.running.transcript.read;
+      read = r.running.read w;
+      records = subst (AreRecords (source c) r.running.transcript.read) r.running.invariant.nothing r.running.ahead;
+      few = r.running.few;
+    },
+  )
 
-  pub end_version : (honest : Bool) (content : List ℕ) (to_honest : Bool) (to : List ℕ) (m : Machine) → RunsBetween c honest content to_honest to m None → m.back.progress.version ≡ version_two
+  pub end_version : (honest : Bool) (content : List ℕ) (to_honest : Bool) (to : List ℕ) (m : Machine)
+      → RunsBetween c honest content to_honest to m None → m.back.progress.version ≡ version_two
   end_version honest content to_honest to m (meter, r) = r.running.version
 
-  pub end_unbroken : (honest : Bool) (content : List ℕ) (to_honest : Bool) (to : List ℕ) (m : Machine) → RunsBetween c honest content to_honest to m None → m.back.progress.fault ≡ None
+  pub end_unbroken : (honest : Bool) (content : List ℕ) (to_honest : Bool) (to : List ℕ) (m : Machine)
+      → RunsBetween c honest content to_honest to m None → m.back.progress.fault ≡ None
   end_unbroken honest content to_honest to m (meter, r) = r.running.unbroken

@@ -17,7 +17,8 @@ use Rattle.passrun.specs.Rounds.{HasRunAll, LeavesSolutions, last_content, other
 pub all_rules_are_run : AllRulesAreRun
 all_rules_are_run g m last start which a b evals sum accepted legal is h t u tree file =
     let none : last - 0 ≡ last = omega arith in
-    (h.counts t u tree file).evals_are ∙ ap (sum_of_passes (λ p. rules_of_pass m p g t) 0) none ∙ passes_have_all_rules g m t last accepted legal is
+    (h.counts t u tree file).evals_are ∙ ap (sum_of_passes (λ p. rules_of_pass m p g t) 0) none
+    ∙ passes_have_all_rules g m t last accepted legal is
 
 pub values_are_the_solution : ValuesAreTheSolution
 values_are_the_solution g m last start which a b evals sum accepted legal is h t u tree file =
@@ -25,11 +26,13 @@ values_are_the_solution g m last start which a b evals sum accepted legal is h t
     run_is_the_solution g m t u run.values last accepted legal is tree run.ran
 
 -- From pass 1 on, the last file has the solution.
-pub solutions_left : (g : Grammar) (m : Passes) (k last : ℕ) (start : List ℕ) (which : Last) (a b : List ℕ) (evals : ℕ) (sum : Passed)
+pub solutions_left : (g : Grammar) (m : Passes) (k last : ℕ) (start : List ℕ) (which : Last) (a b : List ℕ) (evals : ℕ)
+    (sum : Passed)
     → IsAccepted g → IsLegal g m → IsLastPass last m → k ≡ 0 → HasRunAll g m k last start which a b evals sum
     → LeavesSolutions g m last start (last_content which a b) (other_content which a b)
 solutions_left g m k last start which a b evals sum accepted legal is first ran t u tree file =
-    let all : HasRunAll g m 0 last start which a b evals sum = subst (λ n. HasRunAll g m n last start which a b evals sum) first ran in
+    let all : HasRunAll g m 0 last start which a b evals sum =
+    subst (λ n. HasRunAll g m n last start which a b evals sum) first ran in
     let run = all.runs t u tree file in (
       run.values,
       record {

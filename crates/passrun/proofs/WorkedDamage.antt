@@ -1,5 +1,6 @@
 -- Files of binary fractions that are damaged, as worked examples.
-use Rattle.std.proofs.Common.{◌≡◌, ℕ, inl, inr, true, pos, List, [], ◌∷◌, Some, None, Ok, slice_get, refl, ap, ◌∙◌, sym, subst, arith}
+use Rattle.std.proofs.Common.{◌≡◌, ℕ, inl, inr, true, pos, List, [], ◌∷◌, Some, None, Ok, slice_get, refl, ap, ◌∙◌, sym, subst}
+use Rattle.std.proofs.Common.{arith}
 use Rattle.std.proofs.lemmas.List.Elements.{All-nil}
 use Rattle.std.proofs.lemmas.Option.{same_Some}
 use Rattle.ag_value.specs.declared.value.Value.{Value, Num}
@@ -35,26 +36,66 @@ unfolding next_before
 before_header = refl
 
 pub header_alone : ShowsAt (fractions 0) (header version_two 0) 6
-header_alone = inr (inr (record { begins = header_begins; number = refl }, (pending_root binary, record { bodies = []; read = refl; records = refl; few = omega arith }, (omega arith, omega arith), subst (Breaks version_two binary binary_passes 0 (pending_root binary)) (sym before_header) tt)))
+header_alone =
+    inr
+    (inr (
+      record { begins = header_begins; number = refl },
+      (
+        pending_root binary,
+        record { bodies = []; read = refl; records = refl; few = omega arith },
+        (omega arith, omega arith),
+        subst (Breaks version_two binary binary_passes 0 (pending_root binary)) (sym before_header) tt,
+      ),
+    ))
 
 -- After the header the root exceeds a limit of 0 levels, and a limit of 0 nodes.
 pub root_deep : ExceedsDepth (fractions_within 0 1) (header version_two 0)
-root_deep = record { readable = record { begins = header_begins; number = refl }; at = 6; level = 1; next = (item.Symbol binary.start, None); others = []; arrival = record { bodies = []; read = refl; records = refl; few = omega arith }; deep = omega arith }
+root_deep =
+    record {
+      readable = record { begins = header_begins; number = refl };
+      at = 6;
+      level = 1;
+      next = (item.Symbol binary.start, None);
+      others = [];
+      arrival = record { bodies = []; read = refl; records = refl; few = omega arith };
+      deep = omega arith;
+    }
 
 pub root_many : ExceedsNodes (fractions_within 1 0) (header version_two 0)
-root_many = record { readable = record { begins = header_begins; number = refl }; at = 6; level = 1; next = (item.Symbol binary.start, None); others = []; arrival = record { bodies = []; read = refl; records = refl; few = omega arith }; within = omega arith; full = refl }
+root_many =
+    record {
+      readable = record { begins = header_begins; number = refl };
+      at = 6;
+      level = 1;
+      next = (item.Symbol binary.start, None);
+      others = [];
+      arrival = record { bodies = []; read = refl; records = refl; few = omega arith };
+      within = omega arith;
+      full = refl;
+    }
 
 -- The record of Q is not a record of N.
 abbrev numbers : ℕ → Value
 numbers a = Num (pos 65536)
 
 q_record : IsNodeRecord version_two binary binary_passes 0 1 (0 ∷ 0 ∷ 1 ∷ []) 1 (production_of 1 []) numbers
-q_record = record { production = refl; left = refl; well = λ a n has le. well_number 65536 (omega arith); copies = []; are_copies = (refl, All-nil IsWell); occurs = refl }
+q_record =
+    record {
+      production = refl;
+      left = refl;
+      well = λ a n has le. well_number 65536 (omega arith);
+      copies = [];
+      are_copies = (refl, All-nil IsWell);
+      occurs = refl;
+    }
 
 q_is_none : IsNoRecord version_two binary binary_passes 0 (item.Symbol 0, None) (0 ∷ 0 ∷ 1 ∷ [])
 q_is_none ys is =
-    let one = same_node version_two binary binary_passes 0 0 1 is.0 1 (0 ∷ 0 ∷ 1 ∷ []) is.1 (production_of 1 []) is.2 numbers binary_numbered is.3 q_record in
-    let same : is.1 ≡ production_of 1 [] = same_Some is.1 (production_of 1 []) (sym is.3.production ∙ ap (slice_get binary.productions) one.0) in
+    let one =
+    same_node version_two binary binary_passes 0 0 1 is.0 1 (0 ∷ 0 ∷ 1 ∷ []) is.1
+    (production_of 1 []) is.2 numbers binary_numbered is.3 q_record in
+    let same : is.1 ≡ production_of 1 [] =
+    same_Some is.1 (production_of 1 []) (sym is.3.production ∙ ap (slice_get binary.productions) one.0) in
     let left : ◌≡◌ {A = ℕ} 0 1 = sym is.3.left ∙ ap (λ (q : Production). q.left) same in
     omega (arith, left)
 
@@ -71,4 +112,14 @@ unfolding next_before body_before fits_before
 q_at_end = refl
 
 pub q_alone : ShowsAt (fractions 0) (file version_two 0 ((0 ∷ 0 ∷ 1 ∷ []) ∷ [])) 13
-q_alone = inr (inr (record { begins = q_begins; number = refl }, (pending_root binary, record { bodies = []; read = refl; records = refl; few = omega arith }, (omega arith, omega arith), subst (Breaks version_two binary binary_passes 0 (pending_root binary)) (sym q_at_end) q_is_none)))
+q_alone =
+    inr
+    (inr (
+      record { begins = q_begins; number = refl },
+      (
+        pending_root binary,
+        record { bodies = []; read = refl; records = refl; few = omega arith },
+        (omega arith, omega arith),
+        subst (Breaks version_two binary binary_passes 0 (pending_root binary)) (sym q_at_end) q_is_none,
+      ),
+    ))

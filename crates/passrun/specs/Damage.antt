@@ -5,7 +5,8 @@ use Rattle.ag_grammar.specs.declared.direction.Direction.{Direction}
 use Rattle.ag_grammar.specs.grammars.AttributeGrammar.{Grammar}
 use Rattle.ag_grammar.specs.grammars.Passes.{Passes, direction_of, other}
 use Rattle.ag_grammar.specs.grammars.Tree.{max_depth, max_nodes}
-use Rattle.treefile.specs.framing.ExpectedRecords.{Breaks, Child, HasNoTree, HasNoTreeWithin, IsRecordOf, Pending, before_others, pending_root}
+use Rattle.treefile.specs.framing.ExpectedRecords.{Breaks, Child, HasNoTree, HasNoTreeWithin, IsRecordOf, Pending, before_others}
+use Rattle.treefile.specs.framing.ExpectedRecords.{pending_root}
 use Rattle.treefile.specs.framing.Backward.{ReadsTo, next_before, pass_of}
 use Rattle.treefile.specs.framing.Ending.{is_tree_file}
 use Rattle.treefile.specs.records.TreeFile.{Version, version_two}
@@ -26,7 +27,8 @@ pub record Source : Type 0 where
 
 -- A pass reads the file of the previous pass.
 abbrev pub source : Setting → Source
-source c = record { version = version_two; grammar = c.grammar; passes = c.passes; pass = c.read; depth = max_depth; nodes = max_nodes }
+source c =
+    record { version = version_two; grammar = c.grammar; passes = c.passes; pass = c.read; depth = max_depth; nodes = max_nodes }
 
 -- A content begins as such a file.
 pub record IsReadable (s : Source) (content : List ℕ) : Type 0 where
@@ -38,7 +40,9 @@ pub record IsReadable (s : Source) (content : List ℕ) : Type 0 where
 abbrev pub Leaves : Source → Direction → Pending → List (List ℕ) → Pending → Type 0
 Leaves s d todo [] left = todo ≡ left
 Leaves s d [] (body ∷ bodies) left = ⊥
-Leaves s d (x ∷ xs) (body ∷ bodies) left = (ys : List Child) × (x.0 ≤ s.depth) × IsRecordOf s.version s.grammar s.passes s.pass x.1 body ys × Leaves s d (before_others d (suc x.0) ys xs) bodies left
+Leaves s d (x ∷ xs) (body ∷ bodies) left =
+    (ys : List Child) × (x.0 ≤ s.depth) × IsRecordOf s.version s.grammar s.passes s.pass x.1 body ys
+    × Leaves s d (before_others d (suc x.0) ys xs) bodies left
 
 -- The bodies that are read, from the end of a file, are records of the grammar at their places: the root's
 -- first, and each node's before those of its children. The remaining children are still to be read.
@@ -63,13 +67,17 @@ IsWithin s (x ∷ xs) count = (x.0 ≤ s.depth) × (count < s.nodes)
 -- there; or one whose body is not a record of the first child to be read; or no child is to be read, and a
 -- frame is left; or the header ends there, and a child is still to be read.
 abbrev pub BreaksAt : Source → List ℕ → ℕ → Type 0
-BreaksAt s content at = (todo : Pending) × (arrival : ArrivesAt s content at todo) × IsWithin s todo (length arrival.bodies) × Breaks s.version s.grammar s.passes s.pass todo (next_before s.version content at)
+BreaksAt s content at =
+    (todo : Pending) × (arrival : ArrivesAt s content at todo) × IsWithin s todo (length arrival.bodies)
+    × Breaks s.version s.grammar s.passes s.pass todo (next_before s.version content at)
 
 -- The offset at which a content shows that it is the file of no tree: 0 if it does not begin as a tree file
 -- of the version, 4 if it is that of another pass, and otherwise the one at which reading meets damage.
 abbrev pub ShowsAt : Source → List ℕ → ℕ → Type 0
 ShowsAt s content at =
-    ((is_tree_file s.version content ≡ false) × (at ≡ 0)) ⊎ (((is_tree_file s.version content ≡ true) × (pass_of content ≢ s.pass) × (at ≡ 4)) ⊎ (IsReadable s content × BreaksAt s content at))
+    ((is_tree_file s.version content ≡ false) × (at ≡ 0))
+    ⊎ (((is_tree_file s.version content ≡ true) × (pass_of content ≢ s.pass) × (at ≡ 4))
+    ⊎ (IsReadable s content × BreaksAt s content at))
 
 -- The limit of levels is exceeded before damage is met: reading reaches a child at a deeper level.
 pub record ExceedsDepth (s : Source) (content : List ℕ) : Type 0 where
@@ -120,8 +128,10 @@ Shows s content fault.NoMemory = ⊥
 
 -- The file of pass k of a tree of binary fractions.
 abbrev pub fractions : ℕ → Source
-fractions k = record { version = version_two; grammar = binary; passes = binary_passes; pass = k; depth = max_depth; nodes = max_nodes }
+fractions k =
+    record { version = version_two; grammar = binary; passes = binary_passes; pass = k; depth = max_depth; nodes = max_nodes }
 
 -- The file of pass 0 of a tree of binary fractions within limits.
 abbrev pub fractions_within : (depth nodes : ℕ) → Source
-fractions_within depth nodes = record { version = version_two; grammar = binary; passes = binary_passes; pass = 0; depth = depth; nodes = nodes }
+fractions_within depth nodes =
+    record { version = version_two; grammar = binary; passes = binary_passes; pass = 0; depth = depth; nodes = nodes }

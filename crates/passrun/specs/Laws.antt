@@ -26,34 +26,44 @@ use Rattle.passrun.specs.Rounds.{HasRunAll}
 
 -- A pass of a plan of an accepted grammar can run, in a context that has the layout of each production.
 abbrev pub PlansCanRun : Type 0
-PlansCanRun = (context : PassContext) (passes : ℕ) → IsAccepted context.grammar.now → IsPlan context.grammar.now context.plan.now.0 context.plan.now.1 → IsGreatest passes context.plan.now.0 → 1 ≤ context.pass → context.pass ≤ passes
+PlansCanRun = (context : PassContext) (passes : ℕ) → IsAccepted context.grammar.now
+    → IsPlan context.grammar.now context.plan.now.0 context.plan.now.1 → IsGreatest passes context.plan.now.0 → 1 ≤ context.pass
+    → context.pass ≤ passes
     → IsLayout (setting_of context.grammar.now context.plan.now context.pass) context.rows.now → CanRun context
 
 -- At most one of R1 with an offset, P2 and P3 shows in a content.
 abbrev pub ShowsOnce : Type 0
-ShowsOnce = (s : Source) (content : List ℕ) (one another : RunFault) → IsAccepted s.grammar → Shows s content one → Shows s content another → one ≡ another
+ShowsOnce = (s : Source) (content : List ℕ) (one another : RunFault) → IsAccepted s.grammar → Shows s content one
+    → Shows s content another → one ≡ another
 
 -- The counts of pass k + 1 hold for every tree that has the content as its file of pass k.
 abbrev pub CountsPass : Grammar → Passes → ℕ → (from : List ℕ) → (count evals : ℕ) → Type 0
-CountsPass g m k from count evals = (t : Tree) (u : Valuation) → IsTreeOf g t → IsFileOfTree version_two g m k t u from → (count ≡ node_count t) × (evals ≡ rules_of_pass m (suc k) g t)
+CountsPass g m k from count evals = (t : Tree) (u : Valuation) → IsTreeOf g t → IsFileOfTree version_two g m k t u from
+    → (count ≡ node_count t) × (evals ≡ rules_of_pass m (suc k) g t)
 
 -- The result of a pass for some tree holds for every tree that has the file it read: there is only one such tree.
 abbrev pub PassesAreRecorded : Type 0
 PassesAreRecorded =
-    (g : Grammar) (plan : List (List ℕ) × Lists) (k : ℕ) (from to : List ℕ) (count evals : ℕ) → IsAccepted g → IsLegal g (passes_of plan.0) → 1 ≤ k
-    → IsPassed (setting_of g plan k) from to count evals → RunsPass version_two g (passes_of plan.0) (k - 1) from to × CountsPass g (passes_of plan.0) (k - 1) from count evals
+    (g : Grammar) (plan : List (List ℕ) × Lists) (k : ℕ) (from to : List ℕ) (count evals : ℕ) → IsAccepted g
+    → IsLegal g (passes_of plan.0) → 1 ≤ k
+    → IsPassed (setting_of g plan k) from to count evals
+    → RunsPass version_two g (passes_of plan.0) (k - 1) from to × CountsPass g (passes_of plan.0) (k - 1) from count evals
 
 -- All passes from the first one on evaluate each rule of the tree exactly once.
 abbrev pub AllRulesAreRun : Type 0
 AllRulesAreRun =
-    (g : Grammar) (m : Passes) (last : ℕ) (start : List ℕ) (which : Last) (a b : List ℕ) (evals : ℕ) (sum : Passed) → IsAccepted g → IsLegal g m → IsLastPass last m
-    → HasRunAll g m 0 last start which a b evals sum → (t : Tree) (u : Valuation) → IsTreeOf g t → IsFileOfTree version_two g m 0 t u start → evals ≡ rules_of g t
+    (g : Grammar) (m : Passes) (last : ℕ) (start : List ℕ) (which : Last) (a b : List ℕ) (evals : ℕ) (sum : Passed) → IsAccepted g
+    → IsLegal g m → IsLastPass last m
+    → HasRunAll g m 0 last start which a b evals sum → (t : Tree) (u : Valuation) → IsTreeOf g t
+    → IsFileOfTree version_two g m 0 t u start → evals ≡ rules_of g t
 
 -- The values after all passes satisfy all equations, and no others do.
 abbrev pub ValuesAreTheSolution : Type 0
 ValuesAreTheSolution =
-    (g : Grammar) (m : Passes) (last : ℕ) (start : List ℕ) (which : Last) (a b : List ℕ) (evals : ℕ) (sum : Passed) → IsAccepted g → IsLegal g m → IsLastPass last m
-    → (h : HasRunAll g m 0 last start which a b evals sum) (t : Tree) (u : Valuation) (tree : IsTreeOf g t) (file : IsFileOfTree version_two g m 0 t u start) → IsTheSolution g m t (h.runs t u tree file).values
+    (g : Grammar) (m : Passes) (last : ℕ) (start : List ℕ) (which : Last) (a b : List ℕ) (evals : ℕ) (sum : Passed) → IsAccepted g
+    → IsLegal g m → IsLastPass last m
+    → (h : HasRunAll g m 0 last start which a b evals sum) (t : Tree) (u : Valuation) (tree : IsTreeOf g t)
+    (file : IsFileOfTree version_two g m 0 t u start) → IsTheSolution g m t (h.runs t u tree file).values
 
 -- The greatest number in the rows of an assignment is its last pass.
 abbrev pub GreatestIsLast : Type 0

@@ -53,7 +53,8 @@ pub record HasCounted (g : Grammar) (m : Passes) (t : Tree) (k count evals : ℕ
 
 -- The counts hold for every tree that has the start as its file of pass k.
 abbrev pub CountsPasses : Grammar → Passes → (k count : ℕ) → (start : List ℕ) → (evals : ℕ) → Passed → Type 0
-CountsPasses g m k count start evals sum = (t : Tree) (u : Valuation) → IsTreeOf g t → IsFileOfTree version_two g m k t u start → HasCounted g m t k count evals sum
+CountsPasses g m k count start evals sum = (t : Tree) (u : Valuation) → IsTreeOf g t → IsFileOfTree version_two g m k t u start
+    → HasCounted g m t k count evals sum
 
 -- A content is the file of pass k of a tree of the grammar within the limits, with some values.
 pub record HoldsTree (g : Grammar) (m : Passes) (k : ℕ) (content : List ℕ) : Type 0 where
@@ -67,7 +68,8 @@ pub record HoldsTree (g : Grammar) (m : Passes) (k : ℕ) (content : List ℕ) :
 -- last file, and that of the other. The counts are those of these passes. If at least one ran, the start is
 -- the file of a tree within the limits. If none ran, the start is the last file, still on the first device,
 -- and all counts are 0.
-pub record HasRunAll (g : Grammar) (m : Passes) (k last : ℕ) (start : List ℕ) (which : Last) (a b : List ℕ) (evals : ℕ) (sum : Passed) : Type 0 where
+pub record HasRunAll (g : Grammar) (m : Passes) (k last : ℕ) (start : List ℕ) (which : Last) (a b : List ℕ) (evals : ℕ)
+    (sum : Passed) : Type 0 where
   pub runs : RunsPasses version_two g m k last start (last_content which a b) (other_content which a b)
   pub counts : CountsPasses g m k (last - k) start evals sum
   pub held : k < last → HoldsTree g m k start
@@ -77,14 +79,16 @@ pub record HasRunAll (g : Grammar) (m : Passes) (k last : ℕ) (start : List ℕ
 -- The solution of a tree was computed: the content `last` is the file of its last pass, and `previous` that of the
 -- pass before it, with the only values that satisfy each equation at each node (Knuth 1968; Jazayeri and
 -- Walter 1975).
-pub record LeavesSolution (g : Grammar) (m : Passes) (passes : ℕ) (t : Tree) (v : Valuation) (last previous : List ℕ) : Type 0 where
+pub record LeavesSolution (g : Grammar) (m : Passes) (passes : ℕ) (t : Tree) (v : Valuation)
+    (last previous : List ℕ) : Type 0 where
   pub solution : IsTheSolution g m t v
   pub file : IsFileOfTree version_two g m passes t v last
   pub other : (k : ℕ) → passes ≡ suc k → IsFileOfTree version_two g m k t v previous
 
 -- The solution was computed for every tree that has the start as its file of pass 0.
 abbrev pub LeavesSolutions : Grammar → Passes → (passes : ℕ) → (start last previous : List ℕ) → Type 0
-LeavesSolutions g m passes start last previous = (t : Tree) (u : Valuation) → IsTreeOf g t → IsFileOfTree version_two g m 0 t u start → (v : Valuation) × LeavesSolution g m passes t v last previous
+LeavesSolutions g m passes start last previous = (t : Tree) (u : Valuation) → IsTreeOf g t
+    → IsFileOfTree version_two g m 0 t u start → (v : Valuation) × LeavesSolution g m passes t v last previous
 
 -- The content of a device that a call may write to: the old content, or a prefix of a tree file of some pass.
 abbrev pub LeavesSomeFile : (old new : List ℕ) → Type 0

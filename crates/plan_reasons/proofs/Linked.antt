@@ -1,5 +1,6 @@
 -- Links of strikes: each good strike has one, and those of a chain are in its order.
-use Rattle.std.proofs.Common.{ℕ, zero, suc, ◌≡◌, ◌≤◌, ◌+◌, ◌++◌, inl, inr, List, [], ◌∷◌, Option, Some, None, slice_get, length, refl, ap, sym, ◌∙◌, subst, length-append, arith}
+use Rattle.std.proofs.Common.{ℕ, zero, suc, ◌≡◌, ◌≤◌, ◌+◌, ◌++◌, inl, inr, List, [], ◌∷◌, Option, Some, None, slice_get, length}
+use Rattle.std.proofs.Common.{refl, ap, sym, ◌∙◌, subst, length-append, arith}
 use Rattle.ag_grammar.specs.Lists.{AreRelated, Each}
 use Rattle.ag_grammar.specs.declared.direction.Direction.{Direction}
 use Rattle.ag_grammar.specs.declared.grammar.Item.TheVariants as item
@@ -17,7 +18,8 @@ use Rattle.plan_reasons.specs.declared.links.Geometry.TheVariants as geometry
 use Rattle.plan_reasons.specs.declared.links.Link.{Link}
 
 -- the link of what a strike names
-pub link_of_named : (g : Grammar) (x : Strike) (q : Production) (u : Rule) (o : Target) (r : Option Link) → Names g x q u o → IsLinkAt q u o x r → IsLinkOrNone g x r
+pub link_of_named : (g : Grammar) (x : Strike) (q : Production) (u : Rule) (o : Target) (r : Option Link) → Names g x q u o
+    → IsLinkAt q u o x r → IsLinkOrNone g x r
 link_of_named g x q u o (Some l) names (strike, target, argument, symbol, attr) = record {
   production = q;
   rule = u;
@@ -30,18 +32,24 @@ link_of_named g x q u o (Some l) names (strike, target, argument, symbol, attr) 
 link_of_named g x q u o None names none = λ n.
     let one : Some q ≡ Some n.production = sym names.is_production ∙ n.named.is_production in
     let first : q ≡ n.production = cc in
-    let two : Some u ≡ Some n.rule = sym (subst (λ (p : Production). slice_get p.rules x.rule ≡ Some u) first names.is_rule) ∙ n.named.is_rule in
+    let two : Some u ≡ Some n.rule =
+    sym (subst (λ (p : Production). slice_get p.rules x.rule ≡ Some u) first names.is_rule) ∙ n.named.is_rule in
     let second : u ≡ n.rule = cc in
-    let three : Some o ≡ Some n.argument = sym (subst (λ (r : Rule). slice_get r.args x.arg ≡ Some o) second names.is_argument) ∙ n.named.is_argument in
+    let three : Some o ≡ Some n.argument =
+    sym (subst (λ (r : Rule). slice_get r.args x.arg ≡ Some o) second names.is_argument) ∙ n.named.is_argument in
     let third : o ≡ n.argument = cc in
-    none n.symbol (subst (λ (p : Production). item_at p o.place ≡ Some (item.Symbol n.symbol)) (sym first) (subst (λ (t : Target). item_at n.production t.place ≡ Some (item.Symbol n.symbol)) (sym third) n.item))
+    none n.symbol
+    (subst (λ (p : Production). item_at p o.place ≡ Some (item.Symbol n.symbol)) (sym first)
+    (subst (λ (t : Target). item_at n.production t.place ≡ Some (item.Symbol n.symbol)) (sym third) n.item))
 
 -- links of the first strikes of a list
 pub record AreLinksUpTo (g : Grammar) (xs : List Strike) (n : ℕ) (links : List Link) : Type 0 where
   pub count : length links ≡ n
   pub each : (k : ℕ) (x : Strike) (l : Link) → slice_get xs k ≡ Some x → slice_get links k ≡ Some l → IsLinkOf g x l
 
-pub links_more : (g : Grammar) (xs : List Strike) (n : ℕ) (x : Strike) (old new : List Link) → slice_get xs n ≡ Some x → (Each (NamesAttribute g) xs → AreLinksUpTo g xs n old) → AppendsLink g x old new → Each (NamesAttribute g) xs → AreLinksUpTo g xs (n + 1) new
+pub links_more : (g : Grammar) (xs : List Strike) (n : ℕ) (x : Strike) (old new : List Link) → slice_get xs n ≡ Some x
+    → (Each (NamesAttribute g) xs → AreLinksUpTo g xs n old) → AppendsLink g x old new → Each (NamesAttribute g) xs
+    → AreLinksUpTo g xs (n + 1) new
 links_more g xs n x old new at before put all =
     let so_far = before all in
     let one = put (all n x at) in
@@ -58,17 +66,20 @@ links_more g xs n x old new at before put all =
       ];
     }
 
-pub links_whole : (g : Grammar) (xs : List Strike) (n : ℕ) (links : List Link) → length xs ≤ n → n ≤ length xs → AreLinksUpTo g xs n links → AreRelated (IsLinkOf g) xs links
+pub links_whole : (g : Grammar) (xs : List Strike) (n : ℕ) (links : List Link) → length xs ≤ n → n ≤ length xs
+    → AreLinksUpTo g xs n links → AreRelated (IsLinkOf g) xs links
 links_whole g xs n links most least h = record {
   equally_long = let count = h.count in omega (arith, count, most, least);
   each = h.each;
 }
 
 -- a good strike names an attribute
-good_names : (g : Grammar) (d : Direction) (candidate struck : Attributes) (x : Strike) → IsGoodWhere g d candidate struck x → NamesAttribute g x
+good_names : (g : Grammar) (d : Direction) (candidate struck : Attributes) (x : Strike) → IsGoodWhere g d candidate struck x
+    → NamesAttribute g x
 good_names g d candidate struck x good = go (item_at good.production good.argument.place) refl good.reason
   where
-    go : (y : Option Item) → item_at good.production good.argument.place ≡ y → IsReasonWhere d candidate struck good.production good.rule.target.place good.argument → NamesAttribute g x
+    go : (y : Option Item) → item_at good.production good.argument.place ≡ y
+        → IsReasonWhere d candidate struck good.production good.rule.target.place good.argument → NamesAttribute g x
     go None e (inl i) = absurd (subst (λ y. IsOneOf struck y good.argument.attr) e i)
     go None e (inr (ahead, i)) = absurd (subst (λ y. IsOneOf candidate y good.argument.attr) e i)
     go (Some (item.Terminal t)) e (inl i) = absurd (subst (λ y. IsOneOf struck y good.argument.attr) e i)
@@ -82,15 +93,19 @@ good_names g d candidate struck x good = go (item_at good.production good.argume
       item = e;
     }
 
-chain_names : (g : Grammar) (d : Direction) (candidate : Attributes) (xs : List Strike) → IsChain g d candidate xs → Each (NamesAttribute g) xs
+chain_names : (g : Grammar) (d : Direction) (candidate : Attributes) (xs : List Strike) → IsChain g d candidate xs
+    → Each (NamesAttribute g) xs
 chain_names g d candidate [] chain i x e = absurd (let bad : ⊥ = cc in bad)
 chain_names g d candidate (y ∷ ys) (is, good, more) zero x e =
     let same : y ≡ x = cc in
     subst (NamesAttribute g) same (good_names g d candidate (IsStruckBy (first_only ys)) y good)
 chain_names g d candidate (y ∷ ys) (is, good, more) (suc i) x e = chain_names g d candidate ys more i x e
 
-pub chain_links : (g : Grammar) (d : Direction) (candidate : Attributes) (s a : ℕ) (chain : List Strike) (links : List Link) → IsChainOf g d candidate s a chain → (Each (NamesAttribute g) chain → AreRelated (IsLinkOf g) chain links) → AreChainLinks g d candidate s a links
-chain_links g d candidate s a chain links is related = record { chain = chain; is_chain = is; are_links = related (chain_names g d candidate chain is.chain) }
+pub chain_links : (g : Grammar) (d : Direction) (candidate : Attributes) (s a : ℕ) (chain : List Strike) (links : List Link)
+    → IsChainOf g d candidate s a chain → (Each (NamesAttribute g) chain → AreRelated (IsLinkOf g) chain links)
+    → AreChainLinks g d candidate s a links
+chain_links g d candidate s a chain links is related =
+    record { chain = chain; is_chain = is; are_links = related (chain_names g d candidate chain is.chain) }
 
 -- an argument at the same or a later child that is at another one is at a later one
 pub later_ahead : (d : Direction) (j i : ℕ) → IsSameOrLater d j i → (i ≡ j → ⊥) → IsGeometry d j i geometry.Later

@@ -42,7 +42,9 @@ IsLinkOrNone g x (Some l) = IsLinkOf g x l
 -- the link of a strike by argument o of rule u; for None, the argument is no attribute of a symbol
 abbrev pub IsLinkAt : Production → Rule → Target → Strike → Option Link → Type 0
 IsLinkAt q u o x None = (s : ℕ) → item_at q o.place ≡ Some (item.Symbol s) → ⊥
-IsLinkAt q u o x (Some l) = (l.strike ≡ x) × (l.target ≡ u.target) × (l.argument ≡ o) × (item_at q o.place ≡ Some (item.Symbol l.used.0)) × (o.attr ≡ l.used.1)
+IsLinkAt q u o x (Some l) =
+    (l.strike ≡ x) × (l.target ≡ u.target) × (l.argument ≡ o) × (item_at q o.place ≡ Some (item.Symbol l.used.0))
+    × (o.attr ≡ l.used.1)
 
 -- the link of a strike is appended, if the strike names an argument that is an attribute of a symbol
 abbrev pub AppendsLink : Grammar → Strike → (old new : List Link) → Type 0

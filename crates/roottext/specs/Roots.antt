@@ -83,4 +83,5 @@ IsRootText g v (Err out_fault.NoMemory) = Unit {0}
 
 -- The result is right for each tree and values whose file of the last pass the content is.
 abbrev pub MatchesRoot : Grammar → List (List ℕ) → List ℕ → Result (List ℕ) OutFault → Type 0
-MatchesRoot g assignment content result = (last : ℕ) → IsGreatest last assignment → (t : Tree) (v : Valuation) → IsTreeOf g t → IsFileOfTree version_two g (passes_of assignment) last t v content → IsRootText g v result
+MatchesRoot g assignment content result = (last : ℕ) → IsGreatest last assignment → (t : Tree) (v : Valuation) → IsTreeOf g t
+    → IsFileOfTree version_two g (passes_of assignment) last t v content → IsRootText g v result

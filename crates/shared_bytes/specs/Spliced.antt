@@ -12,7 +12,8 @@ spliced base own (g ∷ gs) = take (g.own - base) own ++ (g.bytes ++ spliced g.o
 -- offset `at`; the bytes end at offset `total`.
 abbrev pub AreSplices : ℕ → ℕ → ℕ → ℕ → List Splice → Type 0
 AreSplices base at end total [] = (base ≤ end) × (total ≡ at + (end - base))
-AreSplices base at end total (g ∷ gs) = (base ≤ g.own) × (g.own ≤ end) × (g.at ≡ at + (g.own - base)) × AreSplices g.own (g.at + length g.bytes) end total gs
+AreSplices base at end total (g ∷ gs) =
+    (base ≤ g.own) × (g.own ≤ end) × (g.at ≡ at + (g.own - base)) × AreSplices g.own (g.at + length g.bytes) end total gs
 
 -- Bytes may be split before own byte number `o`, which is at offset `pos`: exactly the first `k` splices come before it.
 abbrev pub CutAt : ℕ → ℕ → List Splice → ℕ → ℕ → ℕ → Type 0

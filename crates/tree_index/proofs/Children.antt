@@ -1,5 +1,6 @@
 -- The nodes of a tree, and the children of a node, in the order of a reading.
-use Rattle.std.proofs.Common.{◌≡◌, ℕ, zero, suc, ◌+◌, ◌-◌, ◌<◌, List, [], ◌∷◌, ◌++◌, length, drop, map, reverse, get_or, Some, slice_get, refl, ap, sym, subst, ◌∙◌, arith}
+use Rattle.std.proofs.Common.{◌≡◌, ℕ, zero, suc, ◌+◌, ◌-◌, ◌<◌, List, [], ◌∷◌, ◌++◌, length, drop, map, reverse, get_or, Some}
+use Rattle.std.proofs.Common.{slice_get, refl, ap, sym, subst, ◌∙◌, arith}
 use Rattle.std.specs.List.{flat_map}
 use Rattle.std.proofs.lemmas.Grind.{flat_map-append}
 use Rattle.std.proofs.lemmas.List.{append-nil, get_or-reverse, length-append, length-reverse, map-append, reverse-append}
@@ -14,7 +15,8 @@ use Rattle.ag_grammar.specs.grammars.Tree.{Fits, FitsAll, Forest, Tree, leaf, no
 use Rattle.treefile.specs.records.Orders.{joined, prefix, prefix_all}
 use Rattle.treefile.specs.records.Records.{bodies_of, bodies_of_all}
 use Rattle.treefile.specs.records.TreeFile.{version_two}
-use Rattle.tree_index.specs.Nodes.{Subtree, both, in_order, kids, nodes_below, nodes_in, nodes_of, nodes_of_all, record_at, record_of}
+use Rattle.tree_index.specs.Nodes.{Subtree, both, in_order, kids, nodes_below, nodes_in, nodes_of, nodes_of_all, record_at}
+use Rattle.tree_index.specs.Nodes.{record_of}
 
 reverse_more : {X : Type 0} (x : X) (xs : List X) → reverse (x ∷ xs) ≡ reverse xs ++ x ∷ []
 reverse_more x xs = reverse-append (x ∷ []) xs

@@ -1,5 +1,6 @@
 -- The numbers of tokens of the nodes of a tree.
-use Rattle.std.proofs.Common.{◌≡◌, ℕ, zero, suc, ◌+◌, ◌-◌, ◌<◌, ◌≤◌, List, [], ◌∷◌, ◌++◌, Option, None, Some, length, map, slice_get, refl, ap, sym, subst, ◌∙◌, append_assoc, arith}
+use Rattle.std.proofs.Common.{◌≡◌, ℕ, zero, suc, ◌+◌, ◌-◌, ◌<◌, ◌≤◌, List, [], ◌∷◌, ◌++◌, Option, None, Some, length, map}
+use Rattle.std.proofs.Common.{slice_get, refl, ap, sym, subst, ◌∙◌, append_assoc, arith}
 use Rattle.std.specs.Option.{IfNone, IfSome, SomeIff}
 use Rattle.std.proofs.lemmas.List.{length-append}
 use Rattle.ag_grammar.specs.declared.direction.Direction.{Direction}

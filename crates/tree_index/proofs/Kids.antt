@@ -1,5 +1,6 @@
 -- Where the children of a node stand in an index.
-use Rattle.std.proofs.Common.{◌≡◌, ℕ, zero, suc, ◌+◌, ◌-◌, ◌<◌, List, [], ◌∷◌, ◌++◌, length, drop, map, Option, Some, Ok, slice_get, refl, ap, sym, subst, ◌∙◌, append_assoc, arith}
+use Rattle.std.proofs.Common.{◌≡◌, ℕ, zero, suc, ◌+◌, ◌-◌, ◌<◌, List, [], ◌∷◌, ◌++◌, length, drop, map, Option, Some, Ok}
+use Rattle.std.proofs.Common.{slice_get, refl, ap, sym, subst, ◌∙◌, append_assoc, arith}
 use Rattle.std.specs.Option.{option_map}
 use Rattle.std.proofs.lemmas.List.{append-nil, length-append}
 use Rattle.std.proofs.lemmas.Option.{slice_get-map}
@@ -14,7 +15,9 @@ use Rattle.ag_grammar.specs.grammars.Solution.{Valuation, children}
 use Rattle.ag_grammar.specs.grammars.Tree.{Fits, Forest, Tree, leaf, node, node_count}
 use Rattle.treefile.specs.records.TreeFile.{version_two}
 use Rattle.treefile.specs.framing.Backward.{next_before}
-use Rattle.tree_index.specs.Nodes.{AreEnds, HasChild, HasCount, HasItem, HasLater, HasNodes, IsIndexOf, IsKidOf, StandAt, StandsAt, Subtree, back_from, end_of, in_order, kids, kind_at, kind_in, nodes_in, nodes_of, nodes_of_all, record_at, record_of, size_at, size_of}
+use Rattle.tree_index.specs.Nodes.{AreEnds, HasChild, HasCount, HasItem, HasLater, HasNodes, IsIndexOf, IsKidOf, StandAt}
+use Rattle.tree_index.specs.Nodes.{StandsAt, Subtree, back_from, end_of, in_order, kids, kind_at, kind_in, nodes_in, nodes_of}
+use Rattle.tree_index.specs.Nodes.{nodes_of_all, record_at, record_of, size_at, size_of}
 use Rattle.tree_index.specs.declared.index.NodeKind.{NodeKind}
 use Rattle.tree_index.specs.declared.index.NodeKind.TheVariants as kind
 use Rattle.tree_index.specs.declared.index.TreeIndex.{TreeIndex}
@@ -93,7 +96,8 @@ kind_there k t v index n tree w has s =
     ∙ slice_get-map kind_at (nodes_of (back_from k) t v) n
     ∙ ap (option_map kind_at) (first_of (back_from k) (nodes_of (back_from k) t v) n tree w s)
 
-pub size_there : (k : ℕ) (t : Tree) (v : Valuation) (index : TreeIndex) (n : ℕ) (tree : Tree) (w : Valuation) → HasNodes k t v index
+pub size_there : (k : ℕ) (t : Tree) (v : Valuation) (index : TreeIndex) (n : ℕ) (tree : Tree) (w : Valuation)
+    → HasNodes k t v index
     → StandsAt (back_from k) (nodes_of (back_from k) t v) n tree w → size_of index n ≡ Some (node_count tree)
 size_there k t v index n tree w has s =
     ap (λ (ss : List ℕ). slice_get ss n) has.sizes

@@ -1,5 +1,6 @@
 -- Where a node has no child in an index, it has none in the tree.
-use Rattle.std.proofs.Common.{◌≡◌, ℕ, zero, suc, ◌+◌, ◌<◌, ◌≤◌, ◌^◌, List, [], ◌∷◌, ◌++◌, Option, None, Some, length, drop, slice_get, refl, ap, sym, subst, ◌∙◌, arith}
+use Rattle.std.proofs.Common.{◌≡◌, ℕ, zero, suc, ◌+◌, ◌<◌, ◌≤◌, ◌^◌, List, [], ◌∷◌, ◌++◌, Option, None, Some, length, drop}
+use Rattle.std.proofs.Common.{slice_get, refl, ap, sym, subst, ◌∙◌, arith}
 use Rattle.std.specs.Option.{IfNone}
 use Rattle.std.proofs.lemmas.List.{length-append}
 use Rattle.ag_grammar.specs.declared.direction.Direction.{Direction}
@@ -8,7 +9,8 @@ use Rattle.ag_grammar.specs.declared.grammar.Item.TheVariants as item
 use Rattle.ag_grammar.specs.grammars.AttributeGrammar.{Grammar, stored_items}
 use Rattle.ag_grammar.specs.grammars.Solution.{Valuation, children}
 use Rattle.ag_grammar.specs.grammars.Tree.{Fits, Forest, Tree, leaf, node, node_count}
-use Rattle.tree_index.specs.Nodes.{HasCount, HasLater, HasNoChild, HasNoLater, HasNodes, StandAt, StandsAt, Subtree, back_from, child_in, in_order, kids, kind_at, kind_in, nodes_in, nodes_of, size_of}
+use Rattle.tree_index.specs.Nodes.{HasCount, HasLater, HasNoChild, HasNoLater, HasNodes, StandAt, StandsAt, Subtree, back_from}
+use Rattle.tree_index.specs.Nodes.{child_in, in_order, kids, kind_at, kind_in, nodes_in, nodes_of, size_of}
 use Rattle.tree_index.specs.declared.index.NodeKind.{NodeKind}
 use Rattle.tree_index.specs.declared.index.TreeIndex.{TreeIndex}
 use Rattle.tree_index.proofs.Children.{drop_there, is_there, kids_length, nodes_length, order_length}

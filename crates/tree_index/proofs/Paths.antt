@@ -1,12 +1,14 @@
 -- The node at the end of some places, and its number in an index.
-use Rattle.std.proofs.Common.{◌≡◌, ℕ, zero, suc, ◌<◌, List, [], ◌∷◌, ◌++◌, Some, get_or, length, slice_get, take, refl, ap, sym, subst, ◌∙◌, arith}
+use Rattle.std.proofs.Common.{◌≡◌, ℕ, zero, suc, ◌<◌, List, [], ◌∷◌, ◌++◌, Some, get_or, length, slice_get, take, refl, ap, sym}
+use Rattle.std.proofs.Common.{subst, ◌∙◌, arith}
 use Rattle.ag_grammar.specs.declared.direction.Direction.{Direction}
 use Rattle.ag_grammar.specs.declared.grammar.Item.{Item}
 use Rattle.ag_grammar.specs.declared.grammar.Item.TheVariants as item
 use Rattle.ag_grammar.specs.grammars.AttributeGrammar.{Grammar, stored_items}
 use Rattle.ag_grammar.specs.grammars.Solution.{Valuation, children, rest}
 use Rattle.ag_grammar.specs.grammars.Tree.{Fits, FitsAll, Forest, Tree, leaf, more, node, none}
-use Rattle.tree_index.specs.Nodes.{HasChild, HasNoChild, HasNoNodeAt, HasNodeAt, IsAtEndOf, IsKidOf, StandsAt, Subtree, back_from, child_in, kids, nodes_of}
+use Rattle.tree_index.specs.Nodes.{HasChild, HasNoChild, HasNoNodeAt, HasNodeAt, IsAtEndOf, IsKidOf, StandsAt, Subtree, back_from}
+use Rattle.tree_index.specs.Nodes.{child_in, kids, nodes_of}
 use Rattle.tree_index.specs.declared.index.TreeIndex.{TreeIndex}
 use Rattle.tree_index.proofs.Kids.{root_occurs}
 

@@ -1,8 +1,11 @@
 -- The steps of a reading.
-use Rattle.std.proofs.Common.{◌≡◌, ℕ, suc, ◌+◌, ◌-◌, ◌<◌, ◌≤◌, ◌⊎◌, inl, inr, List, [], ◌∷◌, ◌++◌, length, drop, map, set, get_or, Bool, true, false, cond, Option, Some, Result, Ok, Err, slice_get, refl, ap, sym, subst, ◌∙◌, ◌^◌, append_assoc, take, reverse, arith}
+use Rattle.std.proofs.Common.{◌≡◌, ℕ, suc, ◌+◌, ◌-◌, ◌<◌, ◌≤◌, ◌⊎◌, inl, inr, List, [], ◌∷◌, ◌++◌, length, drop, map, set, get_or}
+use Rattle.std.proofs.Common.{Bool, true, false, cond, Option, Some, Result, Ok, Err, slice_get, refl, ap, sym, subst, ◌∙◌, ◌^◌}
+use Rattle.std.proofs.Common.{append_assoc, take, reverse, arith}
 use Rattle.std.specs.Int.{w16, from_be_bytes, to_be_bytes}
 use Rattle.std.specs.List.{flat_map}
-use Rattle.std.proofs.lemmas.List.{append-nil, drop_all, ext_get_or, get_or-set_other, get_or-set_same, get_or_append_left, get_or_at, length-append, length-map, length-set, map-append, reverse-append, take_at}
+use Rattle.std.proofs.lemmas.List.{append-nil, drop_all, ext_get_or, get_or-set_other, get_or-set_same, get_or_append_left}
+use Rattle.std.proofs.lemmas.List.{get_or_at, length-append, length-map, length-set, map-append, reverse-append, take_at}
 use Rattle.std.proofs.lemmas.Nat.{from_be_bytes-to_be_bytes_2}
 use Rattle.std.proofs.lemmas.Bool.{cases_eq}
 use Rattle.std.proofs.lemmas.Option.{slice_get_within}
@@ -28,15 +31,19 @@ use Rattle.treefile.specs.framing.Ending.{is_tree_file, version_two_usable}
 use Rattle.treefile.proofs.framing.Backward.{pass_of_file}
 use Rattle.treefile.proofs.records.Fitting.{fits_version_two, numbered}
 use Rattle.treefile.proofs.records.Records.{file_back}
-use Rattle.tree_index.specs.Nodes.{AreEnds, IsIndexIn, IsIndexOf, Subtree, back_from, in_order, kids, kind_at, nodes_in, nodes_of, nodes_of_all, record_at, size_at}
-use Rattle.tree_index.specs.Reading.{AreEnding, AreOpen, AreSizes, BeginsRecord, IsNextRecord, Family, HasAdded, HasClosed, HasComeTo, HasFetched, HasOpened, IsBegun, IsPending, IsOpened, IsOpenNumber, IsSoFar, in_four_bytes, nodes_to_come, upcoming}
+use Rattle.tree_index.specs.Nodes.{AreEnds, IsIndexIn, IsIndexOf, Subtree, back_from, in_order, kids, kind_at, nodes_in, nodes_of}
+use Rattle.tree_index.specs.Nodes.{nodes_of_all, record_at, size_at}
+use Rattle.tree_index.specs.Reading.{AreEnding, AreOpen, AreSizes, BeginsRecord, IsNextRecord, Family, HasAdded, HasClosed}
+use Rattle.tree_index.specs.Reading.{HasComeTo, HasFetched, HasOpened, IsBegun, IsPending, IsOpened, IsOpenNumber, IsSoFar}
+use Rattle.tree_index.specs.Reading.{in_four_bytes, nodes_to_come, upcoming}
 use Rattle.tree_index.specs.declared.index.NodeKind.{NodeKind}
 use Rattle.tree_index.specs.declared.index.NodeKind.TheVariants as kind
 use Rattle.tree_index.specs.declared.index.TreeIndex.{TreeIndex}
 use Rattle.tree_index.specs.declared.reading.Fetched.{Fetched}
 use Rattle.tree_index.specs.declared.reading.OpenRecord.{OpenRecord}
 use Rattle.backreader.specs.BackState.{BackState}
-use Rattle.tree_index.proofs.Children.{drop_there, is_there, kid_fits, kids_length, kids_nodes, nodes_length, nodes_length_all, order_length, ordered_at, records_of_nodes}
+use Rattle.tree_index.proofs.Children.{drop_there, is_there, kid_fits, kids_length, kids_nodes, nodes_length, nodes_length_all}
+use Rattle.tree_index.proofs.Children.{order_length, ordered_at, records_of_nodes}
 
 -- an open node of which one child more was visited
 abbrev pub moved : OpenRecord → OpenRecord
@@ -466,7 +473,8 @@ pub begins_reading : (g : Grammar) (content : List ℕ) (back : BackState) (star
     → pass_in version_two content ≡ Ok back.progress.pass → start ≡ g.start → os ≡ [] → index.pass ≡ back.progress.pass
     → index.ends.items ≡ [] → index.kinds.items ≡ [] → index.sizes.items ≡ []
     → IsNextRecord g content back (item.Symbol start) os index
-begins_reading g content back start os index accepted end fresh exact symbol nothing pass ends kinds sizes m k t v small legal tree
+begins_reading g content back start os index accepted end fresh exact symbol nothing pass ends kinds sizes m k t v small legal
+    tree
     file =
     let occurs : pass_of content ≡ k = ap pass_of file.occurs
     ∙ pass_of_file version_two k (flat_map frame (postfix (direction_of k) (bodies_of version_two g m k t v)))

@@ -1,5 +1,6 @@
 -- The reading of a tree file from its end, and the index so far. All of this is this project's.
-use Rattle.std.specs.Prelude.{ℕ, ◌≡◌, ◌+◌, ◌-◌, ◌<◌, ◌≤◌, ◌⊎◌, Bool, List, [], ◌∷◌, ◌++◌, map, drop, length, get_or, min, set, Some, Ok}
+use Rattle.std.specs.Prelude.{ℕ, ◌≡◌, ◌+◌, ◌-◌, ◌<◌, ◌≤◌, ◌⊎◌, Bool, List, [], ◌∷◌, ◌++◌, map, drop, length, get_or, min, set}
+use Rattle.std.specs.Prelude.{Some, Ok}
 use Rattle.ag_grammar.specs.declared.direction.Direction.{Direction}
 use Rattle.ag_grammar.specs.declared.grammar.Item.{Item}
 use Rattle.ag_grammar.specs.declared.grammar.Item.TheVariants as item
@@ -16,7 +17,8 @@ use Rattle.treefile.specs.declared.body.Kind.TheVariants.{Node, Token}
 use Rattle.treefile.specs.devices.Device.{WhenHonest}
 use Rattle.treefile.specs.records.TreeFile.{body_from, version_two}
 use Rattle.treefile.specs.framing.Backward.{ReadsBack, before_frame, next_before}
-use Rattle.tree_index.specs.Nodes.{AreEnds, OfEach, Subtree, back_from, in_order, kids, kind_at, nodes_in, nodes_of, record_at, size_at}
+use Rattle.tree_index.specs.Nodes.{AreEnds, OfEach, Subtree, back_from, in_order, kids, kind_at, nodes_in, nodes_of, record_at}
+use Rattle.tree_index.specs.Nodes.{size_at}
 use Rattle.tree_index.specs.declared.index.NodeKind.{NodeKind}
 use Rattle.tree_index.specs.declared.index.NodeKind.TheVariants as kind
 use Rattle.tree_index.specs.declared.index.TreeIndex.{TreeIndex}
@@ -156,5 +158,6 @@ HasComeTo g content back os index = OfEach (λ m k t v. IsSoFar g m k t v conten
     g content
 
 abbrev pub IsNextRecord : Grammar → List ℕ → BackState → Item → List OpenRecord → TreeIndex → Type 0
-IsNextRecord g content back x os index = OfEach (λ m k t v. IsPending g m k t v content back.progress.at back.progress.records x os
+IsNextRecord g content back x os index =
+    OfEach (λ m k t v. IsPending g m k t v content back.progress.at back.progress.records x os
     index) g content

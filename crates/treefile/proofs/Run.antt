@@ -20,16 +20,23 @@ pub goes_on_run : RunContinues
 goes_on_run version g m k last start now before next legal le runs pass t u tree is =
     let run = runs t u tree is in
     let one = pass t run.values tree run.file in
-    let kept : Same (λ p. p ≤ last) g m t run.values one.values = same_weaker (λ p. p < suc last) (λ p. p ≤ last) g m (λ p h. omega arith) t run.values one.values one.kept in
+    let kept : Same (λ p. p ≤ last) g m t run.values one.values =
+    same_weaker (λ p. p < suc last) (λ p. p ≤ last) g m (λ p h. omega arith) t run.values one.values one.kept in
     record {
       values = one.values;
-      ran = run_goes_on g m (item.Symbol g.start) t u run.values one.values (suc k) (suc last) legal tree (omega arith) run.ran one.kept one.solved;
+      ran =
+          run_goes_on g m (item.Symbol g.start) t u run.values one.values (suc k) (suc last) legal tree
+          (omega arith) run.ran one.kept one.solved;
       file = one.file;
-      other = λ n from e. subst (λ j. IsFileOfTree version g m j t one.values now) (let same : last ≡ n = omega arith in same) (same_file version g m last t run.values one.values now kept run.file);
+      other =
+          λ n from e. subst (λ j. IsFileOfTree version g m j t one.values now) (let same : last ≡ n = omega arith in same)
+          (same_file version g m last t run.values one.values now kept run.file);
     }
 
 pub refusal_goes_back : RefusalGoesBack
-refusal_goes_back version g m k last start now before runs none t u tree is = let run = runs t u tree is in none t run.values tree run.file
+refusal_goes_back version g m k last start now before runs none t u tree is = let run = runs t u tree is in
+    none t run.values tree run.file
 
 pub refusal_within_goes_back : RefusalWithinGoesBack
-refusal_within_goes_back depth nodes version g m k last start now before runs none t u tree within is = let run = runs t u tree is in none t run.values tree within run.file
+refusal_within_goes_back depth nodes version g m k last start now before runs none t u tree within is = let run =
+    runs t u tree is in none t run.values tree within run.file

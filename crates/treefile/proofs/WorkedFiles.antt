@@ -5,7 +5,8 @@ use Rattle.ag_grammar.specs.grammars.Sample.{token_sample, token_tree}
 use Rattle.ag_grammar.specs.grammars.Solution.{Valuation}
 use Rattle.treefile.specs.records.Records.{file_of_tree}
 use Rattle.treefile.specs.records.TreeFile.{version_one, version_two}
-use Rattle.treefile.specs.Worked.{binary, binary_passes, copies_1_of_one, copies_2_of_one, copies_of_iffy, file_of_iffy, iffy_passes, pass_0_of_one, pass_1_of_one, pass_2_of_one, tree_of_one, values_of_one}
+use Rattle.treefile.specs.Worked.{binary, binary_passes, copies_1_of_one, copies_2_of_one, copies_of_iffy, file_of_iffy}
+use Rattle.treefile.specs.Worked.{iffy_passes, pass_0_of_one, pass_1_of_one, pass_2_of_one, tree_of_one, values_of_one}
 
 pub worked_0 : (v : Valuation) → file_of_tree version_one binary binary_passes 0 tree_of_one v ≡ pass_0_of_one
 worked_0 v = refl

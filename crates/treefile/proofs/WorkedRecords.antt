@@ -1,5 +1,6 @@
 -- Recorded trees, passes over a file, and the values of records, worked out.
-use Rattle.std.proofs.Common.{◌≡◌, ℕ, zero, suc, ◌^◌, ◌<◌, ◌≤◌, pos, All, List, [], ◌∷◌, ◌++◌, length, Option, Some, None, Ok, IsUtf8, codes, lit<, refl, ap, sym, subst, ◌∙◌, arith}
+use Rattle.std.proofs.Common.{◌≡◌, ℕ, zero, suc, ◌^◌, ◌<◌, ◌≤◌, pos, All, List, [], ◌∷◌, ◌++◌, length, Option, Some, None, Ok}
+use Rattle.std.proofs.Common.{IsUtf8, codes, lit<, refl, ap, sym, subst, ◌∙◌, arith}
 use Rattle.std.proofs.lemmas.Bool.{lt-ltb}
 use Rattle.std.proofs.lemmas.List.Elements.{All-cons, All-nil}
 use Rattle.std.proofs.lemmas.Str.{encode_ascii, is_utf8-from_IsUtf8}
@@ -10,7 +11,8 @@ use Rattle.ag_value.proofs.Codec.{well_is_read}
 use Rattle.ag_value.proofs.Layers.{depth-Num, item-Num, spellings, weight-Num}
 use Rattle.ag_grammar.specs.declared.grammar.Item.TheVariants as item
 use Rattle.ag_grammar.specs.declared.grammar.Terminal.TheVariants.{Literal}
-use Rattle.ag_grammar.specs.grammars.Sample.{iffy, sample, sample_passes, sample_tree, sample_values, token_sample, token_tree, token_values, values_of_a}
+use Rattle.ag_grammar.specs.grammars.Sample.{iffy, sample, sample_passes, sample_tree, sample_values, token_sample, token_tree}
+use Rattle.ag_grammar.specs.grammars.Sample.{token_values, values_of_a}
 use Rattle.ag_grammar.specs.grammars.Solution.{IsWellOn, NoRule, Same, Solves, Valuation}
 use Rattle.ag_grammar.specs.grammars.Tree.{IsTreeOf, Tree}
 use Rattle.ag_grammar.proofs.grammars.samples.NumberSample.{fits as sample_fits}
@@ -23,7 +25,8 @@ use Rattle.treefile.specs.records.OneTree.{IsNumbered, IsRecorded}
 use Rattle.treefile.specs.records.Records.{FitsVersion, IsFileOfTree, node_body}
 use Rattle.treefile.specs.Runs.{HasRun, RanPass, RunsPass, RunsPasses}
 use Rattle.treefile.specs.records.TreeFile.{version_one}
-use Rattle.treefile.specs.Worked.{binary, binary_passes, file_of_x_x, iffy_passes, pass_2_of_one, production_of, record_of_n, record_of_t, spelled_number, tree_of_one, values_of_one, values_of_t}
+use Rattle.treefile.specs.Worked.{binary, binary_passes, file_of_x_x, iffy_passes, pass_2_of_one, production_of, record_of_n}
+use Rattle.treefile.specs.Worked.{record_of_t, spelled_number, tree_of_one, values_of_one, values_of_t}
 use Rattle.treefile.proofs.records.Listing.{value_is_missing}
 use Rattle.treefile.proofs.records.OneTree.{one_file, text_same}
 use Rattle.treefile.proofs.framing.Root.{root_is_last}
@@ -57,7 +60,12 @@ one_fits = (
   refl,
   refl,
   (
-    (production_of 2 (item.Symbol 4 ∷ item.Symbol 3 ∷ []), refl, refl, ((production_of 4 (item.Terminal (Literal 2) ∷ []), refl, refl, tt), ((production_of 3 [], refl, refl, tt), tt))),
+    (
+      production_of 2 (item.Symbol 4 ∷ item.Symbol 3 ∷ []),
+      refl,
+      refl,
+      ((production_of 4 (item.Terminal (Literal 2) ∷ []), refl, refl, tt), ((production_of 3 [], refl, refl, tt), tt)),
+    ),
     ((production_of 1 [], refl, refl, tt), tt),
   ),
 )
@@ -83,7 +91,10 @@ one_well : (k : ℕ) → IsWellOn (λ p. p ≤ k) binary binary_passes tree_of_o
 one_well k = (
   (λ a p is le. well_text (codes "65536") (is_utf8-from_IsUtf8 (codes "65536") out_utf8) (omega arith)),
   (
-    ((λ a p is le. well_number 65536 (omega arith)), (((λ a p is le. well_number 1 (omega arith)), tt), (((λ a p is le. well_of_t a), tt), tt))),
+    (
+      (λ a p is le. well_number 65536 (omega arith)),
+      (((λ a p is le. well_number 1 (omega arith)), tt), (((λ a p is le. well_of_t a), tt), tt)),
+    ),
     (((λ a p is le. well_number 0 (omega arith)), tt), tt),
   ),
 )
@@ -94,14 +105,20 @@ one_recorded k = record { fits = one_fits; texts = one_texts; well = one_well k 
 one_occurs : IsFileOfTree version_one binary binary_passes 2 tree_of_one values_of_one pass_2_of_one
 one_occurs = record { occurs = sym worked_2; texts = one_texts; well = one_well 2 }
 
-pub one_alone : (t : Tree) (v : Valuation) → IsTreeOf binary t → IsFileOfTree version_one binary binary_passes 2 t v pass_2_of_one → (tree_of_one ≡ t) × Same (λ p. p ≤ 2) binary binary_passes tree_of_one values_of_one v
-one_alone t v tree is = one_file version_one binary binary_passes 2 tree_of_one t values_of_one v pass_2_of_one version_one_usable binary_fits binary_numbered one_fits tree one_occurs is
+pub one_alone : (t : Tree) (v : Valuation) → IsTreeOf binary t → IsFileOfTree version_one binary binary_passes 2 t v pass_2_of_one
+    → (tree_of_one ≡ t) × Same (λ p. p ≤ 2) binary binary_passes tree_of_one values_of_one v
+one_alone t v tree is =
+    one_file version_one binary binary_passes 2 tree_of_one t values_of_one v pass_2_of_one version_one_usable binary_fits
+    binary_numbered one_fits tree one_occurs is
 
 pub iffy_recorded : IsRecorded token_sample iffy_passes 0 (item.Symbol 0) token_tree (token_values iffy)
 iffy_recorded = record {
   fits = token_fits;
   texts = ((λ r rule bad. absurd bad), (refl, tt));
-  well = ((λ a p is le. well_text iffy token_text.utf8 (omega arith)), ((λ a p is le. well_text iffy token_text.utf8 (omega arith)), tt));
+  well = (
+    (λ a p is le. well_text iffy token_text.utf8 (omega arith)),
+    ((λ a p is le. well_text iffy token_text.utf8 (omega arith)), tt),
+  );
 }
 
 -- an empty text is not the leaf's
@@ -128,12 +145,21 @@ sample_file : (k : ℕ) → IsFileOfTree version_one sample sample_passes k samp
 sample_file k = record {
   occurs = refl;
   texts = (sample_ran (sample_values 2)).texts;
-  well = ((λ a p is le. well_number 2 (omega arith)), (((λ a p is le. well_of_a 2 1 a (omega arith) (omega arith)), tt), (((λ a p is le. well_of_a 1 0 a (omega arith) (omega arith)), tt), tt)));
+  well = (
+    (λ a p is le. well_number 2 (omega arith)),
+    (
+      ((λ a p is le. well_of_a 2 1 a (omega arith) (omega arith)), tt),
+      (((λ a p is le. well_of_a 1 0 a (omega arith) (omega arith)), tt), tt),
+    ),
+  );
 }
 
 -- the first one is the file of no other tree
-sample_alone : (t : Tree) (u : Valuation) → IsTreeOf sample t → IsFileOfTree version_one sample sample_passes 0 t u (file_of_x_x 0) → sample_tree ≡ t
-sample_alone t u tree is = (one_file version_one sample sample_passes 0 sample_tree t (sample_values 2) u (file_of_x_x 0) version_one_usable sample_fit sample_numbered sample_fits tree (sample_file 0) is).0
+sample_alone : (t : Tree) (u : Valuation) → IsTreeOf sample t
+    → IsFileOfTree version_one sample sample_passes 0 t u (file_of_x_x 0) → sample_tree ≡ t
+sample_alone t u tree is =
+    (one_file version_one sample sample_passes 0 sample_tree t (sample_values 2) u
+    (file_of_x_x 0) version_one_usable sample_fit sample_numbered sample_fits tree (sample_file 0) is).0
 
 pub sample_pass : RunsPass version_one sample sample_passes 0 (file_of_x_x 0) (file_of_x_x 1)
 sample_pass t u tree is =
@@ -151,7 +177,9 @@ sample_run t u tree is =
       values = sample_values 2;
       ran = sample_ran u;
       file = sample_file 1;
-      other = λ k from e. subst (λ j. IsFileOfTree version_one sample sample_passes j sample_tree (sample_values 2) (file_of_x_x 0)) (let same : 0 ≡ k = omega arith in same) (sample_file 0);
+      other =
+          λ k from e. subst (λ j. IsFileOfTree version_one sample sample_passes j sample_tree (sample_values 2) (file_of_x_x 0))
+          (let same : 0 ≡ k = omega arith in same) (sample_file 0);
     } in
     subst (λ s. HasRun version_one sample sample_passes s u 1 1 (file_of_x_x 1) (file_of_x_x 0)) (sample_alone t u tree is) ran
 
@@ -178,7 +206,8 @@ nine_is_nothing = refl
 
 pub nine_begins : BeginsNoValue (9 ∷ [])
 nine_begins v rest well e =
-    let bad : ◌≡◌ {A = Option (Value × List ℕ)} None (Some (v, rest)) = sym nine_is_nothing ∙ ap (value_at 64) e ∙ well_is_read v rest well in
+    let bad : ◌≡◌ {A = Option (Value × List ℕ)} None (Some (v, rest)) =
+    sym nine_is_nothing ∙ ap (value_at 64) e ∙ well_is_read v rest well in
     cc
 
 pub number_alone : AreSpelled 2 (spelled_number ++ 9 ∷ []) → ⊥
@@ -187,4 +216,5 @@ number_alone = value_is_missing (spelled_number ++ 9 ∷ []) number (9 ∷ []) 2
 pub root_of_one : last_body_of version_one pass_2_of_one ≡ Ok record_of_n
 root_of_one =
     let bytes : node_body version_one binary binary_passes 2 0 (values_of_one []) [] ≡ record_of_n = simp spellings in
-    root_is_last version_one binary binary_passes 2 0 _ values_of_one pass_2_of_one version_one_usable binary_fits one_fits one_occurs ∙ ap Ok bytes
+    root_is_last version_one binary binary_passes 2 0 _ values_of_one pass_2_of_one version_one_usable binary_fits one_fits
+    one_occurs ∙ ap Ok bytes

@@ -21,11 +21,13 @@ pub record RanPass (version : Version) (g : Grammar) (m : Passes) (k : ℕ) (t :
 -- Pass k + 1 ran from one content to another: for every tree and values whose file of pass k the first
 -- content is, the pass had its effect on them (this project's).
 abbrev pub RunsPass : Version → Grammar → Passes → ℕ → (from to : List ℕ) → Type 0
-RunsPass version g m k from to = (t : Tree) (u : Valuation) → IsTreeOf g t → IsFileOfTree version g m k t u from → RanPass version g m k t u to
+RunsPass version g m k from to = (t : Tree) (u : Valuation) → IsTreeOf g t → IsFileOfTree version g m k t u from
+    → RanPass version g m k t u to
 
 -- Passes from `first` to `last` ran through a tree that had the values u. `newest` is the file of the last pass. If a pass ran,
 -- `previous` is the file of the pass before the last, with the same values (this project's).
-pub record HasRun (version : Version) (g : Grammar) (m : Passes) (t : Tree) (u : Valuation) (first last : ℕ) (newest previous : List ℕ) : Type 0 where
+pub record HasRun (version : Version) (g : Grammar) (m : Passes) (t : Tree) (u : Valuation) (first last : ℕ)
+    (newest previous : List ℕ) : Type 0 where
   pub values : Valuation
   pub ran : RanThrough g m t u first (suc last) values
   pub file : IsFileOfTree version g m last t values newest
@@ -34,4 +36,5 @@ pub record HasRun (version : Version) (g : Grammar) (m : Passes) (t : Tree) (u :
 -- The passes after pass k ran, up to the last: for every tree and values whose file of pass k the start is,
 -- they ran through it and left these two contents (this project's).
 abbrev pub RunsPasses : Version → Grammar → Passes → (k last : ℕ) → (start newest previous : List ℕ) → Type 0
-RunsPasses version g m k last start newest previous = (t : Tree) (u : Valuation) → IsTreeOf g t → IsFileOfTree version g m k t u start → HasRun version g m t u (suc k) last newest previous
+RunsPasses version g m k last start newest previous = (t : Tree) (u : Valuation) → IsTreeOf g t
+    → IsFileOfTree version g m k t u start → HasRun version g m t u (suc k) last newest previous

@@ -1,5 +1,7 @@
 -- The parser agrees with the syntax.
-use Rattle.std.proofs.Common.{rules, ◌≡◌, ℕ, zero, suc, Bool, true, false, not, ◌||◌, if◌then◌else◌, ◌&&◌, List, [], ◌∷◌, ◌++◌, length, ◌<◌, Option, Some, None, Ok, Err, is_some, refl, ap, sym, ◌∙◌, subst, append-nil, ◌↔◌, codes, arith}
+use Rattle.std.proofs.Common.{rules, ◌≡◌, ℕ, zero, suc, Bool, true, false, not, ◌||◌, if◌then◌else◌, ◌&&◌, List, [], ◌∷◌, ◌++◌}
+use Rattle.std.proofs.Common.{length, ◌<◌, Option, Some, None, Ok, Err, is_some, refl, ap, sym, ◌∙◌, subst, append-nil, ◌↔◌}
+use Rattle.std.proofs.Common.{codes, arith}
 use denote.Enum.Bare.{same_true}
 use Rattle.std.proofs.lemmas.Bool.{and_parts}
 use Rattle.ag_expr.specs.contracts.parser.Precedence.{the_type}
@@ -17,13 +19,22 @@ use Rattle.ag_expr.specs.language.Names.{Names}
 use Rattle.ag_tokens.specs.PlacedToken.{PlacedToken, Input, tokens}
 use Rattle.ag_tokens.specs.Languages as syntax
 use Rattle.ag_tokens.specs.Languages.{gives, one, ◌or◌, further}
-use Rattle.ag_expr.specs.language.Syntax.{one_sign, operator_of, binary_operator, precedences, closer, takes_one, same_precedence, of_precedence, chain_of, new_name, call_in, operand_of, IsOther, IsChain, IsRanked, AreNone, IsTable, IsParenthesized, IsNext, AreSome, IsList, AreArguments, IsCall, IsLet, IsIf, IsAtom, IsWhole, IsExpr, IsExprIn}
+use Rattle.ag_expr.specs.language.Syntax.{one_sign, operator_of, binary_operator, precedences, closer, takes_one, same_precedence}
+use Rattle.ag_expr.specs.language.Syntax.{of_precedence, chain_of, new_name, call_in, operand_of, IsOther, IsChain, IsRanked}
+use Rattle.ag_expr.specs.language.Syntax.{AreNone, IsTable, IsParenthesized, IsNext, AreSome, IsList, AreArguments, IsCall, IsLet}
+use Rattle.ag_expr.specs.language.Syntax.{IsIf, IsAtom, IsWhole, IsExpr, IsExprIn}
 use Rattle.ag_tokens.specs.Parsing as reading
 use Rattle.ag_tokens.specs.Parsing.{pure, is_end, is_sign}
-use Rattle.ag_expr.specs.language.Reading.{expect, expr_of, refusal, Parser, is_call, is_operand, is_operator_of, begins, begins_atom, other_from, chain_from, ranked_from, none_from, table_from, parenthesized_from, next_from, items_from, some_from, list_from, unary_from, binary_from, put_from, arguments_from, call_from, let_from, if_from, atom_from, whole_from, expr_from, expr_in}
+use Rattle.ag_expr.specs.language.Reading.{expect, expr_of, refusal, Parser, is_call, is_operand, is_operator_of, begins}
+use Rattle.ag_expr.specs.language.Reading.{begins_atom, other_from, chain_from, ranked_from, none_from, table_from}
+use Rattle.ag_expr.specs.language.Reading.{parenthesized_from, next_from, items_from, some_from, list_from, unary_from}
+use Rattle.ag_expr.specs.language.Reading.{binary_from, put_from, arguments_from, call_from, let_from, if_from, atom_from}
+use Rattle.ag_expr.specs.language.Reading.{whole_from, expr_from, expr_in}
 use Rattle.ag_tokens.specs.GrammarToken.{GrammarToken, Sign, mark, word, sign_token}
-use Rattle.ag_expr.proofs.reading.Exact.{nowhere, Apart, then_exact, or_exact, further_exact, further_after, further_then, then_starts, ends_exact, any_then, start_then, opened, shortens}
-use Rattle.ag_expr.proofs.language.Manner.{Starts, Exact, First, token_exact, token_starts, sign_exact, sign_is, sign_first, or_first, starts_with}
+use Rattle.ag_expr.proofs.reading.Exact.{nowhere, Apart, then_exact, or_exact, further_exact, further_after, further_then}
+use Rattle.ag_expr.proofs.reading.Exact.{then_starts, ends_exact, any_then, start_then, opened, shortens}
+use Rattle.ag_expr.proofs.language.Manner.{Starts, Exact, First, token_exact, token_starts, sign_exact, sign_is, sign_first}
+use Rattle.ag_expr.proofs.language.Manner.{or_first, starts_with}
 
 -- ---- precedences
 
@@ -39,7 +50,8 @@ abbrev pub AllApart : List Precedence → Type 0
 AllApart [] = Unit {0}
 AllApart (r ∷ rs) = Apart (is_operator_of r) (in_precedences rs) × AllApart rs
 
-of_one : (r : Precedence) (o : Option (Precedence × Operator)) → is_some (of_precedence r o) ≡ true → (x : Operator) × (o ≡ Some (r, x))
+of_one : (r : Precedence) (o : Option (Precedence × Operator)) → is_some (of_precedence r o) ≡ true
+    → (x : Operator) × (o ≡ Some (r, x))
 of_one r None h = let bad : ⊥ = cc in absurd bad
 of_one r (Some (q, x)) h = let same = same_true the_type (search rules) r q in (x, grind (arith, same))
 
@@ -57,24 +69,29 @@ all_apart (r ∷ rs) h = let parts = and_parts (absent r rs) (distinct rs) h in 
 
 -- ---- chains
 
-pub other_exact : (k : Precedence) {stops : GrammarToken → Bool} {L : List GrammarToken → Node → Type 0} {l : Parser Node} → Exact stops L l → Exact stops (IsOther k L) (other_from k l)
+pub other_exact : (k : Precedence) {stops : GrammarToken → Bool} {L : List GrammarToken → Node → Type 0} {l : Parser Node}
+    → Exact stops L l → Exact stops (IsOther k L) (other_from k l)
 unfolding other_from
 other_exact k x = any_then (token_exact (operator_of k)) (λ o. ends_exact (λ e. (o, e)) x)
 
 pub other_starts : (k : Precedence) (L : List GrammarToken → Node → Type 0) → Starts (is_operator_of k) (IsOther k L)
 other_starts k L = then_starts (token_starts (operator_of k))
 
-chain_exact : (k : Precedence) {stops : GrammarToken → Bool} {L : List GrammarToken → Node → Type 0} {l : Parser Node} → Exact stops L l → Apart (is_operator_of k) stops → Exact (λ t. is_operator_of k t || stops t) (IsChain k L) (chain_from k l)
+chain_exact : (k : Precedence) {stops : GrammarToken → Bool} {L : List GrammarToken → Node → Type 0} {l : Parser Node}
+    → Exact stops L l → Apart (is_operator_of k) stops → Exact (λ t. is_operator_of k t || stops t) (IsChain k L) (chain_from k l)
 unfolding chain_from
 chain_exact k {stops} {L} x away =
-    then_exact x (λ first. ends_exact (chain_of first) (further_exact (takes_one k) [] (other_exact k x) (other_starts k L) away)) (λ first. further_after (takes_one k) [] (is_operator_of k) stops (chain_of first) (other_starts k L) away)
+    then_exact x (λ first. ends_exact (chain_of first) (further_exact (takes_one k) [] (other_exact k x) (other_starts k L) away))
+    (λ first. further_after (takes_one k) [] (is_operator_of k) stops (chain_of first) (other_starts k L) away)
 
-pub ranked_exact : {L : List GrammarToken → Node → Type 0} {l : Parser Node} → Exact nowhere L l → (ks : List Precedence) → AllApart ks → Exact (in_precedences ks) (IsRanked L ks) (ranked_from l ks)
+pub ranked_exact : {L : List GrammarToken → Node → Type 0} {l : Parser Node} → Exact nowhere L l → (ks : List Precedence)
+    → AllApart ks → Exact (in_precedences ks) (IsRanked L ks) (ranked_from l ks)
 unfolding ranked_from
 ranked_exact x [] a = x
 ranked_exact x (k ∷ ks) a = chain_exact k (ranked_exact x ks a.1) a.0
 
-pub ranked_starts : {test : GrammarToken → Bool} {L : List GrammarToken → Node → Type 0} → Starts test L → (ks : List Precedence) → Starts test (IsRanked L ks)
+pub ranked_starts : {test : GrammarToken → Bool} {L : List GrammarToken → Node → Type 0} → Starts test L → (ks : List Precedence)
+    → Starts test (IsRanked L ks)
 ranked_starts x [] = x
 ranked_starts x (k ∷ ks) = then_starts (ranked_starts x ks)
 
@@ -98,16 +115,22 @@ none_exact = ends_exact (λ u. node.List []) (sign_exact (mark punctuation.Close
 
 table_exact : Exact nowhere IsTable table_from
 unfolding table_from
-table_exact = any_then (sign_exact (mark punctuation.OpenTable)) (λ u. ends_exact (λ u. node.EmptyTable) (sign_exact (mark punctuation.CloseTable)))
+table_exact =
+    any_then (sign_exact (mark punctuation.OpenTable))
+    (λ u. ends_exact (λ u. node.EmptyTable) (sign_exact (mark punctuation.CloseTable)))
 
-module _ (listed : List Occ) (inner : Names → List GrammarToken → Node → Type 0) (read : Names → Parser Node) (x : (scope : Names) → First (begins listed scope) operators (inner scope) (read scope)) (scope : Names) where
+module _ (listed : List Occ) (inner : Names → List GrammarToken → Node → Type 0) (read : Names → Parser Node)
+    (x : (scope : Names) → First (begins listed scope) operators (inner scope) (read scope)) (scope : Names) where
   comma : Apart (is_sign (mark punctuation.Comma)) operators
   comma = sign_apart (mark punctuation.Comma) operators refl
 
   -- an expression and the closing parenthesis of its form
   closed : {R : List GrammarToken → Node → Type 0} {r : Parser Node} (f : Node → Node) → Exact operators R r
-      → Exact nowhere (syntax.◌>>=◌ R (λ e. syntax.◌>>◌ (one_sign (mark punctuation.Close)) (gives (f e)))) (reading.◌>>=◌ r (λ e. reading.◌>>◌ (expect (mark punctuation.Close)) (pure (f e))))
-  closed f y = start_then y (λ e. ends_exact (λ u. f e) (sign_exact (mark punctuation.Close))) (λ e. starts_with (mark punctuation.Close)) (sign_apart (mark punctuation.Close) operators refl)
+      → Exact nowhere (syntax.◌>>=◌ R (λ e. syntax.◌>>◌ (one_sign (mark punctuation.Close)) (gives (f e))))
+      (reading.◌>>=◌ r (λ e. reading.◌>>◌ (expect (mark punctuation.Close)) (pure (f e))))
+  closed f y =
+      start_then y (λ e. ends_exact (λ u. f e) (sign_exact (mark punctuation.Close))) (λ e. starts_with (mark punctuation.Close))
+      (sign_apart (mark punctuation.Close) operators refl)
 
   parenthesized_exact : Exact nowhere (IsParenthesized inner scope) (parenthesized_from read scope)
   unfolding parenthesized_from
@@ -123,19 +146,29 @@ module _ (listed : List Occ) (inner : Names → List GrammarToken → Node → T
   some_exact : Exact nowhere (AreSome inner scope) (some_from read scope)
   unfolding some_from items_from
   some_exact =
-      then_exact (x scope).exact (λ first. start_then (further_exact false (first ∷ []) next_exact next_starts comma) (λ items. ends_exact (λ u. node.List items) (sign_exact (mark punctuation.CloseList))) (λ items. starts_with (mark punctuation.CloseList)) (sign_apart (mark punctuation.CloseList) _ refl))
-      (λ first. further_then false (first ∷ []) (is_sign (mark punctuation.Comma)) operators nowhere next_starts comma (λ items. starts_with (mark punctuation.CloseList)) (sign_apart (mark punctuation.CloseList) operators refl))
+      then_exact (x scope).exact (λ first.
+      start_then (further_exact false (first ∷ []) next_exact next_starts comma)
+      (λ items. ends_exact (λ u. node.List items) (sign_exact (mark punctuation.CloseList)))
+      (λ items. starts_with (mark punctuation.CloseList)) (sign_apart (mark punctuation.CloseList) _ refl))
+      (λ first. further_then false (first ∷ []) (is_sign (mark punctuation.Comma)) operators nowhere next_starts comma
+      (λ items. starts_with (mark punctuation.CloseList)) (sign_apart (mark punctuation.CloseList) operators refl))
 
   list_exact : Exact nowhere (IsList inner scope) (list_from read scope)
   unfolding list_from
-  list_exact = any_then (sign_exact (mark punctuation.OpenList)) (λ u. or_exact none_exact some_exact (starts_with (mark punctuation.CloseList)) (then_starts (x scope).starts) (sign_apart (mark punctuation.CloseList) (begins listed scope) refl))
+  list_exact =
+      any_then (sign_exact (mark punctuation.OpenList))
+      (λ u. or_exact none_exact some_exact (starts_with (mark punctuation.CloseList)) (then_starts (x scope).starts)
+      (sign_apart (mark punctuation.CloseList) (begins listed scope) refl))
 
   arguments_exact : (c : Call) → Exact nowhere (AreArguments inner scope c) (arguments_from read scope c)
   unfolding unary_from binary_from put_from
   arguments_exact (call.Unary c) = closed (λ a. node.Unary c a) (x scope).exact
-  arguments_exact (call.Binary c) = start_then (x scope).exact (λ a. closed (λ b. node.Binary c a b) next_exact) (λ a. then_starts next_starts) comma
+  arguments_exact (call.Binary c) =
+      start_then (x scope).exact (λ a. closed (λ b. node.Binary c a b) next_exact) (λ a. then_starts next_starts) comma
   arguments_exact call.Put =
-      start_then (x scope).exact (λ t. start_then next_exact (λ k. closed (λ v. node.Put t k v) next_exact) (λ k. then_starts next_starts) comma) (λ t. then_starts next_starts) comma
+      start_then (x scope).exact (λ t.
+      start_then next_exact (λ k. closed (λ v. node.Put t k v) next_exact) (λ k. then_starts next_starts) comma)
+      (λ t. then_starts next_starts) comma
 
   call_exact : Exact nowhere (IsCall inner scope) (call_from read scope)
   unfolding call_from
@@ -143,7 +176,10 @@ module _ (listed : List Occ) (inner : Names → List GrammarToken → Node → T
 
   let_exact : Exact operators (IsLet inner scope) (let_from read scope)
   unfolding let_from
-  let_exact = any_then (sign_exact (word (codes "let"))) (λ u. any_then (token_exact new_name) (λ name. any_then (sign_exact (mark punctuation.Equal)) (λ u. start_then (x scope).exact
+  let_exact =
+      any_then (sign_exact (word (codes "let")))
+      (λ u. any_then (token_exact new_name)
+      (λ name. any_then (sign_exact (mark punctuation.Equal)) (λ u. start_then (x scope).exact
       (λ e. any_then (sign_exact (word (codes "in"))) (λ u. ends_exact (node.Let e) (x (scope ++ name ∷ [])).exact))
       (λ e. starts_with (word (codes "in"))) (sign_apart (word (codes "in")) operators refl))))
 
@@ -157,9 +193,15 @@ module _ (listed : List Occ) (inner : Names → List GrammarToken → Node → T
 
   atom_first : First (begins_atom listed scope) nowhere (IsAtom inner scope listed) (atom_from read scope listed)
   unfolding atom_from
-  atom_first = or_first (sign_first (mark punctuation.Open) parenthesized_exact) (or_first (sign_first (mark punctuation.OpenList) list_exact) (or_first (sign_first (mark punctuation.OpenTable) table_exact)
-      (or_first (record { starts = then_starts (token_starts call_in); exact = call_exact }) (record { starts = token_starts (operand_of listed scope); exact = token_exact (operand_of listed scope) }) (call_apart listed scope))
-      (sign_apart (mark punctuation.OpenTable) _ refl)) (sign_apart (mark punctuation.OpenList) _ refl)) (sign_apart (mark punctuation.Open) _ refl)
+  atom_first =
+      or_first (sign_first (mark punctuation.Open) parenthesized_exact)
+      (or_first (sign_first (mark punctuation.OpenList) list_exact)
+      (or_first (sign_first (mark punctuation.OpenTable) table_exact)
+      (or_first (record { starts = then_starts (token_starts call_in); exact = call_exact })
+      (record { starts = token_starts (operand_of listed scope); exact = token_exact (operand_of listed scope) })
+      (call_apart listed scope))
+      (sign_apart (mark punctuation.OpenTable) _ refl)) (sign_apart (mark punctuation.OpenList) _ refl))
+      (sign_apart (mark punctuation.Open) _ refl)
 
   pub atom_exact : Exact nowhere (IsAtom inner scope listed) (atom_from read scope listed)
   atom_exact = atom_first.exact
@@ -167,33 +209,53 @@ module _ (listed : List Occ) (inner : Names → List GrammarToken → Node → T
   whole_first : First (begins listed scope) operators (IsWhole inner scope listed) (whole_from read scope listed)
   unfolding whole_from
   whole_first = or_first (sign_first (word (codes "let")) let_exact)
-      (or_first (sign_first (word (codes "if")) if_exact) (record { starts = ranked_starts atom_first.starts precedences; exact = ranked_exact atom_first.exact precedences (all_apart precedences refl) }) (sign_apart (word (codes "if")) (begins_atom listed scope) refl))
+      (or_first (sign_first (word (codes "if")) if_exact)
+      (record {
+        starts = ranked_starts atom_first.starts precedences;
+        exact =
+            ranked_exact atom_first.exact precedences (all_apart precedences refl);
+      })
+      (sign_apart (word (codes "if")) (begins_atom listed scope) refl))
       (sign_apart (word (codes "let")) _ refl)
 
-pub expr_first : (listed : List Occ) (levels : ℕ) (scope : Names) → First (begins listed scope) operators (IsExprIn listed levels scope) (expr_in listed levels scope)
+pub expr_first : (listed : List Occ) (levels : ℕ) (scope : Names)
+    → First (begins listed scope) operators (IsExprIn listed levels scope) (expr_in listed levels scope)
 unfolding expr_in IsExprIn
-expr_first listed zero scope = record { starts = record { leads = λ ts e h. absurd h }; exact = record { sound = λ i j e h. (let bad : ⊥ = cc in absurd bad); complete = λ us j e h. absurd h } }
-expr_first listed (suc levels) scope = whole_first listed (IsExprIn listed levels) (expr_in listed levels) (expr_first listed levels) scope
+expr_first listed zero scope =
+    record {
+      starts = record { leads = λ ts e h. absurd h };
+      exact = record { sound = λ i j e h. (let bad : ⊥ = cc in absurd bad); complete = λ us j e h. absurd h };
+    }
+expr_first listed (suc levels) scope =
+    whole_first listed (IsExprIn listed levels) (expr_in listed levels) (expr_first listed levels) scope
 
-pub expr_exact : (listed : List Occ) (levels : ℕ) (scope : Names) → Exact operators (IsExprIn listed levels scope) (expr_in listed levels scope)
+pub expr_exact : (listed : List Occ) (levels : ℕ) (scope : Names)
+    → Exact operators (IsExprIn listed levels scope) (expr_in listed levels scope)
 expr_exact listed levels scope = (expr_first listed levels scope).exact
 
 closer_apart : (k : Precedence) → AllApart (closer k)
 closer_apart k = grind (arith, all_apart)
 
-pub other_shortens : (listed : List Occ) (levels : ℕ) (scope : Names) (k : Precedence) (i j : Input) (a : Operator × Node) → other_from k (ranked_from (atom_from (expr_in listed levels) scope listed) (closer k)) i ≡ Ok (a, j) → length j.left < length i.left
+pub other_shortens : (listed : List Occ) (levels : ℕ) (scope : Names) (k : Precedence) (i j : Input) (a : Operator × Node)
+    → other_from k (ranked_from (atom_from (expr_in listed levels) scope listed) (closer k)) i ≡ Ok (a, j)
+    → length j.left < length i.left
 other_shortens listed levels scope k =
     let atom = atom_exact listed (IsExprIn listed levels) (expr_in listed levels) (expr_first listed levels) scope in
-    shortens (other_exact k (ranked_exact atom (closer k) (closer_apart k))) (other_starts k (IsRanked (IsAtom (IsExprIn listed levels) scope listed) (closer k)))
+    shortens (other_exact k (ranked_exact atom (closer k) (closer_apart k)))
+    (other_starts k (IsRanked (IsAtom (IsExprIn listed levels) scope listed) (closer k)))
 
-pub next_shortens : (listed : List Occ) (levels : ℕ) (scope : Names) (i j : Input) (a : Node) → next_from (expr_in listed levels) scope i ≡ Ok (a, j) → length j.left < length i.left
-next_shortens listed levels scope = shortens (next_exact listed (IsExprIn listed levels) (expr_in listed levels) (expr_first listed levels) scope) (next_starts listed (IsExprIn listed levels) (expr_in listed levels) (expr_first listed levels) scope)
+pub next_shortens : (listed : List Occ) (levels : ℕ) (scope : Names) (i j : Input) (a : Node)
+    → next_from (expr_in listed levels) scope i ≡ Ok (a, j) → length j.left < length i.left
+next_shortens listed levels scope =
+    shortens (next_exact listed (IsExprIn listed levels) (expr_in listed levels) (expr_first listed levels) scope)
+    (next_starts listed (IsExprIn listed levels) (expr_in listed levels) (expr_first listed levels) scope)
 
 end_left : (e : Ending) (ps : List PlacedToken) → is_end e ps ≡ true → (at : ℕ) × (e ≡ ending.EndsAt at) × (ps ≡ [])
 end_left e ps h = grind arith
 
 -- tokens that are parsed to the end of a text are an expression
-pub whole_is : (listed : List Occ) (levels : ℕ) (i j : Input) (e : Node) → expr_from listed levels i ≡ Ok (e, j) → is_end j.ending j.left ≡ true → (at : ℕ) × (i.ending ≡ ending.EndsAt at) × IsExpr listed levels (tokens i.left) e
+pub whole_is : (listed : List Occ) (levels : ℕ) (i j : Input) (e : Node) → expr_from listed levels i ≡ Ok (e, j)
+    → is_end j.ending j.left ≡ true → (at : ℕ) × (i.ending ≡ ending.EndsAt at) × IsExpr listed levels (tokens i.left) e
 whole_is listed levels i j e h ends =
     let found = (expr_exact listed levels []).sound i j e h in
     let last = end_left j.ending j.left ends in
@@ -201,25 +263,38 @@ whole_is listed levels i j e h ends =
     (last.0, ap (λ (k : Input). k.ending) found.1 ∙ last.1, subst (λ us. IsExpr listed levels (tokens us) e) (sym all) found.2)
 
 -- and an expression is parsed to the end
-pub read_whole : (listed : List Occ) (levels at : ℕ) (ps : List PlacedToken) (e : Node) → IsExpr listed levels (tokens ps) e → expr_of listed levels (record { left = ps; ending = ending.EndsAt at }) ≡ Ok (e, record { left = []; ending = ending.EndsAt at })
+pub read_whole : (listed : List Occ) (levels at : ℕ) (ps : List PlacedToken) (e : Node) → IsExpr listed levels (tokens ps) e
+    → expr_of listed levels (record { left = ps; ending = ending.EndsAt at }) ≡ Ok
+    (e, record { left = []; ending = ending.EndsAt at })
 unfolding expr_of
 read_whole listed levels at ps e is =
     let end : Input = record { left = []; ending = ending.EndsAt at } in
-    let read = ap (λ us. expr_from listed levels (record { left = us; ending = ending.EndsAt at })) (sym (append-nil ps)) ∙ (expr_exact listed levels []).complete ps end e is refl in
+    let read =
+    ap (λ us. expr_from listed levels (record { left = us; ending = ending.EndsAt at })) (sym (append-nil ps))
+    ∙ (expr_exact listed levels []).complete ps end e is refl in
     rw read refl
 
 -- the result of parsing a whole text
-pub read_of : (listed : List Occ) (levels : ℕ) (i j : Input) (e : Node) → expr_from listed levels i ≡ Ok (e, j) → is_end j.ending j.left ≡ true → expr_of listed levels i ≡ Ok (e, j)
+pub read_of : (listed : List Occ) (levels : ℕ) (i j : Input) (e : Node) → expr_from listed levels i ≡ Ok (e, j)
+    → is_end j.ending j.left ≡ true → expr_of listed levels i ≡ Ok (e, j)
 unfolding expr_of
 read_of listed levels i j e read ends = rw (read, ends) refl
 
-pub read_to_end : (listed : List Occ) (levels : ℕ) (i j : Input) (e : Node) → expr_of listed levels i ≡ Ok (e, j) → (expr_from listed levels i ≡ Ok (e, j)) × (is_end j.ending j.left ≡ true)
+pub read_to_end : (listed : List Occ) (levels : ℕ) (i j : Input) (e : Node) → expr_of listed levels i ≡ Ok (e, j)
+    → (expr_from listed levels i ≡ Ok (e, j)) × (is_end j.ending j.left ≡ true)
 unfolding expr_of
 read_to_end listed levels i j e h =
     let one = opened (expr_from listed levels i) _ _ h in
     let read = one.1 in
-    let ended : reading.and_then {A = Unit {0}} (if is_end one.0.1.ending one.0.1.left then Ok (tt {0}, one.0.1) else Err (refusal one.0.1)) (λ u. pure one.0.0) ≡ Ok (e, j) = one.2 in
+    let ended : reading.and_then {A = Unit {0}}
+    (if is_end one.0.1.ending one.0.1.left then Ok (tt {0}, one.0.1) else Err (refusal one.0.1)) (λ u. pure one.0.0) ≡ Ok
+    (e, j) = one.2 in
     (grind arith, grind arith)
 
-pub exact : (listed : List Occ) (levels at : ℕ) (ps : List PlacedToken) (e : Node) → (expr_of listed levels (record { left = ps; ending = ending.EndsAt at }) ≡ Ok (e, record { left = []; ending = ending.EndsAt at })) ↔ IsExpr listed levels (tokens ps) e
-exact listed levels at ps e = (λ h. let all = read_to_end listed levels _ _ e h in (whole_is listed levels _ _ e all.0 all.1).2, read_whole listed levels at ps e)
+pub exact : (listed : List Occ) (levels at : ℕ) (ps : List PlacedToken) (e : Node)
+    → (expr_of listed levels (record { left = ps; ending = ending.EndsAt at }) ≡ Ok
+    (e, record { left = []; ending = ending.EndsAt at })) ↔ IsExpr listed levels (tokens ps) e
+exact listed levels at ps e = (
+  λ h. let all = read_to_end listed levels _ _ e h in (whole_is listed levels _ _ e all.0 all.1).2,
+  read_whole listed levels at ps e,
+)

@@ -1,5 +1,6 @@
 -- A chain of operators, parsed as its first atom and the rest after it.
-use Rattle.std.proofs.Common.{◌≡◌, Bool, true, false, ◌||◌, not, List, [], ◌∷◌, Option, Some, None, Ok, Err, refl, ap, ◌∙◌, arith, is_some}
+use Rattle.std.proofs.Common.{◌≡◌, Bool, true, false, ◌||◌, not, List, [], ◌∷◌, Option, Some, None, Ok, Err, refl, ap, ◌∙◌, arith}
+use Rattle.std.proofs.Common.{is_some}
 use Rattle.ag_tokens.specs.Parsing.{and_then, next_satisfies, next_token, sees}
 use Rattle.ag_tokens.specs.PlacedToken.{Input}
 use Rattle.ag_tokens.specs.GrammarToken.{GrammarToken}
@@ -14,7 +15,8 @@ use Rattle.ag_expr.specs.language.Syntax.{binary_operator, closer, precedences, 
 
 -- ---- operators that bind more strongly
 
-pub others_closer : (other : Precedence) → is_among (closer precedence.Comparison) other ≡ not (same_precedence other precedence.Comparison)
+pub others_closer : (other : Precedence)
+    → is_among (closer precedence.Comparison) other ≡ not (same_precedence other precedence.Comparison)
 others_closer precedence.Comparison = refl
 others_closer precedence.Join = refl
 others_closer precedence.Sum = refl
@@ -26,7 +28,8 @@ all_among precedence.Join = refl
 all_among precedence.Sum = refl
 all_among precedence.Product = refl
 
-pub operator_among : (ks : List Precedence) (t : GrammarToken) (other : Precedence) (o : Operator) → binary_operator t ≡ Some (other, o) → is_operator_among ks t ≡ is_among ks other
+pub operator_among : (ks : List Precedence) (t : GrammarToken) (other : Precedence) (o : Operator)
+    → binary_operator t ≡ Some (other, o) → is_operator_among ks t ≡ is_among ks other
 operator_among [] t other o is = refl
 operator_among (k ∷ ks) t other o is = let more = operator_among ks t other o is in grind (arith, more)
 
@@ -37,7 +40,8 @@ no_operator (k ∷ ks) t is = let more = no_operator ks t is in grind (arith, mo
 pub any_operator : (t : GrammarToken) → is_operator_among precedences t ≡ is_some (binary_operator t)
 any_operator t = go (binary_operator t) refl
   where
-    go : (o : Option (Precedence × Operator)) → binary_operator t ≡ o → is_operator_among precedences t ≡ is_some (binary_operator t)
+    go : (o : Option (Precedence × Operator)) → binary_operator t ≡ o
+        → is_operator_among precedences t ≡ is_some (binary_operator t)
     go None is = no_operator precedences t is ∙ rw is refl
     go (Some x) is = operator_among precedences t x.0 x.1 is ∙ all_among x.0 ∙ rw is refl
 
@@ -52,27 +56,40 @@ same_outcome (Ok p) = refl
 same_outcome (Err e) = refl
 
 -- nested chains are their first atom and the rest after it
-pub by_atom : (atom : Parser Node) (ks : List Precedence) (i : Input) → ranked_from atom ks i ≡ and_then (atom i) (ranked_after atom ks)
+pub by_atom : (atom : Parser Node) (ks : List Precedence) (i : Input)
+    → ranked_from atom ks i ≡ and_then (atom i) (ranked_after atom ks)
 unfolding ranked_from ranked_after chain_from chain_after
 by_atom atom [] i = same_outcome (atom i)
-by_atom atom (k ∷ ks) i = ap (λ o. and_then o (chain_after k (ranked_from atom ks))) (by_atom atom ks i) ∙ in_turn (atom i) (ranked_after atom ks) (chain_after k (ranked_from atom ks))
+by_atom atom (k ∷ ks) i =
+    ap (λ o. and_then o (chain_after k (ranked_from atom ks))) (by_atom atom ks i)
+    ∙ in_turn (atom i) (ranked_after atom ks) (chain_after k (ranked_from atom ks))
 
-neither : (a b : GrammarToken → Bool) (o : Option GrammarToken) → next_satisfies (λ t. a t || b t) o ≡ false → (next_satisfies a o ≡ false) × (next_satisfies b o ≡ false)
+neither : (a b : GrammarToken → Bool) (o : Option GrammarToken) → next_satisfies (λ t. a t || b t) o ≡ false
+    → (next_satisfies a o ≡ false) × (next_satisfies b o ≡ false)
 neither a b None none = (refl, refl)
 neither a b (Some t) none = grind arith
 
 -- and if none of their operators follows, the rest is empty
-only_atom : (atom : Parser Node) (ks : List Precedence) (first : Node) (j : Input) → sees (is_operator_among ks) j ≡ false → ranked_after atom ks first j ≡ Ok (first, j)
+only_atom : (atom : Parser Node) (ks : List Precedence) (first : Node) (j : Input) → sees (is_operator_among ks) j ≡ false
+    → ranked_after atom ks first j ≡ Ok (first, j)
 unfolding ranked_after chain_after
 only_atom atom [] first j none = refl
 only_atom atom (k ∷ ks) first j none =
     let parts = neither (is_operator_of k) (is_operator_among ks) (next_token j) none in
-    rw (only_atom atom ks first j parts.1, none_further (takes_one k) (is_operator_of k) (other_from k (ranked_from atom ks)) [] j parts.0) refl
+    rw (
+      only_atom atom ks first j parts.1,
+      none_further (takes_one k) (is_operator_of k) (other_from k (ranked_from atom ks)) [] j parts.0,
+    ) refl
 
-pub atom_alone : (atom : Parser Node) (ks : List Precedence) (i j : Input) (first : Node) → atom i ≡ Ok (first, j) → sees (is_operator_among ks) j ≡ false → ranked_from atom ks i ≡ Ok (first, j)
-atom_alone atom ks i j first is none = by_atom atom ks i ∙ ap (λ o. and_then o (ranked_after atom ks)) is ∙ only_atom atom ks first j none
+pub atom_alone : (atom : Parser Node) (ks : List Precedence) (i j : Input) (first : Node) → atom i ≡ Ok (first, j)
+    → sees (is_operator_among ks) j ≡ false → ranked_from atom ks i ≡ Ok (first, j)
+atom_alone atom ks i j first is none =
+    by_atom atom ks i ∙ ap (λ o. and_then o (ranked_after atom ks)) is ∙ only_atom atom ks first j none
 
 -- the same for an operand that no operator of the precedence follows
-pub operand_alone : (atom : Parser Node) (k : Precedence) (i j : Input) (first operand : Node) → ranked_after atom (closer k) first i ≡ Ok (operand, j) → sees (is_operator_of k) j ≡ false → ranked_after atom (k ∷ closer k) first i ≡ Ok (operand, j)
+pub operand_alone : (atom : Parser Node) (k : Precedence) (i j : Input) (first operand : Node)
+    → ranked_after atom (closer k) first i ≡ Ok (operand, j) → sees (is_operator_of k) j ≡ false
+    → ranked_after atom (k ∷ closer k) first i ≡ Ok (operand, j)
 unfolding ranked_after chain_after
-operand_alone atom k i j first operand is none = rw (is, none_further (takes_one k) (is_operator_of k) (other_from k (ranked_from atom (closer k))) [] j none) refl
+operand_alone atom k i j first operand is none =
+    rw (is, none_further (takes_one k) (is_operator_of k) (other_from k (ranked_from atom (closer k))) [] j none) refl

@@ -1,5 +1,6 @@
 -- Listing occurrences one after the other results in the distinct ones.
-use Rattle.std.proofs.Common.{◌≡◌, Bool, true, not, List, [], ◌∷◌, ◌++◌, filter, refl, ap, sym, ◌∙◌, append_assoc, append-nil, arith}
+use Rattle.std.proofs.Common.{◌≡◌, Bool, true, not, List, [], ◌∷◌, ◌++◌, filter, refl, ap, sym, ◌∙◌, append_assoc, append-nil}
+use Rattle.std.proofs.Common.{arith}
 use Rattle.std.proofs.lemmas.Bool.Decides.{nat_tests}
 use Rattle.std.proofs.lemmas.List.Folds.{list_any-append}
 use Rattle.std.proofs.lemmas.Slice.Eq.{bytes_eq-Decides}
@@ -16,15 +17,18 @@ unlisted xs ys = filter (λ y. not (is_listed xs y)) ys
 
 -- of two occurrences with the same place and name, either both are listed or neither is
 pub listed_alike : (xs : List Occ) (x y : Occ) → is_of y.place y.attr x ≡ true → is_listed xs x ≡ is_listed xs y
-listed_alike xs x y h = let same = bytes_eq-Decides x.attr y.attr in let place : x.place ≡ y.place = grind (arith, nat_tests) in let attr : x.attr ≡ y.attr = grind arith in rw (place, attr) refl
+listed_alike xs x y h = let same = bytes_eq-Decides x.attr y.attr in let place : x.place ≡ y.place = grind (arith, nat_tests) in
+    let attr : x.attr ≡ y.attr = grind arith in rw (place, attr) refl
 
 -- filtering out an occurrence that is already listed changes nothing
-unlisted-old : (xs : List Occ) (x : Occ) (ys : List Occ) → is_listed xs x ≡ true → unlisted xs (filter (λ y. not (is_of y.place y.attr x)) ys) ≡ unlisted xs ys
+unlisted-old : (xs : List Occ) (x : Occ) (ys : List Occ) → is_listed xs x ≡ true
+    → unlisted xs (filter (λ y. not (is_of y.place y.attr x)) ys) ≡ unlisted xs ys
 unlisted-old xs x [] old = refl
 unlisted-old xs x (y ∷ ys) old = let more = unlisted-old xs x ys in let alike = listed_alike xs x y in grind (arith, more, alike)
 
 -- filtering out a new one is the same as adding it to the list
-unlisted-new : (xs : List Occ) (x : Occ) (ys : List Occ) → unlisted xs (filter (λ y. not (is_of y.place y.attr x)) ys) ≡ unlisted (xs ++ x ∷ []) ys
+unlisted-new : (xs : List Occ) (x : Occ) (ys : List Occ)
+    → unlisted xs (filter (λ y. not (is_of y.place y.attr x)) ys) ≡ unlisted (xs ++ x ∷ []) ys
 unlisted-new xs x [] = refl
 unlisted-new xs x (y ∷ ys) = let more = unlisted-new xs x ys in grind (arith, list_any-append, more)
 

@@ -1,5 +1,6 @@
 -- Expressions as a language that a parser reads: faults of the parser, and single signs.
-use Rattle.std.proofs.Common.{◌||◌, rules, arith, ℕ, bytes_eq, ◌≡◌, ◌==◌, ◌&&◌, Bool, true, false, List, Option, Some, is_some, refl}
+use Rattle.std.proofs.Common.{◌||◌, rules, arith, ℕ, bytes_eq, ◌≡◌, ◌==◌, ◌&&◌, Bool, true, false, List, Option, Some, is_some}
+use Rattle.std.proofs.Common.{refl}
 use denote.Enum.Bare.{same_true, true_same}
 use Rattle.std.proofs.lemmas.Bool.Decides.{nat_tests}
 use Rattle.std.proofs.lemmas.Slice.Eq.{bytes_eq-Decides}
@@ -28,7 +29,8 @@ is_deep _ p = false
 abbrev pub manner : Manner GrammarToken ExprFault
 manner = record { item = λ p. p.token; wrong = refusal; is_reported = λ f. true; is_deep = is_deep }
 
-pub deep_is : (f : ExprFault) (p : PlacedToken) → is_deep f p ≡ true → (f ≡ fault.TooDeep p.at) × (begins_expression p.token ≡ true)
+pub deep_is : (f : ExprFault) (p : PlacedToken) → is_deep f p ≡ true
+    → (f ≡ fault.TooDeep p.at) × (begins_expression p.token ≡ true)
 deep_is f p h = (grind (arith, nat_tests), grind arith)
 
 pub is_too_deep : (p : PlacedToken) → begins_expression p.token ≡ true → is_deep (fault.TooDeep p.at) p ≡ true
@@ -45,13 +47,15 @@ Steady = steady.Steady manner
 
 -- ---- one token
 
-pub token_exact : {A : Type 0} {stops : GrammarToken → Bool} (meaning : GrammarToken → Option A) → Exact stops (one meaning) (token_as meaning)
+pub token_exact : {A : Type 0} {stops : GrammarToken → Bool} (meaning : GrammarToken → Option A)
+    → Exact stops (one meaning) (token_as meaning)
 token_exact meaning = one_exact (λ at. meaning) meaning (λ p. refl)
 
 pub token_starts : {A : Type 0} (meaning : GrammarToken → Option A) → Starts (λ t. is_some (meaning t)) (one meaning)
 token_starts meaning = one_starts meaning (λ p a h. rw h refl)
 
-pub token_steady : {A : Type 0} (meaning : GrammarToken → Option A) (w : GrammarToken) (v : A) → meaning w ≡ Some v → Steady (one meaning) (token_as meaning) (token_as meaning)
+pub token_steady : {A : Type 0} (meaning : GrammarToken → Option A) (w : GrammarToken) (v : A) → meaning w ≡ Some v
+    → Steady (one meaning) (token_as meaning) (token_as meaning)
 token_steady meaning = one_steady (λ at. meaning) meaning (λ p. refl)
 
 -- ---- one sign
@@ -79,22 +83,36 @@ spelled_is s ts a (t, e, means) = let is = sign_is s t in grind arith
 pub sign_exact : {stops : GrammarToken → Bool} (s : Sign) → Exact stops (one_sign s) (expect s)
 sign_exact {stops} s =
     let x = token_exact {stops = stops} (as_sign s) in
-    record { sound = λ i j a h. let found = x.sound i j a h in (found.0, found.1, spelled_is s _ a found.2); complete = λ us j a is h. x.complete us j a (sign_token s, is, means_sign s) h }
+    record {
+      sound = λ i j a h. let found = x.sound i j a h in (found.0, found.1, spelled_is s _ a found.2);
+      complete = λ us j a is h. x.complete us j a (sign_token s, is, means_sign s) h;
+    }
 
-pub starts_with : {B : Type 0} {S : Unit {0} → List GrammarToken → B → Type 0} (s : Sign) → Starts (is_sign s) (languages.◌>>=◌ (one_sign s) S)
-starts_with s = then_starts (record { leads = λ us a e. (one_starts {m = manner} (as_sign s) (λ p b h. grind arith)).leads us tt (sign_token s, e, means_sign s) })
+pub starts_with : {B : Type 0} {S : Unit {0} → List GrammarToken → B → Type 0} (s : Sign)
+    → Starts (is_sign s) (languages.◌>>=◌ (one_sign s) S)
+starts_with s =
+    then_starts
+    (record {
+      leads =
+          λ us a e. (one_starts {m = manner} (as_sign s) (λ p b h. grind arith)).leads us tt
+          (sign_token s, e, means_sign s);
+    })
 
 pub sign_steady : (s : Sign) → Steady (one_sign s) (expect s) (expect s)
 sign_steady s = wider_steady (spelled_is s) (token_steady (as_sign s) (sign_token s) tt (means_sign s))
 
 -- ---- a form by its first token
 
-pub record First {A : Type 0} (test stops : GrammarToken → Bool) (L : List GrammarToken → A → Type 0) (r : Parser A) : Type 0 where
+pub record First {A : Type 0} (test stops : GrammarToken → Bool) (L : List GrammarToken → A → Type 0)
+    (r : Parser A) : Type 0 where
   pub starts : Starts test L
   pub exact : Exact stops L r
 
-pub sign_first : {B : Type 0} {stops : GrammarToken → Bool} {S : Unit {0} → List GrammarToken → B → Type 0} {r : Parser B} (s : Sign) → Exact stops (languages.◌>>=◌ (one_sign s) S) r → First (is_sign s) stops (languages.◌>>=◌ (one_sign s) S) r
+pub sign_first : {B : Type 0} {stops : GrammarToken → Bool} {S : Unit {0} → List GrammarToken → B → Type 0} {r : Parser B}
+    (s : Sign) → Exact stops (languages.◌>>=◌ (one_sign s) S) r → First (is_sign s) stops (languages.◌>>=◌ (one_sign s) S) r
 sign_first s x = record { starts = starts_with s; exact = x }
 
-pub or_first : {A : Type 0} {test those stops : GrammarToken → Bool} {L M : List GrammarToken → A → Type 0} {l n : Parser A} → First test stops L l → First those stops M n → Apart test those → First (λ t. test t || those t) stops (L or M) (choose test l n)
+pub or_first : {A : Type 0} {test those stops : GrammarToken → Bool} {L M : List GrammarToken → A → Type 0} {l n : Parser A}
+    → First test stops L l → First those stops M n → Apart test those
+    → First (λ t. test t || those t) stops (L or M) (choose test l n)
 or_first x y apart = record { starts = or_starts x.starts y.starts; exact = or_exact x.exact y.exact x.starts y.starts apart }

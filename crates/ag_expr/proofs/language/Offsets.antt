@@ -1,6 +1,8 @@
 -- The first token that cannot be accepted: the tokens before it are a prefix of an expression, and together
 -- with it they are not.
-use Rattle.std.proofs.Common.{◌≡◌, ℕ, zero, suc, ◌+◌, pos, Bool, true, false, if◌then◌else◌, ◌||◌, List, [], ◌∷◌, ◌++◌, Option, Some, None, is_some, Ok, Err, ◌⊎◌, inl, inr, refl, ap, sym, ◌∙◌, subst, append_assoc, append-nil, arith, codes}
+use Rattle.std.proofs.Common.{◌≡◌, ℕ, zero, suc, ◌+◌, pos, Bool, true, false, if◌then◌else◌, ◌||◌, List, [], ◌∷◌, ◌++◌, Option}
+use Rattle.std.proofs.Common.{Some, None, is_some, Ok, Err, ◌⊎◌, inl, inr, refl, ap, sym, ◌∙◌, subst, append_assoc, append-nil}
+use Rattle.std.proofs.Common.{arith, codes}
 use Rattle.ag_expr.specs.declared.fault.ExprFault.{ExprFault}
 use Rattle.ag_expr.specs.declared.fault.ExprFault.TheVariants as fault
 use Rattle.ag_expr.specs.declared.names.Call.{Call}
@@ -23,16 +25,23 @@ use Rattle.ag_tokens.specs.PlacedToken.{PlacedToken, Input, tokens}
 use Rattle.ag_expr.specs.language.Offsets.{NoneGoesOn, IsReportedFirst}
 use Rattle.ag_tokens.specs.Parsing as reading
 use Rattle.ag_tokens.specs.Parsing.{next_token, first_token, next_satisfies, sees, is_end, is_sign, choose}
-use Rattle.ag_expr.specs.language.Reading.{token_as, Outcome, Parser, refusal, refusal_of, at_end, expect, is_operator_of, begins, begins_atom, other_from, chain_from, ranked_from, none_from, table_from, parenthesized_from, next_from, items_from, some_from, list_from, unary_from, binary_from, put_from, arguments_from, call_from, let_from, if_from, atom_from, whole_from, level_fault_of, expr_from, expr_in, expr_of}
+use Rattle.ag_expr.specs.language.Reading.{token_as, Outcome, Parser, refusal, refusal_of, at_end, expect, is_operator_of, begins}
+use Rattle.ag_expr.specs.language.Reading.{begins_atom, other_from, chain_from, ranked_from, none_from, table_from}
+use Rattle.ag_expr.specs.language.Reading.{parenthesized_from, next_from, items_from, some_from, list_from, unary_from}
+use Rattle.ag_expr.specs.language.Reading.{binary_from, put_from, arguments_from, call_from, let_from, if_from, atom_from}
+use Rattle.ag_expr.specs.language.Reading.{whole_from, level_fault_of, expr_from, expr_in, expr_of}
 use Rattle.ag_tokens.specs.Languages as syntax
 use Rattle.ag_tokens.specs.Languages.{gives, one, ◌or◌, none, further, IsFew}
-use Rattle.ag_expr.specs.language.Syntax.{one_sign, operator_of, precedences, takes_one, chain_of, new_name, call_in, operand_of, IsOther, IsChain, IsRanked, AreNone, IsTable, IsParenthesized, IsNext, AreSome, IsList, AreArguments, IsCall, IsLet, IsIf, IsAtom, IsWhole, IsExpr, IsExprIn}
+use Rattle.ag_expr.specs.language.Syntax.{one_sign, operator_of, precedences, takes_one, chain_of, new_name, call_in, operand_of}
+use Rattle.ag_expr.specs.language.Syntax.{IsOther, IsChain, IsRanked, AreNone, IsTable, IsParenthesized, IsNext, AreSome, IsList}
+use Rattle.ag_expr.specs.language.Syntax.{AreArguments, IsCall, IsLet, IsIf, IsAtom, IsWhole, IsExpr, IsExprIn}
 use Rattle.ag_tokens.specs.GrammarToken.{GrammarToken, Sign, mark, word, sign_token}
 use Rattle.ag_tokens.specs.GrammarToken as token
 use Rattle.std.proofs.lemmas.List.{map-append}
 use Rattle.ag_expr.proofs.reading.Exact.{answered, before, nowhere, shortens}
 use Rattle.ag_expr.proofs.language.Manner.{Exact, First, Steady, manner, deep_is, is_too_deep, sign_is, sign_steady, token_steady}
-use Rattle.ag_expr.proofs.language.Agree.{AllApart, operators, other_exact, other_starts, ranked_exact, all_apart, next_exact, next_starts, atom_exact, expr_exact, expr_first}
+use Rattle.ag_expr.proofs.language.Agree.{AllApart, operators, other_exact, other_starts, ranked_exact, all_apart, next_exact}
+use Rattle.ag_expr.proofs.language.Agree.{next_starts, atom_exact, expr_exact, expr_first}
 use Rattle.ag_expr.proofs.reading.Steady as steady
 use Rattle.ag_expr.proofs.reading.Steady.{Heads, first, first_of, same_front, then_steady, or_steady, ends_steady, further_steady}
 
@@ -44,15 +53,23 @@ an_operator precedence.Join = (token.Punctuation punctuation.Join, operator.Join
 an_operator precedence.Sum = (token.Punctuation punctuation.Plus, operator.Add, refl)
 an_operator precedence.Product = (token.Punctuation punctuation.Times, operator.Multiply, refl)
 
-other_steady : (k : Precedence) {L : List GrammarToken → Node → Type 0} {r q : Parser Node} → Steady L r q → Steady (IsOther k L) (other_from k r) (other_from k q)
+other_steady : (k : Precedence) {L : List GrammarToken → Node → Type 0} {r q : Parser Node} → Steady L r q
+    → Steady (IsOther k L) (other_from k r) (other_from k q)
 unfolding other_from
-other_steady k x = let w = an_operator k in then_steady (token_steady (operator_of k) w.0 w.1 w.2) (λ o. ends_steady (λ e. (o, e)) x)
+other_steady k x = let w = an_operator k in
+    then_steady (token_steady (operator_of k) w.0 w.1 w.2) (λ o. ends_steady (λ e. (o, e)) x)
 
-chain_steady : (k : Precedence) {stops : GrammarToken → Bool} {L M : List GrammarToken → Node → Type 0} {r q : Parser Node} → Steady M r q → Exact stops L r → Exact stops M q → Steady (IsChain k M) (chain_from k r) (chain_from k q)
+chain_steady : (k : Precedence) {stops : GrammarToken → Bool} {L M : List GrammarToken → Node → Type 0} {r q : Parser Node}
+    → Steady M r q → Exact stops L r → Exact stops M q → Steady (IsChain k M) (chain_from k r) (chain_from k q)
 unfolding chain_from
-chain_steady k {stops} {L} {M} x y z = then_steady x (λ first. ends_steady (chain_of first) (further_steady (takes_one k) (is_operator_of k) [] (other_steady k x) (shortens (other_exact k y) (other_starts k L)) (shortens (other_exact k z) (other_starts k M))))
+chain_steady k {stops} {L} {M} x y z =
+    then_steady x
+    (λ first. ends_steady (chain_of first)
+    (further_steady (takes_one k) (is_operator_of k) [] (other_steady k x) (shortens (other_exact k y) (other_starts k L))
+    (shortens (other_exact k z) (other_starts k M))))
 
-ranked_steady : {L M : List GrammarToken → Node → Type 0} {r q : Parser Node} → Steady M r q → Exact nowhere L r → Exact nowhere M q → (ks : List Precedence) → AllApart ks → Steady (IsRanked M ks) (ranked_from r ks) (ranked_from q ks)
+ranked_steady : {L M : List GrammarToken → Node → Type 0} {r q : Parser Node} → Steady M r q → Exact nowhere L r
+    → Exact nowhere M q → (ks : List Precedence) → AllApart ks → Steady (IsRanked M ks) (ranked_from r ks) (ranked_from q ks)
 unfolding ranked_from
 ranked_steady x y z [] a = x
 ranked_steady x y z (k ∷ ks) a = chain_steady k (ranked_steady x y z ks a.1) (ranked_exact y ks a.1) (ranked_exact z ks a.1)
@@ -65,19 +82,25 @@ none_steady = ends_steady (λ u. node.List []) (sign_steady (mark punctuation.Cl
 
 table_steady : Steady IsTable table_from table_from
 unfolding table_from
-table_steady = then_steady (sign_steady (mark punctuation.OpenTable)) (λ u. ends_steady (λ u. node.EmptyTable) (sign_steady (mark punctuation.CloseTable)))
+table_steady =
+    then_steady (sign_steady (mark punctuation.OpenTable))
+    (λ u. ends_steady (λ u. node.EmptyTable) (sign_steady (mark punctuation.CloseTable)))
 
 module _ (listed : List Occ)
     (inner outer : Names → List GrammarToken → Node → Type 0) (r q : Names → Parser Node)
-    (y : (scope : Names) → First (begins listed scope) operators (inner scope) (r scope)) (z : (scope : Names) → First (begins listed scope) operators (outer scope) (q scope))
+    (y : (scope : Names) → First (begins listed scope) operators (inner scope) (r scope))
+    (z : (scope : Names) → First (begins listed scope) operators (outer scope) (q scope))
     (x : (scope : Names) → Steady (outer scope) (r scope) (q scope)) (scope : Names) where
   closed : {R : List GrammarToken → Node → Type 0} {s t : Parser Node} (m : Sign) (f : Node → Node) → Steady R s t
-      → Steady (syntax.◌>>=◌ R (λ e. syntax.◌>>◌ (one_sign m) (gives (f e)))) (reading.◌>>=◌ s (λ e. reading.◌>>◌ (expect m) (reading.pure (f e)))) (reading.◌>>=◌ t (λ e. reading.◌>>◌ (expect m) (reading.pure (f e))))
+      → Steady (syntax.◌>>=◌ R (λ e. syntax.◌>>◌ (one_sign m) (gives (f e))))
+      (reading.◌>>=◌ s (λ e. reading.◌>>◌ (expect m) (reading.pure (f e))))
+      (reading.◌>>=◌ t (λ e. reading.◌>>◌ (expect m) (reading.pure (f e))))
   closed m f s = then_steady s (λ e. ends_steady (λ u. f e) (sign_steady m))
 
   parenthesized_steady : Steady (IsParenthesized outer scope) (parenthesized_from r scope) (parenthesized_from q scope)
   unfolding parenthesized_from
-  parenthesized_steady = then_steady (sign_steady (mark punctuation.Open)) (λ u. closed (mark punctuation.Close) (λ e. e) (x scope))
+  parenthesized_steady =
+      then_steady (sign_steady (mark punctuation.Open)) (λ u. closed (mark punctuation.Close) (λ e. e) (x scope))
 
   next_steady : Steady (IsNext outer scope) (next_from r scope) (next_from q scope)
   unfolding next_from
@@ -86,8 +109,10 @@ module _ (listed : List Occ)
   some_steady : Steady (AreSome outer scope) (some_from r scope) (some_from q scope)
   unfolding some_from items_from
   some_steady =
-      then_steady (x scope) (λ first. then_steady (further_steady false (is_sign (mark punctuation.Comma)) (first ∷ []) next_steady
-      (shortens (next_exact listed inner r y scope) (next_starts listed inner r y scope)) (shortens (next_exact listed outer q z scope) (next_starts listed outer q z scope)))
+      then_steady (x scope) (λ first.
+      then_steady (further_steady false (is_sign (mark punctuation.Comma)) (first ∷ []) next_steady
+      (shortens (next_exact listed inner r y scope) (next_starts listed inner r y scope))
+      (shortens (next_exact listed outer q z scope) (next_starts listed outer q z scope)))
       (λ items. ends_steady (λ u. node.List items) (sign_steady (mark punctuation.CloseList))))
 
   list_steady : Steady (IsList outer scope) (list_from r scope) (list_from q scope)
@@ -98,29 +123,46 @@ module _ (listed : List Occ)
   unfolding unary_from binary_from put_from
   arguments_steady (call.Unary c) = closed (mark punctuation.Close) (node.Unary c) (x scope)
   arguments_steady (call.Binary c) = then_steady (x scope) (λ a. closed (mark punctuation.Close) (node.Binary c a) next_steady)
-  arguments_steady call.Put = then_steady (x scope) (λ t. then_steady next_steady (λ k. closed (mark punctuation.Close) (node.Put t k) next_steady))
+  arguments_steady call.Put =
+      then_steady (x scope) (λ t. then_steady next_steady (λ k. closed (mark punctuation.Close) (node.Put t k) next_steady))
 
   call_steady : Steady (IsCall outer scope) (call_from r scope) (call_from q scope)
   unfolding call_from
-  call_steady = then_steady (token_steady call_in (token.Name (codes "put")) call.Put refl) (λ c. then_steady (sign_steady (mark punctuation.Open)) (λ u. arguments_steady c))
+  call_steady =
+      then_steady (token_steady call_in (token.Name (codes "put")) call.Put refl)
+      (λ c. then_steady (sign_steady (mark punctuation.Open)) (λ u. arguments_steady c))
 
   atom_steady : Steady (IsAtom outer scope listed) (atom_from r scope listed) (atom_from q scope listed)
   unfolding atom_from
-  atom_steady = or_steady parenthesized_steady (or_steady list_steady (or_steady table_steady (or_steady call_steady (token_steady (operand_of listed scope) (token.Number (pos 0)) (node.Literal (value.Num (pos 0))) refl))))
+  atom_steady =
+      or_steady parenthesized_steady
+      (or_steady list_steady
+      (or_steady table_steady
+      (or_steady call_steady
+      (token_steady (operand_of listed scope) (token.Number (pos 0)) (node.Literal (value.Num (pos 0))) refl))))
 
   let_steady : Steady (IsLet outer scope) (let_from r scope) (let_from q scope)
   unfolding let_from
-  let_steady = then_steady (sign_steady (word (codes "let"))) (λ u. then_steady (token_steady new_name (token.Name []) [] refl) (λ name. then_steady (sign_steady (mark punctuation.Equal)) (λ u. then_steady (x scope)
+  let_steady =
+      then_steady (sign_steady (word (codes "let")))
+      (λ u. then_steady (token_steady new_name (token.Name []) [] refl)
+      (λ name. then_steady (sign_steady (mark punctuation.Equal)) (λ u. then_steady (x scope)
       (λ e. then_steady (sign_steady (word (codes "in"))) (λ u. ends_steady (node.Let e) (x (scope ++ name ∷ [])))))))
 
   if_steady : Steady (IsIf outer scope) (if_from r scope) (if_from q scope)
   unfolding if_from
-  if_steady = then_steady (sign_steady (word (codes "if"))) (λ u. then_steady (x scope) (λ c. then_steady (sign_steady (word (codes "then"))) (λ u. then_steady (x scope)
+  if_steady =
+      then_steady (sign_steady (word (codes "if")))
+      (λ u. then_steady (x scope) (λ c. then_steady (sign_steady (word (codes "then"))) (λ u. then_steady (x scope)
       (λ e. then_steady (sign_steady (word (codes "else"))) (λ u. ends_steady (node.If c e) (x scope))))))
 
   whole_steady : Steady (IsWhole outer scope listed) (whole_from r scope listed) (whole_from q scope listed)
   unfolding whole_from
-  whole_steady = or_steady let_steady (or_steady if_steady (ranked_steady atom_steady (atom_exact listed inner r y scope) (atom_exact listed outer q z scope) precedences (all_apart precedences refl)))
+  whole_steady =
+      or_steady let_steady
+      (or_steady if_steady
+      (ranked_steady atom_steady (atom_exact listed inner r y scope) (atom_exact listed outer q z scope) precedences
+      (all_apart precedences refl)))
 
 -- ---- languages that have a word, and a word for each first token
 
@@ -138,7 +180,8 @@ gives_word a = record { ts = []; a = a; is = (refl, refl) }
 sign_word : (s : Sign) → Word (one_sign s)
 sign_word s = record { ts = sign_token s ∷ []; a = tt; is = refl }
 
-then_word : {A B : Type 0} {R : List GrammarToken → A → Type 0} {S : A → List GrammarToken → B → Type 0} → Word R → ((a : A) → Word (S a)) → Word (syntax.◌>>=◌ R S)
+then_word : {A B : Type 0} {R : List GrammarToken → A → Type 0} {S : A → List GrammarToken → B → Type 0} → Word R
+    → ((a : A) → Word (S a)) → Word (syntax.◌>>=◌ R S)
 then_word w v = let u = v w.a in record { ts = w.ts ++ u.ts; a = u.a; is = (w.ts, u.ts, w.a, refl, w.is, u.is) }
 
 further_word : {A : Type 0} (one : Bool) (found : List A) (L : List GrammarToken → A → Type 0) → Word (further one found L)
@@ -151,29 +194,42 @@ sign_covers s = record { from = λ t h. ([], tt, ap (λ u. u ∷ []) (sign_is s 
 token_covers : {A : Type 0} (meaning : GrammarToken → Option A) → Covers (λ t. is_some (meaning t)) (one meaning)
 token_covers {A} meaning = record { from = λ t h. go t (meaning t) refl h }
   where
-    go : (t : GrammarToken) (o : Option A) → meaning t ≡ o → is_some o ≡ true → (rest : List GrammarToken) × (a : A) × one meaning (t ∷ rest) a
+    go : (t : GrammarToken) (o : Option A) → meaning t ≡ o → is_some o ≡ true
+        → (rest : List GrammarToken) × (a : A) × one meaning (t ∷ rest) a
     go t (Some a) e h = ([], a, (t, refl, e))
     go t None e h = let bad : ⊥ = cc in absurd bad
 
-then_covers : {A B : Type 0} {test : GrammarToken → Bool} {R : List GrammarToken → A → Type 0} {S : A → List GrammarToken → B → Type 0} → Covers test R → ((a : A) → Word (S a)) → Covers test (syntax.◌>>=◌ R S)
-then_covers x v = record { from = λ t h. let one = x.from t h in let u = v one.1 in (one.0 ++ u.ts, u.a, (t ∷ one.0, u.ts, one.1, refl, one.2, u.is)) }
+then_covers : {A B : Type 0} {test : GrammarToken → Bool} {R : List GrammarToken → A → Type 0}
+    {S : A → List GrammarToken → B → Type 0} → Covers test R → ((a : A) → Word (S a)) → Covers test (syntax.◌>>=◌ R S)
+then_covers x v =
+    record {
+      from = λ t h. let one = x.from t h in let u = v one.1 in
+          (one.0 ++ u.ts, u.a, (t ∷ one.0, u.ts, one.1, refl, one.2, u.is));
+    }
 
-or_covers : {A : Type 0} {these those : GrammarToken → Bool} {L M : List GrammarToken → A → Type 0} → Covers these L → Covers those M → Covers (λ t. these t || those t) (L or M)
+or_covers : {A : Type 0} {these those : GrammarToken → Bool} {L M : List GrammarToken → A → Type 0} → Covers these L
+    → Covers those M → Covers (λ t. these t || those t) (L or M)
 or_covers {A} {these} {those} {L} {M} x y = record { from = λ t h. go t (these t) refl h }
   where
-    go : (t : GrammarToken) (b : Bool) → these t ≡ b → (b || those t) ≡ true → (rest : List GrammarToken) × (a : A) × (L or M) (t ∷ rest) a
+    go : (t : GrammarToken) (b : Bool) → these t ≡ b → (b || those t) ≡ true
+        → (rest : List GrammarToken) × (a : A) × (L or M) (t ∷ rest) a
     go t true e h = let one = x.from t e in (one.0, one.1, inl one.2)
     go t false e h = let one = y.from t h in (one.0, one.1, inr one.2)
 
-ranked_covers : {test : GrammarToken → Bool} {L : List GrammarToken → Node → Type 0} → Covers test L → (ks : List Precedence) → Covers test (IsRanked L ks)
+ranked_covers : {test : GrammarToken → Bool} {L : List GrammarToken → Node → Type 0} → Covers test L → (ks : List Precedence)
+    → Covers test (IsRanked L ks)
 ranked_covers x [] = x
-ranked_covers x (k ∷ ks) = then_covers (ranked_covers x ks) (λ first. then_word (further_word (takes_one k) [] _) (λ others. gives_word (chain_of first others)))
+ranked_covers x (k ∷ ks) =
+    then_covers (ranked_covers x ks)
+    (λ first. then_word (further_word (takes_one k) [] _) (λ others. gives_word (chain_of first others)))
 
-module _ (listed : List Occ) (inner : Names → List GrammarToken → Node → Type 0) (w : (scope : Names) → Word (inner scope)) (scope : Names) where
+module _ (listed : List Occ) (inner : Names → List GrammarToken → Node → Type 0) (w : (scope : Names) → Word (inner scope))
+    (scope : Names) where
   next_word : Word (IsNext inner scope)
   next_word = then_word (sign_word (mark punctuation.Comma)) (λ u. w scope)
 
-  closed_word : {R : List GrammarToken → Node → Type 0} (f : Node → Node) → Word R → Word (syntax.◌>>=◌ R (λ e. syntax.◌>>◌ (one_sign (mark punctuation.Close)) (gives (f e))))
+  closed_word : {R : List GrammarToken → Node → Type 0} (f : Node → Node) → Word R
+      → Word (syntax.◌>>=◌ R (λ e. syntax.◌>>◌ (one_sign (mark punctuation.Close)) (gives (f e))))
   closed_word f v = then_word v (λ e. then_word (sign_word (mark punctuation.Close)) (λ u. gives_word (f e)))
 
   arguments_word : (c : Call) → Word (AreArguments inner scope c)
@@ -182,28 +238,46 @@ module _ (listed : List Occ) (inner : Names → List GrammarToken → Node → T
   arguments_word call.Put = then_word (w scope) (λ t. then_word next_word (λ k. closed_word (node.Put t k) next_word))
 
   list_word : Word (AreNone or AreSome inner scope)
-  list_word = let v = then_word (sign_word (mark punctuation.CloseList)) (λ u. gives_word (node.List [])) in record { ts = v.ts; a = v.a; is = inl v.is }
+  list_word = let v = then_word (sign_word (mark punctuation.CloseList)) (λ u. gives_word (node.List [])) in
+      record { ts = v.ts; a = v.a; is = inl v.is }
 
   atom_covers : Covers (begins_atom listed scope) (IsAtom inner scope listed)
   atom_covers = or_covers (then_covers (sign_covers (mark punctuation.Open)) (λ u. closed_word (λ e. e) (w scope)))
       (or_covers (then_covers (sign_covers (mark punctuation.OpenList)) (λ u. list_word))
-      (or_covers (then_covers (sign_covers (mark punctuation.OpenTable)) (λ u. then_word (sign_word (mark punctuation.CloseTable)) (λ u. gives_word node.EmptyTable)))
-      (or_covers (then_covers (token_covers call_in) (λ c. then_word (sign_word (mark punctuation.Open)) (λ u. arguments_word c))) (token_covers (operand_of listed scope)))))
+      (or_covers
+      (then_covers (sign_covers (mark punctuation.OpenTable))
+      (λ u. then_word (sign_word (mark punctuation.CloseTable)) (λ u. gives_word node.EmptyTable)))
+      (or_covers (then_covers (token_covers call_in) (λ c. then_word (sign_word (mark punctuation.Open)) (λ u. arguments_word c)))
+      (token_covers (operand_of listed scope)))))
 
   let_covers : Covers (is_sign (word (codes "let"))) (IsLet inner scope)
-  let_covers = then_covers (sign_covers (word (codes "let"))) (λ u. then_word (record { ts = token.Name [] ∷ []; a = []; is = (token.Name [], refl, refl) }) (λ name. then_word (sign_word (mark punctuation.Equal)) (λ u. then_word (w scope)
-      (λ e. then_word (sign_word (word (codes "in"))) (λ u. then_word (w (scope ++ name ∷ [])) (λ f. gives_word (node.Let e f)))))))
+  let_covers =
+      then_covers (sign_covers (word (codes "let")))
+      (λ u. then_word (record { ts = token.Name [] ∷ []; a = []; is = (token.Name [], refl, refl) })
+      (λ name. then_word (sign_word (mark punctuation.Equal)) (λ u. then_word (w scope)
+      (λ e. then_word (sign_word (word (codes "in")))
+      (λ u. then_word (w (scope ++ name ∷ [])) (λ f. gives_word (node.Let e f)))))))
 
   if_covers : Covers (is_sign (word (codes "if"))) (IsIf inner scope)
-  if_covers = then_covers (sign_covers (word (codes "if"))) (λ u. then_word (w scope) (λ c. then_word (sign_word (word (codes "then"))) (λ u. then_word (w scope)
+  if_covers =
+      then_covers (sign_covers (word (codes "if")))
+      (λ u. then_word (w scope) (λ c. then_word (sign_word (word (codes "then"))) (λ u. then_word (w scope)
       (λ e. then_word (sign_word (word (codes "else"))) (λ u. then_word (w scope) (λ f. gives_word (node.If c e f)))))))
 
   whole_covers : Covers (begins listed scope) (IsWhole inner scope listed)
   whole_covers = or_covers let_covers (or_covers if_covers (ranked_covers atom_covers precedences))
 
-ranked_word : (L : List GrammarToken → Node → Type 0) (ts : List GrammarToken) (e : Node) → L ts e → (ks : List Precedence) → IsRanked L ks ts e
+ranked_word : (L : List GrammarToken → Node → Type 0) (ts : List GrammarToken) (e : Node) → L ts e → (ks : List Precedence)
+    → IsRanked L ks ts e
 ranked_word L ts e is [] = is
-ranked_word L ts e is (k ∷ ks) = (ts, [], e, sym (append-nil ts), ranked_word L ts e is ks, ([], [], [], refl, ([], none, few (takes_one k), refl), (refl, refl)))
+ranked_word L ts e is (k ∷ ks) = (
+  ts,
+  [],
+  e,
+  sym (append-nil ts),
+  ranked_word L ts e is ks,
+  ([], [], [], refl, ([], none, few (takes_one k), refl), (refl, refl)),
+)
   where
     few : (one : Bool) → IsFew one 0
     few true = omega arith
@@ -211,7 +285,12 @@ ranked_word L ts e is (k ∷ ks) = (ts, [], e, sym (append-nil ts), ranked_word 
 
 a_number : (listed : List Occ) (levels : ℕ) (scope : Names) → Word (IsExprIn listed (suc levels) scope)
 unfolding IsExprIn
-a_number listed levels scope = record { ts = token.Number (pos 0) ∷ []; a = node.Literal (value.Num (pos 0)); is = inr (inr (ranked_word _ _ _ (inr (inr (inr (inr (token.Number (pos 0), refl, refl))))) precedences)) }
+a_number listed levels scope =
+    record {
+      ts = token.Number (pos 0) ∷ [];
+      a = node.Literal (value.Num (pos 0));
+      is = inr (inr (ranked_word _ _ _ (inr (inr (inr (inr (token.Number (pos 0), refl, refl))))) precedences));
+    }
 
 begun : (listed : List Occ) (levels : ℕ) (scope : Names) → Covers (begins listed scope) (IsExprIn listed (suc (suc levels)) scope)
 unfolding IsExprIn
@@ -225,18 +304,26 @@ pub record Refuses {A : Type 0} (test : GrammarToken → Bool) (r : Parser A) : 
 token_refuses : {A : Type 0} (meaning : GrammarToken → Option A) → Refuses (λ t. is_some (meaning t)) (token_as meaning)
 token_refuses {A} meaning = record { at = λ k h. grind arith }
 
-choose_refuses : {A : Type 0} {these those : GrammarToken → Bool} {l m : Parser A} → Refuses those m → Refuses (λ t. these t || those t) (choose these l m)
+choose_refuses : {A : Type 0} {these those : GrammarToken → Bool} {l m : Parser A} → Refuses those m
+    → Refuses (λ t. these t || those t) (choose these l m)
 choose_refuses {A} {these} {those} {l} {m} x = record { at = λ k h. let other = x.at k in grind arith }
 
-ranked_refuses : {test : GrammarToken → Bool} {l : Parser Node} → Refuses test l → (ks : List Precedence) → Refuses test (ranked_from l ks)
+ranked_refuses : {test : GrammarToken → Bool} {l : Parser Node} → Refuses test l → (ks : List Precedence)
+    → Refuses test (ranked_from l ks)
 unfolding ranked_from chain_from
 ranked_refuses x [] = x
 ranked_refuses x (k ∷ ks) = record { at = λ i h. let one = (ranked_refuses x ks).at i h in rw one refl }
 
 -- the parser fails at a token that cannot begin an expression
-refused_first : (listed : List Occ) (levels : ℕ) (scope : Names) → Refuses (begins listed scope) (expr_in listed (suc levels) scope)
+refused_first : (listed : List Occ) (levels : ℕ) (scope : Names)
+    → Refuses (begins listed scope) (expr_in listed (suc levels) scope)
 unfolding expr_in whole_from atom_from
-refused_first listed levels scope = choose_refuses (choose_refuses (ranked_refuses (choose_refuses (choose_refuses (choose_refuses (choose_refuses (token_refuses (operand_of listed scope)))))) precedences))
+refused_first listed levels scope =
+    choose_refuses
+    (choose_refuses
+    (ranked_refuses
+    (choose_refuses (choose_refuses (choose_refuses (choose_refuses (token_refuses (operand_of listed scope))))))
+    precedences))
 
 -- a token that begins an expression with these occurrences and names can begin an expression in general
 begins_one : (listed : List Occ) (scope : Names) (t : GrammarToken) → begins listed scope t ≡ true → begins_expression t ≡ true
@@ -253,30 +340,80 @@ above-sum : (d n : ℕ) → above d n ≡ suc (suc (d + n))
 above-sum d zero = omega arith
 above-sum d (suc n) = let e = above-sum d n in omega arith
 
-expr_steady : (listed : List Occ) (d n : ℕ) (scope : Names) → Steady (IsExprIn listed (above d n) scope) (expr_in listed n scope) (expr_in listed (above d n) scope)
+expr_steady : (listed : List Occ) (d n : ℕ) (scope : Names)
+    → Steady (IsExprIn listed (above d n) scope) (expr_in listed n scope) (expr_in listed (above d n) scope)
 unfolding expr_in IsExprIn
-expr_steady listed d zero scope = record { at = λ i. record { ok = λ j a h. (let bad : ⊥ = cc in absurd bad); err = λ f reported h. (let same : f ≡ level_fault_of listed scope i.ending i.left = cc in go i.left i.ending f same) }; word = (number.ts, number.a, number.is) }
+expr_steady listed d zero scope =
+    record {
+      at =
+          λ i. record {
+            ok = λ j a h. (let bad : ⊥ = cc in absurd bad);
+            err =
+                λ f reported h. (let same : f ≡ level_fault_of listed scope i.ending i.left = cc in
+                go i.left i.ending f same);
+          };
+      word = (number.ts, number.a, number.is);
+    }
   where
     number : Word (IsExprIn listed (above d 0) scope)
     number = a_number listed (suc d) scope
 
-    stuck : (i : Input) (f : ExprFault) → f ≡ refusal i → sees (begins listed scope) i ≡ false → steady.Refused manner (IsExprIn listed (above d 0) scope) (expr_in listed 0 scope) (expr_in listed (above d 0) scope) i f
-    stuck i f same unlike = record { us = []; j = i; cut = refl; rest = number.ts; a = number.a; begins = number.is; how = inl (same, λ k fr. (refused_first listed (suc d) scope).at k (same_front (begins listed scope) k.left i.left fr ∙ unlike)) }
+    stuck : (i : Input) (f : ExprFault) → f ≡ refusal i → sees (begins listed scope) i ≡ false
+        → steady.Refused manner (IsExprIn listed (above d 0) scope) (expr_in listed 0 scope)
+        (expr_in listed (above d 0) scope) i f
+    stuck i f same unlike =
+        record {
+          us = [];
+          j = i;
+          cut = refl;
+          rest = number.ts;
+          a = number.a;
+          begins = number.is;
+          how =
+              inl (
+                same,
+                λ k fr. (refused_first listed (suc d) scope).at k
+                    (same_front (begins listed scope) k.left i.left fr ∙ unlike),
+              );
+        }
 
-    go : (ps : List PlacedToken) (e : Ending) (f : ExprFault) → f ≡ level_fault_of listed scope e ps → steady.Refused manner (IsExprIn listed (above d 0) scope) (expr_in listed 0 scope) (expr_in listed (above d 0) scope) (record { left = ps; ending = e }) f
+    go : (ps : List PlacedToken) (e : Ending) (f : ExprFault) → f ≡ level_fault_of listed scope e ps
+        → steady.Refused manner (IsExprIn listed (above d 0) scope) (expr_in listed 0 scope) (expr_in listed (above d 0) scope)
+        (record { left = ps; ending = e }) f
     go [] e f same = stuck (record { left = []; ending = e }) f same refl
     go (p ∷ ps) e f same = first (begins listed scope p.token) refl same
       where
-        first : (b : Bool) → begins listed scope p.token ≡ b → f ≡ (if b then fault.TooDeep p.at else fault.Unexpected p.at) → steady.Refused manner (IsExprIn listed (above d 0) scope) (expr_in listed 0 scope) (expr_in listed (above d 0) scope) (record { left = p ∷ ps; ending = e }) f
+        first : (b : Bool) → begins listed scope p.token ≡ b → f ≡ (if b then fault.TooDeep p.at else fault.Unexpected p.at)
+            → steady.Refused manner (IsExprIn listed (above d 0) scope) (expr_in listed 0 scope)
+            (expr_in listed (above d 0) scope) (record { left = p ∷ ps; ending = e }) f
         first true b same =
             let w = (begun listed d scope).from p.token b in
-            record { us = []; j = record { left = p ∷ ps; ending = e }; cut = refl; rest = p.token ∷ w.0; a = w.1; begins = w.2; how = inr (p, ps, refl, subst (λ g. manner.is_deep g p ≡ true) (sym same) (is_too_deep p (begins_one listed scope p.token b)), refl, λ k e. (level_fault_of listed scope k.ending k.left, refl)) }
+            record {
+              us = [];
+              j = record { left = p ∷ ps; ending = e };
+              cut = refl;
+              rest = p.token ∷ w.0;
+              a = w.1;
+              begins = w.2;
+              how =
+                  inr (
+                    p,
+                    ps,
+                    refl,
+                    subst (λ g. manner.is_deep g p ≡ true) (sym same) (is_too_deep p (begins_one listed scope p.token b)),
+                    refl,
+                    λ k e. (level_fault_of listed scope k.ending k.left, refl),
+                  );
+            }
         first false b same = stuck (record { left = p ∷ ps; ending = e }) f same b
 expr_steady listed d (suc n) scope =
-    whole_steady listed (IsExprIn listed n) (IsExprIn listed (above d n)) (expr_in listed n) (expr_in listed (above d n)) (expr_first listed n) (expr_first listed (above d n)) (expr_steady listed d n) scope
+    whole_steady listed (IsExprIn listed n) (IsExprIn listed (above d n)) (expr_in listed n) (expr_in listed (above d n))
+    (expr_first listed n) (expr_first listed (above d n)) (expr_steady listed d n) scope
 
-up : (listed : List Occ) (d n : ℕ) (i j : Input) (e : Node) → expr_from listed n i ≡ Ok (e, j) → expr_from listed (above d n) i ≡ Ok (e, j)
-up listed d n i j e h = let one = ((expr_steady listed d n []).at i).ok j e h in ap (expr_from listed (above d n)) one.1 ∙ (one.3 j refl).1
+up : (listed : List Occ) (d n : ℕ) (i j : Input) (e : Node) → expr_from listed n i ≡ Ok (e, j)
+    → expr_from listed (above d n) i ≡ Ok (e, j)
+up listed d n i j e h = let one = ((expr_steady listed d n []).at i).ok j e h in
+    ap (expr_from listed (above d n)) one.1 ∙ (one.3 j refl).1
 
 meet : (m n : ℕ) → above m n ≡ above n m
 meet m n = let a = above-sum m n in let b = above-sum n m in omega arith
@@ -287,11 +424,15 @@ NotDeep (Err f) = (at : ℕ) → f ≡ fault.TooDeep at → ⊥
 
 -- If the parser succeeds with some number of levels, it returns the same with any other number, unless it
 -- fails with `TooDeep`.
-one_outcome : (listed : List Occ) (m n : ℕ) (i j : Input) (e : Node) → expr_from listed m i ≡ Ok (e, j) → (o : Outcome Node) → expr_from listed n i ≡ o → NotDeep o → o ≡ Ok (e, j)
-one_outcome listed m n i j e h (Ok (a, k)) is sure = sym (up listed m n i k a is) ∙ ap (λ l. expr_from listed l i) (meet m n) ∙ up listed n m i j e h
+one_outcome : (listed : List Occ) (m n : ℕ) (i j : Input) (e : Node) → expr_from listed m i ≡ Ok (e, j) → (o : Outcome Node)
+    → expr_from listed n i ≡ o → NotDeep o → o ≡ Ok (e, j)
+one_outcome listed m n i j e h (Ok (a, k)) is sure =
+    sym (up listed m n i k a is) ∙ ap (λ l. expr_from listed l i) (meet m n) ∙ up listed n m i j e h
 one_outcome listed m n i j e h (Err f) is sure = let x = ((expr_steady listed m n []).at i).err f refl is in go x x.how
   where
-    go : (x : steady.Refused manner (IsExpr listed (above m n)) (expr_from listed n) (expr_from listed (above m n)) i f) → steady.Stuck manner (expr_from listed (above m n)) x.us x.j f ⊎ steady.Deep manner (expr_from listed n) x.us x.j f x.rest → ◌≡◌ {A = Outcome Node} (Err f) (Ok (e, j))
+    go : (x : steady.Refused manner (IsExpr listed (above m n)) (expr_from listed n) (expr_from listed (above m n)) i f)
+        → steady.Stuck manner (expr_from listed (above m n)) x.us x.j f
+        ⊎ steady.Deep manner (expr_from listed n) x.us x.j f x.rest → ◌≡◌ {A = Outcome Node} (Err f) (Ok (e, j))
     go x (inr (p, ps, l, d, w, deep)) = absurd (sure p.at (deep_is f p d).0)
     go x (inl (says, stuck)) =
         let err = ap (expr_from listed (above m n)) x.cut ∙ stuck x.j refl in
@@ -311,29 +452,40 @@ not_deep e ps at h = let bad : ⊥ = grind arith in bad
 
 module _ (listed : List Occ) (n : ℕ) (us : List PlacedToken) where
   -- if the parser succeeds, the tokens are not any other expression
-  settled : (m : ℕ) (k : Input) (e : Node) → IsExpr listed m (tokens us ++ tokens k.left) e → (o : Outcome Node) → expr_from listed n (before us k) ≡ o → NotDeep o → o ≡ Ok (e, record { left = []; ending = k.ending })
+  settled : (m : ℕ) (k : Input) (e : Node) → IsExpr listed m (tokens us ++ tokens k.left) e → (o : Outcome Node)
+      → expr_from listed n (before us k) ≡ o → NotDeep o → o ≡ Ok (e, record { left = []; ending = k.ending })
   settled m k e is o read sure =
       let end : Input = record { left = []; ending = k.ending } in
       let whole : IsExpr listed m (tokens (us ++ k.left)) e = rw map-append is in
       let found = (expr_exact listed m []).complete (us ++ k.left) end e whole refl in
-      one_outcome listed m n (before us k) end e (ap (λ ys. expr_from listed m (record { left = ys; ending = k.ending })) (sym (append-nil (us ++ k.left))) ∙ found) o read sure
+      one_outcome listed m n (before us k) end e
+      (ap (λ ys. expr_from listed m (record { left = ys; ending = k.ending })) (sym (append-nil (us ++ k.left))) ∙ found) o
+      read sure
 
   -- an expression that continues with a token; the offsets of the tokens after it are irrelevant
-  going_on : (p : PlacedToken) (m : ℕ) (more : List GrammarToken) (e : Node) → IsExpr listed m ((tokens us ++ p.token ∷ []) ++ more) e → IsExpr listed m (tokens us ++ p.token ∷ tokens (placed more)) e
-  going_on p m more e is = subst (λ ts. IsExpr listed m ts e) (append_assoc (tokens us) (p.token ∷ []) more ∙ ap (λ ts. tokens us ++ p.token ∷ ts) (sym (tokens-placed more))) is
+  going_on : (p : PlacedToken) (m : ℕ) (more : List GrammarToken) (e : Node)
+      → IsExpr listed m ((tokens us ++ p.token ∷ []) ++ more) e → IsExpr listed m (tokens us ++ p.token ∷ tokens (placed more)) e
+  going_on p m more e is =
+      subst (λ ts. IsExpr listed m ts e)
+      (append_assoc (tokens us) (p.token ∷ []) more ∙ ap (λ ts. tokens us ++ p.token ∷ ts) (sym (tokens-placed more))) is
 
-  none_stuck : (ps : List PlacedToken) (e : Ending) (f : ExprFault) → steady.Stuck manner (expr_from listed n) us (record { left = ps; ending = e }) f → NoneGoesOn listed (tokens us) e ps
+  none_stuck : (ps : List PlacedToken) (e : Ending) (f : ExprFault)
+      → steady.Stuck manner (expr_from listed n) us (record { left = ps; ending = e }) f → NoneGoesOn listed (tokens us) e ps
   none_stuck [] e f stuck = λ at same m tree is.
       let k : Input = record { left = []; ending = e } in
       let contradiction = settled m k tree (rw append-nil is) (Err (refusal k)) (stuck.1 k refl) (not_deep e []) in
       cc
   none_stuck (p ∷ ps) e f stuck = λ (m, more, tree, is).
       let k : Input = record { left = p ∷ placed more; ending = e } in
-      let contradiction = settled m k tree (going_on p m more tree is) (Err (refusal k)) (stuck.1 k refl) (not_deep e (p ∷ placed more)) in
+      let contradiction =
+      settled m k tree (going_on p m more tree is) (Err (refusal k)) (stuck.1 k refl) (not_deep e (p ∷ placed more)) in
       cc
 
-  none_read : (ps : List PlacedToken) (e : Ending) (tree : Node) → ((k : Input) → first k ≡ first_of ps → expr_from listed n (before us k) ≡ Ok (tree, k)) → is_end e ps ≡ false → NoneGoesOn listed (tokens us) e ps
-  none_read [] e tree read open_end = λ at same m other is. let ends : is_end (ending.EndsAt at) [] ≡ false = subst (λ x. is_end x [] ≡ false) same open_end in cc
+  none_read : (ps : List PlacedToken) (e : Ending) (tree : Node)
+      → ((k : Input) → first k ≡ first_of ps → expr_from listed n (before us k) ≡ Ok (tree, k)) → is_end e ps ≡ false
+      → NoneGoesOn listed (tokens us) e ps
+  none_read [] e tree read open_end = λ at same m other is. let ends : is_end (ending.EndsAt at) [] ≡ false =
+      subst (λ x. is_end x [] ≡ false) same open_end in cc
   none_read (p ∷ ps) e tree read open_end = λ (m, more, other, is).
       let k : Input = record { left = p ∷ placed more; ending = e } in
       let contradiction = settled m k other (going_on p m more other is) (Ok (tree, k)) (read k refl) tt in
@@ -348,7 +500,10 @@ pub refuses_at_the_first : RefusesAtTheFirst
 unfolding expr_of
 refuses_at_the_first listed levels i f h = go (expr_from listed levels i) refl h
   where
-    refused : (x : steady.Refused manner (IsExpr listed (above 0 levels)) (expr_from listed levels) (expr_from listed (above 0 levels)) i f) → steady.Stuck manner (expr_from listed (above 0 levels)) x.us x.j f ⊎ steady.Deep manner (expr_from listed levels) x.us x.j f x.rest → IsReportedFirst listed levels i f
+    refused : (x : steady.Refused manner (IsExpr listed (above 0 levels)) (expr_from listed levels)
+        (expr_from listed (above 0 levels)) i f)
+        → steady.Stuck manner (expr_from listed (above 0 levels)) x.us x.j f
+        ⊎ steady.Deep manner (expr_from listed levels) x.us x.j f x.rest → IsReportedFirst listed levels i f
     refused x (inl (says, stuck)) =
         let ends : i.ending ≡ x.j.ending = ap (λ (k : Input). k.ending) x.cut in
         inl (record {
@@ -357,7 +512,9 @@ refuses_at_the_first listed levels i f h = go (expr_from listed levels i) refl h
           cut = ap (λ (k : Input). k.left) x.cut;
           start = (above 0 levels, x.rest, x.a, x.begins);
           says = rw ends says;
-          none = subst (λ y. NoneGoesOn listed (tokens x.us) y x.j.left) (sym ends) (none_stuck listed (above 0 levels) x.us x.j.left x.j.ending f (says, stuck));
+          none =
+              subst (λ y. NoneGoesOn listed (tokens x.us) y x.j.left) (sym ends)
+              (none_stuck listed (above 0 levels) x.us x.j.left x.j.ending f (says, stuck));
         })
     refused x (inr (p, ps, l, d, w, deep)) =
         let next = headed p.token x.rest w in
@@ -369,19 +526,29 @@ refuses_at_the_first listed levels i f h = go (expr_from listed levels i) refl h
           cut = ap (λ (k : Input). k.left) x.cut ∙ ap (λ ys. x.us ++ ys) l;
           says = reported.0;
           begins_one = reported.1;
-          start = (above 0 levels, next.0, x.a, subst (λ ts. IsExpr listed (above 0 levels) ts x.a) (ap (λ ys. tokens x.us ++ ys) next.1 ∙ sym (append_assoc (tokens x.us) (p.token ∷ []) next.0)) x.begins);
+          start = (
+            above 0 levels,
+            next.0,
+            x.a,
+            subst (λ ts. IsExpr listed (above 0 levels) ts x.a)
+                (ap (λ ys. tokens x.us ++ ys) next.1 ∙ sym (append_assoc (tokens x.us) (p.token ∷ []) next.0)) x.begins,
+          );
           none = λ more tree is.
               let k : Input = record { left = p ∷ placed more; ending = i.ending } in
               let end : Input = record { left = []; ending = i.ending } in
-              let whole : IsExpr listed levels (tokens (x.us ++ k.left)) tree = rw map-append (going_on listed levels x.us p levels more tree is) in
+              let whole : IsExpr listed levels (tokens (x.us ++ k.left)) tree =
+              rw map-append (going_on listed levels x.us p levels more tree is) in
               let found = (expr_exact listed levels []).complete (x.us ++ k.left) end tree whole refl in
               let other = deep k (ap first_of (sym l)) in
-              let same = ap (λ ys. expr_from listed levels (record { left = ys; ending = i.ending })) (append-nil (x.us ++ k.left)) in
+              let same =
+              ap (λ ys. expr_from listed levels (record { left = ys; ending = i.ending })) (append-nil (x.us ++ k.left)) in
               let contradiction = sym other.1 ∙ sym same ∙ found in
               cc;
         })
 
-    ended : (j : Input) (e : Node) → expr_from listed levels i ≡ Ok (e, j) → (b : Bool) → is_end j.ending j.left ≡ b → reading.and_then {A = Unit {0}} (if b then Ok (tt {0}, j) else Err (refusal j)) (λ u. reading.pure e) ≡ Err f → IsReportedFirst listed levels i f
+    ended : (j : Input) (e : Node) → expr_from listed levels i ≡ Ok (e, j) → (b : Bool) → is_end j.ending j.left ≡ b
+        → reading.and_then {A = Unit {0}} (if b then Ok (tt {0}, j) else Err (refusal j)) (λ u. reading.pure e) ≡ Err f
+        → IsReportedFirst listed levels i f
     ended j e found true b h = let bad : ⊥ = cc in absurd bad
     ended j e found false b h =
         let x = ((expr_steady listed 0 levels []).at i).ok j e found in
@@ -393,9 +560,13 @@ refuses_at_the_first listed levels i f h = go (expr_from listed levels i) refl h
           cut = ap (λ (k : Input). k.left) x.1;
           start = (above 0 levels, [], e, rw append-nil x.2);
           says = rw ends says;
-          none = subst (λ y. NoneGoesOn listed (tokens x.0) y j.left) (sym ends) (none_read listed (above 0 levels) x.0 j.left j.ending e (λ k h. (x.3 k h).1) b);
+          none =
+              subst (λ y. NoneGoesOn listed (tokens x.0) y j.left) (sym ends)
+              (none_read listed (above 0 levels) x.0 j.left j.ending e (λ k h. (x.3 k h).1) b);
         })
 
-    go : (o : Outcome Node) → expr_from listed levels i ≡ o → reading.and_then o (λ e. reading.◌>>◌ at_end (reading.pure e)) ≡ Err f → IsReportedFirst listed levels i f
+    go : (o : Outcome Node) → expr_from listed levels i ≡ o
+        → reading.and_then o (λ e. reading.◌>>◌ at_end (reading.pure e)) ≡ Err f → IsReportedFirst listed levels i f
     go (Ok (e, j)) found h = ended j e found (is_end j.ending j.left) refl h
-    go (Err g) found h = let same : g ≡ f = cc in let x = ((expr_steady listed 0 levels []).at i).err f refl (found ∙ ap Err same) in refused x x.how
+    go (Err g) found h = let same : g ≡ f = cc in
+        let x = ((expr_steady listed 0 levels []).at i).err f refl (found ∙ ap Err same) in refused x x.how

@@ -1,5 +1,6 @@
 -- The state of a reader, by the next token.
-use Rattle.std.proofs.Common.{◌≡◌, ◌&&◌, ℕ, Bool, true, false, cond, List, [], ◌++◌, Option, Some, None, is_some, refl, ap, sym, ◌∙◌, arith}
+use Rattle.std.proofs.Common.{◌≡◌, ◌&&◌, ℕ, Bool, true, false, cond, List, [], ◌++◌, Option, Some, None, is_some, refl, ap, sym}
+use Rattle.std.proofs.Common.{◌∙◌, arith}
 use Rattle.ag_tokens.specs.declared.fault.TokenFault.{TokenFault}
 use Rattle.ag_tokens.specs.declared.fault.TokenFault.TheVariants as token_fault
 use Rattle.ag_tokens.specs.declared.token.Punctuation.TheVariants as punctuation
@@ -14,7 +15,8 @@ use Rattle.ag_expr.specs.declared.fault.ExprFault.TheVariants as fault
 use Rattle.ag_grammar.specs.declared.syntax.occurrence.Occ.{Occ}
 use Rattle.ag_expr.specs.language.Occurrences.{occurrence_in, all_occurrences, listed_with, listed_with_all, position_of}
 use Rattle.ag_expr.specs.language.Reading.{begins, level_fault_of, refusal}
-use Rattle.ag_expr.specs.language.State.{State, KeepsContext, NextIsOther, begins_here, complete_list, from_end, input, is_occurrence, before_end, level_fault, after_token}
+use Rattle.ag_expr.specs.language.State.{State, KeepsContext, NextIsOther, begins_here, complete_list, from_end, input}
+use Rattle.ag_expr.specs.language.State.{is_occurrence, before_end, level_fault, after_token}
 use Rattle.ag_expr.proofs.language.Numbered.{position_stays, has_number}
 
 abbrev pub is_semicolon : GrammarToken → Bool
@@ -44,7 +46,8 @@ abbrev pub stops : Bool → Option GrammarToken → Bool → Bool
 stops is_statement (Some t) ends = is_statement && is_semicolon t
 stops is_statement None ends = ends
 
-pub ends_is : (s : State) → is_end (input s).ending (input s).left ≡ stops s.is_statement (next_token s.tokens) (is_end s.tokens.ending s.tokens.left)
+pub ends_is : (s : State) → is_end (input s).ending (input s).left ≡ stops s.is_statement (next_token s.tokens)
+    (is_end s.tokens.ending s.tokens.left)
 unfolding input
 ends_is s = grind arith
 
@@ -72,7 +75,16 @@ module _ (s : State) (t : GrammarToken) (h : next_token (input s) ≡ Some t) wh
   -- a token that is not an occurrence lists nothing
   pub passed_keeps : NextIsOther s → KeepsContext s (after_token s)
   unfolding complete_list
-  passed_keeps other = record { occurrences = sym (all_is ∙ ap (λ os. listed_with_all s.listed (os ++ all_occurrences (input (after_token s)).left)) (none t (sym (ap is_occurrence h) ∙ other))); names = refl; kind = refl; following = (occurs s t h).following }
+  passed_keeps other =
+      record {
+        occurrences =
+            sym
+            (all_is ∙ ap (λ os. listed_with_all s.listed (os ++ all_occurrences (input (after_token s)).left))
+            (none t (sym (ap is_occurrence h) ∙ other)));
+        names = refl;
+        kind = refl;
+        following = (occurs s t h).following;
+      }
     where
       none : (t : GrammarToken) → is_occurrence (Some t) ≡ false → occurrence_in t (offset s.tokens) ≡ []
       none t h = grind arith
@@ -81,20 +93,26 @@ module _ (s : State) (t : GrammarToken) (h : next_token (input s) ≡ Some t) wh
   begins_same : begins (complete_list s) s.scope t ≡ begins_here s.scope t
   begins_same = go t all_is
     where
-      go : (t : GrammarToken) → complete_list s ≡ listed_with_all s.listed (occurrence_in t (offset s.tokens) ++ all_occurrences (input (after_token s)).left) → begins (complete_list s) s.scope t ≡ begins_here s.scope t
+      go : (t : GrammarToken) → complete_list s ≡ listed_with_all s.listed
+          (occurrence_in t (offset s.tokens) ++ all_occurrences (input (after_token s)).left)
+          → begins (complete_list s) s.scope t ≡ begins_here s.scope t
       go (token.Number n) all = refl
       go (token.Text bytes) all = refl
       go (token.Name name) all = refl
       go (token.Occurrence p attr) all =
           let x : Occ = record { place = p; attr = attr; at = offset s.tokens } in
           let k = has_number s.listed x in
-          let number = ap (λ os. position_of os p attr) all ∙ position_stays (listed_with s.listed x) p attr k.0 (all_occurrences (input (after_token s)).left) k.1 in
+          let number =
+          ap (λ os. position_of os p attr) all
+          ∙ position_stays (listed_with s.listed x) p attr k.0 (all_occurrences (input (after_token s)).left) k.1 in
           rw number refl
       go (token.Punctuation m) all = refl
 
   -- the fault for the token if no level is left
   level_is : level_fault s ≡ cond (begins_here s.scope t) (fault.TooDeep (offset s.tokens)) (fault.Unexpected (offset s.tokens))
-  level_is = ap (λ (i : Input). level_fault_of (complete_list s) s.scope i.ending i.left) (occurs s t h).is ∙ rw begins_same (grind arith)
+  level_is =
+      ap (λ (i : Input). level_fault_of (complete_list s) s.scope i.ending i.left) (occurs s t h).is
+      ∙ rw begins_same (grind arith)
 
   pub too_deep : begins_here s.scope t ≡ true → level_fault s ≡ fault.TooDeep (offset s.tokens)
   too_deep b = level_is ∙ rw b refl
@@ -106,16 +124,26 @@ pub none_begun : (s : State) → next_token (input s) ≡ None → level_fault s
 none_begun s h = grind arith
 
 -- an occurrence that is read is listed
-module _ (s : State) (p : ℕ) (attr : List ℕ) (listed : List Occ) (h : next_token (input s) ≡ Some (token.Occurrence p attr)) (is : listed ≡ listed_with s.listed (record { place = p; attr = attr; at = offset s.tokens })) where
+module _ (s : State) (p : ℕ) (attr : List ℕ) (listed : List Occ) (h : next_token (input s) ≡ Some (token.Occurrence p attr))
+    (is : listed ≡ listed_with s.listed (record { place = p; attr = attr; at = offset s.tokens })) where
   all_listed : complete_list s ≡ listed_with_all listed (all_occurrences (input (after_token s)).left)
-  all_listed = all_is s (token.Occurrence p attr) h ∙ ap (λ os. listed_with_all os (all_occurrences (input (after_token s)).left)) (sym is)
+  all_listed =
+      all_is s (token.Occurrence p attr) h ∙ ap (λ os. listed_with_all os (all_occurrences (input (after_token s)).left)) (sym is)
 
   pub taken_keeps : KeepsContext s (record s { listed = listed; tokens = next s.tokens })
   unfolding complete_list input
-  taken_keeps = record { occurrences = sym all_listed; names = refl; kind = refl; following = (occurs s (token.Occurrence p attr) h).following }
+  taken_keeps =
+      record {
+        occurrences = sym all_listed;
+        names = refl;
+        kind = refl;
+        following = (occurs s (token.Occurrence p attr) h).following;
+      }
 
   pub taken_number : (k : ℕ) → position_of listed p attr ≡ Some k → position_of (complete_list s) p attr ≡ Some k
-  taken_number k e = ap (λ os. position_of os p attr) all_listed ∙ position_stays listed p attr k (all_occurrences (input (after_token s)).left) e
+  taken_number k e =
+      ap (λ os. position_of os p attr) all_listed
+      ∙ position_stays listed p attr k (all_occurrences (input (after_token s)).left) e
 
   pub taken_tokens : input (record s { listed = listed; tokens = next s.tokens }) ≡ next (input s)
   unfolding input

@@ -1,5 +1,6 @@
 -- Parts that are parsed one after the other, for the proofs of loops.
-use Rattle.std.proofs.Common.{◌≡◌, ◌<◌, ℕ, zero, suc, Bool, true, false, List, [], ◌∷◌, ◌++◌, length, Ok, Err, refl, sym, ◌∙◌, arith}
+use Rattle.std.proofs.Common.{◌≡◌, ◌<◌, ℕ, zero, suc, Bool, true, false, List, [], ◌∷◌, ◌++◌, length, Ok, Err, refl, sym, ◌∙◌}
+use Rattle.std.proofs.Common.{arith}
 use Rattle.ag_tokens.specs.PlacedToken.{Input}
 use Rattle.ag_tokens.specs.Parsing.{Outcome, Parser, sees, item_bound, many_from, further_from}
 use Rattle.ag_tokens.specs.GrammarToken.{GrammarToken}
@@ -7,12 +8,14 @@ use Rattle.ag_expr.proofs.reading.Steady.{Shortens, many_turn}
 
 -- A loop invariant: the parts found so far, with the further ones, are the whole; and each part takes a
 -- token.
-pub record Going {Fault A : Type 0} (single : Bool) (begins : GrammarToken → Bool) (item : Parser Fault A) (found : List A) (i : Input) (whole : Outcome Fault (List A)) : Type 0 where
+pub record Going {Fault A : Type 0} (single : Bool) (begins : GrammarToken → Bool) (item : Parser Fault A) (found : List A)
+    (i : Input) (whole : Outcome Fault (List A)) : Type 0 where
   pub same : further_from single begins item found i ≡ whole
   pub short : Shortens item
 
 -- if the next token begins no further part, there are none
-pub none_further : {Fault A : Type 0} (single : Bool) (begins : GrammarToken → Bool) (item : Parser Fault A) (found : List A) (i : Input) → sees begins i ≡ false → further_from single begins item found i ≡ Ok (found, i)
+pub none_further : {Fault A : Type 0} (single : Bool) (begins : GrammarToken → Bool) (item : Parser Fault A) (found : List A)
+    (i : Input) → sees begins i ≡ false → further_from single begins item found i ≡ Ok (found, i)
 unfolding many_from
 none_further {Fault} {A} single begins item found i none = go (item_bound single i.left)
   where
@@ -20,14 +23,18 @@ none_further {Fault} {A} single begins item found i none = go (item_bound single
     go zero = refl
     go (suc n) = rw none refl
 
-module _ {Fault A : Type 0} (single : Bool) (begins : GrammarToken → Bool) (item : Parser Fault A) (found : List A) (i : Input) (whole : Outcome Fault (List A)) where
+module _ {Fault A : Type 0} (single : Bool) (begins : GrammarToken → Bool) (item : Parser Fault A) (found : List A) (i : Input)
+    (whole : Outcome Fault (List A)) where
   pub stopped : Going single begins item found i whole → sees begins i ≡ false → whole ≡ Ok (found, i)
   stopped so_far none = sym so_far.same ∙ none_further single begins item found i none
 
-  pub goes_on : (j : Input) (x : A) → Going single begins item found i whole → single ≡ false → sees begins i ≡ true → item i ≡ Ok (x, j) → Going single begins item (found ++ x ∷ []) j whole
-  goes_on j x so_far more leads is = let turn = many_turn begins item so_far.short found i in let same = so_far.same in record { same = grind arith; short = so_far.short }
+  pub goes_on : (j : Input) (x : A) → Going single begins item found i whole → single ≡ false → sees begins i ≡ true
+      → item i ≡ Ok (x, j) → Going single begins item (found ++ x ∷ []) j whole
+  goes_on j x so_far more leads is = let turn = many_turn begins item so_far.short found i in let same = so_far.same in
+      record { same = grind arith; short = so_far.short }
 
-  pub ends : (j : Input) (x : A) → Going single begins item found i whole → single ≡ true → sees begins i ≡ true → item i ≡ Ok (x, j) → whole ≡ Ok (found ++ x ∷ [], j)
+  pub ends : (j : Input) (x : A) → Going single begins item found i whole → single ≡ true → sees begins i ≡ true
+      → item i ≡ Ok (x, j) → whole ≡ Ok (found ++ x ∷ [], j)
   unfolding many_from
   ends j x so_far last leads is = let same = so_far.same in grind arith
 

@@ -39,7 +39,8 @@ IsRefused text e = ReadsAsNone text
 
 -- an expression can begin with a name that is not reserved, a keyword of a form, or the name of a call,
 abbrev pub begins_with : List ℕ → Bool
-begins_with name = not (is_reserved name) || (bytes_eq name (codes "let") || (bytes_eq name (codes "if") || is_some (call_of name)))
+begins_with name =
+    not (is_reserved name) || (bytes_eq name (codes "let") || (bytes_eq name (codes "if") || is_some (call_of name)))
 
 -- and with a number, a text, an occurrence, `(`, `[` or `{`
 abbrev pub begins_expression : GrammarToken → Bool

@@ -14,11 +14,13 @@ use Rattle.ag_expr.specs.language.Syntax.{IsExpr}
 -- the tree.
 abbrev pub ReadingAgrees : Type 0
 ReadingAgrees = (listed : List Occ) (levels at : ℕ) (placed : List PlacedToken) (tree : Node)
-    → (expr_of listed levels (record { left = placed; ending = ending.EndsAt at }) ≡ Ok (tree, record { left = []; ending = ending.EndsAt at })) ↔ IsExpr listed levels (tokens placed) tree
+    → (expr_of listed levels (record { left = placed; ending = ending.EndsAt at }) ≡ Ok
+    (tree, record { left = []; ending = ending.EndsAt at })) ↔ IsExpr listed levels (tokens placed) tree
 
 -- The parser rejects tokens that are not an expression at the first token that cannot be accepted.
 abbrev pub RefusesAtTheFirst : Type 0
-RefusesAtTheFirst = (listed : List Occ) (levels : ℕ) (i : Input) (f : ExprFault) → expr_of listed levels i ≡ Err f → IsReportedFirst listed levels i f
+RefusesAtTheFirst = (listed : List Occ) (levels : ℕ) (i : Input) (f : ExprFault) → expr_of listed levels i ≡ Err f
+    → IsReportedFirst listed levels i f
 
 -- A text reads as at most one expression.
 abbrev pub OneExpression : Type 0

@@ -10,19 +10,29 @@ use Rattle.ag_grammar.specs.declared.syntax.node.BinaryCall.TheVariants as binar
 -- the call of a name, by the number of its arguments
 abbrev pub call_of : List ℕ → Option Call
 call_of name =
-    cond (bytes_eq name (codes "len")) (Some (call.Unary unary.Len)) (cond (bytes_eq name (codes "text")) (Some (call.Unary unary.Text))
-    (cond (bytes_eq name (codes "number")) (Some (call.Unary unary.Number)) (cond (bytes_eq name (codes "keys")) (Some (call.Unary unary.Keys))
-    (cond (bytes_eq name (codes "iserr")) (Some (call.Unary unary.IsError)) (cond (bytes_eq name (codes "nth")) (Some (call.Binary binary.Nth))
-    (cond (bytes_eq name (codes "append")) (Some (call.Binary binary.Append)) (cond (bytes_eq name (codes "join")) (Some (call.Binary binary.Join))
-    (cond (bytes_eq name (codes "get")) (Some (call.Binary binary.Get)) (cond (bytes_eq name (codes "has")) (Some (call.Binary binary.Has))
-    (cond (bytes_eq name (codes "orelse")) (Some (call.Binary binary.OrElse)) (cond (bytes_eq name (codes "put")) (Some call.Put) None)))))))))))
+    cond (bytes_eq name (codes "len")) (Some (call.Unary unary.Len))
+    (cond (bytes_eq name (codes "text")) (Some (call.Unary unary.Text))
+    (cond (bytes_eq name (codes "number")) (Some (call.Unary unary.Number))
+    (cond (bytes_eq name (codes "keys")) (Some (call.Unary unary.Keys))
+    (cond (bytes_eq name (codes "iserr")) (Some (call.Unary unary.IsError))
+    (cond (bytes_eq name (codes "nth")) (Some (call.Binary binary.Nth))
+    (cond (bytes_eq name (codes "append")) (Some (call.Binary binary.Append))
+    (cond (bytes_eq name (codes "join")) (Some (call.Binary binary.Join))
+    (cond (bytes_eq name (codes "get")) (Some (call.Binary binary.Get))
+    (cond (bytes_eq name (codes "has")) (Some (call.Binary binary.Has))
+    (cond (bytes_eq name (codes "orelse")) (Some (call.Binary binary.OrElse))
+    (cond (bytes_eq name (codes "put")) (Some call.Put) None)))))))))))
 
 -- ---- the names that can be bound
 
 -- the keywords of forms, and the names of two operators
 abbrev pub is_keyword : List ℕ → Bool
 is_keyword name =
-    bytes_eq name (codes "let") || (bytes_eq name (codes "in") || (bytes_eq name (codes "if") || (bytes_eq name (codes "then") || (bytes_eq name (codes "else") || (bytes_eq name (codes "div") || bytes_eq name (codes "mod"))))))
+    bytes_eq name (codes "let")
+    || (bytes_eq name (codes "in")
+    || (bytes_eq name (codes "if")
+    || (bytes_eq name (codes "then")
+    || (bytes_eq name (codes "else") || (bytes_eq name (codes "div") || bytes_eq name (codes "mod"))))))
 
 -- keywords and the names of calls are reserved
 abbrev pub is_reserved : List ℕ → Bool

@@ -44,7 +44,8 @@ pub record IsTooDeep (listed : List Occ) (levels : ℕ) (i : Input) (f : ExprFau
   pub says : f ≡ fault.TooDeep first.at
   pub begins_one : begins_expression first.token ≡ true
   pub start : Begins listed (tokens before ++ first.token ∷ [])
-  pub none : (more : List GrammarToken) (tree : Node) → IsExpr listed levels ((tokens before ++ first.token ∷ []) ++ more) tree → ⊥
+  pub none : (more : List GrammarToken) (tree : Node) → IsExpr listed levels ((tokens before ++ first.token ∷ []) ++ more) tree
+      → ⊥
 
 -- the fault is at the first token that cannot be accepted
 abbrev pub IsReportedFirst : List Occ → ℕ → Input → ExprFault → Type 0
@@ -63,7 +64,8 @@ read_from i = answer_of (occurrences_of i) (expr_of (occurrences_of i) max_level
 
 -- The answer is the result of parsing the tokens of the text from the offset `from` on, or memory ran out.
 abbrev pub IsReadFrom : List ℕ → ℕ → Result (Node × List Occ) ExprFault → Type 0
-IsReadFrom text from answer = (i : Input) → Lexes from (chars (drop from text)) i → answer ≢ Err fault.NoMemory → read_from i ≡ answer
+IsReadFrom text from answer = (i : Input) → Lexes from (chars (drop from text)) i → answer ≢ Err fault.NoMemory
+    → read_from i ≡ answer
 
 -- the same for a whole text
 abbrev pub IsRead : List ℕ → Result (Node × List Occ) ExprFault → Type 0

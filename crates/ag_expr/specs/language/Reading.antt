@@ -1,6 +1,7 @@
 -- The parser of expressions as a plain function on tokens with offsets: it returns a result and the remaining
 -- input, or the fault at the first token that cannot be accepted.
-use Rattle.std.specs.Prelude.{◌≡◌, cond, ℕ, zero, suc, Bool, true, false, ◌||◌, if◌then◌else◌, List, [], ◌∷◌, ◌++◌, Option, Some, None, Err, is_some, codes}
+use Rattle.std.specs.Prelude.{◌≡◌, cond, ℕ, zero, suc, Bool, true, false, ◌||◌, if◌then◌else◌, List, [], ◌∷◌, ◌++◌, Option, Some}
+use Rattle.std.specs.Prelude.{None, Err, is_some, codes}
 use Rattle.ag_tokens.specs.declared.token.Punctuation.TheVariants as punctuation
 use Rattle.ag_expr.specs.declared.fault.ExprFault.{ExprFault}
 use Rattle.ag_expr.specs.declared.fault.ExprFault.TheVariants as fault
@@ -97,7 +98,10 @@ abbrev pub is_operand : List Occ → Names → GrammarToken → Bool
 is_operand listed scope t = is_some (operand_of listed scope t)
 
 abbrev pub begins_atom : List Occ → Names → GrammarToken → Bool
-begins_atom listed scope t = is_sign (mark punctuation.Open) t || (is_sign (mark punctuation.OpenList) t || (is_sign (mark punctuation.OpenTable) t || (is_call t || is_operand listed scope t)))
+begins_atom listed scope t =
+    is_sign (mark punctuation.Open) t
+    || (is_sign (mark punctuation.OpenList) t
+    || (is_sign (mark punctuation.OpenTable) t || (is_call t || is_operand listed scope t)))
 
 abbrev pub begins : List Occ → Names → GrammarToken → Bool
 begins listed scope t = is_sign (word (codes "let")) t || (is_sign (word (codes "if")) t || begins_atom listed scope t)
@@ -117,12 +121,17 @@ atom_of _ = atom.Operand
 -- the next token begins an atom of this form, and of no earlier one
 abbrev pub BeginsAtom : Atom → Input → Type 0
 BeginsAtom atom.Parenthesized i = sees (is_sign (mark punctuation.Open)) i ≡ true
-BeginsAtom atom.List i = (sees (is_sign (mark punctuation.Open)) i ≡ false) × (sees (is_sign (mark punctuation.OpenList)) i ≡ true)
-BeginsAtom atom.Table i = (sees (is_sign (mark punctuation.Open)) i ≡ false) × (sees (is_sign (mark punctuation.OpenList)) i ≡ false) × (sees (is_sign (mark punctuation.OpenTable)) i ≡ true)
+BeginsAtom atom.List i =
+    (sees (is_sign (mark punctuation.Open)) i ≡ false) × (sees (is_sign (mark punctuation.OpenList)) i ≡ true)
+BeginsAtom atom.Table i =
+    (sees (is_sign (mark punctuation.Open)) i ≡ false) × (sees (is_sign (mark punctuation.OpenList)) i ≡ false)
+    × (sees (is_sign (mark punctuation.OpenTable)) i ≡ true)
 BeginsAtom atom.Call i =
-    (sees (is_sign (mark punctuation.Open)) i ≡ false) × (sees (is_sign (mark punctuation.OpenList)) i ≡ false) × (sees (is_sign (mark punctuation.OpenTable)) i ≡ false) × (sees is_call i ≡ true)
+    (sees (is_sign (mark punctuation.Open)) i ≡ false) × (sees (is_sign (mark punctuation.OpenList)) i ≡ false)
+    × (sees (is_sign (mark punctuation.OpenTable)) i ≡ false) × (sees is_call i ≡ true)
 BeginsAtom atom.Operand i =
-    (sees (is_sign (mark punctuation.Open)) i ≡ false) × (sees (is_sign (mark punctuation.OpenList)) i ≡ false) × (sees (is_sign (mark punctuation.OpenTable)) i ≡ false) × (sees is_call i ≡ false)
+    (sees (is_sign (mark punctuation.Open)) i ≡ false) × (sees (is_sign (mark punctuation.OpenList)) i ≡ false)
+    × (sees (is_sign (mark punctuation.OpenTable)) i ≡ false) × (sees is_call i ≡ false)
 
 -- the rest of an empty list after its opening bracket
 unfoldable pub none_from : Parser Node
@@ -222,10 +231,13 @@ module _ (inner : Names → Parser Node) (scope : Names) where
     unfoldable pub atom_from : Parser Node
     atom_from =
         choose (is_sign (mark punctuation.Open)) parenthesized_from (choose (is_sign (mark punctuation.OpenList)) list_from
-        (choose (is_sign (mark punctuation.OpenTable)) table_from (choose is_call call_from (token_as (operand_of listed scope)))))
+        (choose (is_sign (mark punctuation.OpenTable)) table_from
+        (choose is_call call_from (token_as (operand_of listed scope)))))
 
     unfoldable pub whole_from : Parser Node
-    whole_from = choose (is_sign (word (codes "let"))) let_from (choose (is_sign (word (codes "if"))) if_from (ranked_from atom_from precedences))
+    whole_from =
+        choose (is_sign (word (codes "let"))) let_from
+        (choose (is_sign (word (codes "if"))) if_from (ranked_from atom_from precedences))
 
 -- the fault for an expression that would begin here with no level left
 abbrev pub level_fault_of : List Occ → Names → Ending → List PlacedToken → ExprFault

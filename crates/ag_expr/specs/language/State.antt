@@ -17,7 +17,8 @@ use Rattle.ag_expr.specs.language.Expression.{max_levels}
 use Rattle.ag_expr.specs.language.Offsets.{answer_of}
 use Rattle.ag_expr.specs.language.Reading.{Parser, begins, expr_of, level_fault_of}
 use Rattle.ag_grammar.specs.declared.syntax.node.Node.{Node}
-use Rattle.ag_expr.specs.language.Until.{Ended, before_semicolon, after_semicolon, first_semicolon, from_semicolon, read_until_from}
+use Rattle.ag_expr.specs.language.Until.{Ended, before_semicolon, after_semicolon, first_semicolon, from_semicolon}
+use Rattle.ag_expr.specs.language.Until.{read_until_from}
 
 -- ---- the tokens of a statement
 
@@ -119,7 +120,8 @@ Reads = ReadsAs (λ x. x)
 
 -- The answer is the result of parsing the remaining tokens to their end, or memory ran out.
 abbrev pub IsReadToEnd : State → Result (Node × List Occ) ExprFault → Type 0
-IsReadToEnd s answer = answer ≢ Err fault.NoMemory → answer_of (complete_list s) (expr_of (complete_list s) max_levels (input s)) ≡ answer
+IsReadToEnd s answer = answer ≢ Err fault.NoMemory
+    → answer_of (complete_list s) (expr_of (complete_list s) max_levels (input s)) ≡ answer
 
 -- The result of parsing the tokens up to a `;`, with the input after the `;`; or the fault of the
 -- specification's parser, unless memory ran out.

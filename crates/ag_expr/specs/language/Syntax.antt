@@ -1,6 +1,7 @@
 -- The syntax of expressions: the tokens that spell a tree, by levels and by precedences of operators (this
 -- project's grammar).
-use Rattle.std.specs.Prelude.{◌≡◌, ℕ, zero, suc, Bool, true, false, List, [], ◌∷◌, ◌++◌, Option, Some, None, cond, bytes_eq, codes, option_map}
+use Rattle.std.specs.Prelude.{◌≡◌, ℕ, zero, suc, Bool, true, false, List, [], ◌∷◌, ◌++◌, Option, Some, None, cond, bytes_eq}
+use Rattle.std.specs.Prelude.{codes, option_map}
 use denote.Enum.Bare.{sameb}
 use Rattle.ag_expr.specs.contracts.parser.Precedence.{the_type}
 use Rattle.ag_expr.specs.declared.parser.Precedence.{Precedence}
@@ -42,7 +43,9 @@ marked_operator _ = None
 
 -- the operators that are reserved names
 abbrev pub named_operator : List ℕ → Option (Precedence × Operator)
-named_operator name = cond (bytes_eq name (codes "div")) (Some (precedence.Product, operator.Divide)) (cond (bytes_eq name (codes "mod")) (Some (precedence.Product, operator.Remainder)) None)
+named_operator name =
+    cond (bytes_eq name (codes "div")) (Some (precedence.Product, operator.Divide))
+    (cond (bytes_eq name (codes "mod")) (Some (precedence.Product, operator.Remainder)) None)
 
 abbrev pub binary_operator : GrammarToken → Option (Precedence × Operator)
 binary_operator (token.Punctuation m) = marked_operator m

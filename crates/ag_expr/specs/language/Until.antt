@@ -65,7 +65,8 @@ read_until_from i = until_by (first_semicolon i.left) i
 -- The answer is the result of parsing the tokens of the text from the offset `from` up to a semicolon, or
 -- memory ran out.
 abbrev pub IsReadUntil : List ℕ → ℕ → Result Ended ExprFault → Type 0
-IsReadUntil text from answer = (i : Input) → Lexes from (chars (drop from text)) i → answer ≢ Err fault.NoMemory → read_until_from i ≡ answer
+IsReadUntil text from answer = (i : Input) → Lexes from (chars (drop from text)) i → answer ≢ Err fault.NoMemory
+    → read_until_from i ≡ answer
 
 -- From the offset `from` on, the text reads as the expression up to its first semicolon: the tokens before it
 -- spell the tree, and the list has the distinct occurrences among them.
@@ -93,10 +94,13 @@ pub record IsUnended (i : Input) (f : ExprFault) : Type 0 where
 -- The fault is at the first token, before the first semicolon, that cannot be accepted. If there is no
 -- semicolon, it is at the first of all tokens that cannot be accepted, or at the end of the text.
 abbrev pub IsReportedUntil : Option ℕ → Input → ExprFault → Type 0
-IsReportedUntil (Some at) i f = IsReportedFirst (distinct_occurrences (all_occurrences (before_semicolon i.left))) max_levels (record { left = before_semicolon i.left; ending = ending.EndsAt at }) f
+IsReportedUntil (Some at) i f =
+    IsReportedFirst (distinct_occurrences (all_occurrences (before_semicolon i.left))) max_levels
+    (record { left = before_semicolon i.left; ending = ending.EndsAt at }) f
 IsReportedUntil None i f = IsReportedFirst (occurrences_of i) max_levels i f ⊎ IsUnended i f
 
 -- A fault other than `NoMemory` is at the first token from the offset `from` on, up to a semicolon, that
 -- cannot be accepted.
 abbrev pub IsFirstUntil : List ℕ → ℕ → ExprFault → Type 0
-IsFirstUntil text from f = (i : Input) → Lexes from (chars (drop from text)) i → f ≢ fault.NoMemory → IsReportedUntil (first_semicolon i.left) i f
+IsFirstUntil text from f = (i : Input) → Lexes from (chars (drop from text)) i → f ≢ fault.NoMemory
+    → IsReportedUntil (first_semicolon i.left) i f

@@ -19,19 +19,29 @@ placed at t = record { at = at; token = t }
 
 -- the tokens of `$1.a + 2`
 abbrev pub occurrence_and_number : List PlacedToken
-occurrence_and_number = placed 0 (token.Occurrence 1 (codes "a")) ∷ placed 5 (token.Punctuation punctuation.Plus) ∷ placed 7 (token.Number (pos 2)) ∷ []
+occurrence_and_number =
+    placed 0 (token.Occurrence 1 (codes "a")) ∷ placed 5 (token.Punctuation punctuation.Plus) ∷ placed 7 (token.Number (pos 2))
+    ∷ []
 
 -- `2 + 3 * 4`
 abbrev pub sum_and_product : Node
-sum_and_product = node.Chain (node.Literal (value.Num (pos 2))) ((operator.Add, node.Chain (node.Literal (value.Num (pos 3))) ((operator.Multiply, node.Literal (value.Num (pos 4))) ∷ [])) ∷ [])
+sum_and_product =
+    node.Chain (node.Literal (value.Num (pos 2)))
+    ((
+      operator.Add,
+      node.Chain (node.Literal (value.Num (pos 3))) ((operator.Multiply, node.Literal (value.Num (pos 4))) ∷ []),
+    ) ∷ [])
 
 -- `10 - 3 - 2`
 abbrev pub two_differences : Node
-two_differences = node.Chain (node.Literal (value.Num (pos 10))) ((operator.Subtract, node.Literal (value.Num (pos 3))) ∷ (operator.Subtract, node.Literal (value.Num (pos 2))) ∷ [])
+two_differences =
+    node.Chain (node.Literal (value.Num (pos 10)))
+    ((operator.Subtract, node.Literal (value.Num (pos 3))) ∷ (operator.Subtract, node.Literal (value.Num (pos 2))) ∷ [])
 
 -- `9223372036854775807 + 1`
 abbrev pub past_the_greatest : Node
-past_the_greatest = node.Chain (node.Literal (value.Num (pos 9223372036854775807))) ((operator.Add, node.Literal (value.Num (pos 1))) ∷ [])
+past_the_greatest =
+    node.Chain (node.Literal (value.Num (pos 9223372036854775807))) ((operator.Add, node.Literal (value.Num (pos 1))) ∷ [])
 
 -- `1 div 0`
 abbrev pub by_zero : Node
@@ -40,8 +50,11 @@ by_zero = node.Chain (node.Literal (value.Num (pos 1))) ((operator.Divide, node.
 -- the tokens of `let x = 1 in x < 2`, with their offsets, and its tree
 abbrev pub let_and_compare : List PlacedToken
 let_and_compare =
-    placed 0 (token.Name (codes "let")) ∷ placed 4 (token.Name (codes "x")) ∷ placed 6 (token.Punctuation punctuation.Equal) ∷ placed 8 (token.Number (pos 1)) ∷ placed 10 (token.Name (codes "in")) ∷ placed 13 (token.Name (codes "x"))
+    placed 0 (token.Name (codes "let")) ∷ placed 4 (token.Name (codes "x")) ∷ placed 6 (token.Punctuation punctuation.Equal)
+    ∷ placed 8 (token.Number (pos 1)) ∷ placed 10 (token.Name (codes "in")) ∷ placed 13 (token.Name (codes "x"))
     ∷ placed 15 (token.Punctuation punctuation.Less) ∷ placed 17 (token.Number (pos 2)) ∷ []
 
 abbrev pub bound_and_compared : Node
-bound_and_compared = node.Let (node.Literal (value.Num (pos 1))) (node.Chain (node.Bound 0) ((operator.Less, node.Literal (value.Num (pos 2))) ∷ []))
+bound_and_compared =
+    node.Let (node.Literal (value.Num (pos 1)))
+    (node.Chain (node.Bound 0) ((operator.Less, node.Literal (value.Num (pos 2))) ∷ []))

@@ -1,5 +1,6 @@
 -- The value of a tree depends only on the values of the occurrences in it.
-use Rattle.std.proofs.Common.{ℕ, zero, suc, ◌≡◌, ◌<◌, Bool, true, false, ◌||◌, nat_eq, List, [], ◌∷◌, ◌++◌, Some, map, slice_get, get_or, length, refl, ap, ap₂, ◌∙◌, sym, subst, arith}
+use Rattle.std.proofs.Common.{ℕ, zero, suc, ◌≡◌, ◌<◌, Bool, true, false, ◌||◌, nat_eq, List, [], ◌∷◌, ◌++◌, Some, map, slice_get}
+use Rattle.std.proofs.Common.{get_or, length, refl, ap, ap₂, ◌∙◌, sym, subst, arith}
 use Rattle.std.proofs.lemmas.Bool.{eq-eqb, ne_eqb, or_left, or_right}
 use Rattle.std.proofs.lemmas.Option.{slice_get-get_or}
 use Rattle.ag_value.specs.declared.value.Value.{Value}
@@ -43,48 +44,68 @@ SameOperands env other xs = (k : ℕ) → some_operand (map (has_in k) (map bare
 abbrev SameItems : (env other : ℕ → Value) → List Settled → Type 0
 SameItems env other xs = (k : ℕ) → some_item (map (has_occurrence k) (map tree xs)) ≡ true → env k ≡ other k
 
-settled_chain : (env other : ℕ → Value) (bound : List Value) (xs : List (Operator × Settled)) (v w : Value) → v ≡ w → SameOperands env other xs
+settled_chain : (env other : ℕ → Value) (bound : List Value) (xs : List (Operator × Settled)) (v w : Value) → v ≡ w
+    → SameOperands env other xs
     → chain_value env bound v (map gives (map bare xs)) ≡ chain_value other bound w (map gives (map bare xs))
 settled_chain env other bound [] v w e same = e
 settled_chain env other bound (x ∷ xs) v w e same =
-    let own = x.1.1 env other (λ k h. same k (or_left (has_occurrence k x.1.0) (some_operand (map (has_in k) (map bare xs))) h)) bound in
-    settled_chain env other bound xs (operation_result x.0 v (value_in x.1.0 env bound)) (operation_result x.0 w (value_in x.1.0 other bound)) (ap₂ (operation_result x.0) e own)
+    let own =
+    x.1.1 env other (λ k h. same k (or_left (has_occurrence k x.1.0) (some_operand (map (has_in k) (map bare xs))) h))
+    bound in
+    settled_chain env other bound xs (operation_result x.0 v (value_in x.1.0 env bound))
+    (operation_result x.0 w (value_in x.1.0 other bound)) (ap₂ (operation_result x.0) e own)
     (λ k h. same k (or_right (has_occurrence k x.1.0) (some_operand (map (has_in k) (map bare xs))) h))
 
-settled_items : (env other : ℕ → Value) (bound : List Value) (xs : List Settled) → SameItems env other xs → item_values env bound (map value_in (map tree xs)) ≡ item_values other bound (map value_in (map tree xs))
+settled_items : (env other : ℕ → Value) (bound : List Value) (xs : List Settled) → SameItems env other xs
+    → item_values env bound (map value_in (map tree xs)) ≡ item_values other bound (map value_in (map tree xs))
 settled_items env other bound [] same = refl
 settled_items env other bound (x ∷ xs) same =
     ap₂ (λ (v : Value) (vs : List Value). v ∷ vs)
     (x.1 env other (λ k h. same k (or_left (has_occurrence k x.0) (some_item (map (has_occurrence k) (map tree xs))) h)) bound)
-    (settled_items env other bound xs (λ k h. same k (or_right (has_occurrence k x.0) (some_item (map (has_occurrence k) (map tree xs))) h)))
+    (settled_items env other bound xs
+    (λ k h. same k (or_right (has_occurrence k x.0) (some_item (map (has_occurrence k) (map tree xs))) h)))
 
 -- one level of a tree
 abbrev SameLayer : (env other : ℕ → Value) → Node-F Settled → Type 0
-SameLayer env other y = (k : ℕ) → has_step k (map-Node Node Bool (has_occurrence k) (map-Node Settled Node tree y)) ≡ true → env k ≡ other k
+SameLayer env other y = (k : ℕ) → has_step k (map-Node Node Bool (has_occurrence k) (map-Node Settled Node tree y)) ≡ true
+    → env k ≡ other k
 
 settled_layer : (env other : ℕ → Value) (bound : List Value) (y : Node-F Settled) → SameLayer env other y
-    → value_step (map-Node Node Meaning value_in (map-Node Settled Node tree y)) env bound ≡ value_step (map-Node Node Meaning value_in (map-Node Settled Node tree y)) other bound
+    → value_step (map-Node Node Meaning value_in (map-Node Settled Node tree y)) env bound ≡ value_step
+    (map-Node Node Meaning value_in (map-Node Settled Node tree y)) other bound
 settled_layer env other bound (Node-F.Literal v) same = refl
 settled_layer env other bound (Node-F.Occurrence k) same = same k (eq-eqb k k refl)
 settled_layer env other bound (Node-F.Bound k) same = refl
 settled_layer env other bound (Node-F.Chain first others) same =
     settled_chain env other bound others (value_in first.0 env bound) (value_in first.0 other bound)
-    (first.1 env other (λ k h. same k (or_left (has_occurrence k first.0) (some_operand (map (has_in k) (map bare others))) h)) bound)
+    (first.1 env other (λ k h. same k (or_left (has_occurrence k first.0) (some_operand (map (has_in k) (map bare others))) h))
+    bound)
     (λ k h. same k (or_right (has_occurrence k first.0) (some_operand (map (has_in k) (map bare others))) h))
 settled_layer env other bound (Node-F.Let e f) same =
-    f.1 env other (λ k h. same k (or_right (has_occurrence k e.0) (has_occurrence k f.0) h)) (bound ++ value_in e.0 env bound ∷ [])
-    ∙ ap (λ v. value_in f.0 other (bound ++ v ∷ [])) (e.1 env other (λ k h. same k (or_left (has_occurrence k e.0) (has_occurrence k f.0) h)) bound)
+    f.1 env other (λ k h. same k (or_right (has_occurrence k e.0) (has_occurrence k f.0) h))
+    (bound ++ value_in e.0 env bound ∷ [])
+    ∙ ap (λ v. value_in f.0 other (bound ++ v ∷ []))
+    (e.1 env other (λ k h. same k (or_left (has_occurrence k e.0) (has_occurrence k f.0) h)) bound)
 settled_layer env other bound (Node-F.If c e f) same =
-    let later : (k : ℕ) → (has_occurrence k e.0 || has_occurrence k f.0) ≡ true → env k ≡ other k = λ k h. same k (or_right (has_occurrence k c.0) (has_occurrence k e.0 || has_occurrence k f.0) h) in
-    ap (λ v. choice_of v (value_in e.0 env bound) (value_in f.0 env bound)) (c.1 env other (λ k h. same k (or_left (has_occurrence k c.0) (has_occurrence k e.0 || has_occurrence k f.0) h)) bound)
-    ∙ ap₂ (choice_of (value_in c.0 other bound)) (e.1 env other (λ k h. later k (or_left (has_occurrence k e.0) (has_occurrence k f.0) h)) bound) (f.1 env other (λ k h. later k (or_right (has_occurrence k e.0) (has_occurrence k f.0) h)) bound)
+    let later : (k : ℕ) → (has_occurrence k e.0 || has_occurrence k f.0) ≡ true → env k ≡ other k =
+    λ k h. same k (or_right (has_occurrence k c.0) (has_occurrence k e.0 || has_occurrence k f.0) h) in
+    ap (λ v. choice_of v (value_in e.0 env bound) (value_in f.0 env bound))
+    (c.1 env other (λ k h. same k (or_left (has_occurrence k c.0) (has_occurrence k e.0 || has_occurrence k f.0) h)) bound)
+    ∙ ap₂ (choice_of (value_in c.0 other bound))
+    (e.1 env other (λ k h. later k (or_left (has_occurrence k e.0) (has_occurrence k f.0) h)) bound)
+    (f.1 env other (λ k h. later k (or_right (has_occurrence k e.0) (has_occurrence k f.0) h)) bound)
 settled_layer env other bound (Node-F.Unary call a) same = ap (unary_call_result call) (a.1 env other same bound)
 settled_layer env other bound (Node-F.Binary call a b) same =
-    ap₂ (binary_call_result call) (a.1 env other (λ k h. same k (or_left (has_occurrence k a.0) (has_occurrence k b.0) h)) bound) (b.1 env other (λ k h. same k (or_right (has_occurrence k a.0) (has_occurrence k b.0) h)) bound)
+    ap₂ (binary_call_result call) (a.1 env other (λ k h. same k (or_left (has_occurrence k a.0) (has_occurrence k b.0) h)) bound)
+    (b.1 env other (λ k h. same k (or_right (has_occurrence k a.0) (has_occurrence k b.0) h)) bound)
 settled_layer env other bound (Node-F.Put t i v) same =
-    let later : (k : ℕ) → (has_occurrence k i.0 || has_occurrence k v.0) ≡ true → env k ≡ other k = λ k h. same k (or_right (has_occurrence k t.0) (has_occurrence k i.0 || has_occurrence k v.0) h) in
-    ap (λ w. put w (value_in i.0 env bound) (value_in v.0 env bound)) (t.1 env other (λ k h. same k (or_left (has_occurrence k t.0) (has_occurrence k i.0 || has_occurrence k v.0) h)) bound)
-    ∙ ap₂ (put (value_in t.0 other bound)) (i.1 env other (λ k h. later k (or_left (has_occurrence k i.0) (has_occurrence k v.0) h)) bound) (v.1 env other (λ k h. later k (or_right (has_occurrence k i.0) (has_occurrence k v.0) h)) bound)
+    let later : (k : ℕ) → (has_occurrence k i.0 || has_occurrence k v.0) ≡ true → env k ≡ other k =
+    λ k h. same k (or_right (has_occurrence k t.0) (has_occurrence k i.0 || has_occurrence k v.0) h) in
+    ap (λ w. put w (value_in i.0 env bound) (value_in v.0 env bound))
+    (t.1 env other (λ k h. same k (or_left (has_occurrence k t.0) (has_occurrence k i.0 || has_occurrence k v.0) h)) bound)
+    ∙ ap₂ (put (value_in t.0 other bound))
+    (i.1 env other (λ k h. later k (or_left (has_occurrence k i.0) (has_occurrence k v.0) h)) bound)
+    (v.1 env other (λ k h. later k (or_right (has_occurrence k i.0) (has_occurrence k v.0) h)) bound)
 settled_layer env other bound (Node-F.List items) same = ap listed (settled_items env other bound items same)
 settled_layer env other bound Node-F.EmptyTable same = refl
 

@@ -1,5 +1,6 @@
 -- The occurrences in a tree: their numbers are those of the listed ones. With an example.
-use Rattle.std.proofs.Common.{ℕ, suc, ◌≡◌, ◌<◌, Bool, true, false, ◌||◌, ◌&&◌, nat_eq, List, [], ◌∷◌, map, inl, inr, ap, ◌∙◌, sym, subst, pos, arith}
+use Rattle.std.proofs.Common.{ℕ, suc, ◌≡◌, ◌<◌, Bool, true, false, ◌||◌, ◌&&◌, nat_eq, List, [], ◌∷◌, map, inl, inr, ap, ◌∙◌, sym}
+use Rattle.std.proofs.Common.{subst, pos, arith}
 use Rattle.std.proofs.lemmas.Bool.{and_parts, eqb-true, ltb-true, or_cases}
 use Rattle.ag_value.specs.declared.value.Value.{Value, Num}
 use Rattle.ag_grammar.specs.declared.syntax.node.Operator.{Operator}
@@ -50,7 +51,8 @@ module _ (n k : ℕ) where
         | inr h ↦ listed_operands bound xs parts.1 h
       ]
 
-  listed_items : (bound : ℕ) (xs : List Listed) → each_holds bound (map (is_within n) (map part xs)) ≡ true → some_item (map (has_occurrence k) (map part xs)) ≡ true → k < n
+  listed_items : (bound : ℕ) (xs : List Listed) → each_holds bound (map (is_within n) (map part xs)) ≡ true
+      → some_item (map (has_occurrence k) (map part xs)) ≡ true → k < n
   listed_items bound [] below has = let bad : ⊥ = cc in absurd bad
   listed_items bound (x ∷ xs) below has =
       let parts = and_parts (is_within n x.0 bound) (each_holds bound (map (is_within n) (map part xs))) below in
@@ -60,18 +62,23 @@ module _ (n k : ℕ) where
       ]
 
   -- for two subtrees
-  either : (a b : Listed) (at within : ℕ) → (is_within n a.0 at && is_within n b.0 within) ≡ true → (has_occurrence k a.0 || has_occurrence k b.0) ≡ true → k < n
+  either : (a b : Listed) (at within : ℕ) → (is_within n a.0 at && is_within n b.0 within) ≡ true
+      → (has_occurrence k a.0 || has_occurrence k b.0) ≡ true → k < n
   either a b at within below has =
       let parts = and_parts (is_within n a.0 at) (is_within n b.0 within) below in
-      elim (or_cases (has_occurrence k a.0) (has_occurrence k b.0) has) [ inl h ↦ a.1 at parts.0 h | inr h ↦ b.1 within parts.1 h ]
+      elim (or_cases (has_occurrence k a.0) (has_occurrence k b.0) has)
+      [ inl h ↦ a.1 at parts.0 h | inr h ↦ b.1 within parts.1 h ]
 
   -- for three subtrees
-  any_of : (a b c : Listed) (bound : ℕ) → (is_within n a.0 bound && (is_within n b.0 bound && is_within n c.0 bound)) ≡ true → (has_occurrence k a.0 || (has_occurrence k b.0 || has_occurrence k c.0)) ≡ true → k < n
+  any_of : (a b c : Listed) (bound : ℕ) → (is_within n a.0 bound && (is_within n b.0 bound && is_within n c.0 bound)) ≡ true
+      → (has_occurrence k a.0 || (has_occurrence k b.0 || has_occurrence k c.0)) ≡ true → k < n
   any_of a b c bound below has =
       let parts = and_parts (is_within n a.0 bound) (is_within n b.0 bound && is_within n c.0 bound) below in
-      elim (or_cases (has_occurrence k a.0) (has_occurrence k b.0 || has_occurrence k c.0) has) [ inl h ↦ a.1 bound parts.0 h | inr h ↦ either b c bound bound parts.1 h ]
+      elim (or_cases (has_occurrence k a.0) (has_occurrence k b.0 || has_occurrence k c.0) has)
+      [ inl h ↦ a.1 bound parts.0 h | inr h ↦ either b c bound bound parts.1 h ]
 
-  listed_layer : (y : Node-F Listed) (bound : ℕ) → below_step n (map-Node Node (ℕ → Bool) (is_within n) (map-Node Listed Node part y)) bound ≡ true
+  listed_layer : (y : Node-F Listed) (bound : ℕ)
+      → below_step n (map-Node Node (ℕ → Bool) (is_within n) (map-Node Listed Node part y)) bound ≡ true
       → has_step k (map-Node Node Bool (has_occurrence k) (map-Node Listed Node part y)) ≡ true → k < n
   listed_layer (Node-F.Literal v) bound below has = let bad : ⊥ = cc in absurd bad
   listed_layer (Node-F.Occurrence j) bound below has = let less = ltb-true j n below in let same = eqb-true j k has in omega arith
@@ -114,7 +121,8 @@ pub has_sum : (k : ℕ) → has_occurrence k rule_s.expr.0 ≡ (nat_eq 0 k || (f
 has_sum k =
     ap (has_occurrence k) (sym (node_of.rolls-Chain (node_of.Occurrence 0) ((Add, node_of.Literal (Num (pos 1))) ∷ [])))
     ∙ has_layer k (Node-F.Chain (node_of.Occurrence 0) ((Add, node_of.Literal (Num (pos 1))) ∷ []))
-    ∙ ap (λ b. b || (has_occurrence k (node_of.Literal (Num (pos 1))) || false)) (has_own k 0) ∙ ap (λ b. nat_eq 0 k || (b || false)) (has_none k (Num (pos 1)))
+    ∙ ap (λ b. b || (has_occurrence k (node_of.Literal (Num (pos 1))) || false)) (has_own k 0)
+    ∙ ap (λ b. nat_eq 0 k || (b || false)) (has_none k (Num (pos 1)))
 
 pub occurs : has_occurrence 0 rule_s.expr.0 ≡ true
 occurs = has_sum 0

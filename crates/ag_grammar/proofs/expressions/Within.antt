@@ -14,7 +14,8 @@ Each P [] = Unit {0}
 Each P (x ∷ xs) = P x × Each P xs
 
 -- one level of a tree at a time
-pub layer : (n : ℕ) (x : Node-F Node) (bound : ℕ) → is_within n (roll-Node x) bound ≡ below_step n (map-Node Node (ℕ → Bool) (is_within n) x) bound
+pub layer : (n : ℕ) (x : Node-F Node) (bound : ℕ)
+    → is_within n (roll-Node x) bound ≡ below_step n (map-Node Node (ℕ → Bool) (is_within n) x) bound
 layer n x bound = ap (λ (f : ℕ → Bool). f bound) (fold-roll-Node (ℕ → Bool) (below_step n) x)
 
 abbrev pub Within : ℕ → ℕ → Node → Type 0
@@ -24,13 +25,17 @@ pub both : (a b : Bool) → a ≡ true → b ≡ true → (a && b) ≡ true
 both a b p q = rw (p, q) refl
 
 module _ (n bound : ℕ) where
-  pub rolled : (x : Node-F Node) (e : Node) → roll-Node x ≡ e → below_step n (map-Node Node (ℕ → Bool) (is_within n) x) bound ≡ true → Within n bound e
+  pub rolled : (x : Node-F Node) (e : Node) → roll-Node x ≡ e
+      → below_step n (map-Node Node (ℕ → Bool) (is_within n) x) bound ≡ true → Within n bound e
   rolled x e is h = ap (λ e. is_within n e bound) (sym is) ∙ layer n x bound ∙ h
 
-  pub in_chain : (first : Node) (others : List (Operator × Node)) → Within n bound first → Each (λ p. Within n bound p.1) others → Within n bound (node.Chain first others)
-  in_chain first others here all = rolled (Node-F.Chain first others) _ (node.rolls-Chain first others) (both _ _ here (operands others all))
+  pub in_chain : (first : Node) (others : List (Operator × Node)) → Within n bound first → Each (λ p. Within n bound p.1) others
+      → Within n bound (node.Chain first others)
+  in_chain first others here all =
+      rolled (Node-F.Chain first others) _ (node.rolls-Chain first others) (both _ _ here (operands others all))
     where
-      operands : (xs : List (Operator × Node)) → Each (λ p. Within n bound p.1) xs → all_hold bound (map (λ p. (p.0, is_within n p.1)) xs) ≡ true
+      operands : (xs : List (Operator × Node)) → Each (λ p. Within n bound p.1) xs
+          → all_hold bound (map (λ p. (p.0, is_within n p.1)) xs) ≡ true
       operands [] all = refl
       operands (x ∷ xs) all = both _ _ all.0 (operands xs all.1)
 

@@ -1,5 +1,6 @@
 -- The rules of a tree are those of its passes.
-use Rattle.std.proofs.Common.{◌≡◌, ℕ, zero, suc, ◌+◌, ◌<◌, ◌≤◌, inl, inr, Bool, cond, List, [], ◌∷◌, length, Option, Some, None, slice_get, refl, ap, sym, ◌∙◌, arith}
+use Rattle.std.proofs.Common.{◌≡◌, ℕ, zero, suc, ◌+◌, ◌<◌, ◌≤◌, inl, inr, Bool, cond, List, [], ◌∷◌, length, Option, Some, None}
+use Rattle.std.proofs.Common.{slice_get, refl, ap, sym, ◌∙◌, arith}
 use Rattle.std.specs.Prelude.{nat_eq}
 use Rattle.std.specs.List.{count_by}
 use Rattle.std.proofs.lemmas.Bool.{cases_lt, eq-eqb, ne_eqb}
@@ -7,7 +8,8 @@ use Rattle.std.proofs.lemmas.List.Sums.{sum_by-cons}
 use Rattle.ag_grammar.specs.declared.grammar.Production.{Production}
 use Rattle.ag_grammar.specs.declared.grammar.Rule.{Rule}
 use Rattle.ag_grammar.specs.grammars.AttributeGrammar.{Grammar}
-use Rattle.ag_grammar.specs.grammars.Counts.{is_of_pass, is_pass, pass_at, pass_rule_count, rule_count, sum_of_passes, total, totals}
+use Rattle.ag_grammar.specs.grammars.Counts.{is_of_pass, is_pass, pass_at, pass_rule_count, rule_count, sum_of_passes, total}
+use Rattle.ag_grammar.specs.grammars.Counts.{totals}
 use Rattle.ag_grammar.specs.grammars.Laws.{PassesHaveAllRules}
 use Rattle.ag_grammar.specs.grammars.Passes.{Passes}
 use Rattle.ag_grammar.specs.grammars.Tree.{Tree, Forest, leaf, node, none, more}
@@ -49,16 +51,20 @@ module _ (g : Grammar) where
       totals_same (more t ts) = omega (arith, total_same t, totals_same ts)
 
   -- summing over the passes and over the nodes commutes
-  sum_total : (f : ℕ → Option Production → ℕ) (first count : ℕ) (t : Tree) → sum_of_passes (λ k. total (f k) g t) first count ≡ total (λ o. sum_of_passes (λ k. f k o) first count) g t
+  sum_total : (f : ℕ → Option Production → ℕ) (first count : ℕ) (t : Tree)
+      → sum_of_passes (λ k. total (f k) g t) first count ≡ total (λ o. sum_of_passes (λ k. f k o) first count) g t
   sum_total f first zero t = sym (total_none t)
-  sum_total f first (suc n) t = ap (λ x. x + total (f (suc (first + n))) g t) (sum_total f first n t) ∙ total_add (λ o. sum_of_passes (λ k. f k o) first n) (f (suc (first + n))) t
+  sum_total f first (suc n) t =
+      ap (λ x. x + total (f (suc (first + n))) g t) (sum_total f first n t)
+      ∙ total_add (λ o. sum_of_passes (λ k. f k o) first n) (f (suc (first + n))) t
 
 -- sums over passes
 sum_none : (first count : ℕ) → sum_of_passes (λ k. 0) first count ≡ 0
 sum_none first zero = refl
 sum_none first (suc n) = omega (arith, sum_none first n)
 
-sum_add : (f h : ℕ → ℕ) (first count : ℕ) → sum_of_passes (λ k. f k + h k) first count ≡ sum_of_passes f first count + sum_of_passes h first count
+sum_add : (f h : ℕ → ℕ) (first count : ℕ)
+    → sum_of_passes (λ k. f k + h k) first count ≡ sum_of_passes f first count + sum_of_passes h first count
 sum_add f h first zero = refl
 sum_add f h first (suc n) = omega (arith, sum_add f h first n)
 
@@ -89,25 +95,40 @@ sum_same : (f h : ℕ → ℕ) (first count : ℕ) → ((k : ℕ) → f k ≡ h 
 sum_same f h first zero same = refl
 sum_same f h first (suc n) same = omega (arith, sum_same f h first n same, same (suc (first + n)))
 
-hit_of_pass : (m : Passes) (q : Production) (u : Rule) (p k : ℕ) → pass_at m q u.target ≡ Some p → cond (is_of_pass m k q u) 1 0 ≡ hits p k
+hit_of_pass : (m : Passes) (q : Production) (u : Rule) (p k : ℕ) → pass_at m q u.target ≡ Some p
+    → cond (is_of_pass m k q u) 1 0 ≡ hits p k
 unfolding hits
 hit_of_pass m q u p k e = ap (λ o. cond (is_pass k o) 1 0) e
 
 -- each rule of a production is counted in one pass
 module _ (m : Passes) (q : Production) (last : ℕ) where
-  rules_once : (us : List Rule) → ((i : ℕ) (u : Rule) → slice_get us i ≡ Some u → (p : ℕ) × (pass_at m q u.target ≡ Some p) × (1 ≤ p) × (p ≤ last)) → sum_of_passes (λ k. count_by (is_of_pass m k q) us) 0 last ≡ length us
+  rules_once : (us : List Rule)
+      → ((i : ℕ) (u : Rule) → slice_get us i ≡ Some u → (p : ℕ) × (pass_at m q u.target ≡ Some p) × (1 ≤ p) × (p ≤ last))
+      → sum_of_passes (λ k. count_by (is_of_pass m k q) us) 0 last ≡ length us
   rules_once [] has = sum_none 0 last
   rules_once (u ∷ us) has =
       let p = has 0 u refl in
-      let first : sum_of_passes (λ k. cond (is_of_pass m k q u) 1 0) 0 last ≡ 1 = sum_same (λ k. cond (is_of_pass m k q u) 1 0) (hits p.0) 0 last (λ k. hit_of_pass m q u p.0 k p.1) ∙ hit_within p.0 last p.2 p.3 in
-      let others : sum_of_passes (λ k. count_by (is_of_pass m k q) us) 0 last ≡ length us = rules_once us (λ i w e. has (suc i) w e) in
-      let both : sum_of_passes (λ k. cond (is_of_pass m k q u) 1 0 + count_by (is_of_pass m k q) us) 0 last ≡ sum_of_passes (λ k. cond (is_of_pass m k q u) 1 0) 0 last + sum_of_passes (λ k. count_by (is_of_pass m k q) us) 0 last = sum_add (λ k. cond (is_of_pass m k q u) 1 0) (λ k. count_by (is_of_pass m k q) us) 0 last in
-      sum_same (λ k. count_by (is_of_pass m k q) (u ∷ us)) (λ k. cond (is_of_pass m k q u) 1 0 + count_by (is_of_pass m k q) us) 0 last (λ k. count_more (is_of_pass m k q) u us) ∙ both ∙ omega (arith, first, others)
+      let first : sum_of_passes (λ k. cond (is_of_pass m k q u) 1 0) 0 last ≡ 1 =
+      sum_same (λ k. cond (is_of_pass m k q u) 1 0) (hits p.0) 0 last (λ k. hit_of_pass m q u p.0 k p.1)
+      ∙ hit_within p.0 last p.2 p.3 in
+      let others : sum_of_passes (λ k. count_by (is_of_pass m k q) us) 0 last ≡ length us =
+      rules_once us (λ i w e. has (suc i) w e) in
+      let both : sum_of_passes (λ k. cond (is_of_pass m k q u) 1 0 + count_by (is_of_pass m k q) us) 0 last ≡ sum_of_passes
+      (λ k. cond (is_of_pass m k q u) 1 0) 0 last + sum_of_passes (λ k. count_by (is_of_pass m k q) us) 0 last =
+      sum_add (λ k. cond (is_of_pass m k q u) 1 0) (λ k. count_by (is_of_pass m k q) us) 0 last in
+      sum_same (λ k. count_by (is_of_pass m k q) (u ∷ us))
+      (λ k. cond (is_of_pass m k q u) 1 0 + count_by (is_of_pass m k q) us) 0 last (λ k. count_more (is_of_pass m k q) u us)
+      ∙ both ∙ omega (arith, first, others)
 
 pub passes_have_all_rules : PassesHaveAllRules
 passes_have_all_rules g m t last accepted legal is =
-    sum_total g (pass_rule_count m) 0 last t ∙ total_same g (λ o. sum_of_passes (λ k. pass_rule_count m k o) 0 last) rule_count (λ p. go p (slice_get g.productions p) refl) t
+    sum_total g (pass_rule_count m) 0 last t
+    ∙ total_same g (λ o. sum_of_passes (λ k. pass_rule_count m k o) 0 last) rule_count
+    (λ p. go p (slice_get g.productions p) refl) t
   where
-    go : (p : ℕ) (o : Option Production) → slice_get g.productions p ≡ o → sum_of_passes (λ k. pass_rule_count m k o) 0 last ≡ rule_count o
+    go : (p : ℕ) (o : Option Production) → slice_get g.productions p ≡ o
+        → sum_of_passes (λ k. pass_rule_count m k o) 0 last ≡ rule_count o
     go p None e = sum_none 0 last
-    go p (Some q) e = rules_once m q last q.rules (λ i u at. let x = target_pass g m accepted legal p q u e (i, at) in (x.0, x.1, x.2, pass_within last m q u.target x.0 is x.1))
+    go p (Some q) e =
+        rules_once m q last q.rules (λ i u at. let x = target_pass g m accepted legal p q u e (i, at) in
+        (x.0, x.1, x.2, pass_within last m q u.target x.0 is x.1))

@@ -12,7 +12,8 @@ each_more P x xs h hs (suc i) y e = hs i y e
 pub differ_none : {A B : Type 0} (f : A → B) → DifferIn f []
 differ_none f i j x y ex ey e = cc
 
-pub differ_more : {A B : Type 0} (f : A → B) (x : A) (xs : List A) → Each (λ y. f x ≡ f y → ⊥) xs → DifferIn f xs → DifferIn f (x ∷ xs)
+pub differ_more : {A B : Type 0} (f : A → B) (x : A) (xs : List A) → Each (λ y. f x ≡ f y → ⊥) xs → DifferIn f xs
+    → DifferIn f (x ∷ xs)
 differ_more f x xs h hs zero zero y z ey ez e = refl
 differ_more f x xs h hs zero (suc j) y z ey ez e = absurd (let e' : x ≡ y = cc in h j z ez (ap f e' ∙ e))
 differ_more f x xs h hs (suc i) zero y z ey ez e = absurd (let e' : x ≡ z = cc in h i y ey (ap f e' ∙ sym e))

@@ -1,5 +1,6 @@
 -- Consecutive passes, and the values that they leave.
-use Rattle.std.proofs.Common.{◌≡◌, ℕ, zero, suc, ◌<◌, ◌≤◌, inl, inr, [], ◌∷◌, Option, Some, None, slice_get, refl, sym, subst, arith}
+use Rattle.std.proofs.Common.{◌≡◌, ℕ, zero, suc, ◌<◌, ◌≤◌, inl, inr, [], ◌∷◌, Option, Some, None, slice_get, refl, sym, subst}
+use Rattle.std.proofs.Common.{arith}
 use Rattle.std.proofs.lemmas.Bool.{cases_lt}
 use Rattle.ag_value.specs.declared.value.Value.{Value}
 use Rattle.ag_grammar.specs.declared.grammar.Item.TheVariants as item
@@ -9,7 +10,8 @@ use Rattle.ag_grammar.specs.declared.grammar.Rule.{Rule}
 use Rattle.ag_grammar.specs.declared.grammar.Target.{Target}
 use Rattle.ag_grammar.specs.declared.grammar.Terminal.TheVariants.{Literal, Class}
 use Rattle.ag_grammar.specs.grammars.Accepted.{IsAccepted}
-use Rattle.ag_grammar.specs.grammars.AttributeGrammar.{Grammar, IsProduction, IsRule, Synthesized, Inherited, defined_kind, item_at, item_kinds, symbol_kinds}
+use Rattle.ag_grammar.specs.grammars.AttributeGrammar.{Grammar, IsProduction, IsRule, Synthesized, Inherited, defined_kind}
+use Rattle.ag_grammar.specs.grammars.AttributeGrammar.{item_at, item_kinds, symbol_kinds}
 use Rattle.ag_grammar.specs.grammars.Laws.{RunBegins, RunGoesOn, RunIsTheSolution, RunSolvesRest}
 use Rattle.ag_grammar.specs.grammars.Passes.{Passes, HasPass, IsLegal, item_passes}
 use Rattle.ag_grammar.specs.grammars.Running.{FromPass, IsLastPass, IsTheSolution, RanThrough}
@@ -17,7 +19,8 @@ use Rattle.ag_grammar.specs.grammars.Sample.{sample, sample_passes, sample_tree,
 use Rattle.ag_grammar.specs.grammars.Solution.{AnyRule, NoRule, OfPass, SameAt, Solves, Valuation}
 use Rattle.ag_grammar.proofs.grammars.EachNode.{OfPasses, same_itself, same_on, same_weaker, solves_each, solves_wider}
 use Rattle.ag_grammar.proofs.grammars.Kept.{equations_kept}
-use Rattle.ag_grammar.proofs.grammars.samples.NumberSample.{accepted as sample_accepted, fits as sample_fits, solved as sample_solved}
+use Rattle.ag_grammar.proofs.grammars.samples.NumberSample.{accepted as sample_accepted, fits as sample_fits}
+use Rattle.ag_grammar.proofs.grammars.samples.NumberSample.{solved as sample_solved}
 use Rattle.ag_grammar.proofs.grammars.OneSolution.{counterpart, one_solution}
 
 -- no attribute belongs to a pass after the last one
@@ -42,18 +45,23 @@ pass_within last m q o k is has = go (item_at q o.place) refl
 
 -- each target has a pass, which is at least 1
 module _ (g : Grammar) (m : Passes) (accepted : IsAccepted g) (legal : IsLegal g m) where
-  given_pass : (q : Production) (j a : ℕ) (x : Option Item) → item_at q j ≡ x → slice_get (item_kinds g x) a ≡ Some (defined_kind j) → (k : ℕ) × (slice_get (item_passes m x) a ≡ Some k) × (1 ≤ k)
+  given_pass : (q : Production) (j a : ℕ) (x : Option Item) → item_at q j ≡ x
+      → slice_get (item_kinds g x) a ≡ Some (defined_kind j) → (k : ℕ) × (slice_get (item_passes m x) a ≡ Some k) × (1 ≤ k)
   given_pass q j a None e kind = absurd (let bad : ⊥ = cc in bad)
   given_pass q j a (Some (item.Symbol s)) e kind =
       let pass = counterpart (symbol_kinds (slice_get g.symbols s)) (m s) a (defined_kind j) (sym (legal.whole s)) kind in
       (pass.0, pass.1, legal.positive s a pass.0 pass.1)
   given_pass q zero a (Some (item.Terminal t)) e kind = absurd (let bad : ⊥ = cc in bad)
-  given_pass q (suc j) zero (Some (item.Terminal (Class c))) e kind = absurd (let z : Synthesized ≡ Inherited = cc in let bad : ⊥ = cc in bad)
+  given_pass q (suc j) zero (Some (item.Terminal (Class c))) e kind =
+      absurd (let z : Synthesized ≡ Inherited = cc in let bad : ⊥ = cc in bad)
   given_pass q (suc j) (suc a) (Some (item.Terminal (Class c))) e kind = absurd (let bad : ⊥ = cc in bad)
   given_pass q (suc j) a (Some (item.Terminal (Literal l))) e kind = absurd (let bad : ⊥ = cc in bad)
 
-  pub target_pass : (p : ℕ) (q : Production) (r : Rule) → IsProduction g p q → IsRule q r → (k : ℕ) × HasPass m q r.target k × (1 ≤ k)
-  target_pass p q r is rule = given_pass q r.target.place r.target.attr (item_at q r.target.place) refl ((accepted.complete p q is).no_other rule.0 r rule.1)
+  pub target_pass : (p : ℕ) (q : Production) (r : Rule) → IsProduction g p q → IsRule q r
+      → (k : ℕ) × HasPass m q r.target k × (1 ≤ k)
+  target_pass p q r is rule =
+      given_pass q r.target.place r.target.attr (item_at q r.target.place) refl
+      ((accepted.complete p q is).no_other rule.0 r rule.1)
 
 pub run_begins : RunBegins
 run_begins g m t u first texts = record {
@@ -65,24 +73,31 @@ run_begins g m t u first texts = record {
 pub run_goes_on : RunGoesOn
 run_goes_on g m x t u w v first next legal fits le ran kept own = record {
   texts = solves_wider (OfPass m next) NoRule g (λ p q r production rule bad. absurd bad) t v own;
-  kept = same_on (λ p. p < first) g m t u w v ran.kept (same_weaker (λ p. p < next) (λ p. p < first) g m (λ p h. omega arith) t w v kept);
+  kept =
+      same_on (λ p. p < first) g m t u w v ran.kept
+      (same_weaker (λ p. p < next) (λ p. p < first) g m (λ p h. omega arith) t w v kept);
   solved = solved_on;
 }
   where
     solved_on : (k : ℕ) → first ≤ k → k < suc next → Solves (OfPass m k) g t v
     solved_on k from to = elim (cases_lt k next) [
-      | inl less ↦ equations_kept g m k k x t w v legal.allowed (omega arith) fits (same_weaker (λ p. p < next) (λ p. p ≤ k) g m (λ p h. omega arith) t w v kept) (ran.solved k from less)
+      | inl less ↦ equations_kept g m k k x t w v legal.allowed (omega arith) fits
+          (same_weaker (λ p. p < next) (λ p. p ≤ k) g m (λ p h. omega arith) t w v kept) (ran.solved k from less)
       | inr more ↦ (let same : next ≡ k = omega arith in subst (λ j. Solves (OfPass m j) g t v) same own)
     ]
 
 pub run_solves_rest : RunSolvesRest
 run_solves_rest g m t u w first last is ran =
-    solves_wider (OfPasses m (λ k. (first ≤ k) × (k < suc last))) (FromPass m first) g (λ p q r production rule x. (x.0, (x.1, (let le = pass_within last m q r.target x.0 is x.2 in omega arith)), x.2)) t w
+    solves_wider (OfPasses m (λ k. (first ≤ k) × (k < suc last))) (FromPass m first) g
+    (λ p q r production rule x. (x.0, (x.1, (let le = pass_within last m q r.target x.0 is x.2 in omega arith)), x.2)) t w
     (solves_each m (λ k. (first ≤ k) × (k < suc last)) g t w ran.texts (λ k y. ran.solved k y.0 y.1))
 
 pub run_is_the_solution : RunIsTheSolution
 run_is_the_solution g m t u w last accepted legal is tree ran =
-    let solves : Solves AnyRule g t w = solves_wider (FromPass m 1) AnyRule g (λ p q r production rule any. let x = target_pass g m accepted legal p q r production rule in (x.0, x.2, x.1)) t w (run_solves_rest g m t u w 1 last is ran) in
+    let solves : Solves AnyRule g t w =
+    solves_wider (FromPass m 1) AnyRule g
+    (λ p q r production rule any. let x = target_pass g m accepted legal p q r production rule in (x.0, x.2, x.1)) t w
+    (run_solves_rest g m t u w 1 last is ran) in
     record {
       solves = solves;
       only = λ v other. one_solution g m t v w accepted.start accepted.complete accepted.normal legal tree other solves;
@@ -107,11 +122,21 @@ none_before s e f a p is less = absurd (let one = sample_first s a p is in omega
 pub sample_ran : (u : Valuation) → RanThrough sample sample_passes sample_tree u 1 2 (sample_values 2)
 sample_ran u = record {
   texts = solves_wider AnyRule NoRule sample (λ p q r production rule bad. tt) sample_tree (sample_values 2) sample_solved;
-  kept = (none_before 0 (u []) (sample_values 2 []), ((none_before 1 (u (0 ∷ [])) (sample_values 2 (0 ∷ [])), tt), ((none_before 1 (u (1 ∷ [])) (sample_values 2 (1 ∷ [])), tt), tt)));
-  solved = λ k from to. solves_wider AnyRule (OfPass sample_passes k) sample (λ p q r production rule of_pass. tt) sample_tree (sample_values 2) sample_solved;
+  kept = (
+    none_before 0 (u []) (sample_values 2 []),
+    (
+      (none_before 1 (u (0 ∷ [])) (sample_values 2 (0 ∷ [])), tt),
+      ((none_before 1 (u (1 ∷ [])) (sample_values 2 (1 ∷ [])), tt), tt),
+    ),
+  );
+  solved =
+      λ k from to. solves_wider AnyRule (OfPass sample_passes k) sample (λ p q r production rule of_pass. tt) sample_tree
+      (sample_values 2) sample_solved;
 }
 
 pub sample_solution : IsLegal sample sample_passes → IsTheSolution sample sample_passes sample_tree (sample_values 2)
-sample_solution legal = run_is_the_solution sample sample_passes sample_tree (sample_values 2) (sample_values 2) 1 sample_accepted legal sample_last sample_fits (sample_ran (sample_values 2))
+sample_solution legal =
+    run_is_the_solution sample sample_passes sample_tree (sample_values 2)
+    (sample_values 2) 1 sample_accepted legal sample_last sample_fits (sample_ran (sample_values 2))
 
 pub ruleset sample_settled = (sample_last, sample_solution)

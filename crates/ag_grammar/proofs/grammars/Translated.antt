@@ -15,7 +15,8 @@ before_it [] ys i x e = cc
 before_it (z ∷ xs) ys zero x e = e
 before_it (z ∷ xs) ys (suc i) x e = before_it xs ys i x e
 
-kind_of_name : (names : List (List ℕ)) (i : ℕ) (n : List ℕ) → slice_get names i ≡ Some n → slice_get (map (λ n. Synthesized) names) i ≡ Some Synthesized
+kind_of_name : (names : List (List ℕ)) (i : ℕ) (n : List ℕ) → slice_get names i ≡ Some n
+    → slice_get (map (λ n. Synthesized) names) i ≡ Some Synthesized
 kind_of_name [] i n e = cc
 kind_of_name (z ∷ names) zero n e = refl
 kind_of_name (z ∷ names) (suc i) n e = kind_of_name names i n e
@@ -31,12 +32,17 @@ one_out g a b named x y =
 out_kind : (g : Grammar) (a : ℕ) → IsOut g a → slice_get (symbol_kinds (slice_get g.symbols g.start)) a ≡ Some Synthesized
 out_kind g a x =
     subst (λ o. slice_get (symbol_kinds o) a ≡ Some Synthesized) (sym x.1)
-    (before_it (map (λ n. Synthesized) x.0.syn) (map (λ n. Inherited) x.0.inh) a Synthesized (kind_of_name x.0.syn a out_name x.2))
+    (before_it (map (λ n. Synthesized) x.0.syn) (map (λ n. Inherited) x.0.inh) a Synthesized
+    (kind_of_name x.0.syn a out_name x.2))
 
-pub one_translation : (g : Grammar) (m : Passes) (t : Tree) (v w : Valuation) (x y : Value) → IsAccepted g → IsLegal g m → IsTreeOf g t → Solves AnyRule g t v → Solves AnyRule g t w → IsTranslation g v x → IsTranslation g w y → x ≡ y
+pub one_translation : (g : Grammar) (m : Passes) (t : Tree) (v w : Valuation) (x y : Value) → IsAccepted g → IsLegal g m
+    → IsTreeOf g t → Solves AnyRule g t v → Solves AnyRule g t w → IsTranslation g v x → IsTranslation g w y → x ≡ y
 one_translation g m t v w x y accepted legal fits sv sw tv tw =
-    let same : Same AnyPass g m t v w = one_solution g m t v w accepted.start accepted.complete accepted.normal legal fits sv sw in
+    let same : Same AnyPass g m t v w =
+    one_solution g m t v w accepted.start accepted.complete accepted.normal legal fits sv sw in
     let one = one_out g tv.0 tw.0 accepted.named tv.1 tw.1 in
-    let p = counterpart (symbol_kinds (slice_get g.symbols g.start)) (m g.start) tv.0 Synthesized (sym (legal.whole g.start)) (out_kind g tv.0 tv.1) in
+    let p =
+    counterpart (symbol_kinds (slice_get g.symbols g.start)) (m g.start) tv.0 Synthesized (sym (legal.whole g.start))
+    (out_kind g tv.0 tv.1) in
     let root : v [] tv.0 ≡ w [] tv.0 = root_each (SameAt AnyPass) g m (item.Symbol g.start) t v w fits same tv.0 p.0 p.1 tt in
     sym tv.2 ∙ root ∙ ap (w []) one ∙ tw.2

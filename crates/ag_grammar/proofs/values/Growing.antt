@@ -1,5 +1,6 @@
 -- The weight and the depth of a value to which an item was added.
-use Rattle.std.proofs.Common.{◌≡◌, ℕ, ◌+◌, ◌-◌, max, min, Bool, true, false, ◌||◌, List, [], ◌∷◌, ◌++◌, map, sum, None, refl, sym, ap, ◌∙◌, subst, arith}
+use Rattle.std.proofs.Common.{◌≡◌, ℕ, ◌+◌, ◌-◌, max, min, Bool, true, false, ◌||◌, List, [], ◌∷◌, ◌++◌, map, sum, None, refl, sym}
+use Rattle.std.proofs.Common.{ap, ◌∙◌, subst, arith}
 use Rattle.std.proofs.lemmas.Bool.{and_parts}
 use Rattle.std.proofs.lemmas.List.{map-append}
 use Rattle.std.proofs.lemmas.List.Sums.{sum_by-append}
@@ -33,17 +34,21 @@ pub sum-append : (xs ys : List ℕ) → sum (xs ++ ys) ≡ sum xs + sum ys
 sum-append xs ys = sum_by-append (λ n. n) xs ys
 
 -- the concatenation of two lists
-pub item-together : (xs ys : List Value) → all_true (map is_item xs) ≡ true → all_true (map is_item ys) ≡ true → is_item (v.List (xs ++ ys)) ≡ true
-item-together xs ys h k = item-List (xs ++ ys) ∙ ap all_true (map-append is_item xs ys) ∙ all_true-append (map is_item xs) (map is_item ys) h k
+pub item-together : (xs ys : List Value) → all_true (map is_item xs) ≡ true → all_true (map is_item ys) ≡ true
+    → is_item (v.List (xs ++ ys)) ≡ true
+item-together xs ys h k =
+    item-List (xs ++ ys) ∙ ap all_true (map-append is_item xs ys) ∙ all_true-append (map is_item xs) (map is_item ys) h k
 
 pub weight-together : (xs ys : List Value) → weight_of (v.List (xs ++ ys)) + 5 ≡ weight_of (v.List xs) + weight_of (v.List ys)
 weight-together xs ys =
-    let parts : sum (map weight_of (xs ++ ys)) ≡ sum (map weight_of xs) + sum (map weight_of ys) = ap sum (map-append weight_of xs ys) ∙ sum-append (map weight_of xs) (map weight_of ys) in
+    let parts : sum (map weight_of (xs ++ ys)) ≡ sum (map weight_of xs) + sum (map weight_of ys) =
+    ap sum (map-append weight_of xs ys) ∙ sum-append (map weight_of xs) (map weight_of ys) in
     omega (arith, parts, weight-List (xs ++ ys), weight-List xs, weight-List ys)
 
 pub depth-together : (xs ys : List Value) → depth_of (v.List (xs ++ ys)) ≡ max (depth_of (v.List xs)) (depth_of (v.List ys))
 depth-together xs ys =
-    let parts : greatest (map depth_of (xs ++ ys)) ≡ max (greatest (map depth_of xs)) (greatest (map depth_of ys)) = ap greatest (map-append depth_of xs ys) ∙ greatest-append (map depth_of xs) (map depth_of ys) in
+    let parts : greatest (map depth_of (xs ++ ys)) ≡ max (greatest (map depth_of xs)) (greatest (map depth_of ys)) =
+    ap greatest (map-append depth_of xs ys) ∙ greatest-append (map depth_of xs) (map depth_of ys) in
     omega (arith, parts, depth-List (xs ++ ys), depth-List xs, depth-List ys)
 
 -- the weight of a list of one item
@@ -63,13 +68,15 @@ no_fault (Value-F.Fault code) sound = let bad : ⊥ = cc in absurd bad
 
 pub item_of : (w : Value) → IsWell w → fault_of w ≡ None → is_item w ≡ true
 item_of w well sound =
-    let other : is_fault w ≡ false = subst (λ (u : Value). is_fault u ≡ false) (roll-out-Value w) (no_fault (out-Value w) sound) in
+    let other : is_fault w ≡ false =
+    subst (λ (u : Value). is_fault u ≡ false) (roll-out-Value w) (no_fault (out-Value w) sound) in
     sym (ap (λ b. b || is_item w) other) ∙ well.formed
 
 -- `fit` for the concatenation of two lists
 pub fits-together : (xs ys zs : List Value) (weight depth : ℕ) → zs ≡ xs ++ ys → IsWell (v.List xs) → IsWell (v.List ys)
     → weight ≡ weight_of (v.List xs) + weight_of (v.List ys) → depth ≡ max (depth_of (v.List xs)) (depth_of (v.List ys))
-    → (is_item (v.List zs) ≡ true) × (weight - 5 ≡ min (weight_of (v.List zs)) 18446744073709551615) × (depth ≡ min (depth_of (v.List zs)) 4294967295)
+    → (is_item (v.List zs) ≡ true) × (weight - 5 ≡ min (weight_of (v.List zs)) 18446744073709551615)
+    × (depth ≡ min (depth_of (v.List zs)) 4294967295)
 fits-together xs ys zs weight depth is well well' heavy deep = rw is (
   item-together xs ys (items_of xs well) (items_of ys well'),
   (let a = well.light in let b = well'.light in let e = weight-together xs ys in omega arith),
@@ -77,9 +84,11 @@ fits-together xs ys zs weight depth is well well' heavy deep = rw is (
 )
 
 -- and for a list with one more item
-pub fits-pushed : (xs zs : List Value) (x : Value) (weight depth : ℕ) → zs ≡ xs ++ x ∷ [] → IsWell (v.List xs) → IsWell x → fault_of x ≡ None
+pub fits-pushed : (xs zs : List Value) (x : Value) (weight depth : ℕ) → zs ≡ xs ++ x ∷ [] → IsWell (v.List xs) → IsWell x
+    → fault_of x ≡ None
     → weight ≡ weight_of (v.List xs) + weight_of x → depth ≡ max (depth_of (v.List xs)) (1 + depth_of x)
-    → (is_item (v.List zs) ≡ true) × (weight ≡ min (weight_of (v.List zs)) 18446744073709551615) × (depth ≡ min (depth_of (v.List zs)) 4294967295)
+    → (is_item (v.List zs) ≡ true) × (weight ≡ min (weight_of (v.List zs)) 18446744073709551615)
+    × (depth ≡ min (depth_of (v.List zs)) 4294967295)
 fits-pushed xs zs x weight depth is well well' sound heavy deep = rw is (
   item-together xs (x ∷ []) (items_of xs well) (rw (item_of x well' sound) refl),
   (let a = well.light in let b = well'.light in let e = weight-together xs (x ∷ []) in let f = weight-one x in omega arith),
@@ -87,10 +96,15 @@ fits-pushed xs zs x weight depth is well well' sound heavy deep = rw is (
 )
 
 -- gathered items with one more
-pub gathers : (xs zs : List Value) (x : Value) (weight depth weight' depth' : ℕ) → zs ≡ xs ++ x ∷ [] → IsGathered xs weight depth → IsWell x → fault_of x ≡ None
-    → weight' ≡ min (weight + weight_of x) 18446744073709551615 → depth' ≡ max depth (depth_of x + 1) → IsGathered zs weight' depth'
-gathers xs zs x weight depth weight' depth' is so_far well sound heavy deep = subst (λ (ys : List Value). IsGathered ys weight' depth') (sym is) (record {
-  item = item-together xs (x ∷ []) (sym (item-List xs) ∙ so_far.item) (rw (item_of x well sound) refl);
-  weight_is = let a = so_far.weight_is in let b = well.light in let e = weight-together xs (x ∷ []) in let f = weight-one x in omega arith;
-  depth_is = let a = so_far.depth_is in let b = well.shallow in let e = depth-together xs (x ∷ []) in let f = depth-one x in omega arith;
-})
+pub gathers : (xs zs : List Value) (x : Value) (weight depth weight' depth' : ℕ) → zs ≡ xs ++ x ∷ [] → IsGathered xs weight depth
+    → IsWell x → fault_of x ≡ None
+    → weight' ≡ min (weight + weight_of x) 18446744073709551615 → depth' ≡ max depth (depth_of x + 1)
+    → IsGathered zs weight' depth'
+gathers xs zs x weight depth weight' depth' is so_far well sound heavy deep =
+    subst (λ (ys : List Value). IsGathered ys weight' depth') (sym is) (record {
+      item = item-together xs (x ∷ []) (sym (item-List xs) ∙ so_far.item) (rw (item_of x well sound) refl);
+      weight_is = let a = so_far.weight_is in let b = well.light in let e = weight-together xs (x ∷ []) in let f = weight-one x in
+          omega arith;
+      depth_is = let a = so_far.depth_is in let b = well.shallow in let e = depth-together xs (x ∷ []) in let f = depth-one x in
+          omega arith;
+    })

@@ -14,4 +14,7 @@ one_value v w well well' e = prefix_free v w [] well well' (sym e ∙ sym (appen
 
 -- a test for the sameness of two well values returns the comparison of their spellings
 pub decided : (v w : Value) (b : Bool) → IsWell v → IsWell w → (IsTrue b ↔ (v ≡ w)) → b ≡ bytes_eq (spelling_of v) (spelling_of w)
-decided v w b well well' tells = same_from_decides b (bytes_eq (spelling_of v) (spelling_of w)) (λ e. ap spelling_of (tells.0 e), λ e. tells.1 (one_value v w well well' e)) (bytes_eq-Decides (spelling_of v) (spelling_of w))
+decided v w b well well' tells =
+    same_from_decides b (bytes_eq (spelling_of v) (spelling_of w))
+    (λ e. ap spelling_of (tells.0 e), λ e. tells.1 (one_value v w well well' e))
+    (bytes_eq-Decides (spelling_of v) (spelling_of w))

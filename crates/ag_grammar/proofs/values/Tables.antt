@@ -1,5 +1,6 @@
 -- Limits of the parts of well tables.
-use Rattle.std.proofs.Common.{◌≡◌, ℕ, zero, suc, ◌≤◌, Bool, true, false, ◌&&◌, cond, List, [], ◌∷◌, map, sum, find, slice_get, bytes_eq, Some, refl, sym, ap, ◌∙◌, subst, arith}
+use Rattle.std.proofs.Common.{◌≡◌, ℕ, zero, suc, ◌≤◌, Bool, true, false, ◌&&◌, cond, List, [], ◌∷◌, map, sum, find, slice_get}
+use Rattle.std.proofs.Common.{bytes_eq, Some, refl, sym, ap, ◌∙◌, subst, arith}
 use Rattle.std.proofs.lemmas.Bool.{and_parts}
 use Rattle.std.proofs.lemmas.List.Sums.{sum_by-cons}
 use Rattle.std.specs.Str.{is_utf8}
@@ -8,7 +9,8 @@ use Rattle.ag_value.specs.declared.value.Value.TheVariants as v
 use Rattle.ag_value.specs.declared.value.Value.TheVariants.{outs-Table}
 use Rattle.ag_value.specs.Measure.{depth_of, greatest, weight_of, weight_of_pair}
 use Rattle.ag_value.specs.Well.{IsWell, all_true, are_keys, is_item, is_item_pair, is_ascending, key_of}
-use Rattle.ag_value.proofs.Layers.{depth-List, depth-Table, depth-Text, item-List, item-Table, item-Text, weight-List, weight-Table, weight-Text}
+use Rattle.ag_value.proofs.Layers.{depth-List, depth-Table, depth-Text, item-List, item-Table, item-Text, weight-List}
+use Rattle.ag_value.proofs.Layers.{weight-Table, weight-Text}
 use Rattle.ag_value.proofs.Weights.{weight_positive}
 use Rattle.ag_grammar.specs.values.Arguments.{fault_at}
 use Rattle.ag_grammar.specs.values.Tables.{pair_with}
@@ -23,9 +25,12 @@ pub item_table : (pairs : List Pair) → IsWell (v.Table pairs) → is_item (v.T
 item_table pairs well = item_of (v.Table pairs) well (ap fault_at (outs-Table pairs))
 
 -- its keys rise and are UTF-8, and its values are allowed in it
-pub table_parts : (pairs : List Pair) → IsWell (v.Table pairs) → (is_ascending (map key_of pairs) ≡ true) × (all_true (map is_utf8 (map key_of pairs)) ≡ true) × (all_true (map is_item_pair pairs) ≡ true)
+pub table_parts : (pairs : List Pair) → IsWell (v.Table pairs)
+    → (is_ascending (map key_of pairs) ≡ true) × (all_true (map is_utf8 (map key_of pairs)) ≡ true)
+    × (all_true (map is_item_pair pairs) ≡ true)
 table_parts pairs well =
-    let whole : (are_keys (map key_of pairs) && all_true (map is_item_pair pairs)) ≡ true = sym (item-Table pairs) ∙ item_table pairs well in
+    let whole : (are_keys (map key_of pairs) && all_true (map is_item_pair pairs)) ≡ true =
+    sym (item-Table pairs) ∙ item_table pairs well in
     let parts = and_parts (are_keys (map key_of pairs)) (all_true (map is_item_pair pairs)) whole in
     let keys = and_parts (is_ascending (map key_of pairs)) (all_true (map is_utf8 (map key_of pairs))) parts.0 in
     (keys.0, keys.1, parts.1)
@@ -38,7 +43,8 @@ found_at : {A : Type 0} (test : A → Bool) (xs : List A) (x : A) → find test 
 found_at test [] x here = let bad : ⊥ = cc in absurd bad
 found_at test (y ∷ ys) x here = go (test y) here (found_at test ys x)
   where
-    go : (b : Bool) → cond b (Some y) (find test ys) ≡ Some x → (find test ys ≡ Some x → (k : ℕ) × (slice_get ys k ≡ Some x)) → (k : ℕ) × (slice_get (y ∷ ys) k ≡ Some x)
+    go : (b : Bool) → cond b (Some y) (find test ys) ≡ Some x → (find test ys ≡ Some x → (k : ℕ) × (slice_get ys k ≡ Some x))
+        → (k : ℕ) × (slice_get (y ∷ ys) k ≡ Some x)
     go true e rest = (zero, e)
     go false e rest = let p = rest e in (suc p.0, p.1)
 
@@ -52,7 +58,8 @@ well_pair pairs k p well here =
       light = let a = sum_in weight_of_pair pairs k p here in let e = weight-Table pairs in omega arith;
     }
 
-pub well_got : (w : Value) (pairs : List Pair) (key : List ℕ) (p : Pair) → w ≡ v.Table pairs → IsWell w → pair_with key pairs ≡ Some p → IsWell p.1
+pub well_got : (w : Value) (pairs : List Pair) (key : List ℕ) (p : Pair) → w ≡ v.Table pairs → IsWell w
+    → pair_with key pairs ≡ Some p → IsWell p.1
 well_got w pairs key p is well here =
     let at = found_at (λ (q : Pair). bytes_eq q.0 key) pairs p here in
     well_pair pairs at.0 p (subst IsWell is well) at.1
@@ -61,7 +68,8 @@ well_got w pairs key p is well here =
 abbrev key_text : Pair → Value
 key_text p = v.Text p.0
 
-key_items : (pairs : List Pair) → all_true (map is_utf8 (map key_of pairs)) ≡ true → all_true (map is_item (map key_text pairs)) ≡ true
+key_items : (pairs : List Pair) → all_true (map is_utf8 (map key_of pairs)) ≡ true
+    → all_true (map is_item (map key_text pairs)) ≡ true
 key_items [] all = refl
 key_items (p ∷ ps) all =
     let parts = and_parts (is_utf8 p.0) (all_true (map is_utf8 (map key_of ps))) all in
@@ -81,12 +89,14 @@ key_depths : (pairs : List Pair) → greatest (map depth_of (map key_text pairs)
 key_depths [] = refl
 key_depths (p ∷ ps) = let rest = key_depths ps in let here = depth-Text p.0 in omega arith
 
-pub well_keys : (w : Value) (pairs : List Pair) (keys : List Value) → w ≡ v.Table pairs → IsWell w → keys ≡ map key_text pairs → IsWell (v.List keys)
+pub well_keys : (w : Value) (pairs : List Pair) (keys : List Value) → w ≡ v.Table pairs → IsWell w → keys ≡ map key_text pairs
+    → IsWell (v.List keys)
 well_keys w pairs keys is well same = subst (λ (vs : List Value). IsWell (v.List vs)) (sym same) (
     let whole : IsWell (v.Table pairs) = subst IsWell is well in
     let light = whole.light in
     record {
-      formed = formed (v.List (map key_text pairs)) (item-List (map key_text pairs) ∙ key_items pairs (table_parts pairs whole).1);
+      formed =
+          formed (v.List (map key_text pairs)) (item-List (map key_text pairs) ∙ key_items pairs (table_parts pairs whole).1);
       shallow = let e = depth-List (map key_text pairs) in let d = key_depths pairs in omega arith;
       light = let e = weight-List (map key_text pairs) in let d = key_weights pairs in let t = weight-Table pairs in omega arith;
     })

@@ -1,5 +1,6 @@
 -- The laws of the results of operations, and lemmas for the worked examples.
-use Rattle.std.proofs.Common.{◌≡◌, ◌≤◌, ◌||◌, ℕ, ℤ, pos, Bool, true, false, nat_lt, bytes_eq, List, Option, Some, None, refl, sym, ap, ◌∙◌, subst, arith}
+use Rattle.std.proofs.Common.{◌≡◌, ◌≤◌, ◌||◌, ℕ, ℤ, pos, Bool, true, false, nat_lt, bytes_eq, List, Option, Some, None, refl, sym}
+use Rattle.std.proofs.Common.{ap, ◌∙◌, subst, arith}
 use Rattle.std.proofs.lemmas.Bool.{lt-ltb, ltb-true}
 use Rattle.std.proofs.lemmas.Slice.Eq.{bytes_eq-Decides}
 use Rattle.ag_value.specs.declared.value.ErrorCode.{ErrorCode}
@@ -38,18 +39,22 @@ fits v shallow light = rw (not_above max_value_depth (depth_of v) shallow, not_a
 
 one_is_true : (b : Bool) → truth b ≡ value.Num (pos 1) → b ≡ true
 one_is_true true e = refl
-one_is_true false e = let numbers : Value-F.Num (pos 0) ≡ Value-F.Num (pos 1) = sym (outs-Num (pos 0)) ∙ ap out-Value e ∙ outs-Num (pos 1) in let bad : ⊥ = cc in absurd bad
+one_is_true false e = let numbers : Value-F.Num (pos 0) ≡ Value-F.Num (pos 1) =
+    sym (outs-Num (pos 0)) ∙ ap out-Value e ∙ outs-Num (pos 1) in let bad : ⊥ = cc in absurd bad
 
 pub same_is_one : SameIsOne
 same_is_one v w well well' = (
-  (λ one. one_value v w well well' ((bytes_eq-Decides (spelling_of v) (spelling_of w)).0 (one_is_true (bytes_eq (spelling_of v) (spelling_of w)) one))),
+  (λ one. one_value v w well well'
+      ((bytes_eq-Decides (spelling_of v) (spelling_of w)).0 (one_is_true (bytes_eq (spelling_of v) (spelling_of w)) one))),
   (λ same. ap truth ((bytes_eq-Decides (spelling_of v) (spelling_of w)).1 (ap spelling_of same))),
 )
 
 -- an error is well
 well_fault : (c : ErrorCode) → IsWell (value.Fault c)
 well_fault c = record {
-  formed = ap (λ b. b || is_item (value.Fault c)) (ap is_fault (sym (rolls-Fault c)) ∙ fold-roll-Value Bool fault_step (Value-F.Fault c));
+  formed =
+      ap (λ b. b || is_item (value.Fault c))
+      (ap is_fault (sym (rolls-Fault c)) ∙ fold-roll-Value Bool fault_step (Value-F.Fault c));
   shallow = let d = ap depth_of (sym (rolls-Fault c)) ∙ fold-roll-Value ℕ depth_step (Value-F.Fault c) in omega (arith, d);
   light = let e = weight-Fault c in omega (arith, e);
 }

@@ -14,7 +14,8 @@ use Rattle.ag_grammar.specs.grammars.Solution.{Holds, Supplies}
 
 -- A tree has the same value in two environments that agree on it, whatever names are bound around it.
 abbrev pub ValueOfOccurrences : Type 0
-ValueOfOccurrences = (e : Node) (env other : ℕ → Value) (bound : List Value) → AgreeOn e env other → value_in e env bound ≡ value_in e other bound
+ValueOfOccurrences = (e : Node) (env other : ℕ → Value) (bound : List Value) → AgreeOn e env other
+    → value_in e env bound ≡ value_in e other bound
 
 -- If the number of each occurrence in a tree is below n, the tree contains no occurrence whose number is n or
 -- more.
@@ -24,8 +25,10 @@ OccurrencesAreListed = (n k bound : ℕ) (e : Node) → is_within n e bound ≡ 
 -- The expression of a rule has the same value in any two environments that give its occurrences the values of
 -- its arguments.
 abbrev pub RuleHasOneValue : Type 0
-RuleHasOneValue = (g : Grammar) (q : Production) (r : Rule) (e : ℕ → ℕ → Value) (env other : ℕ → Value) → IsNamedRule g q r → Supplies r e env → Supplies r e other → value_of r.expr.0 env ≡ value_of r.expr.0 other
+RuleHasOneValue = (g : Grammar) (q : Production) (r : Rule) (e : ℕ → ℕ → Value) (env other : ℕ → Value) → IsNamedRule g q r
+    → Supplies r e env → Supplies r e other → value_of r.expr.0 env ≡ value_of r.expr.0 other
 
 -- Hence a rule holds if its target has the value of the expression in one such environment.
 abbrev pub RuleHoldsByOne : Type 0
-RuleHoldsByOne = (g : Grammar) (q : Production) (r : Rule) (e : ℕ → ℕ → Value) (env : ℕ → Value) → IsNamedRule g q r → Supplies r e env → e r.target.place r.target.attr ≡ value_of r.expr.0 env → Holds r e
+RuleHoldsByOne = (g : Grammar) (q : Production) (r : Rule) (e : ℕ → ℕ → Value) (env : ℕ → Value) → IsNamedRule g q r
+    → Supplies r e env → e r.target.place r.target.attr ≡ value_of r.expr.0 env → Holds r e

@@ -10,8 +10,11 @@ use Rattle.ag_grammar.specs.declared.grammar.Symbol.{Symbol}
 use Rattle.ag_grammar.specs.declared.grammar.Target.{Target}
 use Rattle.ag_grammar.specs.declared.grammar.Terminal.TheVariants.{Literal, Class}
 use Rattle.ag_grammar.specs.declared.grammar.Terminal.{Terminal}
-use Rattle.ag_grammar.specs.declared.limits.TheConstants.{CLASS_COUNT, MAX_ATTRIBUTES, MAX_ITEMS, MAX_LITERALS, MAX_LITERAL_BYTES, MAX_PASSES, MAX_PRODUCTIONS, MAX_RULES, MAX_CHILDREN, MAX_SYMBOLS, MAX_TEXT_BYTES, NAME, NUMBER, TEXT}
-use Rattle.ag_grammar.specs.grammars.AttributeGrammar.{attribute_names, Grammar, stored_items, IsProduction, IsRule, Kind, HasKind, RefersTo, defined_kind, used_kind}
+use Rattle.ag_grammar.specs.declared.limits.TheConstants.{CLASS_COUNT, MAX_ATTRIBUTES, MAX_ITEMS, MAX_LITERALS, MAX_LITERAL_BYTES}
+use Rattle.ag_grammar.specs.declared.limits.TheConstants.{MAX_PASSES, MAX_PRODUCTIONS, MAX_RULES, MAX_CHILDREN, MAX_SYMBOLS}
+use Rattle.ag_grammar.specs.declared.limits.TheConstants.{MAX_TEXT_BYTES, NAME, NUMBER, TEXT}
+use Rattle.ag_grammar.specs.grammars.AttributeGrammar.{attribute_names, Grammar, stored_items, IsProduction, IsRule, Kind}
+use Rattle.ag_grammar.specs.grammars.AttributeGrammar.{HasKind, RefersTo, defined_kind, used_kind}
 
 -- The limits of a grammar (this project's): the maximum number of symbols,
 abbrev pub max_symbols : ℕ
@@ -148,7 +151,8 @@ IsNormal g q = Each (λ r. Each (λ o. HasKind g q o (used_kind o.place)) r.args
 -- productive (the textbook).
 mutual
   pub data IsProductive (g : Grammar) : ℕ → Type 0 where
-    by_production : (p : ℕ) (q : Production) {s : ℕ} → IsProduction g p q → q.left ≡ s → AreProductive g q.items → IsProductive g s
+    by_production : (p : ℕ) (q : Production) {s : ℕ} → IsProduction g p q → q.left ≡ s → AreProductive g q.items
+        → IsProductive g s
 
   pub data AreProductive (g : Grammar) : List Item → Type 0 where
     nothing : AreProductive g []
@@ -158,7 +162,8 @@ mutual
 -- A reached symbol: it is the start symbol, or it occurs in a production of a reached symbol (the textbook).
 pub data IsReached (g : Grammar) : ℕ → Type 0 where
   at_start : IsReached g g.start
-  within : (p : ℕ) (q : Production) {s : ℕ} → IsProduction g p q → IsReached g q.left → Has q.items (item.Symbol s) → IsReached g s
+  within : (p : ℕ) (q : Production) {s : ℕ} → IsProduction g p q → IsReached g q.left → Has q.items (item.Symbol s)
+      → IsReached g s
 
 -- An accepted grammar: named, complete (Knuth 1968), normal, reduced, which means that each symbol is
 -- productive and reached (the textbook), and within the limits (this project's).

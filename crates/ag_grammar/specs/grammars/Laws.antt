@@ -19,37 +19,50 @@ ProductiveByTrees = (g : Grammar) (s : ℕ) → IsProductive g s ↔ ((t : Tree)
 -- Any two solutions on a tree are the same, if each production is complete and normal, the start symbol has
 -- `out` and no inherited attribute, and there is a legal assignment.
 abbrev pub OneSolution : Type 0
-OneSolution = (g : Grammar) (m : Passes) (t : Tree) (v w : Valuation) → IsStart g → Each (IsComplete g) g.productions → Each (IsNormal g) g.productions → IsLegal g m → IsTreeOf g t → Solves AnyRule g t v → Solves AnyRule g t w → Same AnyPass g m t v w
+OneSolution = (g : Grammar) (m : Passes) (t : Tree) (v w : Valuation) → IsStart g → Each (IsComplete g) g.productions
+    → Each (IsNormal g) g.productions → IsLegal g m → IsTreeOf g t → Solves AnyRule g t v → Solves AnyRule g t w
+    → Same AnyPass g m t v w
 
 -- Hence a tree has at most one translation.
 abbrev pub OneTranslation : Type 0
-OneTranslation = (g : Grammar) (m : Passes) (t : Tree) (v w : Valuation) (x y : Value) → IsAccepted g → IsLegal g m → IsTreeOf g t → Solves AnyRule g t v → Solves AnyRule g t w → IsTranslation g v x → IsTranslation g w y → x ≡ y
+OneTranslation = (g : Grammar) (m : Passes) (t : Tree) (v w : Valuation) (x y : Value) → IsAccepted g → IsLegal g m → IsTreeOf g t
+    → Solves AnyRule g t v → Solves AnyRule g t w → IsTranslation g v x → IsTranslation g w y → x ≡ y
 
 -- The equations of a pass stay true as long as the values of this pass and of the earlier ones are kept.
 abbrev pub EquationsKept : Type 0
-EquationsKept = (g : Grammar) (m : Passes) (k j : ℕ) (x : Item) (t : Tree) (v w : Valuation) → Each (IsLegalFor (HasPass m)) g.productions → k ≤ j → Fits g x t → Same (λ p. p ≤ j) g m t v w → Solves (OfPass m k) g t v → Solves (OfPass m k) g t w
+EquationsKept = (g : Grammar) (m : Passes) (k j : ℕ) (x : Item) (t : Tree) (v w : Valuation)
+    → Each (IsLegalFor (HasPass m)) g.productions → k ≤ j → Fits g x t → Same (λ p. p ≤ j) g m t v w → Solves (OfPass m k) g t v
+    → Solves (OfPass m k) g t w
 
 -- Values that satisfy the equations of every pass are a solution, if each target has a pass.
 abbrev pub PassesSolve : Type 0
-PassesSolve = (g : Grammar) (m : Passes) (t : Tree) (v : Valuation) → Each (λ q. Each (λ r. (k : ℕ) × HasPass m q r.target k) q.rules) g.productions → ((k : ℕ) → Solves (OfPass m k) g t v) → Solves AnyRule g t v
+PassesSolve = (g : Grammar) (m : Passes) (t : Tree) (v : Valuation)
+    → Each (λ q. Each (λ r. (k : ℕ) × HasPass m q r.target k) q.rules) g.productions → ((k : ℕ) → Solves (OfPass m k) g t v)
+    → Solves AnyRule g t v
 
 -- Before any pass has run, the values are unchanged: any values that give each leaf its text.
 abbrev pub RunBegins : Type 0
-RunBegins = (g : Grammar) (m : Passes) (t : Tree) (u : Valuation) (first : ℕ) → Solves NoRule g t u → RanThrough g m t u first first u
+RunBegins = (g : Grammar) (m : Passes) (t : Tree) (u : Valuation) (first : ℕ) → Solves NoRule g t u
+    → RanThrough g m t u first first u
 
 -- One more pass has run if it keeps the values of the passes before it and satisfies its own equations.
 abbrev pub RunGoesOn : Type 0
-RunGoesOn = (g : Grammar) (m : Passes) (x : Item) (t : Tree) (u w v : Valuation) (first next : ℕ) → IsLegal g m → Fits g x t → first ≤ next → RanThrough g m t u first next w → Same (λ p. p < next) g m t w v → Solves (OfPass m next) g t v → RanThrough g m t u first (suc next) v
+RunGoesOn = (g : Grammar) (m : Passes) (x : Item) (t : Tree) (u w v : Valuation) (first next : ℕ) → IsLegal g m → Fits g x t
+    → first ≤ next → RanThrough g m t u first next w → Same (λ p. p < next) g m t w v → Solves (OfPass m next) g t v
+    → RanThrough g m t u first (suc next) v
 
 -- After the last pass, each equation whose target belongs to a pass from the first one on is satisfied,
 abbrev pub RunSolvesRest : Type 0
-RunSolvesRest = (g : Grammar) (m : Passes) (t : Tree) (u w : Valuation) (first last : ℕ) → IsLastPass last m → RanThrough g m t u first (suc last) w → Solves (FromPass m first) g t w
+RunSolvesRest = (g : Grammar) (m : Passes) (t : Tree) (u w : Valuation) (first last : ℕ) → IsLastPass last m
+    → RanThrough g m t u first (suc last) w → Solves (FromPass m first) g t w
 
 -- and if the first was pass 1, the values are the solution.
 abbrev pub RunIsTheSolution : Type 0
-RunIsTheSolution = (g : Grammar) (m : Passes) (t : Tree) (u w : Valuation) (last : ℕ) → IsAccepted g → IsLegal g m → IsLastPass last m → IsTreeOf g t → RanThrough g m t u 1 (suc last) w → IsTheSolution g m t w
+RunIsTheSolution = (g : Grammar) (m : Passes) (t : Tree) (u w : Valuation) (last : ℕ) → IsAccepted g → IsLegal g m
+    → IsLastPass last m → IsTreeOf g t → RanThrough g m t u 1 (suc last) w → IsTheSolution g m t w
 
 -- The rules of a tree are the rules of the passes up to the last one, since each target belongs to one of
 -- these.
 abbrev pub PassesHaveAllRules : Type 0
-PassesHaveAllRules = (g : Grammar) (m : Passes) (t : Tree) (last : ℕ) → IsAccepted g → IsLegal g m → IsLastPass last m → sum_of_passes (λ k. rules_of_pass m k g t) 0 last ≡ rules_of g t
+PassesHaveAllRules = (g : Grammar) (m : Passes) (t : Tree) (last : ℕ) → IsAccepted g → IsLegal g m → IsLastPass last m
+    → sum_of_passes (λ k. rules_of_pass m k g t) 0 last ≡ rules_of g t

@@ -67,7 +67,8 @@ MayUse k (suc j) i p = ((i ≡ 0) × (p ≤ k)) ⊎ (IsBefore (direction_of k) i
 -- assigns passes to attributes at places. P need not assign a pass to every attribute: then attributes with a
 -- pass depend only on attributes with a pass.
 abbrev pub IsLegalFor : (Production → Target → ℕ → Type 0) → Production → Type 0
-IsLegalFor P q = (r : Rule) (o : Target) (k : ℕ) → IsRule q r → IsArgument r o → P q r.target k → (p : ℕ) × P q o p × MayUse k r.target.place o.place p
+IsLegalFor P q = (r : Rule) (o : Target) (k : ℕ) → IsRule q r → IsArgument r o → P q r.target k
+    → (p : ℕ) × P q o p × MayUse k r.target.place o.place p
 
 -- A legal assignment: each attribute of each symbol has one pass, at least 1, and the rules use only what
 -- they may use (after Jazayeri and Walter 1975).

@@ -47,7 +47,8 @@ symbol_a = record { name = 65 ∷ []; syn = s_name ∷ []; inh = i_name ∷ [] }
 
 -- a rule that copies to its target the attribute of this name and number a at place j
 abbrev pub copy_rule : Target → ℕ → List ℕ → ℕ → Rule
-copy_rule target j name a = record { target = target; expr = (node_of.Occurrence 0, named j name ∷ []); args = attribute j a ∷ [] }
+copy_rule target j name a =
+    record { target = target; expr = (node_of.Occurrence 0, named j name ∷ []); args = attribute j a ∷ [] }
 
 -- a rule that sets its target to 0
 abbrev pub zero_rule : Target → Rule
@@ -83,7 +84,14 @@ production_a = record { left = 1; items = item.Terminal (Literal 0) ∷ []; rule
 
 -- the first grammar, with these rules of its first production
 abbrev pub grammar_of : List Rule → Grammar
-grammar_of rules = record { symbols = symbol_r ∷ symbol_a ∷ []; productions = production_r rules ∷ production_a ∷ []; literals = (120 ∷ []) ∷ []; classes = []; start = 0 }
+grammar_of rules =
+    record {
+      symbols = symbol_r ∷ symbol_a ∷ [];
+      productions = production_r rules ∷ production_a ∷ [];
+      literals = (120 ∷ []) ∷ [];
+      classes = [];
+      start = 0;
+    }
 
 -- the first grammar
 abbrev pub sample : Grammar
@@ -161,7 +169,14 @@ rule_pass = copy_rule (attribute 0 0) 1 out_name 0
 
 -- start R; symbol R syn out; R = R { $0.out = $1.out; }
 abbrev pub endless : Grammar
-endless = record { symbols = symbol_r ∷ []; productions = record { left = 0; items = item.Symbol 0 ∷ []; rules = rule_pass ∷ [] } ∷ []; literals = []; classes = []; start = 0 }
+endless =
+    record {
+      symbols = symbol_r ∷ [];
+      productions = record { left = 0; items = item.Symbol 0 ∷ []; rules = rule_pass ∷ [] } ∷ [];
+      literals = [];
+      classes = [];
+      start = 0;
+    }
 
 -- T = R { $0.out = $1.out; }
 abbrev pub production_t : Production
@@ -191,7 +206,14 @@ symbol_s = record { name = 83 ∷ []; syn = out_name ∷ []; inh = [] }
 
 -- the second grammar
 abbrev pub token_sample : Grammar
-token_sample = record { symbols = symbol_s ∷ []; productions = production_s ∷ []; literals = (105 ∷ 102 ∷ []) ∷ []; classes = 0 ∷ []; start = 0 }
+token_sample =
+    record {
+      symbols = symbol_s ∷ [];
+      productions = production_s ∷ [];
+      literals = (105 ∷ 102 ∷ []) ∷ [];
+      classes = 0 ∷ [];
+      start = 0;
+    }
 
 -- the second grammar with the classes 1 and 0, which do not ascend
 abbrev pub descending : Grammar

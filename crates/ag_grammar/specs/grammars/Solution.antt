@@ -87,9 +87,11 @@ left_passes m (Some q) = m q.left
 abbrev mutual
   pub AtEachNode : (List ℕ → (ℕ → Value) → (ℕ → Value) → Type 0) → Grammar → Passes → Tree → Valuation → Valuation → Type 0
   AtEachNode R g m (leaf c x) v w = R (0 ∷ []) (v []) (w [])
-  AtEachNode R g m (node p ts) v w = R (left_passes m (slice_get g.productions p)) (v []) (w []) × AtEachNodeOf R g m ts (children v) (children w)
+  AtEachNode R g m (node p ts) v w =
+      R (left_passes m (slice_get g.productions p)) (v []) (w []) × AtEachNodeOf R g m ts (children v) (children w)
 
-  pub AtEachNodeOf : (List ℕ → (ℕ → Value) → (ℕ → Value) → Type 0) → Grammar → Passes → Forest → (ℕ → Valuation) → (ℕ → Valuation) → Type 0
+  pub AtEachNodeOf : (List ℕ → (ℕ → Value) → (ℕ → Value) → Type 0) → Grammar → Passes → Forest → (ℕ → Valuation) → (ℕ → Valuation)
+      → Type 0
   AtEachNodeOf R g m none vs ws = Unit {0}
   AtEachNodeOf R g m (more t ts) vs ws = AtEachNode R g m t (vs 0) (ws 0) × AtEachNodeOf R g m ts (rest vs) (rest ws)
 

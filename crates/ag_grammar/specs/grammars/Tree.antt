@@ -5,7 +5,8 @@ use Rattle.ag_grammar.specs.declared.grammar.Item.TheVariants as item
 use Rattle.ag_grammar.specs.declared.grammar.Item.{Item}
 use Rattle.ag_grammar.specs.declared.grammar.Production.{Production}
 use Rattle.ag_grammar.specs.declared.grammar.Terminal.TheVariants.{Literal, Class}
-use Rattle.ag_grammar.specs.declared.limits.TheConstants.{MAX_DEPTH, MAX_NODES, MAX_TOKEN_BYTES, MAX_REVERSED_DEPTH, MAX_REVERSED_NODES}
+use Rattle.ag_grammar.specs.declared.limits.TheConstants.{MAX_DEPTH, MAX_NODES, MAX_TOKEN_BYTES, MAX_REVERSED_DEPTH}
+use Rattle.ag_grammar.specs.declared.limits.TheConstants.{MAX_REVERSED_NODES}
 use Rattle.ag_grammar.specs.grammars.AttributeGrammar.{Grammar, stored_items, IsProduction}
 
 mutual

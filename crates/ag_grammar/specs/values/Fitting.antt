@@ -9,7 +9,9 @@ use Rattle.ag_value.specs.Well.{IsWell, is_item}
 -- The value after the check of the limits: the error `deep` if it is too deep, else the error `big` if it is
 -- too heavy, else the value itself.
 abbrev pub fit : Value → Value
-fit v = if nat_lt max_value_depth (depth_of v) then value.Fault Deep else (if nat_lt max_weight (weight_of v) then value.Fault Big else v)
+fit v =
+    if nat_lt max_value_depth (depth_of v) then value.Fault Deep
+    else (if nat_lt max_weight (weight_of v) then value.Fault Big else v)
 
 -- A well value together with its weight and its depth.
 pub record IsMeasured (v : Value) (weight depth : ℕ) : Type 0 where

@@ -1,5 +1,6 @@
 -- Operations on numbers. All definitions are this project's.
-use Rattle.std.specs.Prelude.{ℕ, zero, suc, ◌==◌, ℤ, pos, negsuc, neg_ℤ, int_div, int_rem, Bool, ◌&&◌, nat_lt, List, [], ◌∷◌, length, Option, Some, None, if◌then◌else◌}
+use Rattle.std.specs.Prelude.{ℕ, zero, suc, ◌==◌, ℤ, pos, negsuc, neg_ℤ, int_div, int_rem, Bool, ◌&&◌, nat_lt, List, [], ◌∷◌}
+use Rattle.std.specs.Prelude.{length, Option, Some, None, if◌then◌else◌}
 use Rattle.std.specs.Char.{is_ascii_digit}
 use Rattle.std.specs.Fmt.{signed_decimal}
 use Rattle.std.specs.List.{list_all}
@@ -43,7 +44,8 @@ is_digits digits = nat_lt 0 (length digits) && list_all is_ascii_digit digits
 
 -- the number of these digits with this sign, if they are digits and the number is in the range of i64
 abbrev pub signed_number : (ℤ → ℤ) → List ℕ → Option ℤ
-signed_number sign digits = if is_digits digits && is_i64 (sign (pos (digits_value 10 digits))) then Some (sign (pos (digits_value 10 digits))) else None
+signed_number sign digits =
+    if is_digits digits && is_i64 (sign (pos (digits_value 10 digits))) then Some (sign (pos (digits_value 10 digits))) else None
 
 -- the number that a text denotes: digits, with an optional `-` before them
 abbrev pub spelled_number : List ℕ → Option ℤ

@@ -1,5 +1,6 @@
 -- Operations on tables. All definitions are this project's.
-use Rattle.std.specs.Prelude.{◌≡◌, ℕ, suc, Bool, true, false, List, ◌∷◌, ◌++◌, map, filter, find, take, drop, slice_get, Option, Some, None, bytes_eq}
+use Rattle.std.specs.Prelude.{◌≡◌, ℕ, suc, Bool, true, false, List, ◌∷◌, ◌++◌, map, filter, find, take, drop, slice_get, Option}
+use Rattle.std.specs.Prelude.{Some, None, bytes_eq}
 use Rattle.ag_value.specs.declared.value.ErrorCode.TheVariants.{Kind, Key}
 use Rattle.ag_value.specs.declared.value.Value.{Value, out-Value}
 use Rattle.ag_value.specs.declared.value.Value.TheOpen.{Value-F}
@@ -65,5 +66,7 @@ has_key key None = false
 -- key, or no pair has it.
 pub record IsIndex (key : List ℕ) (pairs : List (List ℕ × Value)) (i : ℕ) : Type 0 where
   pub prefix : filter (λ p. is_before p.0 key) pairs ≡ take i pairs
-  pub occurs : has_key key (slice_get pairs i) ≡ true → (filter (λ q. is_before key q.0) pairs ≡ drop (suc i) pairs) × (pair_with key pairs ≡ slice_get pairs i)
-  pub belongs : has_key key (slice_get pairs i) ≡ false → (filter (λ q. is_before key q.0) pairs ≡ drop i pairs) × (pair_with key pairs ≡ None)
+  pub occurs : has_key key (slice_get pairs i) ≡ true
+      → (filter (λ q. is_before key q.0) pairs ≡ drop (suc i) pairs) × (pair_with key pairs ≡ slice_get pairs i)
+  pub belongs : has_key key (slice_get pairs i) ≡ false
+      → (filter (λ q. is_before key q.0) pairs ≡ drop i pairs) × (pair_with key pairs ≡ None)

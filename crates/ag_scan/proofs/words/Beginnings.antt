@@ -1,5 +1,6 @@
 -- The search for a literal by the first byte of a text.
-use Rattle.std.proofs.Common.{Bor, ◌≡◌, ℕ, ◌+◌, ◌<◌, List, ◌∷◌, ◌++◌, length, get_or, Option, Some, None, IfSome, IfNone, MatchOption, slice_get, refl, ap, sym, ◌∙◌, subst, arith}
+use Rattle.std.proofs.Common.{Bor, ◌≡◌, ℕ, ◌+◌, ◌<◌, List, ◌∷◌, ◌++◌, length, get_or, Option, Some, None, IfSome, IfNone}
+use Rattle.std.proofs.Common.{MatchOption, slice_get, refl, ap, sym, ◌∙◌, subst, arith}
 use Rattle.std.proofs.Math.ListN.{set}
 use Rattle.std.proofs.lemmas.List.{length-set, get_or-set_other}
 use Rattle.std.proofs.lemmas.Grind.{get_or-set_at}
@@ -18,27 +19,42 @@ newly_covered : (s : StartingLiterals) (index : ℕ) → Covers index (with_one 
 newly_covered s index = grind arith
 
 -- what is stored after one more entry
-module _ (entries : List LiteralEntry) (starts : List StartingLiterals) (index b : ℕ) (rest : List ℕ) (w : LiteralEntry) (s : StartingLiterals) (exact : AreCovered entries starts index) (there : slice_get entries index ≡ Some w) (text : w.text.now ≡ b ∷ rest) (byte : b < 256) (is : get_or starts b s ≡ s) where
+module _ (entries : List LiteralEntry) (starts : List StartingLiterals) (index b : ℕ) (rest : List ℕ) (w : LiteralEntry)
+    (s : StartingLiterals) (exact : AreCovered entries starts index) (there : slice_get entries index ≡ Some w)
+    (text : w.text.now ≡ b ∷ rest) (byte : b < 256) (is : get_or starts b s ≡ s) where
   within : b < length starts
   within = omega (arith, exact.whole)
 
-  kept : (k c : ℕ) → ((d : StartingLiterals) → Covers k (get_or starts c d)) → (d : StartingLiterals) → Covers k (get_or (set starts b (with_one s index)) c d)
-  kept k c old d = let at_d = old d in let at_s = old s in let still = still_covered k s index in grind (arith, get_or-set_other, get_or-set_at)
+  kept : (k c : ℕ) → ((d : StartingLiterals) → Covers k (get_or starts c d)) → (d : StartingLiterals)
+      → Covers k (get_or (set starts b (with_one s index)) c d)
+  kept k c old d = let at_d = old d in let at_s = old s in let still = still_covered k s index in
+      grind (arith, get_or-set_other, get_or-set_at)
 
-  by : (k : ℕ) (u : LiteralEntry) → k < index + 1 → slice_get entries k ≡ Some u → (c : ℕ) × (more : List ℕ) × (u.text.now ≡ c ∷ more) × ((d : StartingLiterals) → Covers k (get_or (set starts b (with_one s index)) c d))
+  by : (k : ℕ) (u : LiteralEntry) → k < index + 1 → slice_get entries k ≡ Some u
+      → (c : ℕ) × (more : List ℕ) × (u.text.now ≡ c ∷ more)
+      × ((d : StartingLiterals) → Covers k (get_or (set starts b (with_one s index)) c d))
   by k u below at =
       compared k index
       (λ less. let old = exact.each k u less at in (old.0, old.1, old.2, kept k old.0 old.3))
-      (λ same. (b, rest, ap (λ (v : LiteralEntry). v.text.now) (same_there entries k index u w at there same) ∙ text, λ d. (let new = newly_covered s index in grind (arith, get_or-set_at))))
+      (λ same. (
+        b,
+        rest,
+        ap (λ (v : LiteralEntry). v.text.now) (same_there entries k index u w at there same) ∙ text,
+        λ d. (let new = newly_covered s index in grind (arith, get_or-set_at)),
+      ))
       (λ more. let bad : ⊥ = omega arith in absurd bad)
 
   pub one_covered : AreCovered entries (set starts b (with_one s index)) (index + 1)
   one_covered = record { whole = length-set starts b (with_one s index) ∙ exact.whole; each = by }
 
 -- The result for a text whose first byte begins only one literal.
-module _ (literals : List (List ℕ)) (entries : List LiteralEntry) (shorter : List (Option ℕ)) (table : IsTable literals entries shorter) (starts : List StartingLiterals) (exact : AreCovered entries starts (length entries)) (text : List ℕ) (b : ℕ) (rest : List ℕ) (e : text ≡ b ∷ rest) (d : StartingLiterals) (i : ℕ) (sole : get_or starts b d ≡ Sole i) where
+module _ (literals : List (List ℕ)) (entries : List LiteralEntry) (shorter : List (Option ℕ))
+    (table : IsTable literals entries shorter) (starts : List StartingLiterals)
+    (exact : AreCovered entries starts (length entries)) (text : List ℕ) (b : ℕ) (rest : List ℕ) (e : text ≡ b ∷ rest)
+    (d : StartingLiterals) (i : ℕ) (sole : get_or starts b d ≡ Sole i) where
   -- a literal that is a prefix of the text is this one
-  sole_prefix : (n : ℕ) (x : List ℕ) → slice_get literals n ≡ Some x → IsPrefix x text → (w : LiteralEntry) × (slice_get entries i ≡ Some w) × (w.text.now ≡ x)
+  sole_prefix : (n : ℕ) (x : List ℕ) → slice_get literals n ≡ Some x → IsPrefix x text
+      → (w : LiteralEntry) × (slice_get entries i ≡ Some w) × (w.text.now ≡ x)
   sole_prefix n x at prefix =
       let found = table.literals_all.whole n x at in
       let of = exact.each found.0 found.1 (slice_get_within entries found.0 found.1 found.2) found.2 in
@@ -47,9 +63,12 @@ module _ (literals : List (List ℕ)) (entries : List LiteralEntry) (shorter : L
       let same : i ≡ found.0 = subst (Covers found.0) sole (rw first at (of.3 d)) in
       (found.1, rw same found.2, found.3)
 
-  pub sole_exact : (r : Option (Bor LiteralEntry)) → IfSome r (λ w. slice_get entries i ≡ Some w.now) → IfSome r (λ w. IsPrefix w.now.text.now text) → IfNone r ((w : LiteralEntry) → slice_get entries i ≡ Some w → IsPrefix w.text.now text → ⊥)
+  pub sole_exact : (r : Option (Bor LiteralEntry)) → IfSome r (λ w. slice_get entries i ≡ Some w.now)
+      → IfSome r (λ w. IsPrefix w.now.text.now text)
+      → IfNone r ((w : LiteralEntry) → slice_get entries i ≡ Some w → IsPrefix w.text.now text → ⊥)
       → MatchOption r (HasNoPrefix literals text) (λ w. IsLongestPrefix literals text w.now)
-  sole_exact None there prefix not_here = λ n x at is. (let (w, here, same) = sole_prefix n x at is in not_here w here (rw same is))
+  sole_exact None there prefix not_here =
+      λ n x at is. (let (w, here, same) = sole_prefix n x at is in not_here w here (rw same is))
   sole_exact (Some w) there prefix not_here = record {
     numbered = table.literals_all.numbered i w.now there;
     prefix = prefix;

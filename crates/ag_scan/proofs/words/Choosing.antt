@@ -1,5 +1,6 @@
 -- The word that is the token.
-use Rattle.std.proofs.Common.{◌≡◌, ℕ, ◌+◌, ◌<◌, ◌≤◌, Bool, true, false, cond, nat_lt, List, [], ◌∷◌, ◌++◌, length, Option, Some, None, refl, ap, sym, ◌∙◌, arith, option_map, MatchOption}
+use Rattle.std.proofs.Common.{◌≡◌, ℕ, ◌+◌, ◌<◌, ◌≤◌, Bool, true, false, cond, nat_lt, List, [], ◌∷◌, ◌++◌, length, Option, Some}
+use Rattle.std.proofs.Common.{None, refl, ap, sym, ◌∙◌, arith, option_map, MatchOption}
 use Rattle.std.proofs.lemmas.Str.{len_utf8_bounds}
 use Rattle.ag_grammar.specs.declared.grammar.Terminal.TheVariants.{Literal, Class}
 use Rattle.ag_tokens.specs.Tokens.{width}
@@ -33,8 +34,15 @@ module _ (v : Vocabulary) (cs : List ℕ) where
   no_word none no_class word more split (Class c, lex, is) = no_class word more split (c, lex, is.0, is.1)
 
   -- a word of a class is the token if each literal at the beginning is shorter,
-  class_token : (f : LeadingWord) → (cut : IsLeadingClassWord v.classes cs f) → ((word more : List ℕ) → cs ≡ word ++ more → IsLiteral v.literals word → length word < length cut.word) → IsLeadingToken v cs f
-  class_token f cut less = record { word = cut.word; split = cut.split; token = rw cut.kind (record { is = (cut.used, cut.is); longest = longest; tie = tie }) }
+  class_token : (f : LeadingWord) → (cut : IsLeadingClassWord v.classes cs f)
+      → ((word more : List ℕ) → cs ≡ word ++ more → IsLiteral v.literals word → length word < length cut.word)
+      → IsLeadingToken v cs f
+  class_token f cut less =
+      record {
+        word = cut.word;
+        split = cut.split;
+        token = rw cut.kind (record { is = (cut.used, cut.is); longest = longest; tie = tie });
+      }
     where
       longest : IsLongest (IsAnyWord v) cut.word f.rest
       longest longer more same (Literal l, lex, is) = let k = less longer more (cut.split ∙ same) (l, is.0) in omega arith
@@ -44,14 +52,22 @@ module _ (v : Vocabulary) (cs : List ℕ) where
       tie is = let k = less cut.word f.rest cut.split is in omega arith
 
   -- and a literal is if no word of a class is longer
-  literal_token : (f : LeadingWord) → (cut : IsLeadingLiteral v.literals cs f) → ((word more : List ℕ) → cs ≡ word ++ more → IsClassWord v.classes word → length word ≤ length cut.word) → IsLeadingToken v cs f
-  literal_token f cut fit = record { word = cut.word; split = cut.split; token = rw cut.kind (record { is = (cut.there, cut.text); longest = longest; tie = tt }) }
+  literal_token : (f : LeadingWord) → (cut : IsLeadingLiteral v.literals cs f)
+      → ((word more : List ℕ) → cs ≡ word ++ more → IsClassWord v.classes word → length word ≤ length cut.word)
+      → IsLeadingToken v cs f
+  literal_token f cut fit =
+      record {
+        word = cut.word;
+        split = cut.split;
+        token = rw cut.kind (record { is = (cut.there, cut.text); longest = longest; tie = tt });
+      }
     where
       longest : IsLongest (IsAnyWord v) cut.word f.rest
       longest longer more same (Literal l, lex, is) = cut.longest longer more same (l, is.0)
       longest longer more same (Class c, lex, is) = fit longer more (cut.split ∙ same) (c, lex, is.0, is.1)
 
-  longer : (f g : LeadingWord) → IsLeadingLiteral v.literals cs f → IsLeadingClassWord v.classes cs g → (b : Bool) → nat_lt (width g.rest) (width f.rest) ≡ b → IsWordIn v cs (cond b (Some g) (Some f))
+  longer : (f g : LeadingWord) → IsLeadingLiteral v.literals cs f → IsLeadingClassWord v.classes cs g → (b : Bool)
+      → nat_lt (width g.rest) (width f.rest) ≡ b → IsWordIn v cs (cond b (Some g) (Some f))
   longer f g literal class b h = go b h
     where
       both : literal.word ++ f.rest ≡ class.word ++ g.rest
@@ -73,13 +89,18 @@ module _ (v : Vocabulary) (cs : List ℕ) where
           grind (arith, nat_tests)))
 
   -- the longer one of the literal and the word of a class is the token
-  pub chosen : (a b : Option LeadingWord) → IsLiteralIn v.literals cs a → class_from v.classes cs ≡ b → IsWordIn v cs (longer_of a b)
+  pub chosen : (a b : Option LeadingWord) → IsLiteralIn v.literals cs a → class_from v.classes cs ≡ b
+      → IsWordIn v cs (longer_of a b)
   chosen None None none e = no_word none (class_none v.classes cs e)
-  chosen None (Some g) none e = class_token g (class_cut v.classes cs g e) (λ word more split is. absurd (none word more split is))
-  chosen (Some f) None literal e = literal_token f literal (λ word more split is. absurd (class_none v.classes cs e word more split is))
+  chosen None (Some g) none e =
+      class_token g (class_cut v.classes cs g e) (λ word more split is. absurd (none word more split is))
+  chosen (Some f) None literal e =
+      literal_token f literal (λ word more split is. absurd (class_none v.classes cs e word more split is))
   chosen (Some f) (Some g) literal e = longer f g literal (class_cut v.classes cs g e) (nat_lt (width g.rest) (width f.rest)) refl
 
 -- the same for a word of the code
-pub lent_word : (v : Vocabulary) (cs : List ℕ) (o : Option code.LeadingWord) → IsWordIn v cs (option_map (λ f. leading_word_of f) o) → MatchOption o (BeginsNone (IsAnyWord v) cs) (λ f. IsLeadingToken v cs (leading_word_of f))
+pub lent_word : (v : Vocabulary) (cs : List ℕ) (o : Option code.LeadingWord)
+    → IsWordIn v cs (option_map (λ f. leading_word_of f) o)
+    → MatchOption o (BeginsNone (IsAnyWord v) cs) (λ f. IsLeadingToken v cs (leading_word_of f))
 lent_word v cs None none = none
 lent_word v cs (Some f) cut = cut

@@ -1,5 +1,6 @@
 -- The longest literal at the beginning of a text, in bytes and in characters.
-use Rattle.std.proofs.Common.{◌≡◌, ℕ, List, ◌++◌, length, take, drop, Some, IsUtf8, chars, encode_utf8_all, refl, ap, sym, ◌∙◌, subst, arith}
+use Rattle.std.proofs.Common.{◌≡◌, ℕ, List, ◌++◌, length, take, drop, Some, IsUtf8, chars, encode_utf8_all, refl, ap, sym, ◌∙◌}
+use Rattle.std.proofs.Common.{subst, arith}
 use Rattle.std.proofs.lemmas.Str.{chars-append, encodes-chars, encodes-append, IsCharBoundary-from_take}
 use Rattle.std.proofs.Math.Seq.{drop-append_seam, take-append_seam}
 use Rattle.std.specs.Str.{IsCharBoundary}
@@ -18,19 +19,25 @@ boundary text word utf8 utf8' prefix =
     let taken : take (length word) text ≡ word = ap (take (length word)) prefix.1 ∙ take-append_seam word prefix.0 in
     IsCharBoundary-from_take text (length word) utf8 (front_fits word text prefix) (subst IsUtf8 (sym taken) utf8')
 
-pub split_characters : (text word rest : List ℕ) → IsUtf8 word → IsPrefix word text → rest ≡ drop (length word) text → chars text ≡ chars word ++ chars rest
+pub split_characters : (text word rest : List ℕ) → IsUtf8 word → IsPrefix word text → rest ≡ drop (length word) text
+    → chars text ≡ chars word ++ chars rest
 split_characters text word rest utf8 prefix e =
     let following : rest ≡ prefix.0 = e ∙ ap (drop (length word)) prefix.1 ∙ drop-append_seam word prefix.0 in
     ap chars prefix.1 ∙ chars-append word prefix.0 utf8 ∙ ap (λ x. chars word ++ chars x) (sym following)
 
 -- a prefix of the characters is a prefix of the bytes
 bytes_prefix : (text word more : List ℕ) → IsUtf8 text → chars text ≡ word ++ more → IsPrefix (encode_utf8_all word) text
-bytes_prefix text word more utf8 split = (encode_utf8_all more, sym (encodes-chars text utf8) ∙ ap encode_utf8_all split ∙ encodes-append word more)
+bytes_prefix text word more utf8 split =
+    (encode_utf8_all more, sym (encodes-chars text utf8) ∙ ap encode_utf8_all split ∙ encodes-append word more)
 
-pub literal_none : (literals : List (List ℕ)) (text : List ℕ) → IsUtf8 text → HasNoPrefix literals text → BeginsNone (IsLiteral literals) (chars text)
-literal_none literals text utf8 none word more split (l, e) = none l (encode_utf8_all word) e (bytes_prefix text word more utf8 split)
+pub literal_none : (literals : List (List ℕ)) (text : List ℕ) → IsUtf8 text → HasNoPrefix literals text
+    → BeginsNone (IsLiteral literals) (chars text)
+literal_none literals text utf8 none word more split (l, e) =
+    none l (encode_utf8_all word) e (bytes_prefix text word more utf8 split)
 
-pub literal_cut : (literals : List (List ℕ)) (text lex rest : List ℕ) (w : LiteralEntry) → IsUtf8 text → IsLongestPrefix literals text w → lex ≡ w.text.now → chars text ≡ chars w.text.now ++ chars rest → encode_utf8_all (chars w.text.now) ≡ w.text.now
+pub literal_cut : (literals : List (List ℕ)) (text lex rest : List ℕ) (w : LiteralEntry) → IsUtf8 text
+    → IsLongestPrefix literals text w → lex ≡ w.text.now → chars text ≡ chars w.text.now ++ chars rest
+    → encode_utf8_all (chars w.text.now) ≡ w.text.now
     → IsLeadingLiteral literals (chars text) (record { kind = Literal w.number; lex = lex; rest = chars rest })
 literal_cut literals text lex rest w utf8 is same split encoded = record {
   number = w.number;
@@ -45,4 +52,5 @@ literal_cut literals text lex rest w utf8 is same split encoded = record {
     longest : IsLongest (IsLiteral literals) (chars w.text.now) (chars rest)
     longest longer more e (l, there) =
         let less = is.longest l (encode_utf8_all longer) there (bytes_prefix text longer more utf8 (split ∙ e)) in
-        no_longer longer (chars w.text.now) more (chars rest) (sym e) (omega (arith, width-encoded (chars w.text.now), ap length encoded, width-encoded longer))
+        no_longer longer (chars w.text.now) more (chars rest) (sym e)
+        (omega (arith, width-encoded (chars w.text.now), ap length encoded, width-encoded longer))

@@ -1,5 +1,6 @@
 -- The order of texts, and their prefixes.
-use Rattle.std.proofs.Common.{arith, ◌≡◌, ℕ, Bool, true, false, List, [], ◌∷◌, ◌++◌, length, take, drop, refl, ap, sym, ◌∙◌, subst, nat_eq, MatchBool}
+use Rattle.std.proofs.Common.{arith, ◌≡◌, ℕ, Bool, true, false, List, [], ◌∷◌, ◌++◌, length, take, drop, refl, ap, sym, ◌∙◌}
+use Rattle.std.proofs.Common.{subst, nat_eq, MatchBool}
 use Rattle.std.proofs.lemmas.List.{take-append-drop}
 use Rattle.std.proofs.Math.Seq.{take-append_seam}
 use Rattle.std.specs.Cmp.{ranks, nat_cmp_total, tied_itself, upto}
@@ -14,7 +15,8 @@ prefix_up [] rest = grind arith
 prefix_up (c ∷ p) rest = rw (tied_itself nat_cmp_total c) (prefix_up p rest)
 
 -- a prefix of a text is also a prefix of each text between the two
-pub between : (p m rest : List ℕ) → is_gt (slice_cmp nat_cmp p m) ≡ false → is_gt (slice_cmp nat_cmp m (p ++ rest)) ≡ false → IsPrefix p m
+pub between : (p m rest : List ℕ) → is_gt (slice_cmp nat_cmp p m) ≡ false → is_gt (slice_cmp nat_cmp m (p ++ rest)) ≡ false
+    → IsPrefix p m
 between [] m rest a b = (m, refl)
 between (c ∷ p) [] rest a b = absurd (cc)
 between (c ∷ p) (d ∷ m) rest a b =
@@ -38,9 +40,12 @@ pub not_less : (a b : List ℕ) → is_lt (slice_cmp nat_cmp b a) ≡ false → 
 not_less a b h = let turned = nat_list_cmp_total.antisymm b a in record { up = grind arith }
 
 -- the meaning of the result of `starts_with`
-pub exact_prefix : (text word : List ℕ) (r : Bool) → r ≡ starts_with nat_eq text word → MatchBool r (IsPrefix word text) (IsPrefix word text → ⊥)
+pub exact_prefix : (text word : List ℕ) (r : Bool) → r ≡ starts_with nat_eq text word
+    → MatchBool r (IsPrefix word text) (IsPrefix word text → ⊥)
 exact_prefix text word r e = go r (told_text word (take (length word) text) r e)
   where
-    go : (r : Bool) → MatchBool r (word ≡ take (length word) text) (word ≡ take (length word) text → ⊥) → MatchBool r (IsPrefix word text) (IsPrefix word text → ⊥)
-    go true h = (drop (length word) text, sym (take-append-drop (length word) text) ∙ ap (λ x. x ++ drop (length word) text) (sym h))
+    go : (r : Bool) → MatchBool r (word ≡ take (length word) text) (word ≡ take (length word) text → ⊥)
+        → MatchBool r (IsPrefix word text) (IsPrefix word text → ⊥)
+    go true h =
+        (drop (length word) text, sym (take-append-drop (length word) text) ∙ ap (λ x. x ++ drop (length word) text) (sym h))
     go false h = λ prefix. h (sym (ap (take (length word)) prefix.1 ∙ take-append_seam word prefix.0))

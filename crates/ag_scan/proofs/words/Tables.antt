@@ -1,5 +1,6 @@
 -- The search for the longest literal at the beginning of a text in a table of literals.
-use Rattle.std.proofs.Common.{Bor, Bool, true, false, get_or, ◌≡◌, ℕ, zero, suc, ◌+◌, ◌<◌, ◌≤◌, ◌⊎◌, inl, inr, List, [], ◌∷◌, ◌++◌, length, Option, Some, slice_get, refl, ap, sym, ◌∙◌, subst, arith}
+use Rattle.std.proofs.Common.{Bor, Bool, true, false, get_or, ◌≡◌, ℕ, zero, suc, ◌+◌, ◌<◌, ◌≤◌, ◌⊎◌, inl, inr, List, [], ◌∷◌}
+use Rattle.std.proofs.Common.{◌++◌, length, Option, Some, slice_get, refl, ap, sym, ◌∙◌, subst, arith}
 use Rattle.std.proofs.lemmas.List.{length-append}
 use Rattle.std.specs.Cmp.{ranks}
 use Rattle.std.specs.Cmp.Lexicographic.{slice_cmp, on_texts}
@@ -10,7 +11,8 @@ use Rattle.std.specs.Ordering.{nat_cmp, is_le, MatchOrdering}
 use Rattle.std.specs.declared.cmp.Ordering.{Ordering}
 use Rattle.std.specs.declared.cmp.Ordering.TheVariants.{Less, Equal, Greater}
 use Rattle.ag_scan.specs.declared.literals.LiteralEntry.{LiteralEntry}
-use Rattle.ag_scan.specs.Table.{IsPrefix, IsNotAfter, AreNotAfter, NoPrefix, IsLastPrefix, IsLastPrefixIfAny, after_last, AreLinked, AreOrdered, AreLiterals, IsTable, IsLongestPrefix}
+use Rattle.ag_scan.specs.Table.{IsPrefix, IsNotAfter, AreNotAfter, NoPrefix, IsLastPrefix, IsLastPrefixIfAny, after_last}
+use Rattle.ag_scan.specs.Table.{AreLinked, AreOrdered, AreLiterals, IsTable, IsLongestPrefix}
 use Rattle.ag_scan.proofs.words.Orders.{prefix_between, prefix_is_up, up_up, not_less}
 
 -- a list has a member at each index below its length
@@ -19,7 +21,8 @@ some_there [] i h = absurd (omega arith)
 some_there (x ∷ xs) zero h = (x, refl)
 some_there (x ∷ xs) (suc i) h = some_there xs i (omega arith)
 
-pub same_there : {A : Type 0} (xs : List A) (i j : ℕ) (x y : A) → slice_get xs i ≡ Some x → slice_get xs j ≡ Some y → i ≡ j → x ≡ y
+pub same_there : {A : Type 0} (xs : List A) (i j : ℕ) (x y : A) → slice_get xs i ≡ Some x → slice_get xs j ≡ Some y → i ≡ j
+    → x ≡ y
 same_there xs i j x y ex ey e = grind arith
 
 -- a prefix is not longer than the text
@@ -27,10 +30,12 @@ pub front_fits : (p text : List ℕ) → IsPrefix p text → length p ≤ length
 front_fits p text (rest, e) = omega (arith, ap length e, length-append p rest)
 
 -- no entry after the last one that is a prefix of the text is a prefix of it
-pub last_after : (entries : List LiteralEntry) (bound : ℕ) (text : List ℕ) (o : Option ℕ) → IsLastPrefixIfAny entries bound text o → NoPrefix entries (after_last o) bound text
+pub last_after : (entries : List LiteralEntry) (bound : ℕ) (text : List ℕ) (o : Option ℕ) → IsLastPrefixIfAny entries bound text o
+    → NoPrefix entries (after_last o) bound text
 last_after entries bound text o h = grind arith
 
-pub last_below : (entries : List LiteralEntry) (bound : ℕ) (text : List ℕ) (o : Option ℕ) → IsLastPrefixIfAny entries bound text o → after_last o ≤ bound
+pub last_below : (entries : List LiteralEntry) (bound : ℕ) (text : List ℕ) (o : Option ℕ) → IsLastPrefixIfAny entries bound text o
+    → after_last o ≤ bound
 last_below entries bound text o h = grind arith
 
 -- the comparison of two numbers, by its three cases
@@ -45,41 +50,61 @@ compared {A = A} i k less same more = go (nat_cmp i k) (ranks i k)
 pub split : {A : Type 0} (i k : ℕ) → (i < k → A) → (k ≤ i → A) → A
 split i k less others = compared i k less (λ same. others (omega arith)) (λ more. others (omega arith))
 
-module _ (entries : List LiteralEntry) (shorter : List (Option ℕ)) (bound : ℕ) (text : List ℕ) (ordered : AreOrdered entries) (linked : AreLinked entries shorter) (up : AreNotAfter entries bound text) where
+module _ (entries : List LiteralEntry) (shorter : List (Option ℕ)) (bound : ℕ) (text : List ℕ) (ordered : AreOrdered entries)
+    (linked : AreLinked entries shorter) (up : AreNotAfter entries bound text) where
   -- if the entry at `last` is not a prefix of the text, the next candidate is the one that it links to
-  pub goes_on : (limit last : ℕ) (w : LiteralEntry) (o : Option ℕ) → limit ≤ bound → limit ≡ last + 1 → NoPrefix entries limit bound text → slice_get entries last ≡ Some w → slice_get shorter last ≡ Some o → (IsPrefix w.text.now text → ⊥)
+  pub goes_on : (limit last : ℕ) (w : LiteralEntry) (o : Option ℕ) → limit ≤ bound → limit ≡ last + 1
+      → NoPrefix entries limit bound text → slice_get entries last ≡ Some w → slice_get shorter last ≡ Some o
+      → (IsPrefix w.text.now text → ⊥)
       → NoPrefix entries (after_last o) bound text
   goes_on limit last w o within is none there link not_here =
       let lower = last_after entries last w.text.now o (linked.each last w o there link) in
       record {
         none = λ i u low high at prefix.
             compared i last
-            (λ less. lower.none i u low less at (prefix_between u.text.now w.text.now text (ordered.each i last u w (omega arith) at there) (up.each last w (omega arith) there) prefix))
-            (λ same. not_here (subst (λ (u : LiteralEntry). IsPrefix u.text.now text) (same_there entries i last u w at there same) prefix))
+            (λ less. lower.none i u low less at
+            (prefix_between u.text.now w.text.now text (ordered.each i last u w (omega arith) at there)
+            (up.each last w (omega arith) there) prefix))
+            (λ same.
+            not_here
+            (subst (λ (u : LiteralEntry). IsPrefix u.text.now text) (same_there entries i last u w at there same) prefix))
             (λ more. none.none i u (omega arith) high at prefix);
       }
 
 -- the last prefix of the text among the entries that are not after it is the longest literal that is a prefix
-module _ (literals : List (List ℕ)) (entries : List LiteralEntry) (shorter : List (Option ℕ)) (table : IsTable literals entries shorter) (bound : ℕ) (text : List ℕ) (up : AreNotAfter entries bound text) (others : NoPrefix entries bound (length entries) text) where
-  pub last_is_longest : (k : ℕ) (w : LiteralEntry) → IsLastPrefix entries bound text k → slice_get entries k ≡ Some w → IsLongestPrefix literals text w
+module _ (literals : List (List ℕ)) (entries : List LiteralEntry) (shorter : List (Option ℕ))
+    (table : IsTable literals entries shorter) (bound : ℕ) (text : List ℕ) (up : AreNotAfter entries bound text)
+    (others : NoPrefix entries bound (length entries) text) where
+  pub last_is_longest : (k : ℕ) (w : LiteralEntry) → IsLastPrefix entries bound text k → slice_get entries k ≡ Some w
+      → IsLongestPrefix literals text w
   last_is_longest k w last there = record { numbered = table.literals_all.numbered k w there; prefix = prefix; longest = longest }
     where
       prefix : IsPrefix w.text.now text
-      prefix = subst (λ (u : LiteralEntry). IsPrefix u.text.now text) (same_there entries k k last.word w last.there there refl) last.prefix
+      prefix =
+          subst (λ (u : LiteralEntry). IsPrefix u.text.now text)
+          (same_there entries k k last.word w last.there there refl) last.prefix
 
-      fits : (j : ℕ) (u : LiteralEntry) → slice_get entries j ≡ Some u → IsPrefix u.text.now text → length u.text.now ≤ length w.text.now
+      fits : (j : ℕ) (u : LiteralEntry) → slice_get entries j ≡ Some u → IsPrefix u.text.now text
+          → length u.text.now ≤ length w.text.now
       fits j u at is =
           split k j
-          (λ more. absurd (split j bound (λ less. last.last.none j u (omega arith) less at is) (λ far. others.none j u far (slice_get_within entries j u at) at is)))
-          (λ le. front_fits u.text.now w.text.now (prefix_between u.text.now w.text.now text (table.ordered.each j k u w le at there) (up.each k w last.below there) is))
+          (λ more.
+          absurd
+          (split j bound (λ less. last.last.none j u (omega arith) less at is)
+          (λ far. others.none j u far (slice_get_within entries j u at) at is)))
+          (λ le. front_fits u.text.now w.text.now
+          (prefix_between u.text.now w.text.now text (table.ordered.each j k u w le at there)
+          (up.each k w last.below there) is))
 
       longest : (n : ℕ) (x : List ℕ) → slice_get literals n ≡ Some x → IsPrefix x text → length x ≤ length w.text.now
-      longest n x at is = let found = table.literals_all.whole n x at in rw (← found.3) (fits found.0 found.1 found.2 (rw (← found.3) at is))
+      longest n x at is = let found = table.literals_all.whole n x at in
+          rw (← found.3) (fits found.0 found.1 found.2 (rw (← found.3) at is))
 
 -- ---- the construction of the table
 
 -- a member of a list with one more member at its end
-pub pushed : {A : Type 0} (xs : List A) (x : A) (i : ℕ) (y : A) → slice_get (xs ++ x ∷ []) i ≡ Some y → (slice_get xs i ≡ Some y) ⊎ ((i ≡ length xs) × (x ≡ y))
+pub pushed : {A : Type 0} (xs : List A) (x : A) (i : ℕ) (y : A) → slice_get (xs ++ x ∷ []) i ≡ Some y
+    → (slice_get xs i ≡ Some y) ⊎ ((i ≡ length xs) × (x ≡ y))
 pushed [] x i y e = inr (grind arith, grind arith)
 pushed (z ∷ xs) x zero y e = inl e
 pushed (z ∷ xs) x (suc i) y e = let more = pushed xs x i y e in grind arith
@@ -89,7 +114,8 @@ pub record AreFirst (literals : List (List ℕ)) (entries : List LiteralEntry) (
   pub many : length entries ≡ count
   pub each : (k : ℕ) (w : LiteralEntry) → slice_get entries k ≡ Some w → (w.number ≡ k) × (slice_get literals k ≡ Some w.text.now)
 
-pub all_first : (literals : List (List ℕ)) (entries : List LiteralEntry) → AreFirst literals entries (length literals) → AreLiterals literals entries
+pub all_first : (literals : List (List ℕ)) (entries : List LiteralEntry) → AreFirst literals entries (length literals)
+    → AreLiterals literals entries
 all_first literals entries first = record {
   numbered = λ k w e. ap (slice_get literals) (first.each k w e).0 ∙ (first.each k w e).1;
   whole = λ n x e.
@@ -100,21 +126,30 @@ all_first literals entries first = record {
 }
 
 -- the same entries in another order
-pub moved : (literals : List (List ℕ)) (xs ys : List LiteralEntry) → IsPermutation xs ys → AreLiterals literals xs → AreLiterals literals ys
+pub moved : (literals : List (List ℕ)) (xs ys : List LiteralEntry) → IsPermutation xs ys → AreLiterals literals xs
+    → AreLiterals literals ys
 moved literals xs ys perm are = record {
-  numbered = λ k w e. subst (λ (w : LiteralEntry). slice_get literals w.number ≡ Some w.text.now) (get_or_from_slice_get ys k w w e)
-      (All-permutation (λ w. slice_get literals w.number ≡ Some w.text.now) xs ys perm (λ i d lt. are.numbered i (get_or xs i d) (slice_get-get_or xs i d lt)) k w (slice_get_within ys k w e));
+  numbered =
+      λ k w e. subst (λ (w : LiteralEntry). slice_get literals w.number ≡ Some w.text.now) (get_or_from_slice_get ys k w w e)
+      (All-permutation (λ w. slice_get literals w.number ≡ Some w.text.now) xs ys perm
+      (λ i d lt. are.numbered i (get_or xs i d) (slice_get-get_or xs i d lt)) k w (slice_get_within ys k w e));
   whole = λ n x e.
       let old = are.whole n x e in
-      let new = Contains-permutation xs ys old.1 perm (old.0, slice_get_within xs old.0 old.1 old.2, get_or_from_slice_get xs old.0 old.1 old.1 old.2) in
+      let new =
+      Contains-permutation xs ys old.1 perm
+      (old.0, slice_get_within xs old.0 old.1 old.2, get_or_from_slice_get xs old.0 old.1 old.1 old.2) in
       (new.0, old.1, slice_get-get_or ys new.0 old.1 new.1 ∙ ap Some new.2, old.3);
 }
 
-pub sorted_is_ordered : (entries : List LiteralEntry) → IsSortedByKey (λ (w : LiteralEntry). w.text) (λ x y. slice_cmp nat_cmp x.now y.now) entries → AreOrdered entries
+pub sorted_is_ordered : (entries : List LiteralEntry)
+    → IsSortedByKey (λ (w : LiteralEntry). w.text) (λ x y. slice_cmp nat_cmp x.now y.now) entries → AreOrdered entries
 sorted_is_ordered entries up = record {
   each = λ i j a b le at there.
-      let far = sorted_far _ (ranks_by (on_texts (λ (x : Bor (List ℕ)). x.now)) (λ (w : LiteralEntry). w.text)) entries up i j a le (slice_get_within entries j b there) in
-      not_less a.text.now b.text.now (rw (get_or_from_slice_get entries j b a there, get_or_from_slice_get entries i a a at) at far);
+      let far =
+      sorted_far _ (ranks_by (on_texts (λ (x : Bor (List ℕ)). x.now)) (λ (w : LiteralEntry). w.text)) entries up i j a le
+      (slice_get_within entries j b there) in
+      not_less a.text.now b.text.now
+      (rw (get_or_from_slice_get entries j b a there, get_or_from_slice_get entries i a a at) at far);
 }
 
 -- ---- the position of the text among the entries
@@ -133,12 +168,24 @@ pub parted : (entries : List LiteralEntry) (text : List ℕ) → AreOrdered entr
 parted entries text ordered i j d le within passes =
     let first = slice_get-get_or entries i d (omega arith) in
     let second = slice_get-get_or entries j d within in
-    test_of_up (get_or entries i d).text.now text (up_up (get_or entries i d).text.now (get_or entries j d).text.now text (ordered.each i j (get_or entries i d) (get_or entries j d) le first second) (up_of_test (get_or entries j d).text.now text passes))
+    test_of_up (get_or entries i d).text.now text
+    (up_up (get_or entries i d).text.now (get_or entries j d).text.now text
+    (ordered.each i j (get_or entries i d) (get_or entries j d) le first second)
+    (up_of_test (get_or entries j d).text.now text passes))
 
-pub up_to_point : (entries : List LiteralEntry) (text : List ℕ) (n : ℕ) → IsPartitionPoint (λ w. stands_up text w ≡ true) (λ w. stands_up text w ≡ false) entries n → AreNotAfter entries n text
-up_to_point entries text n point = record { each = λ i w less at. up_of_test w.text.now text (subst (λ (u : LiteralEntry). stands_up text u ≡ true) (get_or_from_slice_get entries i w w at) (point.0 i w (omega arith) less)) }
+pub up_to_point : (entries : List LiteralEntry) (text : List ℕ) (n : ℕ)
+    → IsPartitionPoint (λ w. stands_up text w ≡ true) (λ w. stands_up text w ≡ false) entries n → AreNotAfter entries n text
+up_to_point entries text n point =
+    record {
+      each =
+          λ i w less at. up_of_test w.text.now text
+          (subst (λ (u : LiteralEntry). stands_up text u ≡ true) (get_or_from_slice_get entries i w w at)
+          (point.0 i w (omega arith) less));
+    }
 
-pub none_past_point : (entries : List LiteralEntry) (text : List ℕ) (n : ℕ) → IsPartitionPoint (λ w. stands_up text w ≡ true) (λ w. stands_up text w ≡ false) entries n → NoPrefix entries n (length entries) text
+pub none_past_point : (entries : List LiteralEntry) (text : List ℕ) (n : ℕ)
+    → IsPartitionPoint (λ w. stands_up text w ≡ true) (λ w. stands_up text w ≡ false) entries n
+    → NoPrefix entries n (length entries) text
 none_past_point entries text n point = record {
   none = λ i w low high at prefix.
       let fails = point.1 i w low high in
@@ -148,5 +195,7 @@ none_past_point entries text n point = record {
 }
 
 -- a link leads to an earlier entry
-pub links_below : (entries : List LiteralEntry) (shorter : List (Option ℕ)) (last : ℕ) (o : Option ℕ) → AreLinked entries shorter → last < length entries → slice_get shorter last ≡ Some o → after_last o ≤ last
-links_below entries shorter last o linked within link = let word = some_there entries last within in last_below entries last word.0.text.now o (linked.each last word.0 o word.1 link)
+pub links_below : (entries : List LiteralEntry) (shorter : List (Option ℕ)) (last : ℕ) (o : Option ℕ) → AreLinked entries shorter
+    → last < length entries → slice_get shorter last ≡ Some o → after_last o ≤ last
+links_below entries shorter last o linked within link = let word = some_there entries last within in
+    last_below entries last word.0.text.now o (linked.each last word.0 o word.1 link)

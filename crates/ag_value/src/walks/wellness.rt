@@ -44,7 +44,8 @@ fn is_item(value: &Value) -> bool
             true
         }
         Value::List(items) => are_items(items.as_slice()),
-        Value::Table(pairs) => has_ascending_keys(pairs.as_slice()) && are_item_pairs(pairs.as_slice()),
+        Value::Table(pairs) => has_ascending_keys(pairs.as_slice())
+            && are_item_pairs(pairs.as_slice()),
         Value::Fault(_) => false,
     }
 }

@@ -1,5 +1,6 @@
 -- The result of reversing the file of a tree holds of this tree alone.
-use Rattle.std.proofs.Common.{◌≡◌, ℕ, Bool, true, false, List, [], ◌∷◌, ◌++◌, length, Option, Some, None, Result, Ok, Err, ap, sym, subst, ◌∙◌}
+use Rattle.std.proofs.Common.{◌≡◌, ℕ, Bool, true, false, List, [], ◌∷◌, ◌++◌, length, Option, Some, None, Result, Ok, Err, ap}
+use Rattle.std.proofs.Common.{sym, subst, ◌∙◌}
 use Rattle.ag_grammar.specs.declared.direction.Direction.{Direction}
 use Rattle.ag_grammar.specs.grammars.Passes.{other}
 use Rattle.backreader.specs.turning.Turning.{IsFileOf, IsReversed, IsWithinLimits, ReversesTree, Reverses}
@@ -16,14 +17,18 @@ use Rattle.treefile.proofs.framing.Files.{begins}
 use Rattle.treefile.proofs.records.Orders.{one_tree}
 use Rattle.backreader.proofs.turnings.Whole.{tree_back}
 
-module _ (arity : List ℕ → Option ℕ) (pass : ℕ) (content : List ℕ) (honest : Bool) (turned : List ℕ) (direction : Direction) (tree : BodyTree) (is : IsFileOf arity direction tree content) where
+module _ (arity : List ℕ → Option ℕ) (pass : ℕ) (content : List ℕ) (honest : Bool) (turned : List ℕ) (direction : Direction)
+    (tree : BodyTree) (is : IsFileOf arity direction tree content) where
   is_file : is_tree_file version_two content ≡ true
-  is_file = ap (is_tree_file version_two) is.occurs ∙ begins version_two is.pass (flat_map frame (postfix direction tree)) version_two_usable
+  is_file =
+      ap (is_tree_file version_two) is.occurs
+      ∙ begins version_two is.pass (flat_map frame (postfix direction tree)) version_two_usable
 
   back : ReadsBack version_two content (length content) (prefix (other direction) tree)
   back = tree_back arity content direction tree is
 
-  no_damage : (at : ℕ) (rest : List (List ℕ)) → ReadsBack version_two content at rest → next_before version_two content at ≡ Err (frame_fault.Damaged at) → ⊥
+  no_damage : (at : ℕ) (rest : List (List ℕ)) → ReadsBack version_two content at rest
+      → next_before version_two content at ≡ Err (frame_fault.Damaged at) → ⊥
   no_damage at [] none damage =
       let e : Err (frame_fault.Damaged at) ≡ Ok None = sym damage ∙ none in
       cc
@@ -35,10 +40,13 @@ module _ (arity : List ℕ → Option ℕ) (pass : ℕ) (content : List ℕ) (ho
   same_tree another has =
       let one = prefix (other direction) tree in
       let two = prefix (other direction) another in
-      let same : two ≡ one = reads_same version_two content two one (length content) (tree_back arity content direction another has) back in
-      (one_tree arity (other direction) another tree [] [] has.arities is.arities (ap (λ (bodies : List (List ℕ)). bodies ++ []) same)).0
+      let same : two ≡ one =
+      reads_same version_two content two one (length content) (tree_back arity content direction another has) back in
+      (one_tree arity (other direction) another tree [] [] has.arities is.arities
+      (ap (λ (bodies : List (List ℕ)). bodies ++ []) same)).0
 
-  pub tree_exact : (result : Result ℕ TurnFault) → Reverses arity pass content honest turned result → ReversesTree pass direction tree honest turned result
+  pub tree_exact : (result : Result ℕ TurnFault) → Reverses arity pass content honest turned result
+      → ReversesTree pass direction tree honest turned result
   tree_exact (Ok count) so =
       let it : IsReversed arity pass content honest turned count direction = so direction in
       let same = same_tree it.tree it.from in (
@@ -50,7 +58,8 @@ module _ (arity : List ℕ → Option ℕ) (pass : ℕ) (content : List ℕ) (ho
       let e : true ≡ false = sym is_file ∙ so in
       cc
   tree_exact (Err (turn_fault.Damaged at)) so =
-      let parts = reads_apart version_two content so.bodies (prefix (other direction) tree) (length content) at so.read.read back in
+      let parts =
+      reads_apart version_two content so.bodies (prefix (other direction) tree) (length content) at so.read.read back in
       no_damage at parts.0 parts.2 so.damage
   tree_exact (Err (turn_fault.NotATree at)) so = so.none direction tree is
   tree_exact (Err turn_fault.TooLarge) so = so.none direction tree is

@@ -17,15 +17,23 @@ use Rattle.llparse.proofs.steps.Shown.{whole}
 
 module _ (g : Grammar) (tokens : List Token) (honest : Bool) (prefix bytes : List ℕ) (result : Result ℕ ParseFault) where
   -- its file is written after the header
-  pub file_of : IfOk result (λ count. IsParsed (task_of g tokens honest prefix) count bytes) → WhenHonest honest (prefix ≡ header version_two 0) → (t : Tree) → IsTreeWith g (words_of tokens) t → OnOk result (WhenHonest honest (IsFirstFile version_two g t bytes))
+  pub file_of : IfOk result (λ count. IsParsed (task_of g tokens honest prefix) count bytes)
+      → WhenHonest honest (prefix ≡ header version_two 0) → (t : Tree) → IsTreeWith g (words_of tokens) t
+      → OnOk result (WhenHonest honest (IsFirstFile version_two g t bytes))
   file_of parsed begun t has = go result parsed
     where
-      go : (r : Result ℕ ParseFault) → IfOk r (λ count. IsParsed (task_of g tokens honest prefix) count bytes) → OnOk r (WhenHonest honest (IsFirstFile version_two g t bytes))
-      go (Ok count) p = λ h. first_file g t bytes has.tree (p.content h ∙ ap (λ z. z ++ tree_frames p.tree) (begun h) ∙ ap (λ z. header version_two 0 ++ tree_frames z) (sym (p.only t has)))
+      go : (r : Result ℕ ParseFault) → IfOk r (λ count. IsParsed (task_of g tokens honest prefix) count bytes)
+          → OnOk r (WhenHonest honest (IsFirstFile version_two g t bytes))
+      go (Ok count) p =
+          λ h. first_file g t bytes has.tree
+          (p.content h ∙ ap (λ z. z ++ tree_frames p.tree) (begun h)
+          ∙ ap (λ z. header version_two 0 ++ tree_frames z) (sym (p.only t has)))
       go (Err e) p = tt
 
   -- no tree has the tokens if one can't be taken
-  pub none_of : IfErr result (IsRefused (task_of g tokens honest prefix) (offset_at tokens)) → (at : ℕ) (t : Tree) → result ≡ Err (fault.Unexpected at) → IsTreeWith g (words_of tokens) t → ⊥
+  pub none_of : IfErr result (IsRefused (task_of g tokens honest prefix) (offset_at tokens)) → (at : ℕ) (t : Tree)
+      → result ≡ Err (fault.Unexpected at) → IsTreeWith g (words_of tokens) t → ⊥
   none_of refused at t e has =
-      let r : IsRefused (task_of g tokens honest prefix) (offset_at tokens) (fault.Unexpected at) = subst (λ z. IfErr z (IsRefused (task_of g tokens honest prefix) (offset_at tokens))) e refused in
+      let r : IsRefused (task_of g tokens honest prefix) (offset_at tokens) (fault.Unexpected at) =
+      subst (λ z. IfErr z (IsRefused (task_of g tokens honest prefix) (offset_at tokens))) e refused in
       r.1.ends (drop r.0 (words_of tokens)) t refl (whole g (words_of tokens) r.0 t has)

@@ -22,10 +22,13 @@ mutual
   frames_all : (ts : Forest) → flat_map frame (postfix_all LeftToRight (first_bodies_all version_two ts)) ≡ forest_frames ts
   frames_all none = refl
   frames_all (more t ts) =
-      flat_map-append frame (postfix LeftToRight (first_bodies version_two t)) (postfix_all LeftToRight (first_bodies_all version_two ts))
+      flat_map-append frame (postfix LeftToRight (first_bodies version_two t))
+      (postfix_all LeftToRight (first_bodies_all version_two ts))
       ∙ ap (λ z. z ++ flat_map frame (postfix_all LeftToRight (first_bodies_all version_two ts))) (frames t)
       ∙ ap (λ z. tree_frames t ++ z) (frames_all ts)
 
 -- header and frames are the file
-pub first_file : (g : Grammar) (t : Tree) (content : List ℕ) → IsTreeOf g t → content ≡ header version_two 0 ++ tree_frames t → IsFirstFile version_two g t content
-first_file g t content fits is = is_first_file version_two g t content fits (is ∙ ap (λ z. header version_two 0 ++ z) (sym (frames t)))
+pub first_file : (g : Grammar) (t : Tree) (content : List ℕ) → IsTreeOf g t → content ≡ header version_two 0 ++ tree_frames t
+    → IsFirstFile version_two g t content
+first_file g t content fits is =
+    is_first_file version_two g t content fits (is ∙ ap (λ z. header version_two 0 ++ z) (sym (frames t)))

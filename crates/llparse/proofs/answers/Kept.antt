@@ -26,8 +26,10 @@ texts-joined (more (leaf c x) a) b = ap (λ z. Text x ∷ z) (texts-joined a b)
 texts-joined (more (node p us) a) b = texts-joined a b
 
 -- texts are split at the beginning of a node's own
-pub parted : (texts others own : List Value) (base : ℕ) → texts ≡ others ++ own → base ≡ length others → (take base texts ≡ others) × (drop base texts ≡ own)
-parted texts others own base is at = (ap (take base) is ∙ take_at others own base (sym at), ap (drop base) is ∙ drop_at others own base (sym at))
+pub parted : (texts others own : List Value) (base : ℕ) → texts ≡ others ++ own → base ≡ length others
+    → (take base texts ≡ others) × (drop base texts ≡ own)
+parted texts others own base is at =
+    (ap (take base) is ∙ take_at others own base (sym at), ap (drop base) is ∙ drop_at others own base (sym at))
 
 module _ (g : Grammar) where
   -- trees of some items have no more texts, and each is well
@@ -45,18 +47,21 @@ module _ (g : Grammar) where
       (omega (arith, others.0), others.1)
 
   -- one of the trees of some items is a tree of one of these
-  among : (done : Forest) (xs : List Item) (c : Tree) (fs : Forest) → FitsAll g xs (joined done (more c fs)) → (x : Item) × Fits g x c
+  among : (done : Forest) (xs : List Item) (c : Tree) (fs : Forest) → FitsAll g xs (joined done (more c fs))
+      → (x : Item) × Fits g x c
   among none [] c fs f = absurd f
   among none (x ∷ xs) c fs f = (x, f.0)
   among (more t ts) [] c fs f = absurd f
   among (more t ts) (x ∷ xs) c fs f = among ts xs c fs f.1
 
-  has_items : (x : Item) (p : ℕ) (ts : Forest) → Fits g x (node p ts) → (q : Production) × IsProduction g p q × FitsAll g (stored_items q.items) ts
+  has_items : (x : Item) (p : ℕ) (ts : Forest) → Fits g x (node p ts)
+      → (q : Production) × IsProduction g p q × FitsAll g (stored_items q.items) ts
   has_items (item.Symbol s) p ts f = (f.0, f.1, f.3)
   has_items (item.Terminal a) p ts f = absurd f
 
   -- a child of the open nodes in a tree of the grammar is a tree of an item
-  child_fits : (os : List Open) (c : Tree) (ws : List Lexeme) (t : Tree) → Continues g os c ws t → IsTreeOf g t → (x : Item) × Fits g x c
+  child_fits : (os : List Open) (c : Tree) (ws : List Lexeme) (t : Tree) → Continues g os c ws t → IsTreeOf g t
+      → (x : Item) × Fits g x c
   child_fits [] c ws t k is = (item.Symbol g.start, subst (Fits g (item.Symbol g.start)) k.1 is)
   child_fits (o ∷ os) c ws t k is =
       let outer = child_fits os (node o.production (joined o.done (more c k.0))) k.1 t k.4 is in
@@ -74,7 +79,8 @@ module _ (k : Task) (accepted : IsAccepted k.grammar) where
       let items = has_items k.grammar child.0 p r.done child.1 in
       let fit = texts_fit k.grammar (stored_items items.0.items) r.done items.2 in
       let few = accepted.limits.stored_count p items.0 items.1 in
-      let own : drop base made.texts ≡ leaf_texts r.done = (parted made.texts (kept r.under) (leaf_texts r.done) base r.held.texts r.begins).1 in
+      let own : drop base made.texts ≡ leaf_texts r.done =
+      (parted made.texts (kept r.under) (leaf_texts r.done) base r.held.texts r.begins).1 in
       let all : length made.texts ≡ length (kept r.under ++ leaf_texts r.done) = ap length r.held.texts in (
         omega (arith, r.begins, all, length-append (kept r.under) (leaf_texts r.done)),
         subst (λ (texts : List Value). length texts ≤ max_children) (sym own) (omega (arith, fit.0, few)),

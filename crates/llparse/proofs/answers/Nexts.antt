@@ -1,5 +1,6 @@
 -- The remaining words, by the tokens.
-use Rattle.std.proofs.Common.{◌≡◌, ℕ, zero, suc, ◌+◌, ◌<◌, ◌≤◌, true, false, List, [], ◌∷◌, drop, length, slice_get, Option, Some, None, is_some, option_map, refl, ap, sym, ◌∙◌, add-one, arith}
+use Rattle.std.proofs.Common.{◌≡◌, ℕ, zero, suc, ◌+◌, ◌<◌, ◌≤◌, true, false, List, [], ◌∷◌, drop, length, slice_get, Option, Some}
+use Rattle.std.proofs.Common.{None, is_some, option_map, refl, ap, sym, ◌∙◌, add-one, arith}
 use Rattle.ag_scan.specs.TokenReader.{token_of}
 use Rattle.ag_scan.specs.Tokens.{Token}
 use Rattle.ag_scan.specs.declared.token.Token as lent
@@ -9,11 +10,13 @@ use Rattle.llparse.specs.Ahead.{ahead_of}
 use Rattle.llparse.specs.declared.ahead.Ahead.TheVariants as ahead
 use Rattle.llparse.specs.sentence.Sentences.{words_of}
 
-pub next_is : (xs : List Token) (i : ℕ) (x : Token) → slice_get xs i ≡ Some x → drop i (words_of xs) ≡ (x.kind, x.lex) ∷ drop (i + 1) (words_of xs)
+pub next_is : (xs : List Token) (i : ℕ) (x : Token) → slice_get xs i ≡ Some x
+    → drop i (words_of xs) ≡ (x.kind, x.lex) ∷ drop (i + 1) (words_of xs)
 next_is [] i x e = absurd (cc)
 next_is (y ∷ ys) zero x e = let same : y ≡ x = cc in ap (λ (z : Token). (z.kind, z.lex) ∷ words_of ys) same
 next_is (y ∷ ys) (suc i) x e =
-    next_is ys i x e ∙ ap (λ j. (x.kind, x.lex) ∷ drop j (words_of ys)) (add-one i) ∙ ap (λ j. (x.kind, x.lex) ∷ drop j (words_of (y ∷ ys))) (sym (add-one (suc i)))
+    next_is ys i x e ∙ ap (λ j. (x.kind, x.lex) ∷ drop j (words_of ys)) (add-one i)
+    ∙ ap (λ j. (x.kind, x.lex) ∷ drop j (words_of (y ∷ ys))) (sym (add-one (suc i)))
 
 pub no_next : (xs : List Token) (i : ℕ) → slice_get xs i ≡ None → drop i (words_of xs) ≡ []
 no_next [] zero e = refl
@@ -22,13 +25,15 @@ no_next (y ∷ ys) zero e = absurd (cc)
 no_next (y ∷ ys) (suc i) e = no_next ys i e
 
 -- the next token is of another terminal
-pub other_next : (xs : List Token) (i : ℕ) (x : Token) (a : Terminal) → slice_get xs i ≡ Some x → (x.kind ≡ a → ⊥) → ahead_of (drop i (words_of xs)) ≡ ahead.Terminal a → ⊥
+pub other_next : (xs : List Token) (i : ℕ) (x : Token) (a : Terminal) → slice_get xs i ≡ Some x → (x.kind ≡ a → ⊥)
+    → ahead_of (drop i (words_of xs)) ≡ ahead.Terminal a → ⊥
 other_next xs i x a there other e =
     let same : ahead.Terminal x.kind ≡ ahead.Terminal a = sym (ap ahead_of (next_is xs i x there)) ∙ e in
     other (cc)
 
 -- and at the end of none
-pub none_is : (xs : List Token) (i : ℕ) (a : Terminal) → slice_get xs i ≡ None → ahead_of (drop i (words_of xs)) ≡ ahead.Terminal a → ⊥
+pub none_is : (xs : List Token) (i : ℕ) (a : Terminal) → slice_get xs i ≡ None
+    → ahead_of (drop i (words_of xs)) ≡ ahead.Terminal a → ⊥
 none_is xs i a none e = let bad : ahead.End ≡ ahead.Terminal a = sym (ap ahead_of (no_next xs i none)) ∙ e in cc
 
 -- whether tokens are left
@@ -38,10 +43,12 @@ is_left xs i x e = let more = (following xs i x (drop (i + 1) xs) (rest_at xs i 
 pub none_left : (xs : List Token) (i : ℕ) → slice_get xs i ≡ None → length xs ≤ i
 none_left xs i e = (ended xs i (rest_none xs i e)).1
 
-pub some_left : (xs : List Token) (i : ℕ) (o : Option lent.Token) → option_map (λ t. token_of t) o ≡ slice_get xs i → is_some o ≡ true → i < length xs
+pub some_left : (xs : List Token) (i : ℕ) (o : Option lent.Token) → option_map (λ t. token_of t) o ≡ slice_get xs i
+    → is_some o ≡ true → i < length xs
 some_left xs i None e is = absurd (cc)
 some_left xs i (Some t) e is = is_left xs i (token_of t) (sym e)
 
-pub all_taken : (xs : List Token) (i : ℕ) (o : Option lent.Token) → option_map (λ t. token_of t) o ≡ slice_get xs i → is_some o ≡ false → length xs ≤ i
+pub all_taken : (xs : List Token) (i : ℕ) (o : Option lent.Token) → option_map (λ t. token_of t) o ≡ slice_get xs i
+    → is_some o ≡ false → length xs ≤ i
 all_taken xs i None e is = none_left xs i (sym e)
 all_taken xs i (Some t) e is = absurd (cc)

@@ -20,27 +20,38 @@ use Rattle.llparse.proofs.steps.Starts as starts
 
 module _ (g : Grammar) (tokens : List Token) (honest : Bool) (prefix : List ℕ) where
   -- no more node is within the limits
-  pub full_node : IsAccepted g → (node : OpenProduction) (p : Parser) (s : ℕ) (bytes : List ℕ) (e : ParseFault) → IsFull p e → IsAtSymbol (task_of g tokens honest prefix) s node p bytes → IsRefused (task_of g tokens honest prefix) (offset_at tokens) e
+  pub full_node : IsAccepted g → (node : OpenProduction) (p : Parser) (s : ℕ) (bytes : List ℕ) (e : ParseFault) → IsFull p e
+      → IsAtSymbol (task_of g tokens honest prefix) s node p bytes
+      → IsRefused (task_of g tokens honest prefix) (offset_at tokens) e
   full_node accepted node p s bytes (fault.Unexpected at) full a = absurd full
   full_node accepted node p s bytes fault.TooDeep full a =
       let deep : max_depth ≤ length (node ∷ reverse p.waiting.items) = omega (arith, length-reverse p.waiting.items) in
-      starts.deep_node (task_of g tokens honest prefix) accepted s (node ∷ reverse p.waiting.items) p.tokens.taken p.count (output_of p bytes) deep a
-  full_node accepted node p s bytes fault.TooManyNodes full a = starts.large_node (task_of g tokens honest prefix) accepted s (node ∷ reverse p.waiting.items) p.tokens.taken p.count (output_of p bytes) full a
+      starts.deep_node (task_of g tokens honest prefix) accepted s (node ∷ reverse p.waiting.items) p.tokens.taken p.count
+      (output_of p bytes) deep a
+  full_node accepted node p s bytes fault.TooManyNodes full a =
+      starts.large_node (task_of g tokens honest prefix) accepted s (node ∷ reverse p.waiting.items) p.tokens.taken p.count
+      (output_of p bytes) full a
   full_node accepted node p s bytes fault.Device full a = absurd full
   full_node accepted node p s bytes fault.NoMemory full a = absurd full
 
   -- nor a leaf
-  pub full_leaf : IsAccepted g → (node : OpenProduction) (p : Parser) (c : ℕ) (bytes : List ℕ) (e : ParseFault) → IsFull p e → IsAtItem (task_of g tokens honest prefix) (item.Terminal (Class c)) node p bytes → IsRefused (task_of g tokens honest prefix) (offset_at tokens) e
+  pub full_leaf : IsAccepted g → (node : OpenProduction) (p : Parser) (c : ℕ) (bytes : List ℕ) (e : ParseFault) → IsFull p e
+      → IsAtItem (task_of g tokens honest prefix) (item.Terminal (Class c)) node p bytes
+      → IsRefused (task_of g tokens honest prefix) (offset_at tokens) e
   full_leaf accepted node p c bytes (fault.Unexpected at) full b = absurd full
   full_leaf accepted node p c bytes fault.TooDeep full b =
       let deep : max_depth ≤ length (node ∷ reverse p.waiting.items) = omega (arith, length-reverse p.waiting.items) in
-      stacks.deep_leaf (task_of g tokens honest prefix) accepted c (node ∷ reverse p.waiting.items) p.tokens.taken p.count (output_of p bytes) deep b
-  full_leaf accepted node p c bytes fault.TooManyNodes full b = stacks.large_leaf (task_of g tokens honest prefix) accepted c (node ∷ reverse p.waiting.items) p.tokens.taken p.count (output_of p bytes) full b
+      stacks.deep_leaf (task_of g tokens honest prefix) accepted c (node ∷ reverse p.waiting.items) p.tokens.taken p.count
+      (output_of p bytes) deep b
+  full_leaf accepted node p c bytes fault.TooManyNodes full b =
+      stacks.large_leaf (task_of g tokens honest prefix) accepted c (node ∷ reverse p.waiting.items) p.tokens.taken p.count
+      (output_of p bytes) full b
   full_leaf accepted node p c bytes fault.Device full b = absurd full
   full_leaf accepted node p c bytes fault.NoMemory full b = absurd full
 
   -- the next token can't be taken
-  pub stuck : (i : ℕ) (e : ParseFault) → e ≡ fault.Unexpected (offset_at tokens i) → IsStuckAt g (words_of tokens) i → IsRefused (task_of g tokens honest prefix) (offset_at tokens) e
+  pub stuck : (i : ℕ) (e : ParseFault) → e ≡ fault.Unexpected (offset_at tokens i) → IsStuckAt g (words_of tokens) i
+      → IsRefused (task_of g tokens honest prefix) (offset_at tokens) e
   stuck i e is s = subst (IsRefused (task_of g tokens honest prefix) (offset_at tokens)) (sym is) (i, s, refl)
 
 -- a literal's text

@@ -1,5 +1,6 @@
 -- The choices of one look-ahead.
-use Rattle.std.proofs.Common.{ℕ, zero, suc, ◌+◌, ◌≡◌, ◌<◌, ◌≤◌, ◌⊎◌, Bool, true, false, List, Option, Some, None, length, slice_get, set, refl, ap, sym, ◌∙◌, subst, inl, inr, arith, replicate}
+use Rattle.std.proofs.Common.{ℕ, zero, suc, ◌+◌, ◌≡◌, ◌<◌, ◌≤◌, ◌⊎◌, Bool, true, false, List, Option, Some, None, length}
+use Rattle.std.proofs.Common.{slice_get, set, refl, ap, sym, ◌∙◌, subst, inl, inr, arith, replicate}
 use Rattle.std.proofs.lemmas.Bool.{cases_eq, false≢true}
 use Rattle.std.proofs.lemmas.List.{get_or-set_other, get_or-set_same}
 use Rattle.std.proofs.lemmas.Option.{same_Some, slice_get_within}
@@ -26,13 +27,19 @@ module _ (qs : List Production) (marks : List Bool) where
     this : IsMarkedOf qs marks q.left i
     this = (q, is, refl, marked)
 
-    pub put_chosen : (choices : List (Option ℕ)) → q.left < length choices → AreEarliestFrom qs marks (i + 1) choices → AreEarliestFrom qs marks i (set choices q.left (Some i))
+    pub put_chosen : (choices : List (Option ℕ)) → q.left < length choices → AreEarliestFrom qs marks (i + 1) choices
+        → AreEarliestFrom qs marks i (set choices q.left (Some i))
     put_chosen choices lt old = record {
       chosen = λ s k e. elim (cases_eq s q.left) [
         | inl same ↦
-            let here : Some i ≡ Some k = sym (get_or-set_same choices q.left (Some i) None lt) ∙ ap (choice_at (set choices q.left (Some i))) (sym same) ∙ e in
-            let equal : i ≡ k = same_Some i k here in
-            (omega arith, subst (IsMarkedOf qs marks s) equal (subst (λ z. IsMarkedOf qs marks z i) (sym same) this), λ j le h. omega arith)
+            let here : Some i ≡ Some k =
+            sym (get_or-set_same choices q.left (Some i) None lt) ∙ ap (choice_at (set choices q.left (Some i))) (sym same)
+            ∙ e in
+            let equal : i ≡ k = same_Some i k here in (
+              omega arith,
+              subst (IsMarkedOf qs marks s) equal (subst (λ z. IsMarkedOf qs marks z i) (sym same) this),
+              λ j le h. omega arith,
+            )
         | inr other ↦
             let before : choice_at choices s ≡ Some k = sym (get_or-set_other choices q.left s (Some i) None other) ∙ e in
             let r = old.chosen s k before in (
@@ -46,7 +53,9 @@ module _ (qs : List Production) (marks : List Bool) where
       ];
       none = λ s k e le h. elim (cases_eq s q.left) [
         | inl same ↦
-            let here : Some i ≡ None = sym (get_or-set_same choices q.left (Some i) None lt) ∙ ap (choice_at (set choices q.left (Some i))) (sym same) ∙ e in
+            let here : Some i ≡ None =
+            sym (get_or-set_same choices q.left (Some i) None lt) ∙ ap (choice_at (set choices q.left (Some i))) (sym same)
+            ∙ e in
             cc
         | inr other ↦
             let before : choice_at choices s ≡ None = sym (get_or-set_other choices q.left s (Some i) None other) ∙ e in
@@ -59,9 +68,11 @@ module _ (qs : List Production) (marks : List Bool) where
 
     -- if the first of a clash is this production, the second is of its symbol
     second_of : (b : ℕ) → AreConflicting qs marks i b → IsMarkedOf qs marks q.left b
-    second_of b conflict_with = subst (λ z. IsMarkedOf qs marks z b) (same_symbol i conflict_with.1.0 q.left conflict_with.1.1 this) conflict_with.1.2
+    second_of b conflict_with =
+        subst (λ z. IsMarkedOf qs marks z b) (same_symbol i conflict_with.1.0 q.left conflict_with.1.1 this) conflict_with.1.2
 
-    pub put_pair : (choices : List (Option ℕ)) (r : ℕ) → choice_at choices q.left ≡ Some r → AreEarliestFrom qs marks (i + 1) choices → IsLeastFrom qs marks i (Some (record { first = i; second = r }))
+    pub put_pair : (choices : List (Option ℕ)) (r : ℕ) → choice_at choices q.left ≡ Some r
+        → AreEarliestFrom qs marks (i + 1) choices → IsLeastFrom qs marks i (Some (record { first = i; second = r }))
     put_pair choices r e old =
         let k = old.chosen q.left r e in
         let after : i < r = omega (arith, k.0) in (
@@ -76,7 +87,8 @@ module _ (qs : List Production) (marks : List Bool) where
           ],
         )
 
-    keeps_some : (choices : List (Option ℕ)) (p : Pair) → choice_at choices q.left ≡ None → AreEarliestFrom qs marks (i + 1) choices → IsLeastFrom qs marks (i + 1) (Some p) → IsLeastFrom qs marks i (Some p)
+    keeps_some : (choices : List (Option ℕ)) (p : Pair) → choice_at choices q.left ≡ None
+        → AreEarliestFrom qs marks (i + 1) choices → IsLeastFrom qs marks (i + 1) (Some p) → IsLeastFrom qs marks i (Some p)
     keeps_some choices p e old least = (
       omega (arith, least.0),
       least.1,
@@ -89,7 +101,8 @@ module _ (qs : List Production) (marks : List Bool) where
       ],
     )
 
-    keeps_none : (choices : List (Option ℕ)) → choice_at choices q.left ≡ None → AreEarliestFrom qs marks (i + 1) choices → IsLeastFrom qs marks (i + 1) None → IsLeastFrom qs marks i None
+    keeps_none : (choices : List (Option ℕ)) → choice_at choices q.left ≡ None → AreEarliestFrom qs marks (i + 1) choices
+        → IsLeastFrom qs marks (i + 1) None → IsLeastFrom qs marks i None
     keeps_none choices e old least = λ a b le conflict_with. elim (from_cases i a le) [
       | inl same ↦
           let at_i : AreConflicting qs marks i b = subst (λ z. AreConflicting qs marks z b) same conflict_with in
@@ -98,15 +111,19 @@ module _ (qs : List Production) (marks : List Bool) where
       | inr more ↦ least a b more conflict_with
     ]
 
-    pub keeps_pair : (choices : List (Option ℕ)) (pair : Option Pair) → choice_at choices q.left ≡ None → AreEarliestFrom qs marks (i + 1) choices → IsLeastFrom qs marks (i + 1) pair → IsLeastFrom qs marks i pair
+    pub keeps_pair : (choices : List (Option ℕ)) (pair : Option Pair) → choice_at choices q.left ≡ None
+        → AreEarliestFrom qs marks (i + 1) choices → IsLeastFrom qs marks (i + 1) pair → IsLeastFrom qs marks i pair
     keeps_pair choices None e old least = keeps_none choices e old least
     keeps_pair choices (Some p) e old least = keeps_some choices p e old least
 
     -- the least pair, by the choice for the symbol
-    pub clashes : (choices : List (Option ℕ)) (chosen : Option ℕ) (pair result : Option Pair) → chosen ≡ choice_at choices q.left → ((r : ℕ) → chosen ≡ Some r → result ≡ Some (record { first = i; second = r })) → (chosen ≡ None → result ≡ pair)
+    pub clashes : (choices : List (Option ℕ)) (chosen : Option ℕ) (pair result : Option Pair) → chosen ≡ choice_at choices q.left
+        → ((r : ℕ) → chosen ≡ Some r → result ≡ Some (record { first = i; second = r })) → (chosen ≡ None → result ≡ pair)
         → AreEarliestFrom qs marks (i + 1) choices → IsLeastFrom qs marks (i + 1) pair → IsLeastFrom qs marks i result
-    clashes choices (Some r) pair result read some none old least = subst (IsLeastFrom qs marks i) (sym (some r refl)) (put_pair choices r (sym read) old)
-    clashes choices None pair result read some none old least = subst (IsLeastFrom qs marks i) (sym (none refl)) (keeps_pair choices pair (sym read) old least)
+    clashes choices (Some r) pair result read some none old least =
+        subst (IsLeastFrom qs marks i) (sym (some r refl)) (put_pair choices r (sym read) old)
+    clashes choices None pair result read some none old least =
+        subst (IsLeastFrom qs marks i) (sym (none refl)) (keeps_pair choices pair (sym read) old least)
 
   -- a production that is not marked changes nothing
   module _ (i : ℕ) (unmarked : is_marked marks i ≡ false) where
@@ -152,7 +169,8 @@ module _ (qs : List Production) (marks : List Bool) where
   no_choice (suc n) (suc s) = no_choice n s
 
   -- at first nothing is chosen
-  pub chosen_start : (choices : List (Option ℕ)) (n : ℕ) → choices ≡ replicate n None → AreEarliestFrom qs marks (length qs) choices
+  pub chosen_start : (choices : List (Option ℕ)) (n : ℕ) → choices ≡ replicate n None
+      → AreEarliestFrom qs marks (length qs) choices
   chosen_start choices n is = record {
     chosen = λ s k e. absurd (let none : None ≡ Some k = sym (no_choice n s) ∙ ap (λ cs. choice_at cs s) (sym is) ∙ e in cc);
     none = λ s k e le h. none_after s k le h;

@@ -1,5 +1,6 @@
 -- The invariants of filling the columns, and the properties of full columns.
-use Rattle.std.proofs.Common.{ℕ, zero, suc, Contains, ◌+◌, ◌≡◌, ◌<◌, ◌≤◌, ◌⊎◌, Bool, true, false, List, [], ◌∷◌, ◌++◌, Option, Some, None, length, get_or, slice_get, refl, ap, sym, ◌∙◌, subst, inl, inr, arith}
+use Rattle.std.proofs.Common.{ℕ, zero, suc, Contains, ◌+◌, ◌≡◌, ◌<◌, ◌≤◌, ◌⊎◌, Bool, true, false, List, [], ◌∷◌, ◌++◌, Option}
+use Rattle.std.proofs.Common.{Some, None, length, get_or, slice_get, refl, ap, sym, ◌∙◌, subst, inl, inr, arith}
 use Rattle.std.proofs.lemmas.Bool.{cases_eq}
 use Rattle.std.proofs.lemmas.Bool.Decides.{nat_tests}
 use Rattle.std.proofs.lemmas.Option.{get_or_from_slice_get}
@@ -11,7 +12,8 @@ use Rattle.ag_grammar.specs.declared.grammar.Terminal.{Terminal}
 use Rattle.ag_grammar.specs.declared.grammar.Terminal.TheVariants.{Literal, Class}
 use Rattle.ag_grammar.specs.grammars.AttributeGrammar.{Grammar}
 use Rattle.ag_grammar.specs.grammars.Accepted.{IsAccepted, IsNamedItem}
-use Rattle.llparse.specs.Ahead.{InFirst, of_production, InFirstOf, here, inside, later, InFollow, at_end, next, last, Predicts, IsConflict, HasNoConflict}
+use Rattle.llparse.specs.Ahead.{InFirst, of_production, InFirstOf, here, inside, later, InFollow, at_end, next, last, Predicts}
+use Rattle.llparse.specs.Ahead.{IsConflict, HasNoConflict}
 use Rattle.llparse.specs.table.Columns.{AreColumns, IsColumn, IsLeastAt, IsLeastBelow, IsLesserConflict, at_ahead}
 use Rattle.llparse.specs.table.Edges.{IsKnownAhead}
 use Rattle.llparse.specs.table.Nodes.{index_of}
@@ -56,7 +58,14 @@ module _ (g : Grammar) (x : Ahead) (marks : List Bool) (predicted : ArePredicted
       }
 
   conflicting_of : (a b : ℕ) → IsConflict g a b x → AreConflicting g.productions marks a b
-  conflicting_of a b c = (c.earlier, (c.one.left, (c.one, c.first_is, refl, (predicted a c.one c.first_is).1 c.one_predicts), (c.other, c.second_is, sym c.of_one_symbol, (predicted b c.other c.second_is).1 c.other_predicts)))
+  conflicting_of a b c = (
+    c.earlier,
+    (
+      c.one.left,
+      (c.one, c.first_is, refl, (predicted a c.one c.first_is).1 c.one_predicts),
+      (c.other, c.second_is, sym c.of_one_symbol, (predicted b c.other c.second_is).1 c.other_predicts),
+    ),
+  )
 
   pub least_is : (pair : Option Pair) → IsLeastFrom g.productions marks 0 pair → IsLeastAt g x pair
   least_is None least = λ a b c. least a b (omega arith) (conflicting_of a b c)
@@ -68,7 +77,8 @@ last_column [] x (suc n) e = absurd (omega arith)
 last_column (y ∷ xs) x zero e = absurd (omega arith)
 last_column (y ∷ xs) x (suc n) e = last_column xs x n (omega arith)
 
-column_before : (xs : List (List (Option ℕ))) (x : List (Option ℕ)) (n : ℕ) → n < length xs → get_or (xs ++ x ∷ []) n [] ≡ get_or xs n []
+column_before : (xs : List (List (Option ℕ))) (x : List (Option ℕ)) (n : ℕ) → n < length xs
+    → get_or (xs ++ x ∷ []) n [] ≡ get_or xs n []
 column_before [] x n lt = absurd (omega arith)
 column_before (y ∷ xs) x zero lt = refl
 column_before (y ∷ xs) x (suc n) lt = column_before xs x n (omega arith)
@@ -83,21 +93,29 @@ rows_long (v ∷ table) = ap suc (rows_long table)
 
 module _ (g : Grammar) (ok : IsAccepted g) where
   -- one more column
-  pub columns_more : (n : ℕ) (x : Ahead) (table : List (Vec (Option ℕ))) (v : Vec (Option ℕ)) → length table ≡ n → IsKnownAhead g x → index_of (length g.literals) x ≡ n → IsColumn g x v.items → AreColumns g n (rows table) → AreColumns g (n + 1) (rows (table ++ v ∷ []))
+  pub columns_more : (n : ℕ) (x : Ahead) (table : List (Vec (Option ℕ))) (v : Vec (Option ℕ)) → length table ≡ n
+      → IsKnownAhead g x → index_of (length g.literals) x ≡ n → IsColumn g x v.items → AreColumns g n (rows table)
+      → AreColumns g (n + 1) (rows (table ++ v ∷ []))
   columns_more n x table v count known at_n column before = λ y k lt. elim (cases_eq (index_of (length g.literals) y) n) [
     | inl same ↦
         let one : y ≡ x = same_ahead g ok y x k known (same ∙ sym at_n) in
-        let here : get_or (rows (table ++ v ∷ [])) (index_of (length g.literals) y) [] ≡ v.items = ap (λ zs. get_or zs (index_of (length g.literals) y) []) (rows_more table v) ∙ last_column (rows table) v.items (index_of (length g.literals) y) (same ∙ sym count ∙ sym (rows_long table)) in
+        let here : get_or (rows (table ++ v ∷ [])) (index_of (length g.literals) y) [] ≡ v.items =
+        ap (λ zs. get_or zs (index_of (length g.literals) y) []) (rows_more table v)
+        ∙ last_column (rows table) v.items (index_of (length g.literals) y) (same ∙ sym count ∙ sym (rows_long table)) in
         subst (IsColumn g y) (sym here) (subst (λ z. IsColumn g z v.items) (sym one) column)
     | inr other ↦
         let inner : index_of (length g.literals) y < n = omega arith in
         let within : index_of (length g.literals) y < length (rows table) = omega (arith, rows_long table) in
-        let there : get_or (rows (table ++ v ∷ [])) (index_of (length g.literals) y) [] ≡ get_or (rows table) (index_of (length g.literals) y) [] = ap (λ zs. get_or zs (index_of (length g.literals) y) []) (rows_more table v) ∙ column_before (rows table) v.items (index_of (length g.literals) y) within in
+        let there : get_or (rows (table ++ v ∷ [])) (index_of (length g.literals) y) [] ≡ get_or (rows table)
+        (index_of (length g.literals) y) [] =
+        ap (λ zs. get_or zs (index_of (length g.literals) y) []) (rows_more table v)
+        ∙ column_before (rows table) v.items (index_of (length g.literals) y) within in
         subst (IsColumn g y) (sym there) (before y k inner)
   ]
 
   module _ (n : ℕ) (x : Ahead) (known : IsKnownAhead g x) (at_n : index_of (length g.literals) x ≡ n) where
-    this_or : (y : Ahead) → IsKnownAhead g y → index_of (length g.literals) y < n + 1 → (y ≡ x) ⊎ (index_of (length g.literals) y < n)
+    this_or : (y : Ahead) → IsKnownAhead g y → index_of (length g.literals) y < n + 1
+        → (y ≡ x) ⊎ (index_of (length g.literals) y < n)
     this_or y k lt = elim (cases_eq (index_of (length g.literals) y) n) [
       | inl same ↦ inl (same_ahead g ok y x k known (same ∙ sym at_n))
       | inr other ↦ inr (omega arith)
@@ -109,7 +127,8 @@ module _ (g : Grammar) (ok : IsAccepted g) where
       | inr before ↦ old a b y k before c
     ]
 
-    old_stays : (c : Conflict) → IsLeastBelow g n (Some c) → ((a b : ℕ) → IsConflict g a b x → (c.first < a) ⊎ ((c.first ≡ a) × (c.second ≤ b))) → IsLeastBelow g (n + 1) (Some c)
+    old_stays : (c : Conflict) → IsLeastBelow g n (Some c)
+        → ((a b : ℕ) → IsConflict g a b x → (c.first < a) ⊎ ((c.first ≡ a) × (c.second ≤ b))) → IsLeastBelow g (n + 1) (Some c)
     old_stays c old later_ones = (
       old.0,
       omega (arith, old.1),
@@ -127,13 +146,16 @@ module _ (g : Grammar) (ok : IsAccepted g) where
       ],
     )
 
-    new_can_start : (p : Pair) → IsLeastAt g x (Some p) → ((a b : ℕ) (y : Ahead) → IsKnownAhead g y → index_of (length g.literals) y < n → IsConflict g a b y → (p.first < a) ⊎ ((p.first ≡ a) × (p.second < b))) → IsLeastBelow g (n + 1) (Some (at_ahead p x))
+    new_can_start : (p : Pair) → IsLeastAt g x (Some p)
+        → ((a b : ℕ) (y : Ahead) → IsKnownAhead g y → index_of (length g.literals) y < n → IsConflict g a b y
+        → (p.first < a) ⊎ ((p.first ≡ a) × (p.second < b))) → IsLeastBelow g (n + 1) (Some (at_ahead p x))
     new_can_start p new later_ones = (
       new.0,
       omega (arith, at_n),
       λ a b y k lt d. elim (this_or y k lt) [
         | inl same ↦
-            let at_index : index_of (length g.literals) x ≡ index_of (length g.literals) y = ap (index_of (length g.literals)) (sym same) in
+            let at_index : index_of (length g.literals) x ≡ index_of (length g.literals) y =
+            ap (index_of (length g.literals)) (sym same) in
             elim (new.1 a b (subst (IsConflict g a b) same d)) [
               | inl less ↦ inl less
               | inr equal ↦ elim (cases_eq p.second b) [
@@ -149,52 +171,64 @@ module _ (g : Grammar) (ok : IsAccepted g) where
     )
 
     -- the least conflict with one more look-ahead
-    pub least_more : (least : Option Conflict) (pair : Option Pair) (result : Option Conflict) → IsLesserConflict least pair x result → IsLeastBelow g n least → IsLeastAt g x pair → IsLeastBelow g (n + 1) result
+    pub least_more : (least : Option Conflict) (pair : Option Pair) (result : Option Conflict)
+        → IsLesserConflict least pair x result → IsLeastBelow g n least → IsLeastAt g x pair → IsLeastBelow g (n + 1) result
     least_more None None result is old new = subst (IsLeastBelow g (n + 1)) (sym is) (no_more old new)
-    least_more None (Some p) result is old new = subst (IsLeastBelow g (n + 1)) (sym is) (new_can_start p new (λ a b y k lt d. absurd (old a b y k lt d)))
-    least_more (Some c) None result is old new = subst (IsLeastBelow g (n + 1)) (sym is) (old_stays c old (λ a b d. absurd (new a b d)))
-    least_more (Some c) (Some p) result (inl keeps) old new = subst (IsLeastBelow g (n + 1)) (sym keeps.0) (old_stays c old (λ a b d. elim keeps.1 [
-      | inl less ↦ elim (new.1 a b d) [
-        | inl further ↦ inl (omega arith)
-        | inr equal ↦ inl (omega (arith, equal.0))
-      ]
-      | inr equal ↦ elim (new.1 a b d) [
-        | inl further ↦ inl (omega (arith, equal.0))
-        | inr again ↦ inr (equal.0 ∙ again.0, omega (arith, equal.1, again.1))
-      ]
-    ]))
-    least_more (Some c) (Some p) result (inr takes) old new = subst (IsLeastBelow g (n + 1)) (sym takes.0) (new_can_start p new (λ a b y k lt d. elim takes.1 [
-      | inl less ↦ elim (old.2 a b y k lt d) [
-        | inl further ↦ inl (omega arith)
-        | inr equal ↦ inl (omega (arith, equal.0))
-      ]
-      | inr equal ↦ elim (old.2 a b y k lt d) [
-        | inl further ↦ inl (omega (arith, equal.0))
-        | inr again ↦ elim again.1 [
-          | inl second ↦ inr (equal.0 ∙ again.0, omega (arith, equal.1, second))
-          | inr same ↦ inr (equal.0 ∙ again.0, omega (arith, equal.1, same.0))
-        ]
-      ]
-    ]))
+    least_more None (Some p) result is old new =
+        subst (IsLeastBelow g (n + 1)) (sym is) (new_can_start p new (λ a b y k lt d. absurd (old a b y k lt d)))
+    least_more (Some c) None result is old new =
+        subst (IsLeastBelow g (n + 1)) (sym is) (old_stays c old (λ a b d. absurd (new a b d)))
+    least_more (Some c) (Some p) result (inl keeps) old new =
+        subst (IsLeastBelow g (n + 1)) (sym keeps.0) (old_stays c old (λ a b d. elim keeps.1 [
+          | inl less ↦ elim (new.1 a b d) [
+            | inl further ↦ inl (omega arith)
+            | inr equal ↦ inl (omega (arith, equal.0))
+          ]
+          | inr equal ↦ elim (new.1 a b d) [
+            | inl further ↦ inl (omega (arith, equal.0))
+            | inr again ↦ inr (equal.0 ∙ again.0, omega (arith, equal.1, again.1))
+          ]
+        ]))
+    least_more (Some c) (Some p) result (inr takes) old new =
+        subst (IsLeastBelow g (n + 1)) (sym takes.0) (new_can_start p new (λ a b y k lt d. elim takes.1 [
+          | inl less ↦ elim (old.2 a b y k lt d) [
+            | inl further ↦ inl (omega arith)
+            | inr equal ↦ inl (omega (arith, equal.0))
+          ]
+          | inr equal ↦ elim (old.2 a b y k lt d) [
+            | inl further ↦ inl (omega (arith, equal.0))
+            | inr again ↦ elim again.1 [
+              | inl second ↦ inr (equal.0 ∙ again.0, omega (arith, equal.1, second))
+              | inr same ↦ inr (equal.0 ∙ again.0, omega (arith, equal.1, same.0))
+            ]
+          ]
+        ]))
 
   -- a predicted look-ahead is one of the grammar's
   mutual
     first_known : (s : ℕ) (a : Terminal) → InFirst g s a → IsKnownAhead g (ahead.Terminal a)
-    first_known s a (of_production p q e l h) = first_of_known q.items a (λ y k. named_in g ok q y (element_at g.productions p q e) k) h
+    first_known s a (of_production p q e l h) =
+        first_of_known q.items a (λ y k. named_in g ok q y (element_at g.productions p q e) k) h
 
-    first_of_known : (xs : List Item) (a : Terminal) → ((y : Item) → Contains xs y → IsNamedItem g y) → InFirstOf g xs a → IsKnownAhead g (ahead.Terminal a)
+    first_of_known : (xs : List Item) (a : Terminal) → ((y : Item) → Contains xs y → IsNamedItem g y) → InFirstOf g xs a
+        → IsKnownAhead g (ahead.Terminal a)
     first_of_known [] a named h = elim h [ ]
-    first_of_known (item.Terminal b ∷ xs) a named here = known_terminal g ok a (named (item.Terminal a) (contains_here (item.Terminal a) xs))
+    first_of_known (item.Terminal b ∷ xs) a named here =
+        known_terminal g ok a (named (item.Terminal a) (contains_here (item.Terminal a) xs))
     first_of_known (item.Symbol s ∷ xs) a named (inside h) = first_known s a h
-    first_of_known (item.Symbol s ∷ xs) a named (later k h) = first_of_known xs a (λ y m. named y (contains_there (item.Symbol s) xs y m)) h
+    first_of_known (item.Symbol s ∷ xs) a named (later k h) =
+        first_of_known xs a (λ y m. named y (contains_there (item.Symbol s) xs y m)) h
 
   follow_known : (n : ℕ → Bool) (s : ℕ) (x : Ahead) → InFollow g s x → IsKnownAhead g x
   follow_known n s x at_end = tt
-  follow_known n s x (next p q {a = a} xs ys e f h) = first_of_known ys a (rest_named g ok n q xs ys (item.Symbol s) (element_at g.productions p q e) f) h
+  follow_known n s x (next p q {a = a} xs ys e f h) =
+      first_of_known ys a (rest_named g ok n q xs ys (item.Symbol s) (element_at g.productions p q e) f) h
   follow_known n s x (last p q xs ys e f k h) = follow_known n q.left x h
 
-  pub predicts_known : (p : ℕ) (q : Production) (x : Ahead) → slice_get g.productions p ≡ Some q → Predicts g q x → IsKnownAhead g x
-  predicts_known p q (ahead.Terminal a) e (inl h) = first_of_known q.items a (λ y k. named_in g ok q y (element_at g.productions p q e) k) h
+  pub predicts_known : (p : ℕ) (q : Production) (x : Ahead) → slice_get g.productions p ≡ Some q → Predicts g q x
+      → IsKnownAhead g x
+  predicts_known p q (ahead.Terminal a) e (inl h) =
+      first_of_known q.items a (λ y k. named_in g ok q y (element_at g.productions p q e) k) h
   predicts_known p q ahead.End e h = tt
   predicts_known p q (ahead.Terminal a) e (inr h) = follow_known (λ s. false) q.left (ahead.Terminal a) h.1
 
@@ -214,16 +248,21 @@ module _ (g : Grammar) (ok : IsAccepted g) where
       let known = predicts_known a c.one x c.first_is c.one_predicts in
       none a b x known (index_below g ok x known) c
 
-  pub least_of : (c : Conflict) (p : Production) (symbol : ℕ) → IsLeastBelow g (length g.literals + 4) (Some c) → symbol ≡ (get_or g.productions c.first p).left → IsLeastConflict g symbol c.first c.second c.ahead
+  pub least_of : (c : Conflict) (p : Production) (symbol : ℕ) → IsLeastBelow g (length g.literals + 4) (Some c)
+      → symbol ≡ (get_or g.productions c.first p).left → IsLeastConflict g symbol c.first c.second c.ahead
   least_of c p symbol least is = record {
     conflict = least.0;
-    of_symbol = sym (is ∙ ap (λ (q : Production). q.left) (get_or_from_slice_get g.productions c.first least.0.one p least.0.first_is));
-    least = λ a b y d. let known = predicts_known a d.one y d.first_is d.one_predicts in least.2 a b y known (index_below g ok y known) d;
+    of_symbol =
+        sym (is ∙ ap (λ (q : Production). q.left) (get_or_from_slice_get g.productions c.first least.0.one p least.0.first_is));
+    least = λ a b y d. let known = predicts_known a d.one y d.first_is d.one_predicts in
+        least.2 a b y known (index_below g ok y known) d;
   }
 
   -- full columns without a conflict fit the grammar
-  module _ (t : Choices) (literals : t.literals ≡ length g.literals) (full : AreColumns g (length g.literals + 4) t.columns) (free : HasNoConflict g) where
-    looked_up : (s : ℕ) (x : Ahead) → is_known t.literals x ≡ true → choice_of t s x ≡ choice_at (get_or t.columns (index_of (length g.literals) x) []) s
+  module _ (t : Choices) (literals : t.literals ≡ length g.literals) (full : AreColumns g (length g.literals + 4) t.columns)
+      (free : HasNoConflict g) where
+    looked_up : (s : ℕ) (x : Ahead) → is_known t.literals x ≡ true
+        → choice_of t s x ≡ choice_at (get_or t.columns (index_of (length g.literals) x) []) s
     looked_up s x h = rw (h, literals) refl
 
     column_at : (x : Ahead) → IsKnownAhead g x → IsColumn g x (get_or t.columns (index_of (length g.literals) x) [])
@@ -238,10 +277,22 @@ module _ (g : Grammar) (ok : IsAccepted g) where
     one_choice : (s : ℕ) (x : Ahead) (j k : ℕ) → IsChoice g s x j → IsChoice g s x k → j ≤ k → j ≡ k
     one_choice s x j k h m le = elim (cases_eq j k) [
       | inl same ↦ same
-      | inr other ↦ absurd (free j k x (record { one = h.0; other = m.0; first_is = h.1; second_is = m.1; earlier = omega arith; of_one_symbol = h.2 ∙ sym m.2; one_predicts = h.3; other_predicts = m.3 }))
+      | inr other ↦ absurd
+          (free j k x
+          (record {
+            one = h.0;
+            other = m.0;
+            first_is = h.1;
+            second_is = m.1;
+            earlier = omega arith;
+            of_one_symbol = h.2 ∙ sym m.2;
+            one_predicts = h.3;
+            other_predicts = m.3;
+          }))
     ]
 
-    found : (s : ℕ) (x : Ahead) (k : ℕ) → IsChoice g s x k → (o : Option ℕ) → choice_at (get_or t.columns (index_of (length g.literals) x) []) s ≡ o → o ≡ Some k
+    found : (s : ℕ) (x : Ahead) (k : ℕ) → IsChoice g s x k → (o : Option ℕ)
+        → choice_at (get_or t.columns (index_of (length g.literals) x) []) s ≡ o → o ≡ Some k
     found s x k h None e = let known = predicts_known k h.0 x h.1 h.3 in absurd ((column_at x known).none s k e h)
     found s x k h (Some j) e =
         let known = predicts_known k h.0 x h.1 h.3 in
@@ -258,6 +309,9 @@ module _ (g : Grammar) (ok : IsAccepted g) where
     fits s x k = (there s x k (is_known t.literals x) refl, back s x k)
 
 -- the same conflict in other words
-pub same_least : (g : Grammar) (s s' a a' b b' : ℕ) (x x' : Ahead) → IsLeastConflict g s a b x → s ≡ s' → a ≡ a' → b ≡ b' → x ≡ x' → IsLeastConflict g s' a' b' x'
+pub same_least : (g : Grammar) (s s' a a' b b' : ℕ) (x x' : Ahead) → IsLeastConflict g s a b x → s ≡ s' → a ≡ a' → b ≡ b' → x ≡ x'
+    → IsLeastConflict g s' a' b' x'
 same_least g s s' a a' b b' x x' h es ea eb ex =
-    subst (IsLeastConflict g s' a' b') ex (subst (λ z. IsLeastConflict g s' a' z x) eb (subst (λ z. IsLeastConflict g s' z b x) ea (subst (λ z. IsLeastConflict g z a b x) es h)))
+    subst (IsLeastConflict g s' a' b') ex
+    (subst (λ z. IsLeastConflict g s' a' z x) eb
+    (subst (λ z. IsLeastConflict g s' z b x) ea (subst (λ z. IsLeastConflict g z a b x) es h)))

@@ -1,7 +1,9 @@
 -- Edges added to lists.
-use Rattle.std.proofs.Common.{ℕ, Contains, ◌+◌, ◌≡◌, ◌<◌, ◌≤◌, ◌⊎◌, ◌↔◌, Bool, true, false, List, [], ◌∷◌, ◌++◌, length, get_or, take, drop, refl, ap, sym, subst, ◌∙◌, inl, inr, arith, drop-cons, append_assoc, take_all, add-one}
+use Rattle.std.proofs.Common.{ℕ, Contains, ◌+◌, ◌≡◌, ◌<◌, ◌≤◌, ◌⊎◌, ◌↔◌, Bool, true, false, List, [], ◌∷◌, ◌++◌, length, get_or}
+use Rattle.std.proofs.Common.{take, drop, refl, ap, sym, subst, ◌∙◌, inl, inr, arith, drop-cons, append_assoc, take_all, add-one}
 use Rattle.std.proofs.lemmas.List.{take_more, drop_all, append-nil}
-use Rattle.std.proofs.lemmas.List.Elements.{Contains-push_cases, Contains-append_cases, Contains-append_left, Contains-append_right, Contains-push}
+use Rattle.std.proofs.lemmas.List.Elements.{Contains-push_cases, Contains-append_cases, Contains-append_left}
+use Rattle.std.proofs.lemmas.List.Elements.{Contains-append_right, Contains-push}
 use Rattle.ag_grammar.specs.declared.grammar.Item.{Item}
 use Rattle.llparse.specs.table.Edges.{starting_items, Adds, IsEdge, OfSome}
 use Rattle.closure.specs.declared.edges.Edge.{Edge}
@@ -28,32 +30,47 @@ cons_cases y xs x h = elim (Contains-append_cases (y ∷ []) xs x h) [
 drop_more : (items : List Item) (at : ℕ) (d : Item) → at < length items → drop at items ≡ get_or items at d ∷ drop (at + 1) items
 drop_more items at d lt = rw add-one (drop-cons items at d lt)
 
-front_goes : (n : ℕ → Bool) (y : Item) (zs : List Item) → is_nullable_item n y ≡ true → starting_items n (y ∷ zs) ≡ y ∷ starting_items n zs
+front_goes : (n : ℕ → Bool) (y : Item) (zs : List Item) → is_nullable_item n y ≡ true
+    → starting_items n (y ∷ zs) ≡ y ∷ starting_items n zs
 front_goes n y zs h = rw h refl
 
 front_ends : (n : ℕ → Bool) (y : Item) (zs : List Item) → is_nullable_item n y ≡ false → starting_items n (y ∷ zs) ≡ y ∷ []
 front_ends n y zs h = rw h refl
 
 -- one more item of the front is passed
-pub prefix_step : (n : ℕ → Bool) (items : List Item) (at : ℕ) (d : Item) → at < length items → is_nullable_item n (get_or items at d) ≡ true → starting_items n items ≡ take at items ++ starting_items n (drop at items) → starting_items n items ≡ take (at + 1) items ++ starting_items n (drop (at + 1) items)
+pub prefix_step : (n : ℕ → Bool) (items : List Item) (at : ℕ) (d : Item) → at < length items
+    → is_nullable_item n (get_or items at d) ≡ true → starting_items n items ≡ take at items ++ starting_items n (drop at items)
+    → starting_items n items ≡ take (at + 1) items ++ starting_items n (drop (at + 1) items)
 prefix_step n items at d lt h is =
-    is ∙ ap (λ zs. take at items ++ starting_items n zs) (drop_more items at d lt) ∙ ap (λ zs. take at items ++ zs) (front_goes n (get_or items at d) (drop (at + 1) items) h)
-    ∙ sym (append_assoc (take at items) (get_or items at d ∷ []) (starting_items n (drop (at + 1) items))) ∙ ap (λ zs. zs ++ starting_items n (drop (at + 1) items)) (sym (take_more items at d lt))
+    is ∙ ap (λ zs. take at items ++ starting_items n zs) (drop_more items at d lt)
+    ∙ ap (λ zs. take at items ++ zs) (front_goes n (get_or items at d) (drop (at + 1) items) h)
+    ∙ sym (append_assoc (take at items) (get_or items at d ∷ []) (starting_items n (drop (at + 1) items)))
+    ∙ ap (λ zs. zs ++ starting_items n (drop (at + 1) items)) (sym (take_more items at d lt))
 
 -- an item that is not nullable is the last of the front
-pub prefix_stop : (n : ℕ → Bool) (items : List Item) (at : ℕ) (d : Item) → at < length items → is_nullable_item n (get_or items at d) ≡ false → starting_items n items ≡ take at items ++ starting_items n (drop at items) → take (at + 1) items ≡ starting_items n items
+pub prefix_stop : (n : ℕ → Bool) (items : List Item) (at : ℕ) (d : Item) → at < length items
+    → is_nullable_item n (get_or items at d) ≡ false → starting_items n items ≡ take at items ++ starting_items n (drop at items)
+    → take (at + 1) items ≡ starting_items n items
 prefix_stop n items at d lt h is =
-    take_more items at d lt ∙ sym (is ∙ ap (λ zs. take at items ++ starting_items n zs) (drop_more items at d lt) ∙ ap (λ zs. take at items ++ zs) (front_ends n (get_or items at d) (drop (at + 1) items) h))
+    take_more items at d lt
+    ∙ sym (is ∙ ap (λ zs. take at items ++ starting_items n zs) (drop_more items at d lt)
+    ∙ ap (λ zs. take at items ++ zs) (front_ends n (get_or items at d) (drop (at + 1) items) h))
 
 -- the front has all items
-pub front_whole : (n : ℕ → Bool) (items : List Item) (at : ℕ) → length items ≤ at → starting_items n items ≡ take at items ++ starting_items n (drop at items) → take (length items) items ≡ starting_items n items
-front_whole n items at most is = take_all (length items) items (omega arith) ∙ sym (is ∙ ap (λ zs. take at items ++ starting_items n zs) (drop_all at items most) ∙ append-nil (take at items) ∙ take_all at items most)
+pub front_whole : (n : ℕ → Bool) (items : List Item) (at : ℕ) → length items ≤ at
+    → starting_items n items ≡ take at items ++ starting_items n (drop at items)
+    → take (length items) items ≡ starting_items n items
+front_whole n items at most is =
+    take_all (length items) items (omega arith)
+    ∙ sym (is ∙ ap (λ zs. take at items ++ starting_items n zs) (drop_all at items most) ∙ append-nil (take at items)
+    ∙ take_all at items most)
 
 pub adds_none : {X : Type 0} (P A : X → Type 0) → ((x : X) → P x → ⊥) → Adds P A A
 adds_none P A no_more = record { kept = λ x h. h; all = λ x h. absurd (no_more x h); only = λ x h. inl h }
 
 -- the edges of one more element are added
-pub adds_more : {X Y : Type 0} (R : X → Y → Type 0) (xs : List X) (i : ℕ) (d : X) (A B C : Y → Type 0) → i < length xs → Adds (OfSome R (take i xs)) A B → Adds (R (get_or xs i d)) B C → Adds (OfSome R (take (i + 1) xs)) A C
+pub adds_more : {X Y : Type 0} (R : X → Y → Type 0) (xs : List X) (i : ℕ) (d : X) (A B C : Y → Type 0) → i < length xs
+    → Adds (OfSome R (take i xs)) A B → Adds (R (get_or xs i d)) B C → Adds (OfSome R (take (i + 1) xs)) A C
 adds_more R xs i d A B C lt m n = record {
   kept = λ y h. n.kept y (m.kept y h);
   all = λ y h. elim (Contains-push_cases (take i xs) (get_or xs i d) h.0 (rw (← take_more xs i d lt) h.1)) [
@@ -70,7 +87,8 @@ adds_more R xs i d A B C lt m n = record {
 }
 
 -- elements added to an empty list are all its elements
-pub noted_iff : {X Y : Type 0} (R : X → Y → Type 0) (xs : List X) (i : ℕ) (A B : Y → Type 0) → length xs ≤ i → ((y : Y) → A y → ⊥) → Adds (OfSome R (take i xs)) A B → (y : Y) → B y ↔ OfSome R xs y
+pub noted_iff : {X Y : Type 0} (R : X → Y → Type 0) (xs : List X) (i : ℕ) (A B : Y → Type 0) → length xs ≤ i → ((y : Y) → A y → ⊥)
+    → Adds (OfSome R (take i xs)) A B → (y : Y) → B y ↔ OfSome R xs y
 noted_iff R xs i A B most none adds y = (
   λ h. elim (adds.only y h) [
     | inl a ↦ absurd (none y a)
@@ -79,10 +97,13 @@ noted_iff R xs i A B most none adds y = (
   λ k. adds.all y (k.0, rw (take_all i xs most) k.1, k.2),
 )
 
-pub adds_edge : (edges : List Edge) (from to : ℕ) → Adds (IsEdge from to) (Contains edges) (Contains (edges ++ record { from = from; to = to } ∷ []))
+pub adds_edge : (edges : List Edge) (from to : ℕ)
+    → Adds (IsEdge from to) (Contains edges) (Contains (edges ++ record { from = from; to = to } ∷ []))
 adds_edge edges from to = record {
   kept = λ e h. Contains-append_left edges (record { from = from; to = to } ∷ []) e h;
-  all = λ e h. subst (Contains (edges ++ record { from = from; to = to } ∷ [])) (same e h) (Contains-push edges (record { from = from; to = to }));
+  all =
+      λ e h. subst (Contains (edges ++ record { from = from; to = to } ∷ [])) (same e h)
+      (Contains-push edges (record { from = from; to = to }));
   only = λ e h. elim (Contains-push_cases edges (record { from = from; to = to }) e h) [
     | inl old ↦ inl old
     | inr new ↦ inr (record { tail = sym (ap (λ (d : Edge). d.from) new); head = sym (ap (λ (d : Edge). d.to) new) })

@@ -18,13 +18,18 @@ use Rattle.llparse.proofs.look_ahead.Firsts.{left_in, named_in, node_below}
 module _ (g : Grammar) (ok : IsAccepted g) where
   -- the clauses are over the nodes
   pub clauses_below : All (IsClauseBelow (length g.symbols + (length g.literals + 4))) (clauses_of g)
-  clauses_below = All-map (IsClauseBelow (length g.symbols + (length g.literals + 4))) (clause_of (length g.symbols) (length g.literals)) g.productions (λ p d lt.
+  clauses_below =
+      All-map (IsClauseBelow (length g.symbols + (length g.literals + 4)))
+      (clause_of (length g.symbols) (length g.literals)) g.productions (λ p d lt.
       let q = get_or g.productions p d in
       let here = Contains-get_or g.productions p d lt in
       let left = left_in g ok q here in
       record {
         head = omega arith;
-        body = All-map (λ t. t < length g.symbols + (length g.literals + 4)) (node_in g) q.items (λ i e inside. node_below g ok (get_or q.items i e) (named_in g ok q (get_or q.items i e) here (Contains-get_or q.items i e inside)));
+        body =
+            All-map (λ t. t < length g.symbols + (length g.literals + 4)) (node_in g) q.items
+            (λ i e inside. node_below g ok (get_or q.items i e)
+            (named_in g ok q (get_or q.items i e) here (Contains-get_or q.items i e inside)));
       })
 
   -- a nullable number is a symbol's
@@ -33,9 +38,13 @@ module _ (g : Grammar) (ok : IsAccepted g) where
 
   items_nullable : (xs : List Item) → All (IsNullable g) (map (node_in g) xs) → AreNullable g xs
   items_nullable [] all = nothing
-  items_nullable (item.Symbol s ∷ xs) all = a_symbol (All-head (IsNullable g) s (map (node_in g) xs) all) (items_nullable xs (All-tail (IsNullable g) s (map (node_in g) xs) all))
+  items_nullable (item.Symbol s ∷ xs) all =
+      a_symbol (All-head (IsNullable g) s (map (node_in g) xs) all)
+      (items_nullable xs (All-tail (IsNullable g) s (map (node_in g) xs) all))
   items_nullable (item.Terminal a ∷ xs) all =
-      let bad = below_symbols (node_in g (item.Terminal a)) (All-head (IsNullable g) (node_in g (item.Terminal a)) (map (node_in g) xs) all) in absurd (omega arith)
+      let bad =
+      below_symbols (node_in g (item.Terminal a))
+      (All-head (IsNullable g) (node_in g (item.Terminal a)) (map (node_in g) xs) all) in absurd (omega arith)
 
   follows_nullable : (s : ℕ) → Follows (clauses_of g) [] s → IsNullable g s
   follows_nullable = follows_in (clauses_of g) [] (IsNullable g) (λ t none. absurd (omega (arith, none.1))) (λ p c e all.
@@ -44,7 +53,9 @@ module _ (g : Grammar) (ok : IsAccepted g) where
 
   mutual
     nullable_follows : (s : ℕ) → IsNullable g s → Follows (clauses_of g) [] s
-    nullable_follows s (by_production p q e l h) = by_clause p (clause_of (length g.symbols) (length g.literals) q) (at_mapped (clause_of (length g.symbols) (length g.literals)) g.productions p q e) l (all_follow q.items h)
+    nullable_follows s (by_production p q e l h) =
+        by_clause p (clause_of (length g.symbols) (length g.literals) q)
+        (at_mapped (clause_of (length g.symbols) (length g.literals)) g.productions p q e) l (all_follow q.items h)
 
     all_follow : (xs : List Item) → AreNullable g xs → FollowAll (clauses_of g) [] (map (node_in g) xs)
     all_follow [] nothing = no_number

@@ -1,5 +1,6 @@
 -- The productions that predict a look-ahead.
-use Rattle.std.proofs.Common.{ℕ, zero, suc, ◌+◌, ◌≡◌, ◌<◌, ◌↔◌, Bool, true, List, [], ◌∷◌, ◌++◌, length, get_or, refl, ap, sym, ◌∙◌, subst, inl, inr, arith}
+use Rattle.std.proofs.Common.{ℕ, zero, suc, ◌+◌, ◌≡◌, ◌<◌, ◌↔◌, Bool, true, List, [], ◌∷◌, ◌++◌, length, get_or, refl, ap, sym}
+use Rattle.std.proofs.Common.{◌∙◌, subst, inl, inr, arith}
 use Rattle.std.proofs.lemmas.Bool.{cases_eq}
 use Rattle.std.proofs.lemmas.Option.{get_or_from_slice_get}
 use Rattle.ag_grammar.specs.declared.grammar.Item.{Item}
@@ -18,8 +19,11 @@ use Rattle.closure.proofs.Positions.{element_at}
 use Rattle.llparse.proofs.look_ahead.Firsts.{left_in, named_in}
 
 -- a production is predicted if the look-ahead comes next along its items, or follows it
-pub predicts_iff : (g : Grammar) (ok : IsAccepted g) (n : ℕ → Bool) (known : (s : ℕ) → n s ≡ true ↔ IsNullable g s) (x : Ahead) (begins follows : List Bool) → AreFirstMarks g x begins → AreFollowMarks g x follows
-    → (p : ℕ) (q : Production) → IsProduction g p q → can_start_in (λ y. is_marked begins (node_in g y)) (is_nullable_item n) (is_marked follows q.left) q.items ≡ true ↔ Predicts g q x
+pub predicts_iff : (g : Grammar) (ok : IsAccepted g) (n : ℕ → Bool) (known : (s : ℕ) → n s ≡ true ↔ IsNullable g s) (x : Ahead)
+    (begins follows : List Bool) → AreFirstMarks g x begins → AreFollowMarks g x follows
+    → (p : ℕ) (q : Production) → IsProduction g p q
+    → can_start_in (λ y. is_marked begins (node_in g y)) (is_nullable_item n) (is_marked follows q.left) q.items ≡ true
+    ↔ Predicts g q x
 predicts_iff g ok n known x begins follows first follow p q e =
     let hq = element_at g.productions p q e in
     let b = λ (y : Item). is_marked begins (node_in g y) in
@@ -46,22 +50,39 @@ marked_before (m ∷ marks) b zero lt = refl
 marked_before (m ∷ marks) b (suc p) lt = marked_before marks b p (omega arith)
 
 -- one more production is decided
-pub predicted_more : (g : Grammar) (x : Ahead) (marks : List Bool) (b : Bool) → ((q : Production) → IsProduction g (length marks) q → b ≡ true ↔ Predicts g q x) → ((p : ℕ) (q : Production) → p < length marks → IsProduction g p q → is_marked marks p ≡ true ↔ Predicts g q x)
+pub predicted_more : (g : Grammar) (x : Ahead) (marks : List Bool) (b : Bool)
+    → ((q : Production) → IsProduction g (length marks) q → b ≡ true ↔ Predicts g q x)
+    → ((p : ℕ) (q : Production) → p < length marks → IsProduction g p q → is_marked marks p ≡ true ↔ Predicts g q x)
     → (p : ℕ) (q : Production) → p < length marks + 1 → IsProduction g p q → is_marked (marks ++ b ∷ []) p ≡ true ↔ Predicts g q x
 predicted_more g x marks b this before p q lt e = elim (cases_eq p (length marks)) [
-  | inl same ↦ subst (λ z. z ≡ true ↔ Predicts g q x) (sym (ap (is_marked (marks ++ b ∷ [])) same ∙ marked_last marks b)) (this q (subst (λ z. IsProduction g z q) same e))
-  | inr other ↦ let inner : p < length marks = omega arith in subst (λ z. z ≡ true ↔ Predicts g q x) (sym (marked_before marks b p inner)) (before p q inner e)
+  | inl same ↦ subst (λ z. z ≡ true ↔ Predicts g q x) (sym (ap (is_marked (marks ++ b ∷ [])) same ∙ marked_last marks b))
+      (this q (subst (λ z. IsProduction g z q) same e))
+  | inr other ↦ let inner : p < length marks = omega arith in
+      subst (λ z. z ≡ true ↔ Predicts g q x) (sym (marked_before marks b p inner)) (before p q inner e)
 ]
 
 -- the result of the code for one production
-pub predicts_at : (g : Grammar) (ok : IsAccepted g) (n : ℕ → Bool) (known : (s : ℕ) → n s ≡ true ↔ IsNullable g s) (x : Ahead) (begins follows : List Bool) → AreFirstMarks g x begins → AreFollowMarks g x follows
-    → (at : ℕ) (r : Production) (symbols literals : ℕ) (items : List Item) (following result : Bool) → r ≡ get_or g.productions at r → symbols ≡ length g.symbols → literals ≡ length g.literals → items ≡ r.items → following ≡ is_marked follows r.left
-    → result ≡ can_start_in (λ y. is_marked begins (node_of symbols literals y)) (is_nullable_item n) following items → (q : Production) → IsProduction g at q → result ≡ true ↔ Predicts g q x
-predicts_at g ok n known x begins follows first follow at r symbols literals items following result is ss ll same after exact q e =
+pub predicts_at : (g : Grammar) (ok : IsAccepted g) (n : ℕ → Bool) (known : (s : ℕ) → n s ≡ true ↔ IsNullable g s) (x : Ahead)
+    (begins follows : List Bool) → AreFirstMarks g x begins → AreFollowMarks g x follows
+    → (at : ℕ) (r : Production) (symbols literals : ℕ) (items : List Item) (following result : Bool)
+    → r ≡ get_or g.productions at r → symbols ≡ length g.symbols → literals ≡ length g.literals → items ≡ r.items
+    → following ≡ is_marked follows r.left
+    → result ≡ can_start_in (λ y. is_marked begins (node_of symbols literals y)) (is_nullable_item n) following items
+    → (q : Production) → IsProduction g at q → result ≡ true ↔ Predicts g q x
+predicts_at g ok n known x begins follows first follow at r symbols literals items following result is ss ll same after exact q
+    e =
     let one : r ≡ q = is ∙ get_or_from_slice_get g.productions at q r e in
-    let a = subst (λ z. result ≡ can_start_in (λ y. is_marked begins (node_of z literals y)) (is_nullable_item n) following items) ss exact in
-    let b = subst (λ z. result ≡ can_start_in (λ y. is_marked begins (node_of (length g.symbols) z y)) (is_nullable_item n) following items) ll a in
+    let a =
+    subst (λ z. result ≡ can_start_in (λ y. is_marked begins (node_of z literals y)) (is_nullable_item n) following items) ss
+    exact in
+    let b =
+    subst
+    (λ z. result ≡ can_start_in (λ y. is_marked begins (node_of (length g.symbols) z y))
+    (is_nullable_item n) following items) ll a in
     let c = subst (λ z. result ≡ can_start_in (λ y. is_marked begins (node_in g y)) (is_nullable_item n) following z) same b in
     let d = subst (λ z. result ≡ can_start_in (λ y. is_marked begins (node_in g y)) (is_nullable_item n) z r.items) after c in
-    let f = subst (λ z. result ≡ can_start_in (λ y. is_marked begins (node_in g y)) (is_nullable_item n) (is_marked follows z.left) z.items) one d in
+    let f =
+    subst
+    (λ z. result ≡ can_start_in (λ y. is_marked begins (node_in g y)) (is_nullable_item n)
+    (is_marked follows z.left) z.items) one d in
     subst (λ z. z ≡ true ↔ Predicts g q x) (sym f) (predicts_iff g ok n known x begins follows first follow at q e)

@@ -1,5 +1,6 @@
 -- The invariants of closing a node, and the state at the end.
-use Rattle.std.proofs.Common.{◌≡◌, ℕ, zero, suc, ◌<◌, ◌≤◌, List, [], ◌∷◌, ◌++◌, length, take, drop, refl, ap, sym, ◌∙◌, subst, append_assoc, append-nil, arith}
+use Rattle.std.proofs.Common.{◌≡◌, ℕ, zero, suc, ◌<◌, ◌≤◌, List, [], ◌∷◌, ◌++◌, length, take, drop, refl, ap, sym, ◌∙◌, subst}
+use Rattle.std.proofs.Common.{append_assoc, append-nil, arith}
 use Rattle.std.proofs.lemmas.List.{length-drop, take_all}
 use Rattle.ag_value.specs.declared.value.Value.{Value}
 use Rattle.ag_grammar.specs.declared.grammar.Item.TheVariants as item
@@ -10,7 +11,8 @@ use Rattle.treefile.specs.devices.Device.{WhenHonest}
 use Rattle.llparse.specs.Ahead.{ahead_of}
 use Rattle.llparse.specs.sentence.Opened.{joined, Open, open_at, Completes, FitsStack}
 use Rattle.treefile.specs.records.FirstFile.{leaf_texts}
-use Rattle.llparse.specs.sentence.Parsing.{Task, Output, IsTreeAfter, Shows, kept, written, Agrees, Reading, Between, Finished, IsParsed, node_frame, tree_frames, forest_frames}
+use Rattle.llparse.specs.sentence.Parsing.{Task, Output, IsTreeAfter, Shows, kept, written, Agrees, Reading, Between, Finished}
+use Rattle.llparse.specs.sentence.Parsing.{IsParsed, node_frame, tree_frames, forest_frames}
 use Rattle.llparse.specs.sentence.Sentences.{IsTreeWith, IsStuckAt}
 use Rattle.llparse.specs.declared.ahead.Ahead.TheVariants as ahead
 use Rattle.llparse.specs.declared.sentence.parser.OpenProduction.{OpenProduction}
@@ -34,13 +36,16 @@ module _ (k : Task) where
   g = k.grammar
 
   -- the node around it continues
-  pub on_close : (p base : ℕ) (f : OpenProduction) (fs : List OpenProduction) (i n : ℕ) (rs out : Output) → WhenHonest k.honest (out.bytes ≡ rs.bytes ++ node_frame p (drop base rs.texts)) → out.texts ≡ take base rs.texts
+  pub on_close : (p base : ℕ) (f : OpenProduction) (fs : List OpenProduction) (i n : ℕ) (rs out : Output)
+      → WhenHonest k.honest (out.bytes ≡ rs.bytes ++ node_frame p (drop base rs.texts)) → out.texts ≡ take base rs.texts
       → Reading k p base [] (f ∷ fs) i n rs → Between k (f ∷ fs) i n out
   on_close p base f fs i n rs out put cut r = go r.under r.shows r.begins r.held r.occurs r.sound r.complete
     where
-      go : (os : List Open) → Shows g os (f ∷ fs) → base ≡ length (kept os) → Agrees k (open_at p r.done [] ∷ os) i n rs → FitsStack k.grammar (open_at p r.done []) os
+      go : (os : List Open) → Shows g os (f ∷ fs) → base ≡ length (kept os) → Agrees k (open_at p r.done [] ∷ os) i n rs
+          → FitsStack k.grammar (open_at p r.done []) os
           → ((rest : List Lexeme) (t : Tree) → Completes k.grammar (open_at p r.done []) os rest t → IsTreeAfter k i rest t)
-          → ((rest : List Lexeme) (t : Tree) → ahead_of rest ≡ ahead_of (drop i k.words) → IsTreeAfter k i rest t → Completes k.grammar (open_at p r.done []) os rest t)
+          → ((rest : List Lexeme) (t : Tree) → ahead_of rest ≡ ahead_of (drop i k.words) → IsTreeAfter k i rest t
+          → Completes k.grammar (open_at p r.done []) os rest t)
           → Between k (f ∷ fs) i n out
       go [] shows begins held occurs sound complete = absurd shows
       go (o ∷ os) shows begins held occurs sound complete =
@@ -54,29 +59,58 @@ module _ (k : Task) where
           let parts = parted rs.texts (kept (o ∷ os)) (leaf_texts r.done) base held.texts begins in
           let own : List ℕ = node_frame p (leaf_texts r.done) in
           let content : WhenHonest k.honest (out.bytes ≡ k.prefix ++ (written os ++ forest_frames d)) = λ h.
-          put h ∙ ap (λ (z : List Value). rs.bytes ++ node_frame p z) parts.1 ∙ ap (λ z. z ++ own) (held.content h) ∙ append_assoc k.prefix ((written os ++ forest_frames o.done) ++ forest_frames r.done) own
-          ∙ ap (λ z. k.prefix ++ z) (append_assoc (written os ++ forest_frames o.done) (forest_frames r.done) own ∙ append_assoc (written os) (forest_frames o.done) (tree_frames (node p r.done))
-          ∙ ap (λ z. written os ++ (forest_frames o.done ++ z)) (sym (append-nil (tree_frames (node p r.done)))) ∙ ap (λ z. written os ++ z) (sym (size.forest_frames-joined o.done (more (node p r.done) none)))) in
-          let texts : out.texts ≡ kept os ++ leaf_texts d = cut ∙ parts.0 ∙ ap (λ z. kept os ++ z) (sym (texts-joined o.done (more (node p r.done) none) ∙ append-nil (leaf_texts o.done))) in
+          put h ∙ ap (λ (z : List Value). rs.bytes ++ node_frame p z) parts.1 ∙ ap (λ z. z ++ own) (held.content h)
+          ∙ append_assoc k.prefix ((written os ++ forest_frames o.done) ++ forest_frames r.done) own
+          ∙ ap (λ z. k.prefix ++ z) (append_assoc (written os ++ forest_frames o.done) (forest_frames r.done) own
+          ∙ append_assoc (written os) (forest_frames o.done) (tree_frames (node p r.done))
+          ∙ ap (λ z. written os ++ (forest_frames o.done ++ z)) (sym (append-nil (tree_frames (node p r.done))))
+          ∙ ap (λ z. written os ++ z) (sym (size.forest_frames-joined o.done (more (node p r.done) none)))) in
+          let texts : out.texts ≡ kept os ++ leaf_texts d =
+          cut ∙ parts.0 ∙ ap (λ z. kept os ++ z)
+          (sym (texts-joined o.done (more (node p r.done) none) ∙ append-nil (leaf_texts o.done))) in
           let whole : Reading k o.production f.base o.rest fs i n out = record {
             done = d;
             under = os;
             shows = shows.3;
             begins = shows.2;
-            held = record { within = held.within; content = content; texts = texts; counted = omega arith; few = held.few; shallow = (omega arith, held.shallow.1.1) };
-            occurs = (expected_symbol.0, expected_symbol.1 ++ item.Symbol occurs.0.left ∷ [], expected_symbol.2, expected_symbol.3 ∙ sym (append_assoc expected_symbol.1 (item.Symbol occurs.0.left ∷ []) o.rest), expected_symbol.4);
-            sound = λ rest t w. sound rest t ((step.close k.grammar p r.done (o ∷ os) rest t).1 ((step.child k.grammar o.production o.done o.rest os (node p r.done) rest t).1 w));
-            complete = λ rest t e w. (step.child k.grammar o.production o.done o.rest os (node p r.done) rest t).0 ((step.close k.grammar p r.done (o ∷ os) rest t).0 (complete rest t e w));
+            held =
+                record {
+                  within = held.within;
+                  content = content;
+                  texts = texts;
+                  counted = omega arith;
+                  few = held.few;
+                  shallow = (omega arith, held.shallow.1.1);
+                };
+            occurs = (
+              expected_symbol.0,
+              expected_symbol.1 ++ item.Symbol occurs.0.left ∷ [],
+              expected_symbol.2,
+              expected_symbol.3 ∙ sym (append_assoc expected_symbol.1 (item.Symbol occurs.0.left ∷ []) o.rest),
+              expected_symbol.4,
+            );
+            sound =
+                λ rest t w.
+                sound rest t
+                ((step.close k.grammar p r.done (o ∷ os) rest t).1
+                ((step.child k.grammar o.production o.done o.rest os (node p r.done) rest t).1 w));
+            complete =
+                λ rest t e w. (step.child k.grammar o.production o.done o.rest os (node p r.done) rest t).0
+                ((step.close k.grammar p r.done (o ∷ os) rest t).0 (complete rest t e w));
           } in
-          subst (λ x. Reading k f.production f.base x fs i n out) shows.1 (subst (λ x. Reading k x f.base o.rest fs i n out) shows.0 whole)
+          subst (λ x. Reading k f.production f.base x fs i n out) shows.1
+          (subst (λ x. Reading k x f.base o.rest fs i n out) shows.0 whole)
 
   -- the last node was closed
-  pub on_root : (p base i n : ℕ) (rs out : Output) → WhenHonest k.honest (out.bytes ≡ rs.bytes ++ node_frame p (drop base rs.texts)) → Reading k p base [] [] i n rs → Finished k i n out.bytes
+  pub on_root : (p base i n : ℕ) (rs out : Output)
+      → WhenHonest k.honest (out.bytes ≡ rs.bytes ++ node_frame p (drop base rs.texts)) → Reading k p base [] [] i n rs
+      → Finished k i n out.bytes
   on_root p base i n rs out put r = go r.under r.shows r.begins r.held r.sound r.complete
     where
       go : (os : List Open) → Shows g os [] → base ≡ length (kept os) → Agrees k (open_at p r.done [] ∷ os) i n rs
           → ((rest : List Lexeme) (t : Tree) → Completes k.grammar (open_at p r.done []) os rest t → IsTreeAfter k i rest t)
-          → ((rest : List Lexeme) (t : Tree) → ahead_of rest ≡ ahead_of (drop i k.words) → IsTreeAfter k i rest t → Completes k.grammar (open_at p r.done []) os rest t)
+          → ((rest : List Lexeme) (t : Tree) → ahead_of rest ≡ ahead_of (drop i k.words) → IsTreeAfter k i rest t
+          → Completes k.grammar (open_at p r.done []) os rest t)
           → Finished k i n out.bytes
       go [] shows begins held sound complete =
           let counted = held.counted in
@@ -85,7 +119,10 @@ module _ (k : Task) where
           record {
             tree = node p r.done;
             within = held.within;
-            content = λ h. put h ∙ ap (λ (z : List Value). rs.bytes ++ node_frame p z) own ∙ ap (λ z. z ++ node_frame p (leaf_texts r.done)) (held.content h) ∙ append_assoc k.prefix (forest_frames r.done) (node_frame p (leaf_texts r.done));
+            content =
+                λ h. put h ∙ ap (λ (z : List Value). rs.bytes ++ node_frame p z) own
+                ∙ ap (λ z. z ++ node_frame p (leaf_texts r.done)) (held.content h)
+                ∙ append_assoc k.prefix (forest_frames r.done) (node_frame p (leaf_texts r.done));
             counted = omega arith;
             few = held.few;
             shallow = omega arith;
@@ -105,7 +142,10 @@ module _ (k : Task) where
       record {
         tree = w.tree;
         has_words = subst (λ ws. IsTreeWith k.grammar ws w.tree) (append-nil (take i k.words) ∙ every) w.sound;
-        only = λ t h. (w.complete [] t (sym (ap ahead_of none_left)) (subst (λ ws. IsTreeWith k.grammar ws t) (sym (append-nil (take i k.words) ∙ every)) h)).1;
+        only =
+            λ t h.
+            (w.complete [] t (sym (ap ahead_of none_left))
+            (subst (λ ws. IsTreeWith k.grammar ws t) (sym (append-nil (take i k.words) ∙ every)) h)).1;
         content = w.content;
         counted = counted;
         few = omega arith;

@@ -1,5 +1,6 @@
 -- The invariants of taking a token of a class.
-use Rattle.std.proofs.Common.{◌≡◌, ℕ, suc, ◌+◌, ◌<◌, ◌≤◌, List, [], ◌∷◌, ◌++◌, length, drop, ap, sym, ◌∙◌, subst, append_assoc, append-nil, arith}
+use Rattle.std.proofs.Common.{◌≡◌, ℕ, suc, ◌+◌, ◌<◌, ◌≤◌, List, [], ◌∷◌, ◌++◌, length, drop, ap, sym, ◌∙◌, subst, append_assoc}
+use Rattle.std.proofs.Common.{append-nil, arith}
 use Rattle.ag_value.specs.declared.value.Value.{Text}
 use Rattle.ag_grammar.specs.declared.grammar.Item.TheVariants as item
 use Rattle.ag_grammar.specs.declared.grammar.Item.{Item}
@@ -28,8 +29,10 @@ module _ (k : Task) where
   abbrev g : Grammar
   g = k.grammar
 
-  pub on_class : (p base c : ℕ) (x : List ℕ) (ys : List Item) (fs : List OpenProduction) (i n : ℕ) (rs out : Output) (rest : List Lexeme) → drop i k.words ≡ (Class c, x) ∷ rest → IsTokenText x
-      → WhenHonest k.honest (out.bytes ≡ rs.bytes ++ leaf_frame c x) → out.texts ≡ rs.texts ++ Text x ∷ [] → n < k.nodes → suc (length fs) < k.depth
+  pub on_class : (p base c : ℕ) (x : List ℕ) (ys : List Item) (fs : List OpenProduction) (i n : ℕ) (rs out : Output)
+      (rest : List Lexeme) → drop i k.words ≡ (Class c, x) ∷ rest → IsTokenText x
+      → WhenHonest k.honest (out.bytes ≡ rs.bytes ++ leaf_frame c x) → out.texts ≡ rs.texts ++ Text x ∷ [] → n < k.nodes
+      → suc (length fs) < k.depth
       → Reading k p base (item.Terminal (Class c) ∷ ys) fs i n rs → Reading k p base ys fs (i + 1) (n + 1) out
   on_class p base c x ys fs i n rs out rest next text put grown more_nodes more_levels r =
       let after = following k.words i (Class c, x) rest next in
@@ -39,19 +42,32 @@ module _ (k : Task) where
       let shallow = r.held.shallow.0 in
       let counts = size.node_counts-joined r.done (more (leaf c x) none) in
       let levels = size.deepest-joined r.done (more (leaf c x) none) in
-      let content : WhenHonest k.honest (out.bytes ≡ k.prefix ++ (written r.under ++ forest_frames (joined r.done (more (leaf c x) none)))) = λ h.
-      put h ∙ ap (λ z. z ++ leaf_frame c x) (r.held.content h) ∙ append_assoc k.prefix (written r.under ++ forest_frames r.done) (leaf_frame c x)
-      ∙ ap (λ z. k.prefix ++ z) (append_assoc (written r.under) (forest_frames r.done) (leaf_frame c x) ∙ ap (λ z. written r.under ++ (forest_frames r.done ++ z)) (sym (append-nil (leaf_frame c x)))
+      let content : WhenHonest k.honest
+      (out.bytes ≡ k.prefix ++ (written r.under ++ forest_frames (joined r.done (more (leaf c x) none)))) = λ h.
+      put h ∙ ap (λ z. z ++ leaf_frame c x) (r.held.content h)
+      ∙ append_assoc k.prefix (written r.under ++ forest_frames r.done) (leaf_frame c x)
+      ∙ ap (λ z. k.prefix ++ z) (append_assoc (written r.under) (forest_frames r.done) (leaf_frame c x)
+      ∙ ap (λ z. written r.under ++ (forest_frames r.done ++ z)) (sym (append-nil (leaf_frame c x)))
       ∙ ap (λ z. written r.under ++ z) (sym (size.forest_frames-joined r.done (more (leaf c x) none)))) in
       let texts : out.texts ≡ kept r.under ++ leaf_texts (joined r.done (more (leaf c x) none)) =
-      grown ∙ ap (λ z. z ++ Text x ∷ []) r.held.texts ∙ append_assoc (kept r.under) (leaf_texts r.done) (Text x ∷ []) ∙ ap (λ z. kept r.under ++ z) (sym (texts-joined r.done (more (leaf c x) none))) in
+      grown ∙ ap (λ z. z ++ Text x ∷ []) r.held.texts ∙ append_assoc (kept r.under) (leaf_texts r.done) (Text x ∷ [])
+      ∙ ap (λ z. kept r.under ++ z) (sym (texts-joined r.done (more (leaf c x) none))) in
       record {
         done = joined r.done (more (leaf c x) none);
         under = r.under;
         shows = r.shows;
         begins = r.begins;
-        held = record { within = after.1; content = content; texts = texts; counted = omega arith; few = omega arith; shallow = (omega arith, r.held.shallow.1) };
-        occurs = (s.0, s.1 ++ item.Terminal (Class c) ∷ [], s.2, s.3 ∙ sym (append_assoc s.1 (item.Terminal (Class c) ∷ []) ys), s.4);
+        held =
+            record {
+              within = after.1;
+              content = content;
+              texts = texts;
+              counted = omega arith;
+              few = omega arith;
+              shallow = (omega arith, r.held.shallow.1);
+            };
+        occurs =
+            (s.0, s.1 ++ item.Terminal (Class c) ∷ [], s.2, s.3 ∙ sym (append_assoc s.1 (item.Terminal (Class c) ∷ []) ys), s.4);
         sound = λ others t w. subst (λ ws. IsTreeWith k.grammar ws t) (sym (one_more k.words i (Class c, x) rest others next))
             (r.sound ((Class c, x) ∷ others) t ((step.class k.grammar p r.done c x ys r.under others t text).1 w));
         complete = λ others t e w. (step.class k.grammar p r.done c x ys r.under others t text).0
@@ -59,7 +75,8 @@ module _ (k : Task) where
             (subst (λ ws. IsTreeWith k.grammar ws t) (one_more k.words i (Class c, x) rest others next) w));
       }
 
-  pub no_class : IsAccepted k.grammar → (p base c : ℕ) (ys : List Item) (fs : List OpenProduction) (i n : ℕ) (rs : Output) → (ahead_of (drop i k.words) ≡ ahead.Terminal (Class c) → ⊥)
+  pub no_class : IsAccepted k.grammar → (p base c : ℕ) (ys : List Item) (fs : List OpenProduction) (i n : ℕ) (rs : Output)
+      → (ahead_of (drop i k.words) ≡ ahead.Terminal (Class c) → ⊥)
       → Reading k p base (item.Terminal (Class c) ∷ ys) fs i n rs → IsStuckAt k.grammar k.words i
   no_class accepted p base c ys fs i n rs other r = record {
     within = r.held.within;
@@ -71,9 +88,11 @@ module _ (k : Task) where
 
   -- if the next item is a leaf and a limit is reached, each tree that has the leaf and the open nodes is
   -- beyond it
-  beyond_leaf : (size : Tree → ℕ) (begun : List Open → ℕ) (limit : ℕ) → IsAccepted k.grammar → (p base c : ℕ) (ys : List Item) (fs : List OpenProduction) (i n : ℕ) (rs : Output)
+  beyond_leaf : (size : Tree → ℕ) (begun : List Open → ℕ) (limit : ℕ) → IsAccepted k.grammar
+      → (p base c : ℕ) (ys : List Item) (fs : List OpenProduction) (i n : ℕ) (rs : Output)
       → (r : Reading k p base (item.Terminal (Class c) ∷ ys) fs i n rs) → limit ≤ begun (open_at p r.done ys ∷ r.under)
-      → ((x : List ℕ) (ws : List Lexeme) (t : Tree) → Completes k.grammar (open_at p (joined r.done (more (leaf c x) none)) ys) r.under ws t → limit < size t)
+      → ((x : List ℕ) (ws : List Lexeme) (t : Tree)
+      → Completes k.grammar (open_at p (joined r.done (more (leaf c x) none)) ys) r.under ws t → limit < size t)
       → LeavesOnly k.grammar k.words size begun limit
   beyond_leaf size begun limit accepted p base c ys fs i n rs r full passed =
       let b = begins_leaf k accepted p base c ys fs i n rs r in
@@ -86,10 +105,12 @@ module _ (k : Task) where
         above = open_at p r.done ys ∷ r.under;
         cut = b.3;
         full = full;
-        only = λ others t e h. let w = step.class_next k.grammar p r.done c ys r.under others t (r.complete others t e h) in passed w.0 w.1 t w.3;
+        only = λ others t e h. let w = step.class_next k.grammar p r.done c ys r.under others t (r.complete others t e h) in
+            passed w.0 w.1 t w.3;
       }
 
-  pub deep_leaf : IsAccepted k.grammar → (p base c : ℕ) (ys : List Item) (fs : List OpenProduction) (i n : ℕ) (rs : Output) → k.depth ≤ suc (length fs) → Reading k p base (item.Terminal (Class c) ∷ ys) fs i n rs → IsTooDeep k
+  pub deep_leaf : IsAccepted k.grammar → (p base c : ℕ) (ys : List Item) (fs : List OpenProduction) (i n : ℕ) (rs : Output)
+      → k.depth ≤ suc (length fs) → Reading k p base (item.Terminal (Class c) ∷ ys) fs i n rs → IsTooDeep k
   deep_leaf accepted p base c ys fs i n rs full r =
       let same = length-shows g r.under fs r.shows in
       beyond_leaf depth_of (λ above. length above) k.depth accepted p base c ys fs i n rs r (omega arith) (λ x ws t h.
@@ -97,7 +118,8 @@ module _ (k : Task) where
       let levels = size.deepest-joined r.done (more (leaf c x) none) in
       omega arith)
 
-  pub large_leaf : IsAccepted k.grammar → (p base c : ℕ) (ys : List Item) (fs : List OpenProduction) (i n : ℕ) (rs : Output) → k.nodes ≤ n → Reading k p base (item.Terminal (Class c) ∷ ys) fs i n rs → IsTooLarge k
+  pub large_leaf : IsAccepted k.grammar → (p base c : ℕ) (ys : List Item) (fs : List OpenProduction) (i n : ℕ) (rs : Output)
+      → k.nodes ≤ n → Reading k p base (item.Terminal (Class c) ∷ ys) fs i n rs → IsTooLarge k
   large_leaf accepted p base c ys fs i n rs full r =
       let counted = r.held.counted in
       beyond_leaf node_count opened k.nodes accepted p base c ys fs i n rs r (omega arith) (λ x ws t h.

@@ -20,7 +20,8 @@ module _ (k : Task) where
   abbrev g : Grammar
   g = k.grammar
 
-  pub on_literal : (p base l : ℕ) (ys : List Item) (fs : List OpenProduction) (i n : ℕ) (rs : Output) (rest : List Lexeme) → drop i k.words ≡ (Literal l, literal_text k.grammar l) ∷ rest
+  pub on_literal : (p base l : ℕ) (ys : List Item) (fs : List OpenProduction) (i n : ℕ) (rs : Output) (rest : List Lexeme)
+      → drop i k.words ≡ (Literal l, literal_text k.grammar l) ∷ rest
       → Reading k p base (item.Terminal (Literal l) ∷ ys) fs i n rs → Reading k p base ys fs (i + 1) n rs
   on_literal p base l ys fs i n rs rest next r =
       let after = following k.words i (Literal l, literal_text k.grammar l) rest next in
@@ -30,16 +31,35 @@ module _ (k : Task) where
         under = r.under;
         shows = r.shows;
         begins = r.begins;
-        held = record { within = after.1; content = r.held.content; texts = r.held.texts; counted = r.held.counted; few = r.held.few; shallow = r.held.shallow };
-        occurs = (s.0, s.1 ++ item.Terminal (Literal l) ∷ [], s.2, s.3 ∙ sym (append_assoc s.1 (item.Terminal (Literal l) ∷ []) ys), s.4);
-        sound = λ others t w. subst (λ ws. IsTreeWith k.grammar ws t) (sym (one_more k.words i (Literal l, literal_text k.grammar l) rest others next))
-            (r.sound ((Literal l, literal_text k.grammar l) ∷ others) t ((step.literal k.grammar p r.done l ys r.under others t).1 w));
+        held =
+            record {
+              within = after.1;
+              content = r.held.content;
+              texts = r.held.texts;
+              counted = r.held.counted;
+              few = r.held.few;
+              shallow = r.held.shallow;
+            };
+        occurs = (
+          s.0,
+          s.1 ++ item.Terminal (Literal l) ∷ [],
+          s.2,
+          s.3 ∙ sym (append_assoc s.1 (item.Terminal (Literal l) ∷ []) ys),
+          s.4,
+        );
+        sound =
+            λ others t w. subst (λ ws. IsTreeWith k.grammar ws t)
+            (sym (one_more k.words i (Literal l, literal_text k.grammar l) rest others next))
+            (r.sound ((Literal l, literal_text k.grammar l) ∷ others) t
+            ((step.literal k.grammar p r.done l ys r.under others t).1 w));
         complete = λ others t e w. (step.literal k.grammar p r.done l ys r.under others t).0
             (r.complete ((Literal l, literal_text k.grammar l) ∷ others) t (sym (ap ahead_of next))
-            (subst (λ ws. IsTreeWith k.grammar ws t) (one_more k.words i (Literal l, literal_text k.grammar l) rest others next) w));
+            (subst (λ ws. IsTreeWith k.grammar ws t)
+            (one_more k.words i (Literal l, literal_text k.grammar l) rest others next) w));
       }
 
-  pub no_literal : IsAccepted k.grammar → (p base l : ℕ) (ys : List Item) (fs : List OpenProduction) (i n : ℕ) (rs : Output) → (ahead_of (drop i k.words) ≡ ahead.Terminal (Literal l) → ⊥)
+  pub no_literal : IsAccepted k.grammar → (p base l : ℕ) (ys : List Item) (fs : List OpenProduction) (i n : ℕ) (rs : Output)
+      → (ahead_of (drop i k.words) ≡ ahead.Terminal (Literal l) → ⊥)
       → Reading k p base (item.Terminal (Literal l) ∷ ys) fs i n rs → IsStuckAt k.grammar k.words i
   no_literal accepted p base l ys fs i n rs other r = record {
     within = r.held.within;

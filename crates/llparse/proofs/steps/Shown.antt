@@ -16,5 +16,6 @@ length-shows g (o ∷ os) [] h = absurd h
 length-shows g (o ∷ os) (f ∷ fs) h = ap suc (length-shows g os fs h.3)
 
 -- the words so far and the remaining ones are all words
-pub whole : (g : Grammar) (words : List Lexeme) (i : ℕ) (t : Tree) → IsTreeWith g words t → IsTreeWith g (take i words ++ drop i words) t
+pub whole : (g : Grammar) (words : List Lexeme) (i : ℕ) (t : Tree) → IsTreeWith g words t
+    → IsTreeWith g (take i words ++ drop i words) t
 whole g words i t is = subst (λ ws. IsTreeWith g ws t) (sym (take-append-drop i words)) is

@@ -16,7 +16,9 @@ deepest-joined (more t a) b = let e = deepest-joined a b in omega arith
 
 pub forest_frames-joined : (a b : Forest) → forest_frames (joined a b) ≡ forest_frames a ++ forest_frames b
 forest_frames-joined none b = refl
-forest_frames-joined (more t a) b = ap (λ x. tree_frames t ++ x) (forest_frames-joined a b) ∙ sym (append_assoc (tree_frames t) (forest_frames a) (forest_frames b))
+forest_frames-joined (more t a) b =
+    ap (λ x. tree_frames t ++ x) (forest_frames-joined a b)
+    ∙ sym (append_assoc (tree_frames t) (forest_frames a) (forest_frames b))
 
 pub depth_some : (t : Tree) → 1 ≤ depth_of t
 depth_some (leaf c x) = omega arith
@@ -27,27 +29,31 @@ count_some (leaf c x) = omega arith
 count_some (node p ts) = omega arith
 
 module _ (g : Grammar) where
-  pub count_under : (os : List Open) (c : Tree) (ws : List Lexeme) (t : Tree) → Continues g os c ws t → node_count c + opened os ≤ node_count t
+  pub count_under : (os : List Open) (c : Tree) (ws : List Lexeme) (t : Tree) → Continues g os c ws t
+      → node_count c + opened os ≤ node_count t
   count_under [] c ws t (nil, same) = let e : node_count t ≡ node_count c = ap node_count same in omega arith
   count_under (o ∷ os) c ws t (fs, vs, fit, e, k) =
       let outer = count_under os (node o.production (joined o.done (more c fs))) vs t k in
       let parts = node_counts-joined o.done (more c fs) in
       omega arith
 
-  pub count_open : (o : Open) (os : List Open) (ws : List Lexeme) (t : Tree) → Completes g o os ws t → opened (o ∷ os) ≤ node_count t
+  pub count_open : (o : Open) (os : List Open) (ws : List Lexeme) (t : Tree) → Completes g o os ws t
+      → opened (o ∷ os) ≤ node_count t
   count_open o os ws t (fs, vs, fit, e, k) =
       let outer = count_under os (node o.production (joined o.done fs)) vs t k in
       let parts = node_counts-joined o.done fs in
       omega arith
 
-  pub depth_under : (os : List Open) (c : Tree) (ws : List Lexeme) (t : Tree) → Continues g os c ws t → depth_of c + length os ≤ depth_of t
+  pub depth_under : (os : List Open) (c : Tree) (ws : List Lexeme) (t : Tree) → Continues g os c ws t
+      → depth_of c + length os ≤ depth_of t
   depth_under [] c ws t (nil, same) = let e : depth_of t ≡ depth_of c = ap depth_of same in omega arith
   depth_under (o ∷ os) c ws t (fs, vs, fit, e, k) =
       let outer = depth_under os (node o.production (joined o.done (more c fs))) vs t k in
       let parts = deepest-joined o.done (more c fs) in
       omega arith
 
-  pub depth_open : (o : Open) (os : List Open) (ws : List Lexeme) (t : Tree) → Completes g o os ws t → suc (deepest o.done) + length os ≤ depth_of t
+  pub depth_open : (o : Open) (os : List Open) (ws : List Lexeme) (t : Tree) → Completes g o os ws t
+      → suc (deepest o.done) + length os ≤ depth_of t
   depth_open o os ws t (fs, vs, fit, e, k) =
       let outer = depth_under os (node o.production (joined o.done fs)) vs t k in
       let parts = deepest-joined o.done fs in

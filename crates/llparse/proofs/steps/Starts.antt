@@ -1,5 +1,6 @@
 -- The expected symbol at the beginning, and the invariants of opening a node.
-use Rattle.std.proofs.Common.{◌≡◌, ℕ, ◌+◌, ◌<◌, ◌≤◌, List, [], ◌∷◌, ◌++◌, length, drop, Option, Some, None, refl, ap, sym, ◌∙◌, subst, append-nil, arith}
+use Rattle.std.proofs.Common.{◌≡◌, ℕ, ◌+◌, ◌<◌, ◌≤◌, List, [], ◌∷◌, ◌++◌, length, drop, Option, Some, None, refl, ap, sym, ◌∙◌}
+use Rattle.std.proofs.Common.{subst, append-nil, arith}
 use Rattle.ag_grammar.specs.declared.grammar.Item.TheVariants as item
 use Rattle.ag_grammar.specs.declared.grammar.Item.{Item}
 use Rattle.ag_grammar.specs.declared.grammar.Production.{Production}
@@ -27,25 +28,43 @@ module _ (k : Task) where
   begin rs same bare = record {
     under = [];
     shows = tt;
-    held = record { within = omega arith; content = λ h. same ∙ sym (append-nil k.prefix); texts = bare; counted = refl; few = omega arith; shallow = tt };
+    held =
+        record {
+          within = omega arith;
+          content = λ h. same ∙ sym (append-nil k.prefix);
+          texts = bare;
+          counted = refl;
+          few = omega arith;
+          shallow = tt;
+        };
     occurs = refl;
     sound = λ rest t w. (step.begin k.grammar rest t).1 w;
     complete = λ rest t e p. (step.begin k.grammar rest t).0 p;
   }
 
-  pub on_symbol : (f : OpenProduction) (s : ℕ) (ys : List Item) (fs : List OpenProduction) (i n : ℕ) (rs : Output) → ys ≡ drop f.passed (right_side g f.production)
+  pub on_symbol : (f : OpenProduction) (s : ℕ) (ys : List Item) (fs : List OpenProduction) (i n : ℕ) (rs : Output)
+      → ys ≡ drop f.passed (right_side g f.production)
       → Reading k f.production f.base (item.Symbol s ∷ ys) fs i n rs → AtSymbol k s (f ∷ fs) i n rs
   on_symbol f s ys fs i n rs left r = record {
     under = open_at f.production r.done ys ∷ r.under;
     shows = (refl, left, r.begins, r.shows);
-    held = record { within = r.held.within; content = r.held.content; texts = r.held.texts; counted = r.held.counted; few = r.held.few; shallow = r.held.shallow };
+    held =
+        record {
+          within = r.held.within;
+          content = r.held.content;
+          texts = r.held.texts;
+          counted = r.held.counted;
+          few = r.held.few;
+          shallow = r.held.shallow;
+        };
     occurs = r.occurs;
     sound = λ rest t w. r.sound rest t ((step.ask k.grammar f.production r.done s ys r.under rest t).1 w);
     complete = λ rest t e p. (step.ask k.grammar f.production r.done s ys r.under rest t).0 (r.complete rest t e p);
   }
 
   module _ (tables : Choices) (fits : FitsGrammar k.grammar tables) where
-    pub on_open : (s p base : ℕ) (fs : List OpenProduction) (i n : ℕ) (rs : Output) → choice_of tables s (ahead_of (drop i k.words)) ≡ Some p → base ≡ length rs.texts → n < k.nodes → length fs < k.depth
+    pub on_open : (s p base : ℕ) (fs : List OpenProduction) (i n : ℕ) (rs : Output)
+        → choice_of tables s (ahead_of (drop i k.words)) ≡ Some p → base ≡ length rs.texts → n < k.nodes → length fs < k.depth
         → AtSymbol k s fs i n rs → Reading k p base (right_side g p) fs i (n + 1) rs
     on_open s p base fs i n rs chosen at more_nodes more_levels a =
         let c = (fits s (ahead_of (drop i k.words)) p).0 chosen in
@@ -58,24 +77,40 @@ module _ (k : Task) where
           under = a.under;
           shows = a.shows;
           begins = at ∙ ap length a.held.texts;
-          held = record { within = a.held.within; content = λ h. a.held.content h ∙ ap (λ x. k.prefix ++ x) (sym (append-nil (written a.under))); texts = a.held.texts ∙ sym (append-nil (kept a.under)); counted = omega arith; few = omega arith; shallow = (omega arith, a.held.shallow) };
+          held =
+              record {
+                within = a.held.within;
+                content = λ h. a.held.content h ∙ ap (λ x. k.prefix ++ x) (sym (append-nil (written a.under)));
+                texts = a.held.texts ∙ sym (append-nil (kept a.under));
+                counted = omega arith;
+                few = omega arith;
+                shallow = (omega arith, a.held.shallow);
+              };
           occurs = (q, [], c.1, refl, subst (IsStack k.grammar a.under) (sym c.2) a.occurs);
           sound = λ rest t w. a.sound rest t (step.open_back k.grammar a.under s rest t p q c.1 c.2 w);
-          complete = λ rest t e w. (step.opens k.grammar tables fits a.under s rest t p q a.occurs (ap (choice_of tables s) e ∙ chosen) c.1 c.2).0 (a.complete rest t e w);
+          complete =
+              λ rest t e w.
+              (step.opens k.grammar tables fits a.under s rest t p q a.occurs (ap (choice_of tables s) e ∙ chosen) c.1 c.2).0
+              (a.complete rest t e w);
         } in
         subst (λ x. Reading k p base x fs i (n + 1) rs) items r
 
-    pub no_rule : IsAccepted k.grammar → (s : ℕ) (fs : List OpenProduction) (i n : ℕ) (rs : Output) → choice_of tables s (ahead_of (drop i k.words)) ≡ None → AtSymbol k s fs i n rs → IsStuckAt k.grammar k.words i
+    pub no_rule : IsAccepted k.grammar → (s : ℕ) (fs : List OpenProduction) (i n : ℕ) (rs : Output)
+        → choice_of tables s (ahead_of (drop i k.words)) ≡ None → AtSymbol k s fs i n rs → IsStuckAt k.grammar k.words i
     no_rule accepted s fs i n rs unnamed a = record {
       within = a.held.within;
-      ends = λ rest t e p. step.no_rule k.grammar tables fits a.under s rest t a.occurs (ap (choice_of tables s) e ∙ unnamed) (a.complete rest t e p);
+      ends =
+          λ rest t e p. step.no_rule k.grammar tables fits a.under s rest t a.occurs (ap (choice_of tables s) e ∙ unnamed)
+          (a.complete rest t e p);
       begins = let b = begins_symbol k accepted s fs i n rs a in (b.0, b.1, b.2);
     }
 
   -- if a node is to be opened and a limit is reached, each tree that has the node below the open nodes is
   -- beyond it
-  beyond_node : (size : Tree → ℕ) (begun : List Open → ℕ) (limit : ℕ) → IsAccepted k.grammar → (s : ℕ) (fs : List OpenProduction) (i n : ℕ) (rs : Output)
-      → (a : AtSymbol k s fs i n rs) → limit ≤ begun a.under → ((c : Tree) (ws : List Lexeme) (t : Tree) → Continues k.grammar a.under c ws t → limit < size t)
+  beyond_node : (size : Tree → ℕ) (begun : List Open → ℕ) (limit : ℕ) → IsAccepted k.grammar
+      → (s : ℕ) (fs : List OpenProduction) (i n : ℕ) (rs : Output)
+      → (a : AtSymbol k s fs i n rs) → limit ≤ begun a.under
+      → ((c : Tree) (ws : List Lexeme) (t : Tree) → Continues k.grammar a.under c ws t → limit < size t)
       → LeavesOnly k.grammar k.words size begun limit
   beyond_node size begun limit accepted s fs i n rs a full passed =
       let b = begins_symbol k accepted s fs i n rs a in
@@ -92,7 +127,8 @@ module _ (k : Task) where
       }
 
   -- a node that is opened counts, and is below the others
-  pub deep_node : IsAccepted k.grammar → (s : ℕ) (fs : List OpenProduction) (i n : ℕ) (rs : Output) → k.depth ≤ length fs → AtSymbol k s fs i n rs → IsTooDeep k
+  pub deep_node : IsAccepted k.grammar → (s : ℕ) (fs : List OpenProduction) (i n : ℕ) (rs : Output) → k.depth ≤ length fs
+      → AtSymbol k s fs i n rs → IsTooDeep k
   deep_node accepted s fs i n rs full a =
       let same = length-shows g a.under fs a.shows in
       beyond_node depth_of (λ above. length above) k.depth accepted s fs i n rs a (omega arith) (λ c ws t h.
@@ -100,7 +136,8 @@ module _ (k : Task) where
       let one : 1 ≤ depth_of c = size.depth_some c in
       omega arith)
 
-  pub large_node : IsAccepted k.grammar → (s : ℕ) (fs : List OpenProduction) (i n : ℕ) (rs : Output) → k.nodes ≤ n → AtSymbol k s fs i n rs → IsTooLarge k
+  pub large_node : IsAccepted k.grammar → (s : ℕ) (fs : List OpenProduction) (i n : ℕ) (rs : Output) → k.nodes ≤ n
+      → AtSymbol k s fs i n rs → IsTooLarge k
   large_node accepted s fs i n rs full a =
       let counted = a.held.counted in
       beyond_node node_count opened k.nodes accepted s fs i n rs a (omega arith) (λ c ws t h.

@@ -1,5 +1,6 @@
 -- The invariants of one step of a parser: the innermost open node is closed, or moves past its next item.
-use Rattle.std.proofs.Common.{◌≡◌, ℕ, ◌<◌, ◌≤◌, Bool, List, [], ◌∷◌, ◌++◌, drop, take, length, reverse, All, Some, None, refl, sym, ◌∙◌, subst, arith}
+use Rattle.std.proofs.Common.{◌≡◌, ℕ, ◌<◌, ◌≤◌, Bool, List, [], ◌∷◌, ◌++◌, drop, take, length, reverse, All, Some, None, refl}
+use Rattle.std.proofs.Common.{sym, ◌∙◌, subst, arith}
 use Rattle.std.proofs.lemmas.List.{length-map}
 use Rattle.std.proofs.lemmas.Option.{slice_get_within}
 use Rattle.ag_value.specs.declared.value.Value.{Value}
@@ -31,10 +32,12 @@ module _ (k : Task) (tables : Choices) (fits : FitsGrammar k.grammar tables) (s 
   at_start : AtSymbol k s [] 0 0 nothing_made
   at_start = rw start (begin k nothing_made refl refl)
 
-  pub begun : (node : OpenProduction) (p : Parser) → 0 < k.nodes → 0 < k.depth → p.waiting.items ≡ [] → p.texts.items ≡ [] → p.tokens.taken ≡ 0 → p.count ≡ 1 → node.passed ≡ 0 → node.base ≡ 0
+  pub begun : (node : OpenProduction) (p : Parser) → 0 < k.nodes → 0 < k.depth → p.waiting.items ≡ [] → p.texts.items ≡ []
+      → p.tokens.taken ≡ 0 → p.count ≡ 1 → node.passed ≡ 0 → node.base ≡ 0
       → choice_of tables s (ahead_of (drop 0 k.words)) ≡ Some node.production → IsBetween k node p k.prefix
   begun node p more_nodes more_levels waiting texts taken count following base chosen =
-      rw (waiting, texts, taken, count, following) (on_open k tables fits s node.production node.base [] 0 0 nothing_made chosen base more_nodes more_levels at_start)
+      rw (waiting, texts, taken, count, following)
+      (on_open k tables fits s node.production node.base [] 0 0 nothing_made chosen base more_nodes more_levels at_start)
 
   pub not_begun : IsAccepted k.grammar → choice_of tables s (ahead_of (drop 0 k.words)) ≡ None → IsStuckAt k.grammar k.words 0
   not_begun accepted unnamed = no_rule k tables fits accepted s [] 0 0 nothing_made unnamed at_start
@@ -44,42 +47,65 @@ pub persists_on : {E : Type 0} (a b d : Bool) (x y z : ℕ) → Persists a b x y
 persists_on a b d x y z p q =
     let first = p.kept in
     let second = q.kept in
-    record { honest = λ h. p.honest (q.honest h); kept = omega arith; bounded = λ h. q.bounded (p.bounded h); cause = λ h. absurd h }
+    record {
+      honest = λ h. p.honest (q.honest h);
+      kept = omega arith;
+      bounded = λ h. q.bounded (p.bounded h);
+      cause = λ h. absurd h;
+    }
 
 -- an open node has a production
-pub within : (k : Task) (node : OpenProduction) (p : Parser) (bytes : List ℕ) → IsBetween k node p bytes → node.production < length k.grammar.productions
+pub within : (k : Task) (node : OpenProduction) (p : Parser) (bytes : List ℕ) → IsBetween k node p bytes
+    → node.production < length k.grammar.productions
 within k node p bytes occurs = slice_get_within k.grammar.productions node.production occurs.occurs.0 occurs.occurs.2
 
 -- the innermost open node has a next item, and moves past it
-module _ (k : Task) (node new : OpenProduction) (x : Item) (passed : Advances (right_side k.grammar node.production) node (Some x) new) where
+module _ (k : Task) (node new : OpenProduction) (x : Item)
+    (passed : Advances (right_side k.grammar node.production) node (Some x) new) where
   pub faced : (y : Item) → x ≡ y → (p : Parser) (bytes : List ℕ) → IsBetween k node p bytes → IsAtItem k y new p bytes
-  faced y is p bytes occurs = rw (sym is, passed.1) (faces k node x (reverse p.waiting.items) p.tokens.taken p.count (output_of p bytes) passed.0 occurs)
+  faced y is p bytes occurs =
+      rw (sym is, passed.1) (faces k node x (reverse p.waiting.items) p.tokens.taken p.count (output_of p bytes) passed.0 occurs)
 
   -- fewer steps are left
-  pub smaller : (p r : Parser) → r.waiting.items ≡ p.waiting.items → p.count ≤ r.count → left_of k.grammar new r < left_of k.grammar node p
+  pub smaller : (p r : Parser) → r.waiting.items ≡ p.waiting.items → p.count ≤ r.count
+      → left_of k.grammar new r < left_of k.grammar node p
   smaller p r same le =
       let fewer = fewer_passed k.grammar max_nodes node x (reverse p.waiting.items) p.count passed.0 in
       let counted = fewer_counted k.grammar max_nodes (advanced node ∷ reverse p.waiting.items) p.count r.count le in
       rw (passed.1, same) (omega arith)
 
 -- it is at its end: its texts are few and well,
-module _ (k : Task) (node new : OpenProduction) (p : Parser) (bytes : List ℕ) (over : Advances (right_side k.grammar node.production) node None new) (occurs : IsBetween k node p bytes) where
-  pub own_few : IsAccepted k.grammar → (new.base ≤ length p.texts.items) × (length (drop new.base p.texts.items) ≤ max_children) × All IsWell (drop new.base p.texts.items)
+module _ (k : Task) (node new : OpenProduction) (p : Parser) (bytes : List ℕ)
+    (over : Advances (right_side k.grammar node.production) node None new) (occurs : IsBetween k node p bytes) where
+  pub own_few : IsAccepted k.grammar
+      → (new.base ≤ length p.texts.items) × (length (drop new.base p.texts.items) ≤ max_children)
+      × All IsWell (drop new.base p.texts.items)
   own_few accepted =
-      let few = own_texts k accepted node.production node.base (reverse p.waiting.items) p.tokens.taken p.count (output_of p bytes) (ends k node (reverse p.waiting.items) p.tokens.taken p.count (output_of p bytes) over.0 occurs) in
-      subst (λ (f : OpenProduction). (f.base ≤ length p.texts.items) × (length (drop f.base p.texts.items) ≤ max_children) × All IsWell (drop f.base p.texts.items)) (sym over.1) few
+      let few =
+      own_texts k accepted node.production node.base (reverse p.waiting.items) p.tokens.taken p.count (output_of p bytes)
+      (ends k node (reverse p.waiting.items) p.tokens.taken p.count (output_of p bytes) over.0 occurs) in
+      subst (λ (f : OpenProduction). (f.base ≤ length p.texts.items) × (length (drop f.base p.texts.items) ≤ max_children)
+      × All IsWell (drop f.base p.texts.items)) (sym over.1) few
 
   -- and it is closed
-  pub ended : (out : List ℕ) (own texts : List Value) → own ≡ drop new.base p.texts.items → texts ≡ take new.base p.texts.items → WhenHonest k.honest (out ≡ bytes ++ node_frame new.production own)
+  pub ended : (out : List ℕ) (own texts : List Value) → own ≡ drop new.base p.texts.items → texts ≡ take new.base p.texts.items
+      → WhenHonest k.honest (out ≡ bytes ++ node_frame new.production own)
       → Between k (reverse p.waiting.items) p.tokens.taken p.count (record { bytes = out; texts = texts })
   ended out own texts following cut put =
       let with_own = subst (λ (z : List Value). WhenHonest k.honest (out ≡ bytes ++ node_frame new.production z)) following put in
-      let frame = subst (λ (f : OpenProduction). WhenHonest k.honest (out ≡ bytes ++ node_frame f.production (drop f.base p.texts.items))) over.1 with_own in
+      let frame =
+      subst (λ (f : OpenProduction). WhenHonest k.honest (out ≡ bytes ++ node_frame f.production (drop f.base p.texts.items)))
+      over.1 with_own in
       let rest = subst (λ (f : OpenProduction). texts ≡ take f.base p.texts.items) over.1 cut in
-      closed k node.production node.base (reverse p.waiting.items) p.tokens.taken p.count (output_of p bytes) (record { bytes = out; texts = texts }) frame rest (ends k node (reverse p.waiting.items) p.tokens.taken p.count (output_of p bytes) over.0 occurs)
+      closed k node.production node.base (reverse p.waiting.items) p.tokens.taken p.count (output_of p bytes)
+      (record { bytes = out; texts = texts }) frame rest
+      (ends k node (reverse p.waiting.items) p.tokens.taken p.count (output_of p bytes) over.0 occurs)
 
 -- the end of a parse
-module _ (g : Grammar) (tokens : List Token) (honest : Bool) (prefix : List ℕ) (p : Parser) (bytes : List ℕ) (texts : List Value) (none_waits : length p.waiting.items ≡ 0) (occurs : Between (task_of g tokens honest prefix) (reverse p.waiting.items) p.tokens.taken p.count (record { bytes = bytes; texts = texts })) where
+module _ (g : Grammar) (tokens : List Token) (honest : Bool) (prefix : List ℕ) (p : Parser) (bytes : List ℕ) (texts : List Value)
+    (none_waits : length p.waiting.items ≡ 0)
+    (occurs : Between (task_of g tokens honest prefix) (reverse p.waiting.items) p.tokens.taken p.count
+    (record { bytes = bytes; texts = texts })) where
   nothing : (xs : List OpenProduction) → length xs ≡ 0 → reverse xs ≡ []
   nothing [] e = refl
   nothing (x ∷ xs) e = absurd (omega arith)
@@ -88,7 +114,9 @@ module _ (g : Grammar) (tokens : List Token) (honest : Bool) (prefix : List ℕ)
   as_many = length-map tokens (λ (t : Token). let w : Lexeme = (t.kind, t.lex) in w)
 
   done : Finished (task_of g tokens honest prefix) p.tokens.taken p.count bytes
-  done = subst (λ fs. Between (task_of g tokens honest prefix) fs p.tokens.taken p.count (record { bytes = bytes; texts = texts })) (nothing p.waiting.items none_waits) occurs
+  done =
+      subst (λ fs. Between (task_of g tokens honest prefix) fs p.tokens.taken p.count (record { bytes = bytes; texts = texts }))
+      (nothing p.waiting.items none_waits) occurs
 
   pub all_taken : length tokens ≤ p.tokens.taken → IsParsed (task_of g tokens honest prefix) p.count bytes
   all_taken le =

@@ -51,12 +51,15 @@ module _ (g : Grammar) where
   -- each open node is at a place where its symbol is expected
   abbrev pub IsStack : List Open → ℕ → Type 0
   IsStack [] s = s ≡ g.start
-  IsStack (o ∷ os) s = (q : Production) × (before : List Item) × IsProduction g o.production q × (q.items ≡ before ++ item.Symbol s ∷ o.rest) × IsStack os q.left
+  IsStack (o ∷ os) s =
+      (q : Production) × (before : List Item) × IsProduction g o.production q × (q.items ≡ before ++ item.Symbol s ∷ o.rest)
+      × IsStack os q.left
 
   -- the innermost open node is at a place where the one around it expects it, and has read a prefix of its
   -- right side
   abbrev pub FitsStack : Open → List Open → Type 0
-  FitsStack o os = (q : Production) × (before : List Item) × IsProduction g o.production q × (q.items ≡ before ++ o.rest) × IsStack os q.left
+  FitsStack o os =
+      (q : Production) × (before : List Item) × IsProduction g o.production q × (q.items ≡ before ++ o.rest) × IsStack os q.left
 
   -- each open node is at a place where the one around it expects it, and the next item of the innermost one
   -- is this item

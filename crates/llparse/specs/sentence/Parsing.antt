@@ -4,7 +4,8 @@ use Rattle.ag_value.specs.declared.value.Value.{Value}
 use Rattle.ag_grammar.specs.declared.grammar.Item.{Item}
 use Rattle.ag_grammar.specs.declared.grammar.Production.{Production}
 use Rattle.ag_grammar.specs.grammars.AttributeGrammar.{Grammar}
-use Rattle.ag_grammar.specs.grammars.Tree.{Tree, leaf, node, Forest, none, more, depth_of, deepest, node_count, max_depth, max_nodes}
+use Rattle.ag_grammar.specs.grammars.Tree.{Tree, leaf, node, Forest, none, more, depth_of, deepest, node_count, max_depth}
+use Rattle.ag_grammar.specs.grammars.Tree.{max_nodes}
 use Rattle.ag_grammar.specs.grammars.Yield.{Lexeme}
 use Rattle.ag_grammar.specs.grammars.Yield as yields
 use Rattle.ag_scan.specs.Tokens.{Token}
@@ -69,7 +70,9 @@ abbrev pub Shows : Grammar → List Open → List OpenProduction → Type 0
 Shows g [] [] = Unit {0}
 Shows g [] (f ∷ fs) = ⊥
 Shows g (o ∷ os) [] = ⊥
-Shows g (o ∷ os) (f ∷ fs) = (o.production ≡ f.production) × (o.rest ≡ drop f.passed (right_side g f.production)) × (f.base ≡ length (kept os)) × Shows g os fs
+Shows g (o ∷ os) (f ∷ fs) =
+    (o.production ≡ f.production) × (o.rest ≡ drop f.passed (right_side g f.production)) × (f.base ≡ length (kept os))
+    × Shows g os fs
 
 -- the records of the trees that are done, those of the outermost node first
 abbrev pub written : List Open → List ℕ
@@ -98,7 +101,8 @@ pub record Agrees (k : Task) (os : List Open) (at count : ℕ) (made : Output) :
 -- A node of production p is open at ys, within the nodes of the stack fs, and its texts begin at `base`; the
 -- trees that complete it have the words read so far and then their remaining words, and these are all such
 -- trees with the given look-ahead.
-pub record Reading (k : Task) (p base : ℕ) (ys : List Item) (fs : List OpenProduction) (at count : ℕ) (made : Output) : Type 0 where
+pub record Reading (k : Task) (p base : ℕ) (ys : List Item) (fs : List OpenProduction) (at count : ℕ)
+    (made : Output) : Type 0 where
   pub done : Forest
   pub under : List Open
   pub shows : Shows k.grammar under fs
@@ -106,7 +110,8 @@ pub record Reading (k : Task) (p base : ℕ) (ys : List Item) (fs : List OpenPro
   pub held : Agrees k (open_at p done ys ∷ under) at count made
   pub occurs : FitsStack k.grammar (open_at p done ys) under
   pub sound : (rest : List Lexeme) (t : Tree) → Completes k.grammar (open_at p done ys) under rest t → IsTreeAfter k at rest t
-  pub complete : (rest : List Lexeme) (t : Tree) → ahead_of rest ≡ ahead_of (drop at k.words) → IsTreeAfter k at rest t → Completes k.grammar (open_at p done ys) under rest t
+  pub complete : (rest : List Lexeme) (t : Tree) → ahead_of rest ≡ ahead_of (drop at k.words) → IsTreeAfter k at rest t
+      → Completes k.grammar (open_at p done ys) under rest t
 
 -- A tree of symbol s comes next, within the nodes of the stack fs.
 pub record AtSymbol (k : Task) (s : ℕ) (fs : List OpenProduction) (at count : ℕ) (made : Output) : Type 0 where
@@ -115,7 +120,8 @@ pub record AtSymbol (k : Task) (s : ℕ) (fs : List OpenProduction) (at count : 
   pub held : Agrees k under at count made
   pub occurs : IsStack k.grammar under s
   pub sound : (rest : List Lexeme) (t : Tree) → ContinuesWith k.grammar under s rest t → IsTreeAfter k at rest t
-  pub complete : (rest : List Lexeme) (t : Tree) → ahead_of rest ≡ ahead_of (drop at k.words) → IsTreeAfter k at rest t → ContinuesWith k.grammar under s rest t
+  pub complete : (rest : List Lexeme) (t : Tree) → ahead_of rest ≡ ahead_of (drop at k.words) → IsTreeAfter k at rest t
+      → ContinuesWith k.grammar under s rest t
 
 -- A tree is done, and nothing is open; it is the one tree of the words read so far, and no tree has more words.
 pub record Finished (k : Task) (at count : ℕ) (bytes : List ℕ) : Type 0 where
@@ -126,18 +132,21 @@ pub record Finished (k : Task) (at count : ℕ) (bytes : List ℕ) : Type 0 wher
   pub few : count ≤ k.nodes
   pub shallow : depth_of tree ≤ k.depth
   pub sound : IsTreeAfter k at [] tree
-  pub complete : (rest : List Lexeme) (t : Tree) → ahead_of rest ≡ ahead_of (drop at k.words) → IsTreeAfter k at rest t → (rest ≡ []) × (t ≡ tree)
+  pub complete : (rest : List Lexeme) (t : Tree) → ahead_of rest ≡ ahead_of (drop at k.words) → IsTreeAfter k at rest t
+      → (rest ≡ []) × (t ≡ tree)
 
 -- A parser is between two steps: the first node of its stack is open where the stack says, or the tree is
 -- done.
 abbrev pub Between : Task → List OpenProduction → ℕ → ℕ → Output → Type 0
 Between k [] at count made = Finished k at count made.bytes
-Between k (f ∷ fs) at count made = Reading k f.production f.base (drop f.passed (right_side k.grammar f.production)) fs at count made
+Between k (f ∷ fs) at count made =
+    Reading k f.production f.base (drop f.passed (right_side k.grammar f.production)) fs at count made
 
 -- The first node of the stack has just passed an item.
 abbrev pub AtItem : Task → Item → List OpenProduction → ℕ → ℕ → Output → Type 0
 AtItem k x [] at count made = ⊥
-AtItem k x (f ∷ fs) at count made = Reading k f.production f.base (x ∷ drop f.passed (right_side k.grammar f.production)) fs at count made
+AtItem k x (f ∷ fs) at count made =
+    Reading k f.production f.base (x ∷ drop f.passed (right_side k.grammar f.production)) fs at count made
 
 -- the tree of a task's words, within its limits, whose records are written
 pub record IsParsed (k : Task) (count : ℕ) (bytes : List ℕ) : Type 0 where

@@ -19,7 +19,8 @@ IsResourceFault fault = ⊥
 
 -- The effects of a call that appends records on the device, besides its content, and on the writer: the
 -- writer is broken exactly if the call returns that the device failed, and then failures rose.
-pub record BreaksWriter {D : Type 0} (honest : D → Bool) (failures : D → ℕ) (old new : D) (is_broken : Bool) (failed : Type 0) : Type 0 where
+pub record BreaksWriter {D : Type 0} (honest : D → Bool) (failures : D → ℕ) (old new : D) (is_broken : Bool)
+    (failed : Type 0) : Type 0 where
   pub persists : Persists (honest old) (honest new) (failures old) (failures new) failed
   pub breaks : failed → is_broken ≡ true
   pub broken : is_broken ≡ true → failed

@@ -23,7 +23,8 @@ pub record IsTreeWith (g : Grammar) (words : List Lexeme) (t : Tree) : Type 0 wh
 pub record IsStuckAt (g : Grammar) (words : List Lexeme) (index : ℕ) : Type 0 where
   pub within : index ≤ length words
   pub begins : (rest : List Lexeme) × (t : Tree) × IsTreeWith g (take index words ++ rest) t
-  pub ends : (rest : List Lexeme) (t : Tree) → ahead_of rest ≡ ahead_of (drop index words) → IsTreeWith g (take index words ++ rest) t → ⊥
+  pub ends : (rest : List Lexeme) (t : Tree) → ahead_of rest ≡ ahead_of (drop index words)
+      → IsTreeWith g (take index words ++ rest) t → ⊥
 
 -- The words leave only trees whose size is beyond a limit. At some index the limit is reached: a tree whose
 -- words are those before the index, and then some others, has a node there, and the nodes above it have
@@ -41,7 +42,8 @@ pub record LeavesOnly (g : Grammar) (words : List Lexeme) (size : Tree → ℕ) 
   pub above : List Open
   pub cut : IsCutAt g above rest tree
   pub full : limit ≤ begun above
-  pub only : (others : List Lexeme) (t : Tree) → ahead_of others ≡ ahead_of (drop index words) → IsTreeWith g (take index words ++ others) t → limit < size t
+  pub only : (others : List Lexeme) (t : Tree) → ahead_of others ≡ ahead_of (drop index words)
+      → IsTreeWith g (take index words ++ others) t → limit < size t
 
 -- P2: the number of nodes above the next one is the greatest number of levels
 abbrev pub LeavesOnlyDeeper : ℕ → Grammar → List Lexeme → Type 0

@@ -40,11 +40,14 @@ FitsTokens tokens g = IsAccepted g × FitAll (vocabulary_of g) tokens
 
 -- For each grammar with property P, and the task of parsing these tokens over it: A before a step implies B after it.
 abbrev pub Leads : (Grammar → Type 0) → List Token → (Task → List ℕ → Type 0) → (Task → List ℕ → Type 0) → Type 0
-Leads P tokens A B = (g : Grammar) (honest : Bool) (prefix bytes : List ℕ) → P g → A (task_of g tokens honest prefix) bytes → B (task_of g tokens honest prefix) bytes
+Leads P tokens A B = (g : Grammar) (honest : Bool) (prefix bytes : List ℕ) → P g → A (task_of g tokens honest prefix) bytes
+    → B (task_of g tokens honest prefix) bytes
 
 -- the same for a step that changes the device's content
-abbrev pub Writes : (Grammar → Type 0) → List Token → Bool → List ℕ → List ℕ → (Task → List ℕ → Type 0) → (Task → List ℕ → Type 0) → Type 0
-Writes P tokens honest old new A B = (g : Grammar) (prefix : List ℕ) → P g → A (task_of g tokens honest prefix) old → B (task_of g tokens honest prefix) new
+abbrev pub Writes : (Grammar → Type 0) → List Token → Bool → List ℕ → List ℕ → (Task → List ℕ → Type 0) → (Task → List ℕ → Type 0)
+    → Type 0
+Writes P tokens honest old new A B = (g : Grammar) (prefix : List ℕ) → P g → A (task_of g tokens honest prefix) old
+    → B (task_of g tokens honest prefix) new
 
 -- A before a step implies that the fault of the step is justified
 abbrev pub Refuses : (Grammar → Type 0) → List Token → (Task → List ℕ → Type 0) → ParseFault → Type 0

@@ -33,7 +33,8 @@ IsFollowEdge g n q e = OfRest (all_nullable (is_nullable_item n)) (λ x e. IsEdg
 
 -- the node of an item of a right side after which the rest of that side can start with the look-ahead
 abbrev pub IsFollowSeed : Grammar → (ℕ → Bool) → (ℕ → Bool) → Production → ℕ → Type 0
-IsFollowSeed g n b q t = OfRest (can_start_in (λ x. b (node_in g x)) (is_nullable_item n) false) (λ x t. t ≡ node_in g x) q.items t
+IsFollowSeed g n b q t =
+    OfRest (can_start_in (λ x. b (node_in g x)) (is_nullable_item n) false) (λ x t. t ≡ node_in g x) q.items t
 
 -- the marks are those of the symbols with a look-ahead in FOLLOW
 abbrev pub AreFollowMarks : Grammar → Ahead → List Bool → Type 0
@@ -45,16 +46,20 @@ AreFollowEdges g nullable edges = (e : Edge) → Contains edges e ↔ OfSome (Is
 
 -- a list has exactly the seeds of all productions
 abbrev pub AreFollowSeeds : Grammar → List Bool → List Bool → List ℕ → Type 0
-AreFollowSeeds g nullable in_first seeds = (t : ℕ) → Contains seeds t ↔ OfSome (IsFollowSeed g (is_marked nullable) (is_marked in_first)) g.productions t
+AreFollowSeeds g nullable in_first seeds = (t : ℕ)
+    → Contains seeds t ↔ OfSome (IsFollowSeed g (is_marked nullable) (is_marked in_first)) g.productions t
 
 -- whether items can start with a look-ahead, by the marks of the items with it in FIRST and of the nullable symbols
 abbrev pub can_start_by : Sizes → List Bool → List Bool → Bool → List Item → Bool
-can_start_by sizes in_first nullable following xs = can_start_in (λ x. is_marked in_first (node_by sizes x)) (is_nullable_item (is_marked nullable)) following xs
+can_start_by sizes in_first nullable following xs =
+    can_start_in (λ x. is_marked in_first (node_by sizes x)) (is_nullable_item (is_marked nullable)) following xs
 
 -- the same as IsFollowEdge, by the marks of the nullable symbols
 abbrev pub IsLastEdge : Sizes → List Bool → ℕ → List Item → Edge → Type 0
-IsLastEdge sizes nullable left items e = OfRest (all_nullable (is_nullable_item (is_marked nullable))) (λ x e. IsEdge left (node_by sizes x) e) items e
+IsLastEdge sizes nullable left items e =
+    OfRest (all_nullable (is_nullable_item (is_marked nullable))) (λ x e. IsEdge left (node_by sizes x) e) items e
 
 -- the same as IsFollowSeed, by marks
 abbrev pub IsSeedNode : Sizes → List Bool → List Bool → List Item → ℕ → Type 0
-IsSeedNode sizes in_first nullable items t = OfRest (can_start_by sizes in_first nullable false) (λ x t. t ≡ node_by sizes x) items t
+IsSeedNode sizes in_first nullable items t =
+    OfRest (can_start_by sizes in_first nullable false) (λ x t. t ≡ node_by sizes x) items t

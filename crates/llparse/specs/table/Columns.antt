@@ -25,11 +25,13 @@ abbrev pub IsLeastBelow : Grammar → ℕ → Option Conflict → Type 0
 IsLeastBelow g n None = (a b : ℕ) (y : Ahead) → IsKnownAhead g y → index_of (length g.literals) y < n → IsConflict g a b y → ⊥
 IsLeastBelow g n (Some c) =
     IsConflict g c.first c.second c.ahead × (index_of (length g.literals) c.ahead < n)
-    × ((a b : ℕ) (y : Ahead) → IsKnownAhead g y → index_of (length g.literals) y < n → IsConflict g a b y → IsNotAfter g c.first c.second c.ahead a b y)
+    × ((a b : ℕ) (y : Ahead) → IsKnownAhead g y → index_of (length g.literals) y < n → IsConflict g a b y
+    → IsNotAfter g c.first c.second c.ahead a b y)
 
 -- the columns of the look-aheads before an index
 abbrev pub AreColumns : Grammar → ℕ → List (List (Option ℕ)) → Type 0
-AreColumns g n columns = (y : Ahead) → IsKnownAhead g y → index_of (length g.literals) y < n → IsColumn g y (slice_index_or columns (index_of (length g.literals) y) [])
+AreColumns g n columns = (y : Ahead) → IsKnownAhead g y → index_of (length g.literals) y < n
+    → IsColumn g y (slice_index_or columns (index_of (length g.literals) y) [])
 
 -- the conflict of a pair at a look-ahead
 abbrev pub at_ahead : Pair → Ahead → Conflict

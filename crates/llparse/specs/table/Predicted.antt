@@ -31,7 +31,8 @@ choice_at choices s = slice_index_or choices s None
 
 -- For each symbol the first of its marked productions is chosen, among those from a number on.
 pub record AreEarliestFrom (qs : List Production) (marks : List Bool) (from : ℕ) (choices : List (Option ℕ)) : Type 0 where
-  pub chosen : (s k : ℕ) → choice_at choices s ≡ Some k → (from ≤ k) × IsMarkedOf qs marks s k × ((j : ℕ) → from ≤ j → IsMarkedOf qs marks s j → k ≤ j)
+  pub chosen : (s k : ℕ) → choice_at choices s ≡ Some k
+      → (from ≤ k) × IsMarkedOf qs marks s k × ((j : ℕ) → from ≤ j → IsMarkedOf qs marks s j → k ≤ j)
   pub none : (s k : ℕ) → choice_at choices s ≡ None → from ≤ k → IsMarkedOf qs marks s k → ⊥
 
 -- two marked productions of one symbol, the lesser one first
@@ -45,17 +46,22 @@ IsNoLater p a b = (p.first < a) ⊎ ((p.first ≡ a) × (p.second ≤ b))
 -- The least pair of such productions, among those whose first is from a number on, if there is one.
 abbrev pub IsLeastFrom : List Production → List Bool → ℕ → Option Pair → Type 0
 IsLeastFrom qs marks from None = (a b : ℕ) → from ≤ a → AreConflicting qs marks a b → ⊥
-IsLeastFrom qs marks from (Some p) = (from ≤ p.first) × AreConflicting qs marks p.first p.second × ((a b : ℕ) → from ≤ a → AreConflicting qs marks a b → IsNoLater p a b)
+IsLeastFrom qs marks from (Some p) =
+    (from ≤ p.first) × AreConflicting qs marks p.first p.second
+    × ((a b : ℕ) → from ≤ a → AreConflicting qs marks a b → IsNoLater p a b)
 
 -- A production is added before those after it: if it has this mark and this symbol, the choices from the next
 -- production on become those from it on.
 abbrev pub PutsEarliest : ℕ → ℕ → Bool → List (Option ℕ) → List (Option ℕ) → Type 0
 PutsEarliest symbol production mark before after =
-    (qs : List Production) (marks : List Bool) (q : Production) → slice_get qs production ≡ Some q → q.left ≡ symbol → is_marked marks production ≡ mark
+    (qs : List Production) (marks : List Bool) (q : Production) → slice_get qs production ≡ Some q → q.left ≡ symbol
+    → is_marked marks production ≡ mark
     → AreEarliestFrom qs marks (production + 1) before → AreEarliestFrom qs marks production after
 
 -- the same of the least pair
 abbrev pub PutsLeast : ℕ → ℕ → Bool → List (Option ℕ) → Option Pair → Option Pair → Type 0
 PutsLeast symbol production mark before pair after =
-    (qs : List Production) (marks : List Bool) (q : Production) → slice_get qs production ≡ Some q → q.left ≡ symbol → is_marked marks production ≡ mark
-    → AreEarliestFrom qs marks (production + 1) before → IsLeastFrom qs marks (production + 1) pair → IsLeastFrom qs marks production after
+    (qs : List Production) (marks : List Bool) (q : Production) → slice_get qs production ≡ Some q → q.left ≡ symbol
+    → is_marked marks production ≡ mark
+    → AreEarliestFrom qs marks (production + 1) before → IsLeastFrom qs marks (production + 1) pair
+    → IsLeastFrom qs marks production after

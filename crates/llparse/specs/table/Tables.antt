@@ -1,5 +1,6 @@
 -- Tables, and the least conflict.
-use Rattle.std.specs.Prelude.{ℕ, ◌≡◌, ◌<◌, ◌≤◌, ◌⊎◌, ◌↔◌, Bool, true, List, [], Option, Some, None, length, slice_index_or, nat_lt, if◌then◌else◌}
+use Rattle.std.specs.Prelude.{ℕ, ◌≡◌, ◌<◌, ◌≤◌, ◌⊎◌, ◌↔◌, Bool, true, List, [], Option, Some, None, length, slice_index_or}
+use Rattle.std.specs.Prelude.{nat_lt, if◌then◌else◌}
 use Rattle.ag_grammar.specs.declared.grammar.Production.{Production}
 use Rattle.ag_grammar.specs.declared.grammar.Terminal.TheVariants.{Literal, Class}
 use Rattle.ag_grammar.specs.grammars.AttributeGrammar.{Grammar, IsProduction}
@@ -26,7 +27,8 @@ is_known literals ahead.End = true
 
 -- the production of a symbol at a look-ahead, None if there is no such entry
 abbrev pub choice_of : Choices → ℕ → Ahead → Option ℕ
-choice_of t s x = if is_known t.literals x then slice_index_or (slice_index_or t.columns (index_of t.literals x) []) s None else None
+choice_of t s x =
+    if is_known t.literals x then slice_index_or (slice_index_or t.columns (index_of t.literals x) []) s None else None
 
 -- Tables fit a grammar: they have exactly its predictions.
 abbrev pub FitsGrammar : Grammar → Choices → Type 0
@@ -35,7 +37,8 @@ FitsGrammar g t = (s : ℕ) (x : Ahead) (k : ℕ) → choice_of t s x ≡ Some k
 -- Conflicts are in order of their first productions, then of their second ones, then of their look-aheads: literals, then
 -- classes, then the end (this project's).
 abbrev pub IsNotAfter : Grammar → ℕ → ℕ → Ahead → ℕ → ℕ → Ahead → Type 0
-IsNotAfter g a b x c d y = (a < c) ⊎ ((a ≡ c) × ((b < d) ⊎ ((b ≡ d) × (index_of (length g.literals) x ≤ index_of (length g.literals) y))))
+IsNotAfter g a b x c d y =
+    (a < c) ⊎ ((a ≡ c) × ((b < d) ⊎ ((b ≡ d) × (index_of (length g.literals) x ≤ index_of (length g.literals) y))))
 
 -- the least conflict, with its symbol
 pub record IsLeastConflict (g : Grammar) (symbol first second : ℕ) (x : Ahead) : Type 0 where

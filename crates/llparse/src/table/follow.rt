@@ -92,7 +92,11 @@ fn add_seeds(
     for at in (0..items.len()).rev() {
         let node = sizes.node(items[at]);
         add_seed_if(seeds, node, next)?;
-        next = can_start(is_marked(in_first, node), is_nullable_item(nullable, items[at]), next);
+        next = can_start(
+            is_marked(in_first, node),
+            is_nullable_item(nullable, items[at]),
+            next,
+        );
     }
     Ok(())
 }

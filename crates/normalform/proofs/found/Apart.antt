@@ -1,5 +1,7 @@
 -- Keys that are each new at their place are distinct, and the converse.
-use Rattle.std.proofs.Common.{zero, suc, ℕ, ◌≡◌, ◌<◌, ◌≢◌, Bool, true, false, cond, not, List, [], ◌∷◌, ◌++◌, length, get_or, map, None, Some, slice_get, AllPairs, refl, sym, ap, ◌∙◌, inl, inr, arith, append-nil, append_assoc, length-append}
+use Rattle.std.proofs.Common.{zero, suc, ℕ, ◌≡◌, ◌<◌, ◌≢◌, Bool, true, false, cond, not, List, [], ◌∷◌, ◌++◌, length, get_or, map}
+use Rattle.std.proofs.Common.{None, Some, slice_get, AllPairs, refl, sym, ap, ◌∙◌, inl, inr, arith, append-nil, append_assoc}
+use Rattle.std.proofs.Common.{length-append}
 use Rattle.std.proofs.lemmas.Bool.{false≢true, cases_eq, cases_lt}
 use Rattle.std.proofs.lemmas.List.{get_or_append_left, get_or_at, length-map, get_or-map}
 use Rattle.std.proofs.lemmas.List.Folds.{list_any_at, list_any_none}
@@ -27,13 +29,17 @@ differs same decides a b other = go (same b a) refl
     go false e = refl
     go true e = absurd (other (sym (decides.sound b a e)))
 
-pub apart_push : {K : Type 0} (same : K → K → Bool) → DecidesBy same → (seen : List K) (key : K) → Apart seen → list_any (same key) seen ≡ false → Apart (seen ++ key ∷ [])
+pub apart_push : {K : Type 0} (same : K → K → Bool) → DecidesBy same → (seen : List K) (key : K) → Apart seen
+    → list_any (same key) seen ≡ false → Apart (seen ++ key ∷ [])
 apart_push same decides seen key apart new = all_pairs_push (λ a b. a ≢ b) seen key apart (λ k d lt e.
     false≢true (sym new ∙ list_any_at (same key) seen k d lt (decides.whole key (get_or seen k d) (sym e))))
 
-apart_new : {K : Type 0} (same : K → K → Bool) → DecidesBy same → (seen : List K) (key : K) (rest : List K) → Apart (seen ++ key ∷ rest) → list_any (same key) seen ≡ false
-apart_new same decides seen key rest apart = list_any_none (same key) seen (λ k d lt. differs same decides (get_or seen k d) key (λ e.
-    apart k (length seen) d lt (omega (arith, length-append seen (key ∷ rest))) (get_or_append_left seen (key ∷ rest) d k lt ∙ e ∙ sym (get_or_at seen key rest d (length seen) refl))))
+apart_new : {K : Type 0} (same : K → K → Bool) → DecidesBy same → (seen : List K) (key : K) (rest : List K)
+    → Apart (seen ++ key ∷ rest) → list_any (same key) seen ≡ false
+apart_new same decides seen key rest apart =
+    list_any_none (same key) seen (λ k d lt. differs same decides (get_or seen k d) key (λ e.
+    apart k (length seen) d lt (omega (arith, length-append seen (key ∷ rest)))
+    (get_or_append_left seen (key ∷ rest) d k lt ∙ e ∙ sym (get_or_at seen key rest d (length seen) refl))))
 
 -- the check of a key at its place, and then further checks
 abbrev pub key_checks : {X K : Type 0} → (K → K → Bool) → (X → NormalFault) → (X → K) → (X → List Check) → List K → X → List Check
@@ -46,54 +52,81 @@ new_is : (b : Bool) → not b ≡ true → b ≡ false
 new_is false h = refl
 new_is true h = absurd (cc)
 
-with_new : {X K : Type 0} (same : K → K → Bool) (key : X → K) (seen : List K) (x : X) → list_any (same (key x)) seen ≡ false → with_key same key seen x ≡ seen ++ key x ∷ []
+with_new : {X K : Type 0} (same : K → K → Bool) (key : X → K) (seen : List K) (x : X) → list_any (same (key x)) seen ≡ false
+    → with_key same key seen x ≡ seen ++ key x ∷ []
 with_new same key seen x new = rw new refl
 
-pub apart_along : {X K : Type 0} (same : K → K → Bool) (fault : X → NormalFault) (key : X → K) (more : X → List Check) → DecidesBy same → (seen : List K) (xs : List X) → Apart seen
+pub apart_along : {X K : Type 0} (same : K → K → Bool) (fault : X → NormalFault) (key : X → K) (more : X → List Check)
+    → DecidesBy same → (seen : List K) (xs : List X) → Apart seen
     → first_wrong (checks_along (key_checks same fault key more) (with_key same key) seen xs) ≡ None → Apart (seen ++ map key xs)
 apart_along same fault key more decides seen [] apart h = rw append-nil apart
 apart_along same fault key more decides seen (x ∷ xs) apart h =
-    let p = both_right (key_checks same fault key more seen x) (checks_along (key_checks same fault key more) (with_key same key) (with_key same key seen x) xs) h in
-    let new = new_is (list_any (same (key x)) seen) (is_right (fault x, not (list_any (same (key x)) seen)) (both_right ((fault x, not (list_any (same (key x)) seen)) ∷ []) (more x) p.0).0) in
-    rw (← append_assoc seen (key x ∷ []) (map key xs)) (apart_along same fault key more decides (seen ++ key x ∷ []) xs (apart_push same decides seen (key x) apart new) (rw (with_new same key seen x new) at p.1))
+    let p =
+    both_right (key_checks same fault key more seen x)
+    (checks_along (key_checks same fault key more) (with_key same key) (with_key same key seen x) xs) h in
+    let new =
+    new_is (list_any (same (key x)) seen)
+    (is_right (fault x, not (list_any (same (key x)) seen))
+    (both_right ((fault x, not (list_any (same (key x)) seen)) ∷ []) (more x) p.0).0) in
+    rw (← append_assoc seen (key x ∷ []) (map key xs))
+    (apart_along same fault key more decides (seen ++ key x ∷ []) xs (apart_push same decides seen (key x) apart new)
+    (rw (with_new same key seen x new) at p.1))
 
 -- the further checks hold too
-pub more_along : {X K : Type 0} (same : K → K → Bool) (fault : X → NormalFault) (key : X → K) (more : X → List Check) (seen : List K) (xs : List X)
-    → first_wrong (checks_along (key_checks same fault key more) (with_key same key) seen xs) ≡ None → (i : ℕ) (x : X) → slice_get xs i ≡ Some x → first_wrong (more x) ≡ None
+pub more_along : {X K : Type 0} (same : K → K → Bool) (fault : X → NormalFault) (key : X → K) (more : X → List Check)
+    (seen : List K) (xs : List X)
+    → first_wrong (checks_along (key_checks same fault key more) (with_key same key) seen xs) ≡ None → (i : ℕ) (x : X)
+    → slice_get xs i ≡ Some x → first_wrong (more x) ≡ None
 more_along same fault key more seen [] h i x e = absurd (cc)
 more_along same fault key more seen (y ∷ ys) h zero x e =
-    let p = both_right (key_checks same fault key more seen y) (checks_along (key_checks same fault key more) (with_key same key) (with_key same key seen y) ys) h in
+    let p =
+    both_right (key_checks same fault key more seen y)
+    (checks_along (key_checks same fault key more) (with_key same key) (with_key same key seen y) ys) h in
     let z : y ≡ x = cc in rw (← z) (both_right ((fault y, not (list_any (same (key y)) seen)) ∷ []) (more y) p.0).1
 more_along same fault key more seen (y ∷ ys) h (suc i) x e =
-    let p = both_right (key_checks same fault key more seen y) (checks_along (key_checks same fault key more) (with_key same key) (with_key same key seen y) ys) h in
+    let p =
+    both_right (key_checks same fault key more seen y)
+    (checks_along (key_checks same fault key more) (with_key same key) (with_key same key seen y) ys) h in
     more_along same fault key more (with_key same key seen y) ys p.1 i x e
 
-pub along_apart : {X K : Type 0} (same : K → K → Bool) (fault : X → NormalFault) (key : X → K) (more : X → List Check) → DecidesBy same → (seen : List K) (xs : List X) → Apart (seen ++ map key xs)
-    → ((i : ℕ) (x : X) → slice_get xs i ≡ Some x → first_wrong (more x) ≡ None) → first_wrong (checks_along (key_checks same fault key more) (with_key same key) seen xs) ≡ None
+pub along_apart : {X K : Type 0} (same : K → K → Bool) (fault : X → NormalFault) (key : X → K) (more : X → List Check)
+    → DecidesBy same → (seen : List K) (xs : List X) → Apart (seen ++ map key xs)
+    → ((i : ℕ) (x : X) → slice_get xs i ≡ Some x → first_wrong (more x) ≡ None)
+    → first_wrong (checks_along (key_checks same fault key more) (with_key same key) seen xs) ≡ None
 along_apart same fault key more decides seen [] apart each = refl
 along_apart same fault key more decides seen (x ∷ xs) apart each =
     let new = apart_new same decides seen (key x) (map key xs) apart in
-    together (key_checks same fault key more seen x) (checks_along (key_checks same fault key more) (with_key same key) (with_key same key seen x) xs)
-    (together ((fault x, not (list_any (same (key x)) seen)) ∷ []) (more x) (right_is (fault x, not (list_any (same (key x)) seen)) (rw new refl)) (each zero x refl))
-    (rw (with_new same key seen x new) (along_apart same fault key more decides (seen ++ key x ∷ []) xs (rw (append_assoc seen (key x ∷ []) (map key xs)) apart) (λ i. each (suc i))))
+    together (key_checks same fault key more seen x)
+    (checks_along (key_checks same fault key more) (with_key same key) (with_key same key seen x) xs)
+    (together ((fault x, not (list_any (same (key x)) seen)) ∷ []) (more x)
+    (right_is (fault x, not (list_any (same (key x)) seen)) (rw new refl)) (each zero x refl))
+    (rw (with_new same key seen x new)
+    (along_apart same fault key more decides (seen ++ key x ∷ []) xs (rw (append_assoc seen (key x ∷ []) (map key xs)) apart)
+    (λ i. each (suc i))))
 
 pub none_apart : {K : Type 0} → Apart {K = K} []
 none_apart i j d before within = absurd (omega arith)
 
-key_at : {X K : Type 0} (key : X → K) (xs : List X) (n : ℕ) (z d : X) → slice_get xs n ≡ Some z → get_or (map key xs) n (key d) ≡ key z
+key_at : {X K : Type 0} (key : X → K) (xs : List X) (n : ℕ) (z d : X) → slice_get xs n ≡ Some z
+    → get_or (map key xs) n (key d) ≡ key z
 key_at key xs n z d e = get_or-map key xs n d (key d) (slice_get_within xs n z e) ∙ ap key (get_or_from_slice_get xs n z d e)
 
 -- keys are distinct if elements differ in them
 pub apart_differ : {X K : Type 0} (key : X → K) (xs : List X) → Apart (map key xs) → DifferIn key xs
 apart_differ key xs apart i j x y e f same = elim (cases_lt i j) [
-  | inl lt ↦ absurd (apart i j (key x) lt (rw (length-map xs key) (slice_get_within xs j y f)) (key_at key xs i x x e ∙ same ∙ sym (key_at key xs j y x f)))
+  | inl lt ↦ absurd
+      (apart i j (key x) lt (rw (length-map xs key) (slice_get_within xs j y f))
+      (key_at key xs i x x e ∙ same ∙ sym (key_at key xs j y x f)))
   | inr le ↦ elim (cases_eq i j) [
     | inl here ↦ here
-    | inr other ↦ absurd (apart j i (key x) (omega arith) (rw (length-map xs key) (slice_get_within xs i x e)) (key_at key xs j y x f ∙ sym same ∙ sym (key_at key xs i x x e)))
+    | inr other ↦ absurd
+        (apart j i (key x) (omega arith) (rw (length-map xs key) (slice_get_within xs i x e))
+        (key_at key xs j y x f ∙ sym same ∙ sym (key_at key xs i x x e)))
   ]
 ]
 
-same_twice : {X K : Type 0} (key : X → K) (xs : List X) → DifferIn key xs → (i j : ℕ) (d : K) (z : X) → i < j → i < length xs → j < length xs → get_or (map key xs) i d ≡ get_or (map key xs) j d → ⊥
+same_twice : {X K : Type 0} (key : X → K) (xs : List X) → DifferIn key xs → (i j : ℕ) (d : K) (z : X) → i < j → i < length xs
+    → j < length xs → get_or (map key xs) i d ≡ get_or (map key xs) j d → ⊥
 same_twice key xs differ i j d z lt hi hj same =
     let k : key (get_or xs i z) ≡ key (get_or xs j z) = sym (get_or-map key xs i z d hi) ∙ same ∙ get_or-map key xs j z d hj in
     let n = differ i j (get_or xs i z) (get_or xs j z) (slice_get-get_or xs i z hi) (slice_get-get_or xs j z hj) k in

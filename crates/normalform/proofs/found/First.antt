@@ -9,7 +9,8 @@ use Rattle.normalform.specs.declared.fault.NormalFault.{NormalFault}
 use Rattle.normalform.specs.declared.fault.NormalFault.TheVariants as fault
 use Rattle.normalform.specs.faults.Faults.{IsFirstFault, IsFirstNot, in_names, in_productive, in_reached, in_rules}
 
-same_number : (P : ℕ → Type 0) (ss : List RawSymbol) (a b : Named) (x : IsFirstNot P ss a) (y : IsFirstNot P ss b) → x.number ≡ y.number
+same_number : (P : ℕ → Type 0) (ss : List RawSymbol) (a b : Named) (x : IsFirstNot P ss a) (y : IsFirstNot P ss b)
+    → x.number ≡ y.number
 same_number P ss a b x y = elim (cases_lt x.number y.number) [
   | inl lt ↦ absurd (x.wrong (y.before x.number lt))
   | inr le ↦ elim (cases_eq x.number y.number) [
@@ -31,14 +32,22 @@ one_first_fault raw f h (in_names e) (in_productive n y) = absurd (cc (e, n))
 one_first_fault raw f h (in_names e) (in_reached n all y) = absurd (cc (e, n))
 one_first_fault raw f h (in_names e) (in_rules n all reached k) = absurd (cc (e, n))
 one_first_fault raw f h (in_productive n x) (in_names k) = absurd (cc (n, k))
-one_first_fault raw f h (in_productive {name = a} n x) (in_productive {name = b} m y) = ap (λ z. fault.Unproductive z) (same_name _ raw.symbols a b x y)
-one_first_fault raw f h (in_productive n x) (in_reached m all y) = absurd (x.wrong (all x.number (slice_get_within raw.symbols x.number x.symbol x.declared)))
-one_first_fault raw f h (in_productive n x) (in_rules m all reached k) = absurd (x.wrong (all x.number (slice_get_within raw.symbols x.number x.symbol x.declared)))
+one_first_fault raw f h (in_productive {name = a} n x) (in_productive {name = b} m y) =
+    ap (λ z. fault.Unproductive z) (same_name _ raw.symbols a b x y)
+one_first_fault raw f h (in_productive n x) (in_reached m all y) =
+    absurd (x.wrong (all x.number (slice_get_within raw.symbols x.number x.symbol x.declared)))
+one_first_fault raw f h (in_productive n x) (in_rules m all reached k) =
+    absurd (x.wrong (all x.number (slice_get_within raw.symbols x.number x.symbol x.declared)))
 one_first_fault raw f h (in_reached n all x) (in_names k) = absurd (cc (n, k))
-one_first_fault raw f h (in_reached n all x) (in_productive m y) = absurd (y.wrong (all y.number (slice_get_within raw.symbols y.number y.symbol y.declared)))
-one_first_fault raw f h (in_reached {name = a} n all x) (in_reached {name = b} m more y) = ap (λ z. fault.Unreachable z) (same_name _ raw.symbols a b x y)
-one_first_fault raw f h (in_reached n all x) (in_rules m more reached k) = absurd (x.wrong (reached x.number (slice_get_within raw.symbols x.number x.symbol x.declared)))
+one_first_fault raw f h (in_reached n all x) (in_productive m y) =
+    absurd (y.wrong (all y.number (slice_get_within raw.symbols y.number y.symbol y.declared)))
+one_first_fault raw f h (in_reached {name = a} n all x) (in_reached {name = b} m more y) =
+    ap (λ z. fault.Unreachable z) (same_name _ raw.symbols a b x y)
+one_first_fault raw f h (in_reached n all x) (in_rules m more reached k) =
+    absurd (x.wrong (reached x.number (slice_get_within raw.symbols x.number x.symbol x.declared)))
 one_first_fault raw f h (in_rules n all reached e) (in_names k) = absurd (cc (n, k))
-one_first_fault raw f h (in_rules n all reached e) (in_productive m y) = absurd (y.wrong (all y.number (slice_get_within raw.symbols y.number y.symbol y.declared)))
-one_first_fault raw f h (in_rules n all reached e) (in_reached m more y) = absurd (y.wrong (reached y.number (slice_get_within raw.symbols y.number y.symbol y.declared)))
+one_first_fault raw f h (in_rules n all reached e) (in_productive m y) =
+    absurd (y.wrong (all y.number (slice_get_within raw.symbols y.number y.symbol y.declared)))
+one_first_fault raw f h (in_rules n all reached e) (in_reached m more y) =
+    absurd (y.wrong (reached y.number (slice_get_within raw.symbols y.number y.symbol y.declared)))
 one_first_fault raw f h (in_rules n all reached e) (in_rules m more there k) = let same : Some f ≡ Some h = sym e ∙ k in cc

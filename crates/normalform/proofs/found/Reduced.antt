@@ -1,17 +1,21 @@
 -- The numbers that follow from the clauses of a raw grammar are productive, and those that follow from the
 -- edges are reached.
-use Rattle.std.proofs.Common.{arith, Bool, true, false, cond, is_some, nat_lt, bytes_eq, Option, ℕ, zero, suc, ◌≡◌, ◌<◌, ◌⊎◌, inl, inr, List, [], ◌∷◌, ◌++◌, length, map, flat_map, All, Some, None, slice_get, refl, ap, sym, ◌∙◌, subst}
+use Rattle.std.proofs.Common.{arith, Bool, true, false, cond, is_some, nat_lt, bytes_eq, Option, ℕ, zero, suc, ◌≡◌, ◌<◌, ◌⊎◌, inl}
+use Rattle.std.proofs.Common.{inr, List, [], ◌∷◌, ◌++◌, length, map, flat_map, All, Some, None, slice_get, refl, ap, sym, ◌∙◌}
+use Rattle.std.proofs.Common.{subst}
 use Rattle.std.proofs.lemmas.Bool.{ltb-true, lt-ltb}
 use Rattle.std.proofs.lemmas.List.{length-map}
 use Rattle.std.proofs.lemmas.Option.{slice_get_within}
 use Rattle.std.specs.List.{list_any}
-use Rattle.std.proofs.lemmas.List.Elements.{All-append, All-nil, All-cons, All-head, All-tail, All-map, All-contains, Contains-get_or}
+use Rattle.std.proofs.lemmas.List.Elements.{All-append, All-nil, All-cons, All-head, All-tail, All-map, All-contains}
+use Rattle.std.proofs.lemmas.List.Elements.{Contains-get_or}
 use Rattle.ag_grammar.specs.Lists.{Has}
 use Rattle.ag_grammar.specs.declared.grammar.Item.{Item}
 use Rattle.ag_grammar.specs.declared.grammar.Item.TheVariants as item
 use Rattle.ag_grammar.specs.declared.grammar.Production.{Production}
 use Rattle.ag_grammar.specs.declared.grammar.Symbol.{Symbol}
-use Rattle.ag_grammar.specs.grammars.Accepted.{IsProductive, AreProductive, by_production, nothing as no_item, a_symbol, a_terminal, IsReached, at_start, within}
+use Rattle.ag_grammar.specs.grammars.Accepted.{IsProductive, AreProductive, by_production, nothing as no_item, a_symbol}
+use Rattle.ag_grammar.specs.grammars.Accepted.{a_terminal, IsReached, at_start, within}
 use Rattle.ag_grammar.specs.grammars.AttributeGrammar.{Grammar}
 use Rattle.ag_grammar.specs.declared.raw.RawGrammar.{RawGrammar}
 use Rattle.ag_grammar.specs.declared.raw.RawItem.{RawItem}
@@ -26,11 +30,13 @@ use Rattle.closure.proofs.Positions.{at_mapped, element_at, mapped_at, position_
 use Rattle.closure.proofs.Reached.{reached_in, step}
 use Rattle.closure.proofs.Following.{follows_in, head_follows}
 use Rattle.normalform.specs.faults.Clauses.{body_of, clause_of, clauses_of, edge, edges_of, reach_edges}
-use Rattle.normalform.specs.numbers.Numbers.{number_in, symbol_of, symbol_names, item_of, literals_of, placed, production_of, numbered}
+use Rattle.normalform.specs.numbers.Numbers.{number_in, symbol_of, symbol_names, item_of, literals_of, placed, production_of}
+use Rattle.normalform.specs.numbers.Numbers.{numbered}
 use Rattle.normalform.proofs.numbered.Texts.{found}
 use Rattle.ag_grammar.specs.declared.raw.Named.{Named}
 use Rattle.normalform.specs.declared.fault.NormalFault.TheVariants as fault
-use Rattle.normalform.specs.faults.Faults.{first_wrong, name_check, item_checks, rule_checks, unknown_in, unknown_checks, is_start, start_checks}
+use Rattle.normalform.specs.faults.Faults.{first_wrong, name_check, item_checks, rule_checks, unknown_in, unknown_checks}
+use Rattle.normalform.specs.faults.Faults.{is_start, start_checks}
 use Rattle.normalform.proofs.found.Right.{is_right, both_right, has_flat}
 
 abbrev symbols_of : List Item → List ℕ
@@ -40,16 +46,23 @@ symbols_of (item.Terminal a ∷ xs) = symbols_of xs
 
 -- Induction: a property that is closed under the productions holds of all productive symbols.
 mutual
-  productive_in : (g : Grammar) (P : ℕ → Type 0) → ((p : ℕ) (q : Production) → slice_get g.productions p ≡ Some q → All P (symbols_of q.items) → P q.left) → (s : ℕ) → IsProductive g s → P s
+  productive_in : (g : Grammar) (P : ℕ → Type 0)
+      → ((p : ℕ) (q : Production) → slice_get g.productions p ≡ Some q → All P (symbols_of q.items) → P q.left) → (s : ℕ)
+      → IsProductive g s → P s
   productive_in g P closed s (by_production p q e l h) = subst P l (closed p q e (items_in g P closed q.items h))
 
-  items_in : (g : Grammar) (P : ℕ → Type 0) → ((p : ℕ) (q : Production) → slice_get g.productions p ≡ Some q → All P (symbols_of q.items) → P q.left) → (xs : List Item) → AreProductive g xs → All P (symbols_of xs)
+  items_in : (g : Grammar) (P : ℕ → Type 0)
+      → ((p : ℕ) (q : Production) → slice_get g.productions p ≡ Some q → All P (symbols_of q.items) → P q.left) → (xs : List Item)
+      → AreProductive g xs → All P (symbols_of xs)
   items_in g P closed [] no_item = All-nil P
-  items_in g P closed (item.Symbol s ∷ xs) (a_symbol h k) = All-cons P s (symbols_of xs) (productive_in g P closed s h) (items_in g P closed xs k)
+  items_in g P closed (item.Symbol s ∷ xs) (a_symbol h k) =
+      All-cons P s (symbols_of xs) (productive_in g P closed s h) (items_in g P closed xs k)
   items_in g P closed (item.Terminal a ∷ xs) (a_terminal k) = items_in g P closed xs k
 
 -- and of reached ones
-symbols_in : (g : Grammar) (P : ℕ → Type 0) → P g.start → ((p : ℕ) (q : Production) (s : ℕ) → slice_get g.productions p ≡ Some q → P q.left → Has q.items (item.Symbol s) → P s) → (s : ℕ) → IsReached g s → P s
+symbols_in : (g : Grammar) (P : ℕ → Type 0) → P g.start
+    → ((p : ℕ) (q : Production) (s : ℕ) → slice_get g.productions p ≡ Some q → P q.left → Has q.items (item.Symbol s) → P s)
+    → (s : ℕ) → IsReached g s → P s
 symbols_in g P start step s at_start = start
 symbols_in g P start step s (within p q e h has) = step p q s e (symbols_in g P start step q.left h) has
 
@@ -67,15 +80,20 @@ abbrev pub produces : RawGrammar → RawProduction → Production
 produces raw q = production_of (symbols raw) (literals_of raw.productions) q
 
 -- items are productive if their symbols are
-items_productive : (raw : RawGrammar) (lits : List (List ℕ)) (xs : List RawItem) → All (IsProductive (numbered raw)) (body_of (names raw) xs) → AreProductive (numbered raw) (map (item_of (names raw) lits) xs)
+items_productive : (raw : RawGrammar) (lits : List (List ℕ)) (xs : List RawItem)
+    → All (IsProductive (numbered raw)) (body_of (names raw) xs)
+    → AreProductive (numbered raw) (map (item_of (names raw) lits) xs)
 items_productive raw lits [] all = no_item
 items_productive raw lits (raw_item.Name name ∷ xs) all =
-    a_symbol (All-head (IsProductive (numbered raw)) (number_in (names raw) name.name) (body_of (names raw) xs) all) (items_productive raw lits xs (All-tail (IsProductive (numbered raw)) (number_in (names raw) name.name) (body_of (names raw) xs) all))
+    a_symbol (All-head (IsProductive (numbered raw)) (number_in (names raw) name.name) (body_of (names raw) xs) all)
+    (items_productive raw lits xs
+    (All-tail (IsProductive (numbered raw)) (number_in (names raw) name.name) (body_of (names raw) xs) all))
 items_productive raw lits (raw_item.Literal text ∷ xs) all = a_terminal (items_productive raw lits xs all)
 items_productive raw lits (raw_item.Class c ∷ xs) all = a_terminal (items_productive raw lits xs all)
 
 pub follows_productive : (raw : RawGrammar) (s : ℕ) → Follows (clauses raw) [] s → IsProductive (numbered raw) s
-follows_productive raw = follows_in (clauses raw) [] (IsProductive (numbered raw)) (λ t none. absurd (omega (arith, none.1))) (λ p c e all.
+follows_productive raw =
+    follows_in (clauses raw) [] (IsProductive (numbered raw)) (λ t none. absurd (omega (arith, none.1))) (λ p c e all.
     let w = mapped_at (clause_of (symbols raw)) raw.productions p c e in
     by_production p (produces raw w.0) (at_mapped (produces raw) raw.productions p w.0 w.1) (ap (λ (d : Clause). d.head) w.2)
     (items_productive raw (literals_of raw.productions) w.0.items (rw (← w.2) at all)))
@@ -89,8 +107,11 @@ body_symbols ns lits (raw_item.Class c ∷ xs) = body_symbols ns lits xs
 pub productive_follows : (raw : RawGrammar) (s : ℕ) → IsProductive (numbered raw) s → Follows (clauses raw) [] s
 productive_follows raw = productive_in (numbered raw) (Follows (clauses raw) []) (λ p q e all.
     let w = mapped_at (produces raw) raw.productions p q e in
-    let body : All (Follows (clauses raw) []) (body_of (names raw) w.0.items) = rw (← w.2, body_symbols (names raw) (literals_of raw.productions) w.0.items) at all in
-    subst (Follows (clauses raw) []) (ap (λ (r : Production). r.left) w.2) (head_follows (clauses raw) [] p (clause_of (symbols raw) w.0) (at_mapped (clause_of (symbols raw)) raw.productions p w.0 w.1) body))
+    let body : All (Follows (clauses raw) []) (body_of (names raw) w.0.items) =
+    rw (← w.2, body_symbols (names raw) (literals_of raw.productions) w.0.items) at all in
+    subst (Follows (clauses raw) []) (ap (λ (r : Production). r.left) w.2)
+    (head_follows (clauses raw) [] p (clause_of (symbols raw) w.0)
+    (at_mapped (clause_of (symbols raw)) raw.productions p w.0 w.1) body))
 
 abbrev pub start : RawGrammar → ℕ
 start raw = number_in (names raw) raw.start.name
@@ -103,7 +124,8 @@ abbrev pub FollowsStart : RawGrammar → ℕ → Type 0
 FollowsStart raw = Follows (map clause_of_edge (edges raw)) (start raw ∷ [])
 
 -- a symbol on a right side is in the body, and the converse
-symbol_body : (ns lits : List (List ℕ)) (xs : List RawItem) (i s : ℕ) → slice_get (map (item_of ns lits) xs) i ≡ Some (item.Symbol s) → Has (body_of ns xs) s
+symbol_body : (ns lits : List (List ℕ)) (xs : List RawItem) (i s : ℕ)
+    → slice_get (map (item_of ns lits) xs) i ≡ Some (item.Symbol s) → Has (body_of ns xs) s
 symbol_body ns lits [] i s e = absurd (cc)
 symbol_body ns lits (raw_item.Name name ∷ xs) zero s e = (zero, cc)
 symbol_body ns lits (raw_item.Name name ∷ xs) (suc i) s e = let w = symbol_body ns lits xs i s e in (suc w.0, w.1)
@@ -112,7 +134,8 @@ symbol_body ns lits (raw_item.Literal text ∷ xs) (suc i) s e = symbol_body ns 
 symbol_body ns lits (raw_item.Class c ∷ xs) zero s e = absurd (cc)
 symbol_body ns lits (raw_item.Class c ∷ xs) (suc i) s e = symbol_body ns lits xs i s e
 
-body_symbol : (ns lits : List (List ℕ)) (xs : List RawItem) (i s : ℕ) → slice_get (body_of ns xs) i ≡ Some s → Has (map (item_of ns lits) xs) (item.Symbol s)
+body_symbol : (ns lits : List (List ℕ)) (xs : List RawItem) (i s : ℕ) → slice_get (body_of ns xs) i ≡ Some s
+    → Has (map (item_of ns lits) xs) (item.Symbol s)
 body_symbol ns lits [] i s e = absurd (cc)
 body_symbol ns lits (raw_item.Name name ∷ xs) zero s e = (zero, cc)
 body_symbol ns lits (raw_item.Name name ∷ xs) (suc i) s e = let w = body_symbol ns lits xs i s e in (suc w.0, w.1)
@@ -120,12 +143,14 @@ body_symbol ns lits (raw_item.Literal text ∷ xs) i s e = let w = body_symbol n
 body_symbol ns lits (raw_item.Class c ∷ xs) i s e = let w = body_symbol ns lits xs i s e in (suc w.0, w.1)
 
 pub reached_follows : (raw : RawGrammar) (s : ℕ) → IsReached (numbered raw) s → FollowsStart raw s
-reached_follows raw = symbols_in (numbered raw) (FollowsStart raw) (seed (Contains-get_or (start raw ∷ []) 0 0 (omega arith))) (λ p q s e left has.
+reached_follows raw =
+    symbols_in (numbered raw) (FollowsStart raw) (seed (Contains-get_or (start raw ∷ []) 0 0 (omega arith))) (λ p q s e left has.
     let w = mapped_at (produces raw) raw.productions p q e in
     let here = symbol_body (names raw) (literals_of raw.productions) w.0.items has.0 s (rw (← w.2) at has.1) in
     let c = clause_of (symbols raw) w.0 in
     let at_clause = at_mapped (clause_of (symbols raw)) raw.productions p w.0 w.1 in
-    let there : Has (flat_map edges_of (clauses raw)) (edge c.head s) = has_flat edges_of (clauses raw) p c (edge c.head s) at_clause (here.0, at_mapped (edge c.head) c.body here.0 s here.1) in
+    let there : Has (flat_map edges_of (clauses raw)) (edge c.head s) =
+    has_flat edges_of (clauses raw) p c (edge c.head s) at_clause (here.0, at_mapped (edge c.head) c.body here.0 s here.1) in
     let same : q.left ≡ c.head = sym (ap (λ (r : Production). r.left) w.2) in
     step (edges raw) (start raw ∷ []) (edge c.head s) (element_at (edges raw) there.0 (edge c.head s) there.1) (rw same at left))
 
@@ -138,70 +163,95 @@ split_has (x ∷ xs) ys (suc p) y e = elim (split_has xs ys p y e) [
 ]
 
 -- an element of concatenated lists is in one of them
-flat_has : {X Y : Type 0} (f : X → List Y) (xs : List X) (p : ℕ) (y : Y) → slice_get (flat_map f xs) p ≡ Some y → (i : ℕ) × (x : X) × (slice_get xs i ≡ Some x) × Has (f x) y
+flat_has : {X Y : Type 0} (f : X → List Y) (xs : List X) (p : ℕ) (y : Y) → slice_get (flat_map f xs) p ≡ Some y
+    → (i : ℕ) × (x : X) × (slice_get xs i ≡ Some x) × Has (f x) y
 flat_has f [] p y e = absurd (cc)
 flat_has f (x ∷ xs) p y e = elim (split_has (f x) (flat_map f xs) p y e) [
   | inl here ↦ (zero, x, refl, here)
   | inr there ↦ let w = flat_has f xs there.0 y there.1 in (suc w.0, w.1, w.2, w.3)
 ]
 
-edge_reached : (raw : RawGrammar) (p : ℕ) (e : Edge) → slice_get (edges raw) p ≡ Some e → IsReached (numbered raw) e.from → IsReached (numbered raw) e.to
+edge_reached : (raw : RawGrammar) (p : ℕ) (e : Edge) → slice_get (edges raw) p ≡ Some e → IsReached (numbered raw) e.from
+    → IsReached (numbered raw) e.to
 edge_reached raw p e at before =
     let w = flat_has edges_of (clauses raw) p e at in
     let v = mapped_at (clause_of (symbols raw)) raw.productions w.0 w.1 w.2 in
     let t = mapped_at (edge w.1.head) w.1.body w.3.0 e w.3.1 in
     let left : IsReached (numbered raw) w.1.head = subst (λ (d : Edge). IsReached (numbered raw) d.from) (sym t.2) before in
-    let body : slice_get (body_of (names raw) v.0.items) w.3.0 ≡ Some t.0 = subst (λ (d : Clause). slice_get d.body w.3.0 ≡ Some t.0) (sym v.2) t.1 in
+    let body : slice_get (body_of (names raw) v.0.items) w.3.0 ≡ Some t.0 =
+    subst (λ (d : Clause). slice_get d.body w.3.0 ≡ Some t.0) (sym v.2) t.1 in
     let has = body_symbol (names raw) (literals_of raw.productions) v.0.items w.3.0 t.0 body in
-    let from : IsReached (numbered raw) (number_in (names raw) v.0.left.name) = subst (λ (d : Clause). IsReached (numbered raw) d.head) (sym v.2) left in
-    subst (λ (d : Edge). IsReached (numbered raw) d.to) t.2 (within w.0 (produces raw v.0) (at_mapped (produces raw) raw.productions w.0 v.0 v.1) from has)
+    let from : IsReached (numbered raw) (number_in (names raw) v.0.left.name) =
+    subst (λ (d : Clause). IsReached (numbered raw) d.head) (sym v.2) left in
+    subst (λ (d : Edge). IsReached (numbered raw) d.to) t.2
+    (within w.0 (produces raw v.0) (at_mapped (produces raw) raw.productions w.0 v.0 v.1) from has)
 
 pub follows_reached : (raw : RawGrammar) (s : ℕ) → FollowsStart raw s → IsReached (numbered raw) s
-follows_reached raw = reached_in (edges raw) (start raw ∷ []) (IsReached (numbered raw)) (λ t h. All-contains (IsReached (numbered raw)) (start raw ∷ []) t (All-cons (IsReached (numbered raw)) (start raw) [] at_start (All-nil (IsReached (numbered raw)))) h)
+follows_reached raw =
+    reached_in (edges raw) (start raw ∷ []) (IsReached (numbered raw))
+    (λ t h. All-contains (IsReached (numbered raw)) (start raw ∷ []) t
+    (All-cons (IsReached (numbered raw)) (start raw) [] at_start (All-nil (IsReached (numbered raw)))) h)
     (λ e h. let w = position_of_element (edges raw) e h in edge_reached raw w.0 e w.1)
 
 -- The numbers of known names are those of symbols.
 pub known : (texts : List (List ℕ)) (text : List ℕ) → list_any (bytes_eq text) texts ≡ true → number_in texts text < length texts
 known texts text h = go (nat_lt (number_in texts text) (length texts)) refl (found (bytes_eq text) texts ∙ h)
   where
-    go : (b : Bool) → nat_lt (number_in texts text) (length texts) ≡ b → is_some (cond b (Some (number_in texts text)) None) ≡ true → number_in texts text < length texts
+    go : (b : Bool) → nat_lt (number_in texts text) (length texts) ≡ b
+        → is_some (cond b (Some (number_in texts text)) None) ≡ true → number_in texts text < length texts
     go true e h = ltb-true (number_in texts text) (length texts) e
     go false e h = absurd (cc)
 
 -- and a number of a symbol is of a known name
-pub below_known : (texts : List (List ℕ)) (text : List ℕ) → number_in texts text < length texts → list_any (bytes_eq text) texts ≡ true
-below_known texts text lt = let e = lt-ltb (number_in texts text) (length texts) lt in sym (found (bytes_eq text) texts) ∙ rw e refl
+pub below_known : (texts : List (List ℕ)) (text : List ℕ) → number_in texts text < length texts
+    → list_any (bytes_eq text) texts ≡ true
+below_known texts text lt = let e = lt-ltb (number_in texts text) (length texts) lt in
+    sym (found (bytes_eq text) texts) ∙ rw e refl
 
-pub name_known : (ss : List Symbol) (name : Named) → first_wrong (name_check (symbol_names ss) name ∷ []) ≡ None → number_in (symbol_names ss) name.name < length ss
-name_known ss name h = rw (length-map ss (λ (s : Symbol). s.name)) at (known (symbol_names ss) name.name (is_right (name_check (symbol_names ss) name) h))
+pub name_known : (ss : List Symbol) (name : Named) → first_wrong (name_check (symbol_names ss) name ∷ []) ≡ None
+    → number_in (symbol_names ss) name.name < length ss
+name_known ss name h =
+    rw (length-map ss (λ (s : Symbol). s.name)) at
+    (known (symbol_names ss) name.name (is_right (name_check (symbol_names ss) name) h))
 
-body_below : (ss : List Symbol) (xs : List RawItem) → first_wrong (flat_map (item_checks (symbol_names ss)) xs) ≡ None → All (λ t. t < length ss) (body_of (symbol_names ss) xs)
+body_below : (ss : List Symbol) (xs : List RawItem) → first_wrong (flat_map (item_checks (symbol_names ss)) xs) ≡ None
+    → All (λ t. t < length ss) (body_of (symbol_names ss) xs)
 body_below ss [] h = All-nil (λ t. t < length ss)
 body_below ss (raw_item.Name name ∷ xs) h =
     let w = both_right (name_check (symbol_names ss) name ∷ []) (flat_map (item_checks (symbol_names ss)) xs) h in
-    All-cons (λ t. t < length ss) (number_in (symbol_names ss) name.name) (body_of (symbol_names ss) xs) (name_known ss name w.0) (body_below ss xs w.1)
+    All-cons (λ t. t < length ss) (number_in (symbol_names ss) name.name) (body_of (symbol_names ss) xs) (name_known ss name w.0)
+    (body_below ss xs w.1)
 body_below ss (raw_item.Literal text ∷ xs) h = body_below ss xs h
 body_below ss (raw_item.Class c ∷ xs) h = body_below ss xs h
 
 -- the parts of a production without an unknown name
 pub unknown_parts : (ss : List Symbol) (q : RawProduction) → first_wrong (unknown_in ss q) ≡ None
-    → (first_wrong (name_check (symbol_names ss) q.left ∷ []) ≡ None) × (first_wrong (flat_map (item_checks (symbol_names ss)) q.items) ≡ None) × (first_wrong (flat_map (rule_checks ss (placed ss q)) q.rules) ≡ None)
+    → (first_wrong (name_check (symbol_names ss) q.left ∷ []) ≡ None)
+    × (first_wrong (flat_map (item_checks (symbol_names ss)) q.items) ≡ None)
+    × (first_wrong (flat_map (rule_checks ss (placed ss q)) q.rules) ≡ None)
 unknown_parts ss q h =
-    let w = both_right (name_check (symbol_names ss) q.left ∷ []) (flat_map (item_checks (symbol_names ss)) q.items ++ flat_map (rule_checks ss (placed ss q)) q.rules) h in
-    let v = both_right (flat_map (item_checks (symbol_names ss)) q.items) (flat_map (rule_checks ss (placed ss q)) q.rules) w.1 in (w.0, v.0, v.1)
+    let w =
+    both_right (name_check (symbol_names ss) q.left ∷ [])
+    (flat_map (item_checks (symbol_names ss)) q.items ++ flat_map (rule_checks ss (placed ss q)) q.rules) h in
+    let v = both_right (flat_map (item_checks (symbol_names ss)) q.items) (flat_map (rule_checks ss (placed ss q)) q.rules) w.1 in
+    (w.0, v.0, v.1)
 
-pub clauses_below : (ss : List Symbol) (qs : List RawProduction) → first_wrong (unknown_checks ss qs) ≡ None → All (IsClauseBelow (length ss)) (clauses_of ss qs)
+pub clauses_below : (ss : List Symbol) (qs : List RawProduction) → first_wrong (unknown_checks ss qs) ≡ None
+    → All (IsClauseBelow (length ss)) (clauses_of ss qs)
 clauses_below ss [] h = All-nil (IsClauseBelow (length ss))
 clauses_below ss (q ∷ qs) h =
     let w = both_right (unknown_in ss q) (unknown_checks ss qs) h in
     let v = unknown_parts ss q w.0 in
-    All-cons (IsClauseBelow (length ss)) (clause_of ss q) (clauses_of ss qs) (record { head = name_known ss q.left v.0; body = body_below ss q.items v.1 }) (clauses_below ss qs w.1)
+    All-cons (IsClauseBelow (length ss)) (clause_of ss q) (clauses_of ss qs)
+    (record { head = name_known ss q.left v.0; body = body_below ss q.items v.1 }) (clauses_below ss qs w.1)
 
 pub edges_below : (n : ℕ) (cs : List Clause) → All (IsClauseBelow n) cs → All (IsEdgeBelow n) (flat_map edges_of cs)
 edges_below n [] all = All-nil (IsEdgeBelow n)
 edges_below n (c ∷ cs) all =
     let here = All-head (IsClauseBelow n) c cs all in
-    All-append (IsEdgeBelow n) (edges_of c) (flat_map edges_of cs) (All-map (IsEdgeBelow n) (edge c.head) c.body (λ k d lt. record { from = here.head; to = here.body k d lt })) (edges_below n cs (All-tail (IsClauseBelow n) c cs all))
+    All-append (IsEdgeBelow n) (edges_of c) (flat_map edges_of cs)
+    (All-map (IsEdgeBelow n) (edge c.head) c.body (λ k d lt. record { from = here.head; to = here.body k d lt }))
+    (edges_below n cs (All-tail (IsClauseBelow n) c cs all))
 
 start_there : (ss : List Symbol) (n : ℕ) → is_start (slice_get ss n) ≡ true → n < length ss
 start_there ss n h = go (slice_get ss n) refl h
@@ -210,5 +260,8 @@ start_there ss n h = go (slice_get ss n) refl h
     go None e h = absurd (cc)
     go (Some s) e h = slice_get_within ss n s e
 
-pub start_below : (ss : List Symbol) (name : Named) → first_wrong (start_checks ss name) ≡ None → number_in (symbol_names ss) name.name < length ss
-start_below ss name h = start_there ss (number_in (symbol_names ss) name.name) (is_right (fault.BadStart, is_start (slice_get ss (number_in (symbol_names ss) name.name))) h)
+pub start_below : (ss : List Symbol) (name : Named) → first_wrong (start_checks ss name) ≡ None
+    → number_in (symbol_names ss) name.name < length ss
+start_below ss name h =
+    start_there ss (number_in (symbol_names ss) name.name)
+    (is_right (fault.BadStart, is_start (slice_get ss (number_in (symbol_names ss) name.name))) h)

@@ -1,5 +1,6 @@
 -- Lists of checks that all hold, and elements of mapped and concatenated lists.
-use Rattle.std.proofs.Common.{ℕ, zero, suc, ◌≡◌, ◌+◌, Bool, true, false, List, [], ◌∷◌, ◌++◌, map, flat_map, Some, None, Option, slice_get, refl, sym, ◌∙◌, arith}
+use Rattle.std.proofs.Common.{ℕ, zero, suc, ◌≡◌, ◌+◌, Bool, true, false, List, [], ◌∷◌, ◌++◌, map, flat_map, Some, None, Option}
+use Rattle.std.proofs.Common.{slice_get, refl, sym, ◌∙◌, arith}
 use Rattle.std.specs.Option.{option_or}
 use Rattle.ag_grammar.specs.Lists.{Has}
 use Rattle.normalform.specs.declared.fault.NormalFault.{NormalFault}
@@ -26,25 +27,30 @@ is_right p h = go p.1 refl
 pub right_is : (p : Check) → p.1 ≡ true → first_wrong (p ∷ []) ≡ None
 right_is p h = rw h refl
 
-pub flat_each : {X : Type 0} (f : X → List Check) (xs : List X) → first_wrong (flat_map f xs) ≡ None → (i : ℕ) (x : X) → slice_get xs i ≡ Some x → first_wrong (f x) ≡ None
+pub flat_each : {X : Type 0} (f : X → List Check) (xs : List X) → first_wrong (flat_map f xs) ≡ None → (i : ℕ) (x : X)
+    → slice_get xs i ≡ Some x → first_wrong (f x) ≡ None
 flat_each f [] h i x e = absurd (cc)
 flat_each f (y ∷ ys) h zero x e = let same : y ≡ x = cc in rw (← same) (both_right (f y) (flat_map f ys) h).0
 flat_each f (y ∷ ys) h (suc i) x e = flat_each f ys (both_right (f y) (flat_map f ys) h).1 i x e
 
-pub each_flat : {X : Type 0} (f : X → List Check) (xs : List X) → ((i : ℕ) (x : X) → slice_get xs i ≡ Some x → first_wrong (f x) ≡ None) → first_wrong (flat_map f xs) ≡ None
+pub each_flat : {X : Type 0} (f : X → List Check) (xs : List X)
+    → ((i : ℕ) (x : X) → slice_get xs i ≡ Some x → first_wrong (f x) ≡ None) → first_wrong (flat_map f xs) ≡ None
 each_flat f [] h = refl
 each_flat f (y ∷ ys) h = together (f y) (flat_map f ys) (h zero y refl) (each_flat f ys (λ i. h (suc i)))
 
-pub map_each : {X : Type 0} (f : X → Check) (xs : List X) → first_wrong (map f xs) ≡ None → (i : ℕ) (x : X) → slice_get xs i ≡ Some x → (f x).1 ≡ true
+pub map_each : {X : Type 0} (f : X → Check) (xs : List X) → first_wrong (map f xs) ≡ None → (i : ℕ) (x : X)
+    → slice_get xs i ≡ Some x → (f x).1 ≡ true
 map_each f [] h i x e = absurd (cc)
 map_each f (y ∷ ys) h zero x e = let same : y ≡ x = cc in rw (← same) (is_right (f y) (both_right (f y ∷ []) (map f ys) h).0)
 map_each f (y ∷ ys) h (suc i) x e = map_each f ys (both_right (f y ∷ []) (map f ys) h).1 i x e
 
-pub each_map : {X : Type 0} (f : X → Check) (xs : List X) → ((i : ℕ) (x : X) → slice_get xs i ≡ Some x → (f x).1 ≡ true) → first_wrong (map f xs) ≡ None
+pub each_map : {X : Type 0} (f : X → Check) (xs : List X) → ((i : ℕ) (x : X) → slice_get xs i ≡ Some x → (f x).1 ≡ true)
+    → first_wrong (map f xs) ≡ None
 each_map f [] h = refl
 each_map f (y ∷ ys) h = together (f y ∷ []) (map f ys) (right_is (f y) (h zero y refl)) (each_map f ys (λ i. h (suc i)))
 
-pub along_each : {X : Type 0} (f : ℕ → X → List Check) (n : ℕ) (xs : List X) → first_wrong (checks_along f next_index n xs) ≡ None → (i : ℕ) (x : X) → slice_get xs i ≡ Some x → first_wrong (f (n + i) x) ≡ None
+pub along_each : {X : Type 0} (f : ℕ → X → List Check) (n : ℕ) (xs : List X) → first_wrong (checks_along f next_index n xs) ≡ None
+    → (i : ℕ) (x : X) → slice_get xs i ≡ Some x → first_wrong (f (n + i) x) ≡ None
 along_each f n [] h i x e = absurd (cc)
 along_each f n (y ∷ ys) h zero x e =
     let same : y ≡ x = cc in
@@ -54,7 +60,9 @@ along_each f n (y ∷ ys) h (suc i) x e =
     let there : n + suc i ≡ (n + 1) + i = omega arith in
     rw there (along_each f (n + 1) ys (both_right (f n y) (checks_along f next_index (n + 1) ys) h).1 i x e)
 
-pub each_along : {X : Type 0} (f : ℕ → X → List Check) (n : ℕ) (xs : List X) → ((i : ℕ) (x : X) → slice_get xs i ≡ Some x → first_wrong (f (n + i) x) ≡ None) → first_wrong (checks_along f next_index n xs) ≡ None
+pub each_along : {X : Type 0} (f : ℕ → X → List Check) (n : ℕ) (xs : List X)
+    → ((i : ℕ) (x : X) → slice_get xs i ≡ Some x → first_wrong (f (n + i) x) ≡ None)
+    → first_wrong (checks_along f next_index n xs) ≡ None
 each_along f n [] h = refl
 each_along f n (y ∷ ys) h =
     let here : n + 0 ≡ n = omega arith in
@@ -71,7 +79,8 @@ pub has_right : {X : Type 0} (xs ys : List X) (x : X) → Has ys x → Has (xs +
 has_right [] ys x h = h
 has_right (z ∷ zs) ys x h = let w = has_right zs ys x h in (suc w.0, w.1)
 
-pub has_flat : {X Y : Type 0} (f : X → List Y) (xs : List X) (i : ℕ) (x : X) (y : Y) → slice_get xs i ≡ Some x → Has (f x) y → Has (flat_map f xs) y
+pub has_flat : {X Y : Type 0} (f : X → List Y) (xs : List X) (i : ℕ) (x : X) (y : Y) → slice_get xs i ≡ Some x → Has (f x) y
+    → Has (flat_map f xs) y
 has_flat f [] i x y e h = absurd (cc)
 has_flat f (z ∷ zs) zero x y e h = let same : z ≡ x = cc in has_left (f z) (flat_map f zs) y (rw same h)
 has_flat f (z ∷ zs) (suc i) x y e h = has_right (f z) (flat_map f zs) y (has_flat f zs i x y e h)

@@ -57,7 +57,8 @@ item_readable (raw_item.Class c) h = ltb-true c 3 h
 
 readable_is : (x : RawItem) → IsReadableItem x → readable_item x ≡ true
 readable_is (raw_item.Name name) h = refl
-readable_is (raw_item.Literal text) h = rw (le-leb 1 (length text) h.0) (all_hold (λ b. not (is_separator b)) text (λ i b e. none_separator b (h.1 i b e)))
+readable_is (raw_item.Literal text) h =
+    rw (le-leb 1 (length text) h.0) (all_hold (λ b. not (is_separator b)) text (λ i b e. none_separator b (h.1 i b e)))
 readable_is (raw_item.Class c) h = lt-ltb c 3 h
 
 pub readable_decides : (qs : List RawProduction) → (list_all readable_in qs ≡ true) ↔ Each (λ q. Each IsReadableItem q.items) qs

@@ -1,5 +1,7 @@
 -- A raw grammar has no fault exactly if the numbered one is accepted.
-use Rattle.std.proofs.Common.{All, inr, ℕ, zero, suc, ◌≡◌, ◌+◌, ◌<◌, ◌≤◌, ◌≢◌, Bool, true, false, ◌&&◌, nat_eq, nat_le, List, [], ◌∷◌, ◌++◌, length, map, Some, None, Option, slice_get, get_or, bytes_eq, refl, ap, sym, ◌∙◌, arith, subst}
+use Rattle.std.proofs.Common.{All, inr, ℕ, zero, suc, ◌≡◌, ◌+◌, ◌<◌, ◌≤◌, ◌≢◌, Bool, true, false, ◌&&◌, nat_eq, nat_le, List, []}
+use Rattle.std.proofs.Common.{◌∷◌, ◌++◌, length, map, Some, None, Option, slice_get, get_or, bytes_eq, refl, ap, sym, ◌∙◌, arith}
+use Rattle.std.proofs.Common.{subst}
 use Rattle.std.proofs.lemmas.Bool.{eqb-true, leb-true, le-leb}
 use Rattle.std.proofs.lemmas.List.{length-map}
 use Rattle.std.proofs.lemmas.List.Kept.{AllPairs-filter}
@@ -11,7 +13,9 @@ use Rattle.ag_grammar.specs.declared.grammar.Item.TheVariants as item
 use Rattle.ag_grammar.specs.declared.grammar.Production.{Production}
 use Rattle.ag_grammar.specs.declared.grammar.Symbol.{Symbol}
 use Rattle.ag_grammar.specs.declared.grammar.Terminal.TheVariants.{Literal, Class}
-use Rattle.ag_grammar.specs.grammars.Accepted.{IsAccepted, IsNamed, IsNamedItem, IsInUse, IsStart, IsComplete, IsNormal, IsWithinGrammarLimits, IsSeparator, out_name, max_symbols, max_attributes, max_productions, max_items, max_children, max_literals, max_literal_bytes}
+use Rattle.ag_grammar.specs.grammars.Accepted.{IsAccepted, IsNamed, IsNamedItem, IsInUse, IsStart, IsComplete, IsNormal}
+use Rattle.ag_grammar.specs.grammars.Accepted.{IsWithinGrammarLimits, IsSeparator, out_name, max_symbols, max_attributes}
+use Rattle.ag_grammar.specs.grammars.Accepted.{max_productions, max_items, max_children, max_literals, max_literal_bytes}
 use Rattle.ag_grammar.specs.grammars.AttributeGrammar.{attribute_names, stored_items}
 use Rattle.ag_grammar.specs.expressions.Trees.{is_below}
 use Rattle.ag_grammar.specs.declared.raw.RawGrammar.{RawGrammar}
@@ -21,17 +25,26 @@ use Rattle.ag_grammar.specs.declared.raw.RawProduction.{RawProduction}
 use Rattle.normalform.specs.declared.fault.LimitKind.TheVariants as limit
 use Rattle.normalform.specs.declared.fault.NormalFault.{NormalFault}
 use Rattle.normalform.specs.declared.fault.NormalFault.TheVariants as fault
-use Rattle.normalform.specs.faults.Faults.{first_wrong, unknown_in, item_checks, unknown_checks, doubled_checks, is_start, start_checks, missing_in, missing_checks, doubled_in, doubled_rules, not_defined_in, not_defined_here, not_normal_in, not_normal, few_attributes, few_items, few_children, is_short, symbol_limits, production_limits, literal_limits, limit_checks, rule_kinds, naming_checks, HasNoFault, IsReadable, IsReadableItem, IsSmall, IsListed, AreListedIn, IsFirstFault, in_names, in_productive, in_reached, in_rules, IsTrueOf}
-use Rattle.normalform.specs.numbers.Numbers.{number_in, symbol_of, symbol_names, item_of, placed, is_class, classes_of, literals_of, numbered}
+use Rattle.normalform.specs.faults.Faults.{first_wrong, unknown_in, item_checks, unknown_checks, doubled_checks, is_start}
+use Rattle.normalform.specs.faults.Faults.{start_checks, missing_in, missing_checks, doubled_in, doubled_rules, not_defined_in}
+use Rattle.normalform.specs.faults.Faults.{not_defined_here, not_normal_in, not_normal, few_attributes, few_items, few_children}
+use Rattle.normalform.specs.faults.Faults.{is_short, symbol_limits, production_limits, literal_limits, limit_checks, rule_kinds}
+use Rattle.normalform.specs.faults.Faults.{naming_checks, HasNoFault, IsReadable, IsReadableItem, IsSmall, IsListed, AreListedIn}
+use Rattle.normalform.specs.faults.Faults.{IsFirstFault, in_names, in_productive, in_reached, in_rules, IsTrueOf}
+use Rattle.normalform.specs.numbers.Numbers.{number_in, symbol_of, symbol_names, item_of, placed, is_class, classes_of}
+use Rattle.normalform.specs.numbers.Numbers.{literals_of, numbered}
 use Rattle.normalform.proofs.found.Apart.{Apart}
 use Rattle.normalform.proofs.found.Founds.{naming_parts}
-use Rattle.normalform.proofs.found.Known.{symbols_differ, attributes_differ, differ_doubled, texts_differ, lefts_known, rules_named, named_known}
-use Rattle.normalform.proofs.numbered.Listed.{any_has, has_any, literals_apart, literal_occurs, literal_listed, apart_same, number_at, filter_has, has_filter, class_occurs, occurs_class}
+use Rattle.normalform.proofs.found.Known.{symbols_differ, attributes_differ, differ_doubled, texts_differ, lefts_known}
+use Rattle.normalform.proofs.found.Known.{rules_named, named_known}
+use Rattle.normalform.proofs.numbered.Listed.{any_has, has_any, literals_apart, literal_occurs, literal_listed, apart_same}
+use Rattle.normalform.proofs.numbered.Listed.{number_at, filter_has, has_filter, class_occurs, occurs_class}
 use Rattle.normalform.proofs.numbered.Placing.{stored_same}
 use Rattle.normalform.proofs.found.Reduced.{symbols, produces, name_known, known, unknown_parts}
 use Rattle.closure.proofs.Positions.{at_mapped}
 use Rattle.normalform.proofs.found.Right.{both_right, together, is_right, right_is, flat_each, each_flat, along_each, each_along}
-use Rattle.normalform.proofs.found.Ruled.{all_ruled, ruled_all, rules_single, single_rules, targets_given, given_targets, arguments_found, found_arguments, each_mapped, mapped_each}
+use Rattle.normalform.proofs.found.Ruled.{all_ruled, ruled_all, rules_single, single_rules, targets_given, given_targets}
+use Rattle.normalform.proofs.found.Ruled.{arguments_found, found_arguments, each_mapped, mapped_each}
 use Rattle.normalform.proofs.numbered.Small.{passes_at}
 
 both : (a b : Bool) → (a && b) ≡ true → (a ≡ true) × (b ≡ true)
@@ -50,11 +63,20 @@ literal_used raw l lt =
     let text = get_or (literals raw) l [] in
     let e : slice_get (literals raw) l ≡ Some text = slice_get-get_or (literals raw) l [] lt in
     let w = literal_occurs raw.productions text (l, e) in
-    let n = number_at (literals raw) (literals_apart raw.productions) l text e in
-    (w.0, produces raw w.1, at_mapped (produces raw) raw.productions w.0 w.1 w.2, (w.3.0, at_mapped (item_in raw) w.1.items w.3.0 (raw_item.Literal text) w.3.1 ∙ ap (λ m. Some (item.Terminal (Literal m))) n))
+    let n = number_at (literals raw) (literals_apart raw.productions) l text e in (
+      w.0,
+      produces raw w.1,
+      at_mapped (produces raw) raw.productions w.0 w.1 w.2,
+      (
+        w.3.0,
+        at_mapped (item_in raw) w.1.items w.3.0 (raw_item.Literal text) w.3.1 ∙ ap (λ m. Some (item.Terminal (Literal m))) n,
+      ),
+    )
 
-literal_readable : (raw : RawGrammar) → IsReadable raw → (i : ℕ) (x : List ℕ) → slice_get (literals raw) i ≡ Some x → (1 ≤ length x) × Each (λ b. IsSeparator b → ⊥) x
-literal_readable raw readable i x e = let w = literal_occurs raw.productions x (i, e) in readable w.0 w.1 w.2 w.3.0 (raw_item.Literal x) w.3.1
+literal_readable : (raw : RawGrammar) → IsReadable raw → (i : ℕ) (x : List ℕ) → slice_get (literals raw) i ≡ Some x
+    → (1 ≤ length x) × Each (λ b. IsSeparator b → ⊥) x
+literal_readable raw readable i x e = let w = literal_occurs raw.productions x (i, e) in
+    readable w.0 w.1 w.2 w.3.0 (raw_item.Literal x) w.3.1
 
 -- the classes
 abbrev known_classes : List ℕ
@@ -70,7 +92,8 @@ class_at (suc (suc zero)) d lt = refl
 class_at (suc (suc (suc i))) d lt = absurd (omega arith)
 
 classes_apart : Apart known_classes
-classes_apart i j d lt within same = let low : i < 3 = omega arith in let e = sym (class_at i d low) ∙ same ∙ class_at j d within in absurd (omega arith)
+classes_apart i j d lt within same = let low : i < 3 = omega arith in
+    let e = sym (class_at i d low) ∙ same ∙ class_at j d within in absurd (omega arith)
 
 class_known : (c : ℕ) → Has known_classes c → c < 3
 class_known c (zero, e) = let z : 0 ≡ c = cc in omega arith
@@ -85,25 +108,35 @@ known_class (suc (suc zero)) lt = (suc (suc zero), refl)
 known_class (suc (suc (suc c))) lt = absurd (omega arith)
 
 classes_differ : (raw : RawGrammar) → Differ (classes_of raw.productions)
-classes_differ raw = apart_same (classes_of raw.productions) (AllPairs-filter (λ (a b : ℕ). a ≢ b) (uses raw) known_classes classes_apart)
+classes_differ raw =
+    apart_same (classes_of raw.productions) (AllPairs-filter (λ (a b : ℕ). a ≢ b) (uses raw) known_classes classes_apart)
 
 class_used : (raw : RawGrammar) (i c : ℕ) → slice_get (classes_of raw.productions) i ≡ Some c → IsInUse (numbered raw) (Class c)
 class_used raw i c e =
-    let w = class_occurs raw.productions c (has_filter (uses raw) known_classes c (i, e)).1 in
-    (w.0, produces raw w.1, at_mapped (produces raw) raw.productions w.0 w.1 w.2, (w.3.0, at_mapped (item_in raw) w.1.items w.3.0 (raw_item.Class c) w.3.1))
+    let w = class_occurs raw.productions c (has_filter (uses raw) known_classes c (i, e)).1 in (
+      w.0,
+      produces raw w.1,
+      at_mapped (produces raw) raw.productions w.0 w.1 w.2,
+      (w.3.0, at_mapped (item_in raw) w.1.items w.3.0 (raw_item.Class c) w.3.1),
+    )
 
 -- an item of a production is named
-item_named : (raw : RawGrammar) (p : ℕ) (q : RawProduction) (i : ℕ) (x : RawItem) → slice_get raw.productions p ≡ Some q → slice_get q.items i ≡ Some x → IsReadableItem x → first_wrong (item_checks (symbol_names (symbols raw)) x) ≡ None
+item_named : (raw : RawGrammar) (p : ℕ) (q : RawProduction) (i : ℕ) (x : RawItem) → slice_get raw.productions p ≡ Some q
+    → slice_get q.items i ≡ Some x → IsReadableItem x → first_wrong (item_checks (symbol_names (symbols raw)) x) ≡ None
     → IsNamedItem (numbered raw) (item_in raw x)
 item_named raw p q i (raw_item.Name name) e f readable right = name_known (symbols raw) name right
-item_named raw p q i (raw_item.Literal text) e f readable right = known (literals raw) text (literal_listed raw.productions p q i text e f)
-item_named raw p q i (raw_item.Class c) e f readable right = filter_has (uses raw) known_classes c (known_class c readable) (occurs_class raw.productions p q i c e f)
+item_named raw p q i (raw_item.Literal text) e f readable right =
+    known (literals raw) text (literal_listed raw.productions p q i text e f)
+item_named raw p q i (raw_item.Class c) e f readable right =
+    filter_has (uses raw) known_classes c (known_class c readable) (occurs_class raw.productions p q i c e f)
 
-items_named : (raw : RawGrammar) → IsReadable raw → first_wrong (unknown_checks (symbols raw) raw.productions) ≡ None → Each (λ q. Each (IsNamedItem (numbered raw)) q.items) (numbered raw).productions
+items_named : (raw : RawGrammar) → IsReadable raw → first_wrong (unknown_checks (symbols raw) raw.productions) ≡ None
+    → Each (λ q. Each (IsNamedItem (numbered raw)) q.items) (numbered raw).productions
 items_named raw readable h = each_mapped (produces raw) (λ q. Each (IsNamedItem (numbered raw)) q.items) raw.productions (λ p q e.
     let parts = unknown_parts (symbols raw) q (flat_each (unknown_in (symbols raw)) raw.productions h p q e) in
     each_mapped (item_in raw) (IsNamedItem (numbered raw)) q.items (λ i x f.
-    item_named raw p q i x e f (readable p q e i x f) (flat_each (item_checks (symbol_names (symbols raw))) q.items parts.1 i x f)))
+    item_named raw p q i x e f (readable p q e i x f)
+    (flat_each (item_checks (symbol_names (symbols raw))) q.items parts.1 i x f)))
 
 abbrev AreListed : RawGrammar → Type 0
 AreListed raw = Each (λ q. Each (λ r. is_below (length r.expr.1) r.expr.0 ≡ true) q.rules) (numbered raw).productions
@@ -132,7 +165,9 @@ empty [] h = refl
 empty (x ∷ xs) h = absurd (omega (arith, h))
 
 starts : (raw : RawGrammar) → first_wrong (start_checks (symbols raw) raw.start) ≡ None → IsStart (numbered raw)
-starts raw h = go (slice_get (symbols raw) (start_number raw)) refl (is_right (fault.BadStart, is_start (slice_get (symbols raw) (start_number raw))) h)
+starts raw h =
+    go (slice_get (symbols raw) (start_number raw)) refl
+    (is_right (fault.BadStart, is_start (slice_get (symbols raw) (start_number raw))) h)
   where
     go : (o : Option Symbol) → slice_get (symbols raw) (start_number raw) ≡ o → is_start o ≡ true → IsStart (numbered raw)
     go None e h = absurd (cc)
@@ -144,12 +179,17 @@ starts raw h = go (slice_get (symbols raw) (start_number raw)) refl (is_right (f
     }
 
 start_right : (raw : RawGrammar) → IsStart (numbered raw) → first_wrong (start_checks (symbols raw) raw.start) ≡ None
-start_right raw start = right_is (fault.BadStart, is_start (slice_get (symbols raw) (start_number raw))) (rw (start.declared, start.plain, has_any start.symbol.syn out_name start.out) refl)
+start_right raw start =
+    right_is (fault.BadStart, is_start (slice_get (symbols raw) (start_number raw)))
+    (rw (start.declared, start.plain, has_any start.symbol.syn out_name start.out) refl)
 
 -- the kinds about rules
 abbrev Rules : RawGrammar → Type 0
-Rules raw = (first_wrong (missing_checks (symbols raw) raw.productions) ≡ None) × (first_wrong (doubled_rules (symbols raw) raw.productions) ≡ None)
-    × (first_wrong (not_defined_here (symbols raw) raw.productions) ≡ None) × (first_wrong (not_normal (symbols raw) raw.productions) ≡ None)
+Rules raw =
+    (first_wrong (missing_checks (symbols raw) raw.productions) ≡ None)
+    × (first_wrong (doubled_rules (symbols raw) raw.productions) ≡ None)
+    × (first_wrong (not_defined_here (symbols raw) raw.productions) ≡ None)
+    × (first_wrong (not_normal (symbols raw) raw.productions) ≡ None)
 
 rule_parts : (raw : RawGrammar) → first_wrong (rule_kinds (symbols raw) raw.productions) ≡ None → Rules raw
 rule_parts raw h =
@@ -164,10 +204,14 @@ parts_rule raw r =
     let ss = symbols raw in
     let qs = raw.productions in
     together ((missing_checks ss qs ++ doubled_rules ss qs) ++ not_defined_here ss qs) (not_normal ss qs)
-    (together (missing_checks ss qs ++ doubled_rules ss qs) (not_defined_here ss qs) (together (missing_checks ss qs) (doubled_rules ss qs) r.0 r.1) r.2) r.3
+    (together (missing_checks ss qs ++ doubled_rules ss qs) (not_defined_here ss qs)
+    (together (missing_checks ss qs) (doubled_rules ss qs) r.0 r.1) r.2) r.3
 
-missing_at_index : (raw : RawGrammar) → first_wrong (missing_checks (symbols raw) raw.productions) ≡ None → (p : ℕ) (q : RawProduction) → slice_get raw.productions p ≡ Some q → first_wrong (missing_in (symbols raw) p q) ≡ None
-missing_at_index raw h p q e = let there : 0 + p ≡ p = omega arith in subst (λ n. first_wrong (missing_in (symbols raw) n q) ≡ None) there (along_each (missing_in (symbols raw)) 0 raw.productions h p q e)
+missing_at_index : (raw : RawGrammar) → first_wrong (missing_checks (symbols raw) raw.productions) ≡ None
+    → (p : ℕ) (q : RawProduction) → slice_get raw.productions p ≡ Some q → first_wrong (missing_in (symbols raw) p q) ≡ None
+missing_at_index raw h p q e = let there : 0 + p ≡ p = omega arith in
+    subst (λ n. first_wrong (missing_in (symbols raw) n q) ≡ None) there
+    (along_each (missing_in (symbols raw)) 0 raw.productions h p q e)
 
 complete : (raw : RawGrammar) → Rules raw → Each (IsComplete (numbered raw)) (numbered raw).productions
 complete raw r = each_mapped (produces raw) (IsComplete (numbered raw)) raw.productions (λ p q e. record {
@@ -177,66 +221,123 @@ complete raw r = each_mapped (produces raw) (IsComplete (numbered raw)) raw.prod
 })
 
 normal : (raw : RawGrammar) → Rules raw → Each (IsNormal (numbered raw)) (numbered raw).productions
-normal raw r = each_mapped (produces raw) (IsNormal (numbered raw)) raw.productions (λ p q e. arguments_found raw q (flat_each (not_normal_in (symbols raw)) raw.productions r.3 p q e))
+normal raw r =
+    each_mapped (produces raw) (IsNormal (numbered raw)) raw.productions
+    (λ p q e. arguments_found raw q (flat_each (not_normal_in (symbols raw)) raw.productions r.3 p q e))
 
-rules_of : (raw : RawGrammar) → Each (IsComplete (numbered raw)) (numbered raw).productions → Each (IsNormal (numbered raw)) (numbered raw).productions → Rules raw
+rules_of : (raw : RawGrammar) → Each (IsComplete (numbered raw)) (numbered raw).productions
+    → Each (IsNormal (numbered raw)) (numbered raw).productions → Rules raw
 rules_of raw complete normal =
     let whole = mapped_each (produces raw) (IsComplete (numbered raw)) raw.productions complete in (
       each_along (missing_in (symbols raw)) 0 raw.productions (λ p q e. ruled_all raw (0 + p) q (whole p q e).all),
       each_flat (doubled_in (symbols raw)) raw.productions (λ p q e. single_rules raw q (whole p q e).single),
       each_flat (not_defined_in (symbols raw)) raw.productions (λ p q e. given_targets raw q (whole p q e).no_other),
-      each_flat (not_normal_in (symbols raw)) raw.productions (λ p q e. found_arguments raw q (mapped_each (produces raw) (IsNormal (numbered raw)) raw.productions normal p q e)),
+      each_flat (not_normal_in (symbols raw)) raw.productions
+          (λ p q e. found_arguments raw q (mapped_each (produces raw) (IsNormal (numbered raw)) raw.productions normal p q e)),
     )
 
 -- the limits
-pub all_hold : {X : Type 0} (test : X → Bool) (xs : List X) → ((i : ℕ) (x : X) → slice_get xs i ≡ Some x → test x ≡ true) → list_all test xs ≡ true
+pub all_hold : {X : Type 0} (test : X → Bool) (xs : List X) → ((i : ℕ) (x : X) → slice_get xs i ≡ Some x → test x ≡ true)
+    → list_all test xs ≡ true
 all_hold test [] h = refl
 all_hold test (x ∷ xs) h = rw (h zero x refl) (all_hold test xs (λ i. h (suc i)))
 
-stored_long : (raw : RawGrammar) (q : RawProduction) → length (placed (symbols raw) q) ≡ 1 + length (stored_items (produces raw q).items)
+stored_long : (raw : RawGrammar) (q : RawProduction)
+    → length (placed (symbols raw) q) ≡ 1 + length (stored_items (produces raw q).items)
 stored_long raw q = let e = ap length (stored_same (symbol_names (symbols raw)) (literals raw) q.items) in omega (arith, e)
 
-limits : (raw : RawGrammar) → IsReadable raw → first_wrong (limit_checks (symbols raw) raw.productions) ≡ None → IsWithinGrammarLimits (numbered raw)
+limits : (raw : RawGrammar) → IsReadable raw → first_wrong (limit_checks (symbols raw) raw.productions) ≡ None
+    → IsWithinGrammarLimits (numbered raw)
 limits raw readable h =
     let ss = symbols raw in
     let qs = raw.productions in
     let a = both_right (symbol_limits ss ++ production_limits ss qs) (literal_limits (literals raw)) h in
     let b = both_right (symbol_limits ss) (production_limits ss qs) a.0 in
-    let s = both_right ((fault.Limit limit.Symbols, nat_le (length ss) max_symbols) ∷ []) ((fault.Limit limit.Attributes, list_all few_attributes ss) ∷ []) b.0 in
-    let p = both_right ((fault.Limit limit.Productions, nat_le (length qs) max_productions) ∷ []) ((fault.Limit limit.Items, list_all few_items qs) ∷ (fault.Limit limit.Stored, list_all (few_children ss) qs) ∷ []) b.1 in
-    let r = both_right ((fault.Limit limit.Items, list_all few_items qs) ∷ []) ((fault.Limit limit.Stored, list_all (few_children ss) qs) ∷ []) p.1 in
-    let l = both_right ((fault.Limit limit.LiteralLength, list_all is_short (literals raw)) ∷ []) ((fault.Limit limit.Literals, nat_le (length (literals raw)) max_literals) ∷ []) a.1 in
+    let s =
+    both_right ((fault.Limit limit.Symbols, nat_le (length ss) max_symbols) ∷ [])
+    ((fault.Limit limit.Attributes, list_all few_attributes ss) ∷ []) b.0 in
+    let p =
+    both_right ((fault.Limit limit.Productions, nat_le (length qs) max_productions) ∷ [])
+    ((fault.Limit limit.Items, list_all few_items qs) ∷ (fault.Limit limit.Stored, list_all (few_children ss) qs) ∷ [])
+    b.1 in
+    let r =
+    both_right ((fault.Limit limit.Items, list_all few_items qs) ∷ [])
+    ((fault.Limit limit.Stored, list_all (few_children ss) qs) ∷ []) p.1 in
+    let l =
+    both_right ((fault.Limit limit.LiteralLength, list_all is_short (literals raw)) ∷ [])
+    ((fault.Limit limit.Literals, nat_le (length (literals raw)) max_literals) ∷ []) a.1 in
     let attributes = is_right (fault.Limit limit.Attributes, list_all few_attributes ss) s.1 in
     let items = is_right (fault.Limit limit.Items, list_all few_items qs) r.0 in
     let stored = is_right (fault.Limit limit.Stored, list_all (few_children ss) qs) r.1 in
     let short = is_right (fault.Limit limit.LiteralLength, list_all is_short (literals raw)) l.0 in
     record {
       symbol_count = leb-true (length ss) max_symbols (is_right (fault.Limit limit.Symbols, nat_le (length ss) max_symbols) s.0);
-      attribute_count = λ i x e. leb-true (length (attribute_names x)) max_attributes (passes_at few_attributes ss i x attributes e);
-      production_count = rw (length-map qs (produces raw)) (leb-true (length qs) max_productions (is_right (fault.Limit limit.Productions, nat_le (length qs) max_productions) p.0));
-      item_count = each_mapped (produces raw) (λ q. length q.items ≤ max_items) qs (λ i q e. rw (length-map q.items (item_in raw)) (leb-true (length q.items) max_items (passes_at few_items qs i q items e)));
-      stored_count = each_mapped (produces raw) (λ q. length (stored_items q.items) ≤ max_children) qs (λ i q e. omega (arith, stored_long raw q, leb-true (length (placed ss q)) (1 + max_children) (passes_at (few_children ss) qs i q stored e)));
-      literal_count = leb-true (length (literals raw)) max_literals (is_right (fault.Limit limit.Literals, nat_le (length (literals raw)) max_literals) l.1);
-      literal_bytes = λ i x e. ((literal_readable raw readable i x e).0, leb-true (length x) max_literal_bytes (passes_at is_short (literals raw) i x short e));
+      attribute_count =
+          λ i x e. leb-true (length (attribute_names x)) max_attributes (passes_at few_attributes ss i x attributes e);
+      production_count =
+          rw (length-map qs (produces raw))
+          (leb-true (length qs) max_productions
+          (is_right (fault.Limit limit.Productions, nat_le (length qs) max_productions) p.0));
+      item_count =
+          each_mapped (produces raw) (λ q. length q.items ≤ max_items) qs
+          (λ i q e. rw (length-map q.items (item_in raw))
+          (leb-true (length q.items) max_items (passes_at few_items qs i q items e)));
+      stored_count =
+          each_mapped (produces raw) (λ q. length (stored_items q.items) ≤ max_children) qs
+          (λ i q e. omega (
+            arith,
+            stored_long raw q,
+            leb-true (length (placed ss q)) (1 + max_children) (passes_at (few_children ss) qs i q stored e),
+          ));
+      literal_count =
+          leb-true (length (literals raw)) max_literals
+          (is_right (fault.Limit limit.Literals, nat_le (length (literals raw)) max_literals) l.1);
+      literal_bytes =
+          λ i x e. (
+            (literal_readable raw readable i x e).0,
+            leb-true (length x) max_literal_bytes (passes_at is_short (literals raw) i x short e),
+          );
     }
 
-within_limits : (raw : RawGrammar) → IsWithinGrammarLimits (numbered raw) → first_wrong (limit_checks (symbols raw) raw.productions) ≡ None
+within_limits : (raw : RawGrammar) → IsWithinGrammarLimits (numbered raw)
+    → first_wrong (limit_checks (symbols raw) raw.productions) ≡ None
 within_limits raw within =
     let ss = symbols raw in
     let qs = raw.productions in
     together (symbol_limits ss ++ production_limits ss qs) (literal_limits (literals raw))
     (together (symbol_limits ss) (production_limits ss qs)
-    (together ((fault.Limit limit.Symbols, nat_le (length ss) max_symbols) ∷ []) ((fault.Limit limit.Attributes, list_all few_attributes ss) ∷ [])
+    (together ((fault.Limit limit.Symbols, nat_le (length ss) max_symbols) ∷ [])
+    ((fault.Limit limit.Attributes, list_all few_attributes ss) ∷ [])
     (right_is (fault.Limit limit.Symbols, nat_le (length ss) max_symbols) (le-leb (length ss) max_symbols within.symbol_count))
-    (right_is (fault.Limit limit.Attributes, list_all few_attributes ss) (all_hold few_attributes ss (λ i x e. le-leb (length (attribute_names x)) max_attributes (within.attribute_count i x e)))))
-    (together ((fault.Limit limit.Productions, nat_le (length qs) max_productions) ∷ []) ((fault.Limit limit.Items, list_all few_items qs) ∷ (fault.Limit limit.Stored, list_all (few_children ss) qs) ∷ [])
-    (right_is (fault.Limit limit.Productions, nat_le (length qs) max_productions) (le-leb (length qs) max_productions (rw (← length-map qs (produces raw)) within.production_count)))
-    (together ((fault.Limit limit.Items, list_all few_items qs) ∷ []) ((fault.Limit limit.Stored, list_all (few_children ss) qs) ∷ [])
-    (right_is (fault.Limit limit.Items, list_all few_items qs) (all_hold few_items qs (λ i q e. le-leb (length q.items) max_items (rw (← length-map q.items (item_in raw)) (mapped_each (produces raw) (λ r. length r.items ≤ max_items) qs within.item_count i q e)))))
-    (right_is (fault.Limit limit.Stored, list_all (few_children ss) qs) (all_hold (few_children ss) qs (λ i q e. le-leb (length (placed ss q)) (1 + max_children) (omega (arith, stored_long raw q, mapped_each (produces raw) (λ r. length (stored_items r.items) ≤ max_children) qs within.stored_count i q e))))))))
-    (together ((fault.Limit limit.LiteralLength, list_all is_short (literals raw)) ∷ []) ((fault.Limit limit.Literals, nat_le (length (literals raw)) max_literals) ∷ [])
-    (right_is (fault.Limit limit.LiteralLength, list_all is_short (literals raw)) (all_hold is_short (literals raw) (λ i x e. le-leb (length x) max_literal_bytes (within.literal_bytes i x e).1)))
-    (right_is (fault.Limit limit.Literals, nat_le (length (literals raw)) max_literals) (le-leb (length (literals raw)) max_literals within.literal_count)))
+    (right_is (fault.Limit limit.Attributes, list_all few_attributes ss)
+    (all_hold few_attributes ss (λ i x e.
+    le-leb (length (attribute_names x)) max_attributes (within.attribute_count i x e)))))
+    (together ((fault.Limit limit.Productions, nat_le (length qs) max_productions) ∷ [])
+    ((fault.Limit limit.Items, list_all few_items qs) ∷ (fault.Limit limit.Stored, list_all (few_children ss) qs) ∷ [])
+    (right_is (fault.Limit limit.Productions, nat_le (length qs) max_productions)
+    (le-leb (length qs) max_productions (rw (← length-map qs (produces raw)) within.production_count)))
+    (together ((fault.Limit limit.Items, list_all few_items qs) ∷ [])
+    ((fault.Limit limit.Stored, list_all (few_children ss) qs) ∷ [])
+    (right_is (fault.Limit limit.Items, list_all few_items qs)
+    (all_hold few_items qs (λ i q e.
+    le-leb (length q.items) max_items
+    (rw (← length-map q.items (item_in raw))
+    (mapped_each (produces raw) (λ r. length r.items ≤ max_items) qs within.item_count i q e)))))
+    (right_is (fault.Limit limit.Stored, list_all (few_children ss) qs)
+    (all_hold (few_children ss) qs
+    (λ i q e. le-leb (length (placed ss q)) (1 + max_children)
+    (omega (
+      arith,
+      stored_long raw q,
+      mapped_each (produces raw) (λ r. length (stored_items r.items) ≤ max_children) qs within.stored_count i q
+          e,
+    ))))))))
+    (together ((fault.Limit limit.LiteralLength, list_all is_short (literals raw)) ∷ [])
+    ((fault.Limit limit.Literals, nat_le (length (literals raw)) max_literals) ∷ [])
+    (right_is (fault.Limit limit.LiteralLength, list_all is_short (literals raw))
+    (all_hold is_short (literals raw) (λ i x e. le-leb (length x) max_literal_bytes (within.literal_bytes i x e).1)))
+    (right_is (fault.Limit limit.Literals, nat_le (length (literals raw)) max_literals)
+    (le-leb (length (literals raw)) max_literals within.literal_count)))
 
 -- without a fault the numbered grammar is accepted
 pub accepted : (raw : RawGrammar) → IsReadable raw → AreListed raw → HasNoFault raw → IsAccepted (numbered raw)
@@ -260,11 +361,14 @@ no_fault raw accepted =
     let ss = symbols raw in
     record {
       names = together (unknown_checks ss raw.productions ++ doubled_checks raw.symbols) (start_checks ss raw.start)
-          (together (unknown_checks ss raw.productions) (doubled_checks raw.symbols) (named_known raw accepted.named) (differ_doubled raw.symbols accepted.named.symbols_differ accepted.named.attributes_differ))
+          (together (unknown_checks ss raw.productions) (doubled_checks raw.symbols) (named_known raw accepted.named)
+          (differ_doubled raw.symbols accepted.named.symbols_differ accepted.named.attributes_differ))
           (start_right raw accepted.start);
       productive = λ s lt. accepted.productive s (rw (length-map raw.symbols symbol_of) lt);
       reached = λ s lt. accepted.reachable s (rw (length-map raw.symbols symbol_of) lt);
-      rules = together (rule_kinds ss raw.productions) (limit_checks ss raw.productions) (parts_rule raw (rules_of raw accepted.complete accepted.normal)) (within_limits raw accepted.limits);
+      rules =
+          together (rule_kinds ss raw.productions) (limit_checks ss raw.productions)
+          (parts_rule raw (rules_of raw accepted.complete accepted.normal)) (within_limits raw accepted.limits);
     }
 
 -- without a fault the numbers are small
@@ -275,35 +379,49 @@ small raw none =
     let further = both_right (rule_kinds ss qs) (limit_checks ss qs) none.rules in
     let a = both_right (symbol_limits ss ++ production_limits ss qs) (literal_limits (literals raw)) further.1 in
     let b = both_right (symbol_limits ss) (production_limits ss qs) a.0 in
-    let s = both_right ((fault.Limit limit.Symbols, nat_le (length ss) max_symbols) ∷ []) ((fault.Limit limit.Attributes, list_all few_attributes ss) ∷ []) b.0 in
-    let l = both_right ((fault.Limit limit.LiteralLength, list_all is_short (literals raw)) ∷ []) ((fault.Limit limit.Literals, nat_le (length (literals raw)) max_literals) ∷ []) a.1 in
+    let s =
+    both_right ((fault.Limit limit.Symbols, nat_le (length ss) max_symbols) ∷ [])
+    ((fault.Limit limit.Attributes, list_all few_attributes ss) ∷ []) b.0 in
+    let l =
+    both_right ((fault.Limit limit.LiteralLength, list_all is_short (literals raw)) ∷ [])
+    ((fault.Limit limit.Literals, nat_le (length (literals raw)) max_literals) ∷ []) a.1 in
     record {
       symbols = leb-true (length ss) max_symbols (is_right (fault.Limit limit.Symbols, nat_le (length ss) max_symbols) s.0);
       attributes = is_right (fault.Limit limit.Attributes, list_all few_attributes ss) s.1;
-      texts = leb-true (length (literals raw)) max_literals (is_right (fault.Limit limit.Literals, nat_le (length (literals raw)) max_literals) l.1);
+      texts =
+          leb-true (length (literals raw)) max_literals
+          (is_right (fault.Limit limit.Literals, nat_le (length (literals raw)) max_literals) l.1);
     }
 
 -- a property of all elements holds of each
 each_of : {X : Type 0} (P : X → Type 0) (xs : List X) → All P xs → Each P xs
 each_of P xs all i x e = subst P (get_or_from_slice_get xs i x x e) (all i x (slice_get_within xs i x e))
 
-listed_each : (qs : List Production) → All AreListedIn qs → Each (λ q. Each (λ r. is_below (length r.expr.1) r.expr.0 ≡ true) q.rules) qs
+listed_each : (qs : List Production) → All AreListedIn qs
+    → Each (λ q. Each (λ r. is_below (length r.expr.1) r.expr.0 ≡ true) q.rules) qs
 listed_each qs all i q e = each_of IsListed q.rules (each_of AreListedIn qs all i q e)
 
 -- the grammar that is made of the numbered parts is accepted
-pub made : (raw : RawGrammar) → IsReadable raw → HasNoFault raw → (ss : List Symbol) (ps : List Production) (ls : List (List ℕ)) (cs : List ℕ) (st : ℕ) → ss ≡ symbols raw → ps ≡ map (produces raw) raw.productions → All AreListedIn ps
-    → ls ≡ literals raw → cs ≡ classes_of raw.productions → st ≡ start_number raw → IsAccepted (record { symbols = ss; productions = ps; literals = ls; classes = cs; start = st })
-made raw readable none ss ps ls cs st e f listed g h k = rw (e, f, g, h, k) (accepted raw readable (listed_each (numbered raw).productions (rw f at listed)) none)
+pub made : (raw : RawGrammar) → IsReadable raw → HasNoFault raw
+    → (ss : List Symbol) (ps : List Production) (ls : List (List ℕ)) (cs : List ℕ) (st : ℕ) → ss ≡ symbols raw
+    → ps ≡ map (produces raw) raw.productions → All AreListedIn ps
+    → ls ≡ literals raw → cs ≡ classes_of raw.productions → st ≡ start_number raw
+    → IsAccepted (record { symbols = ss; productions = ps; literals = ls; classes = cs; start = st })
+made raw readable none ss ps ls cs st e f listed g h k =
+    rw (e, f, g, h, k) (accepted raw readable (listed_each (numbered raw).productions (rw f at listed)) none)
 
 -- a grammar with a first fault is not without fault
 pub first_excludes : (raw : RawGrammar) (f : NormalFault) → IsFirstFault raw f → HasNoFault raw → ⊥
 first_excludes raw f (in_names e) none = absurd (cc (e, none.names))
-first_excludes raw f (in_productive n first) none = first.wrong (none.productive first.number (slice_get_within raw.symbols first.number first.symbol first.declared))
-first_excludes raw f (in_reached n all first) none = first.wrong (none.reached first.number (slice_get_within raw.symbols first.number first.symbol first.declared))
+first_excludes raw f (in_productive n first) none =
+    first.wrong (none.productive first.number (slice_get_within raw.symbols first.number first.symbol first.declared))
+first_excludes raw f (in_reached n all first) none =
+    first.wrong (none.reached first.number (slice_get_within raw.symbols first.number first.symbol first.declared))
 first_excludes raw f (in_rules n all reached e) none = absurd (cc (e, none.rules))
 
 pub refused : (raw : RawGrammar) (f : NormalFault) → IsFirstFault raw f → IsTrueOf raw f
 refused raw f first = inr (first, λ accepted. first_excludes raw f first (no_fault raw accepted))
 
-pub accepted_without_fault : (raw : RawGrammar) → IsReadable raw → All AreListedIn (numbered raw).productions → HasNoFault raw → IsAccepted (numbered raw)
+pub accepted_without_fault : (raw : RawGrammar) → IsReadable raw → All AreListedIn (numbered raw).productions → HasNoFault raw
+    → IsAccepted (numbered raw)
 accepted_without_fault raw readable listed none = accepted raw readable (listed_each (numbered raw).productions listed) none

@@ -71,7 +71,8 @@ first_more keys key numbered none = record {
 }
 
 -- a text that is there is added with its index
-pub again_more : (keys : List Key) (key : Key) → AreNumbered keys → is_some (position (bytes_eq key.0.now) (texts_of_keys keys)) ≡ true
+pub again_more : (keys : List Key) (key : Key) → AreNumbered keys
+    → is_some (position (bytes_eq key.0.now) (texts_of_keys keys)) ≡ true
     → key.1 ≡ length keys → 0 < length keys → AreNumbered (keys ++ key ∷ [])
 again_more keys key numbered there index some = record {
   first = λ q.
@@ -139,7 +140,9 @@ not_new false h = absurd (cc)
 pub pushed_again : (keys keys' keys'' : List Key) (text : Bor (List ℕ)) (index : ℕ) → AreNumbered keys
     → not (list_any (is_first text.now) keys) ≡ false
     → keys' ≡ (if list_any (is_first text.now) keys then keys else keys ++ (text, 0) ∷ [])
-    → keys'' ≡ (if list_any (λ (k : Key). bytes_eq text.now k.0.now && nat_eq index k.1) keys' then keys' else keys' ++ (text, index) ∷ [])
+    → keys''
+    ≡ (if list_any (λ (k : Key). bytes_eq text.now k.0.now && nat_eq index k.1) keys' then keys' else keys' ++ (text, index)
+    ∷ [])
     → index ≡ length keys → (keys'' ≡ keys ++ (text, index) ∷ []) × AreNumbered keys''
 pushed_again keys keys' keys'' text index numbered known e f at =
     let there = not_new (list_any (is_first text.now) keys) known in

@@ -1,5 +1,6 @@
 -- The kind of a symbol's attribute by its number.
-use Rattle.std.proofs.Common.{ℕ, zero, suc, ◌≡◌, ◌-◌, ◌<◌, ◌≤◌, false, ◌&&◌, List, [], ◌∷◌, ◌++◌, length, map, Some, Option, nat_lt, nat_le, slice_get, refl, sym, ◌∙◌, arith}
+use Rattle.std.proofs.Common.{ℕ, zero, suc, ◌≡◌, ◌-◌, ◌<◌, ◌≤◌, false, ◌&&◌, List, [], ◌∷◌, ◌++◌, length, map, Some, Option}
+use Rattle.std.proofs.Common.{nat_lt, nat_le, slice_get, refl, sym, ◌∙◌, arith}
 use Rattle.std.proofs.lemmas.Bool.{lt-ltb, le-leb}
 use Rattle.std.proofs.lemmas.Bool.Decides.{nat_tests}
 use Rattle.std.proofs.lemmas.List.{length-map}
@@ -32,23 +33,38 @@ some_inherited [] a = grind (arith, nat_tests)
 some_inherited (x ∷ xs) zero = sym (lt-ltb zero (length (x ∷ xs)) (omega arith))
 some_inherited (x ∷ xs) (suc a) = some_inherited xs a ∙ sym (below_next a x xs)
 
-pub inherited_at : (syn inh : List (List ℕ)) (a : ℕ) → is_kind Inherited (slice_get (kinds syn inh) a) ≡ (nat_le (length syn) a && nat_lt (a - length syn) (length inh))
+pub inherited_at : (syn inh : List (List ℕ)) (a : ℕ)
+    → is_kind Inherited (slice_get (kinds syn inh) a) ≡ (nat_le (length syn) a && nat_lt (a - length syn) (length inh))
 inherited_at [] inh a = some_inherited inh a ∙ grind (arith, nat_tests)
 inherited_at (x ∷ xs) inh zero = grind (arith, nat_tests)
 inherited_at (x ∷ xs) inh (suc a) = inherited_at xs inh a ∙ grind (arith, nat_tests)
 
 -- the same of a declared symbol
-pub synthesizes_is : (o : Option Symbol) (s : RawSymbol) (syn : List Named) (a : ℕ) → o ≡ Some (symbol_of s) → syn ≡ s.syn → nat_lt a (length syn) ≡ is_kind Synthesized (slice_get (symbol_kinds o) a)
-synthesizes_is o s syn a e f = rw (e, f, synthesized_at (texts_of s.syn) (texts_of s.inh) a, length-map s.syn (λ (n : Named). n.name)) refl
+pub synthesizes_is : (o : Option Symbol) (s : RawSymbol) (syn : List Named) (a : ℕ) → o ≡ Some (symbol_of s) → syn ≡ s.syn
+    → nat_lt a (length syn) ≡ is_kind Synthesized (slice_get (symbol_kinds o) a)
+synthesizes_is o s syn a e f =
+    rw (e, f, synthesized_at (texts_of s.syn) (texts_of s.inh) a, length-map s.syn (λ (n : Named). n.name)) refl
 
-inherits_is : (o : Option Symbol) (s : RawSymbol) (syn inh : List Named) (a : ℕ) → o ≡ Some (symbol_of s) → syn ≡ s.syn → inh ≡ s.inh
+inherits_is : (o : Option Symbol) (s : RawSymbol) (syn inh : List Named) (a : ℕ) → o ≡ Some (symbol_of s) → syn ≡ s.syn
+    → inh ≡ s.inh
     → (nat_le (length syn) a && nat_lt (a - length syn) (length inh)) ≡ is_kind Inherited (slice_get (symbol_kinds o) a)
-inherits_is o s syn inh a e f g = rw (e, f, g, inherited_at (texts_of s.syn) (texts_of s.inh) a, length-map s.syn (λ (n : Named). n.name), length-map s.inh (λ (n : Named). n.name)) refl
+inherits_is o s syn inh a e f g =
+    rw (
+      e,
+      f,
+      g,
+      inherited_at (texts_of s.syn) (texts_of s.inh) a,
+      length-map s.syn (λ (n : Named). n.name),
+      length-map s.inh (λ (n : Named). n.name),
+    ) refl
 
 -- after the synthesized ones
-pub inherits_after : (o : Option Symbol) (s : RawSymbol) (syn inh : List Named) (a : ℕ) → o ≡ Some (symbol_of s) → syn ≡ s.syn → inh ≡ s.inh → length syn ≤ a → nat_lt (a - length syn) (length inh) ≡ is_kind Inherited (slice_get (symbol_kinds o) a)
+pub inherits_after : (o : Option Symbol) (s : RawSymbol) (syn inh : List Named) (a : ℕ) → o ≡ Some (symbol_of s) → syn ≡ s.syn
+    → inh ≡ s.inh → length syn ≤ a → nat_lt (a - length syn) (length inh) ≡ is_kind Inherited (slice_get (symbol_kinds o) a)
 inherits_after o s syn inh a e f g le = let h = le-leb (length syn) a le in rw h at (inherits_is o s syn inh a e f g)
 
 -- not one of these
-pub inherits_none : (o : Option Symbol) (s : RawSymbol) (syn : List Named) (a : ℕ) → o ≡ Some (symbol_of s) → syn ≡ s.syn → a < length syn → nat_le (length syn) a ≡ is_kind Inherited (slice_get (symbol_kinds o) a)
-inherits_none o s syn a e f lt = let h : nat_le (length syn) a ≡ false = grind (arith, nat_tests) in h ∙ rw h at (inherits_is o s syn s.inh a e f refl)
+pub inherits_none : (o : Option Symbol) (s : RawSymbol) (syn : List Named) (a : ℕ) → o ≡ Some (symbol_of s) → syn ≡ s.syn
+    → a < length syn → nat_le (length syn) a ≡ is_kind Inherited (slice_get (symbol_kinds o) a)
+inherits_none o s syn a e f lt = let h : nat_le (length syn) a ≡ false = grind (arith, nat_tests) in
+    h ∙ rw h at (inherits_is o s syn s.inh a e f refl)

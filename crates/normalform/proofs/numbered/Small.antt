@@ -1,5 +1,6 @@
 -- Within the limits the numbers are small.
-use Rattle.std.proofs.Common.{ℕ, zero, suc, ◌≡◌, ◌<◌, ◌≤◌, Bool, true, false, ◌&&◌, not, List, [], ◌∷◌, length, Some, None, Option, slice_get, bytes_eq, refl, arith}
+use Rattle.std.proofs.Common.{ℕ, zero, suc, ◌≡◌, ◌<◌, ◌≤◌, Bool, true, false, ◌&&◌, not, List, [], ◌∷◌, length, Some, None}
+use Rattle.std.proofs.Common.{Option, slice_get, bytes_eq, refl, arith}
 use Rattle.std.proofs.lemmas.Bool.{leb-true}
 use Rattle.std.proofs.lemmas.List.{length-map}
 use Rattle.std.proofs.lemmas.List.Sums.{prefix_len-le-length}
@@ -29,7 +30,8 @@ both true b h = (refl, h)
 both false b h = absurd (cc)
 
 -- a test that all members pass, each passes
-pub passes_at : {X : Type 0} (p : X → Bool) (xs : List X) (i : ℕ) (x : X) → list_all p xs ≡ true → slice_get xs i ≡ Some x → p x ≡ true
+pub passes_at : {X : Type 0} (p : X → Bool) (xs : List X) (i : ℕ) (x : X) → list_all p xs ≡ true → slice_get xs i ≡ Some x
+    → p x ≡ true
 passes_at p [] i x all e = absurd (cc)
 passes_at p (y ∷ ys) zero x all e = let same : y ≡ x = cc in rw (← same) (both (p y) (list_all p ys) all).0
 passes_at p (y ∷ ys) (suc i) x all e = passes_at p ys i x (both (p y) (list_all p ys) all).1 e
@@ -45,5 +47,7 @@ names_few ss few (Some (item.Terminal (Class c))) = omega arith
 names_few ss few (Some (item.Terminal (Literal l))) = omega arith
 
 -- and of an attribute
-pub attribute_small : (ss : List Symbol) (items : List Item) (o : Occ) → list_all few_attributes ss ≡ true → (target_of ss items o).attr < 65536
-attribute_small ss items o few = omega (arith, number_within (names_at ss items o.place) o.attr, names_few ss few (slice_get items o.place))
+pub attribute_small : (ss : List Symbol) (items : List Item) (o : Occ) → list_all few_attributes ss ≡ true
+    → (target_of ss items o).attr < 65536
+attribute_small ss items o few =
+    omega (arith, number_within (names_at ss items o.place) o.attr, names_few ss few (slice_get items o.place))

@@ -1,6 +1,7 @@
 -- The faults of a raw grammar, kind by kind, and their order (this project's; complete and productive are
 -- Knuth's 1968 and the textbook's). A kind is the list of its checks, in the order of the text.
-use Rattle.std.specs.Prelude.{All, ℕ, zero, suc, cond, fold, ◌⊎◌, ◌+◌, ◌≡◌, ◌<◌, ◌≤◌, nat_eq, nat_le, not, Bool, true, false, ◌&&◌, List, [], ◌∷◌, ◌++◌, length, map, flat_map, find, Option, Some, None, bytes_eq, slice_get}
+use Rattle.std.specs.Prelude.{All, ℕ, zero, suc, cond, fold, ◌⊎◌, ◌+◌, ◌≡◌, ◌<◌, ◌≤◌, nat_eq, nat_le, not, Bool, true, false}
+use Rattle.std.specs.Prelude.{◌&&◌, List, [], ◌∷◌, ◌++◌, length, map, flat_map, find, Option, Some, None, bytes_eq, slice_get}
 use Rattle.std.specs.List.{list_any, list_all, range_with_len}
 use Rattle.std.specs.Option.{option_map}
 use Rattle.ag_grammar.specs.Lists.{Each}
@@ -11,8 +12,11 @@ use Rattle.ag_grammar.specs.declared.grammar.Rule.{Rule}
 use Rattle.ag_grammar.specs.declared.grammar.Symbol.{Symbol}
 use Rattle.ag_grammar.specs.declared.grammar.Target.{Target}
 use Rattle.ag_grammar.specs.declared.syntax.occurrence.Occ.{Occ}
-use Rattle.ag_grammar.specs.grammars.Accepted.{IsAccepted, IsProductive, IsReached, IsSeparator, class_count, out_name, max_symbols, max_attributes, max_productions, max_items, max_children, max_literals, max_literal_bytes}
-use Rattle.ag_grammar.specs.grammars.AttributeGrammar.{Kind, Synthesized, Inherited, attribute_names, item_kinds, defined_kind, used_kind}
+use Rattle.ag_grammar.specs.grammars.Accepted.{IsAccepted, IsProductive, IsReached, IsSeparator, class_count, out_name}
+use Rattle.ag_grammar.specs.grammars.Accepted.{max_symbols, max_attributes, max_productions, max_items, max_children}
+use Rattle.ag_grammar.specs.grammars.Accepted.{max_literals, max_literal_bytes}
+use Rattle.ag_grammar.specs.grammars.AttributeGrammar.{Kind, Synthesized, Inherited, attribute_names, item_kinds, defined_kind}
+use Rattle.ag_grammar.specs.grammars.AttributeGrammar.{used_kind}
 use Rattle.ag_grammar.specs.expressions.Trees.{is_below}
 use Rattle.ag_grammar.specs.declared.raw.Named.{Named}
 use Rattle.ag_grammar.specs.declared.raw.RawGrammar.{RawGrammar}
@@ -24,7 +28,8 @@ use Rattle.ag_grammar.specs.declared.raw.RawSymbol.{RawSymbol}
 use Rattle.normalform.specs.declared.fault.LimitKind.TheVariants as limit
 use Rattle.normalform.specs.declared.fault.NormalFault.{NormalFault}
 use Rattle.normalform.specs.declared.fault.NormalFault.TheVariants as fault
-use Rattle.normalform.specs.numbers.Numbers.{symbol_of, symbol_names, with_text, declared, number_in, names_at, placed, target_of, literals_of, numbered}
+use Rattle.normalform.specs.numbers.Numbers.{symbol_of, symbol_names, with_text, declared, number_in, names_at, placed, target_of}
+use Rattle.normalform.specs.numbers.Numbers.{literals_of, numbered}
 
 -- A check of a part of the text: the fault to report if it fails, and whether it holds.
 abbrev pub Check : Type 0
@@ -58,7 +63,9 @@ rule_checks ss items r = occurrence_check ss items r.target ∷ map (occurrence_
 
 -- a production: its left side, its items, its rules
 abbrev pub unknown_in : List Symbol → RawProduction → List Check
-unknown_in ss q = name_check (symbol_names ss) q.left ∷ flat_map (item_checks (symbol_names ss)) q.items ++ flat_map (rule_checks ss (placed ss q)) q.rules
+unknown_in ss q =
+    name_check (symbol_names ss) q.left ∷ flat_map (item_checks (symbol_names ss)) q.items ++ flat_map
+    (rule_checks ss (placed ss q)) q.rules
 
 abbrev pub unknown_checks : List Symbol → List RawProduction → List Check
 unknown_checks ss qs = flat_map (unknown_in ss) qs
@@ -166,7 +173,8 @@ has_kind ss items t k = is_kind k (slice_get (item_kinds (declared ss) (slice_ge
 
 -- N8. The check of a rule's target: the rules of the production define attributes of its kind at its place.
 abbrev pub defined_check : List Symbol → List Item → RawRule → Check
-defined_check ss items r = let t = target_of ss items r.target in (fault.NotDefinedHere r.target.at, has_kind ss items t (defined_kind t.place))
+defined_check ss items r = let t = target_of ss items r.target in
+    (fault.NotDefinedHere r.target.at, has_kind ss items t (defined_kind t.place))
 
 abbrev pub not_defined_in : List Symbol → RawProduction → List Check
 not_defined_in ss q = map (defined_check ss (placed ss q)) q.rules
@@ -199,7 +207,8 @@ abbrev pub is_short : List ℕ → Bool
 is_short text = nat_le (length text) max_literal_bytes
 
 abbrev pub symbol_limits : List Symbol → List Check
-symbol_limits ss = (fault.Limit limit.Symbols, nat_le (length ss) max_symbols) ∷ (fault.Limit limit.Attributes, list_all few_attributes ss) ∷ []
+symbol_limits ss =
+    (fault.Limit limit.Symbols, nat_le (length ss) max_symbols) ∷ (fault.Limit limit.Attributes, list_all few_attributes ss) ∷ []
 
 abbrev pub production_limits : List Symbol → List RawProduction → List Check
 production_limits ss qs =
@@ -209,7 +218,9 @@ production_limits ss qs =
     ∷ []
 
 abbrev pub literal_limits : List (List ℕ) → List Check
-literal_limits texts = (fault.Limit limit.LiteralLength, list_all is_short texts) ∷ (fault.Limit limit.Literals, nat_le (length texts) max_literals) ∷ []
+literal_limits texts =
+    (fault.Limit limit.LiteralLength, list_all is_short texts) ∷ (fault.Limit limit.Literals, nat_le (length texts) max_literals)
+    ∷ []
 
 abbrev pub limit_checks : List Symbol → List RawProduction → List Check
 limit_checks ss qs = symbol_limits ss ++ production_limits ss qs ++ literal_limits (literals_of qs)
@@ -234,10 +245,13 @@ AreAll P raw = (s : ℕ) → s < length raw.symbols → P s
 -- The first fault: the first check that fails, of the first kind that has one.
 pub data IsFirstFault (raw : RawGrammar) : NormalFault → Type 0 where
   in_names : {f : NormalFault} → first_wrong (naming_checks raw) ≡ Some f → IsFirstFault raw f
-  in_productive : {name : Named} → first_wrong (naming_checks raw) ≡ None → IsFirstNot (IsProductive (numbered raw)) raw.symbols name → IsFirstFault raw (fault.Unproductive name)
-  in_reached : {name : Named} → first_wrong (naming_checks raw) ≡ None → AreAll (IsProductive (numbered raw)) raw → IsFirstNot (IsReached (numbered raw)) raw.symbols name
+  in_productive : {name : Named} → first_wrong (naming_checks raw) ≡ None
+      → IsFirstNot (IsProductive (numbered raw)) raw.symbols name → IsFirstFault raw (fault.Unproductive name)
+  in_reached : {name : Named} → first_wrong (naming_checks raw) ≡ None → AreAll (IsProductive (numbered raw)) raw
+      → IsFirstNot (IsReached (numbered raw)) raw.symbols name
       → IsFirstFault raw (fault.Unreachable name)
-  in_rules : {f : NormalFault} → first_wrong (naming_checks raw) ≡ None → AreAll (IsProductive (numbered raw)) raw → AreAll (IsReached (numbered raw)) raw → first_wrong (further_checks raw) ≡ Some f
+  in_rules : {f : NormalFault} → first_wrong (naming_checks raw) ≡ None → AreAll (IsProductive (numbered raw)) raw
+      → AreAll (IsReached (numbered raw)) raw → first_wrong (further_checks raw) ≡ Some f
       → IsFirstFault raw f
 
 -- No kind has a fault.

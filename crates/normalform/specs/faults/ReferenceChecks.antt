@@ -15,7 +15,8 @@ use Rattle.normalform.specs.numbers.Numbers.{placed, target_of}
 
 abbrev pub check_of_occurrence : RuleCheck → List Symbol → List Item → Occ → Check
 check_of_occurrence rule_check.Known ss items o = occurrence_check ss items o
-check_of_occurrence rule_check.Defined ss items o = let t = target_of ss items o in (fault.NotDefinedHere o.at, has_kind ss items t (defined_kind t.place))
+check_of_occurrence rule_check.Defined ss items o = let t = target_of ss items o in
+    (fault.NotDefinedHere o.at, has_kind ss items t (defined_kind t.place))
 check_of_occurrence rule_check.Used ss items o = used_check ss items o
 
 abbrev pub checks_of_rule : RuleCheck → List Symbol → List Item → RawRule → List Check

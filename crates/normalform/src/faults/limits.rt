@@ -12,7 +12,7 @@ use crate::faults::placed::places_of;
 use crate::numbers::declared::Declared;
 use crate::numbers::names::Names;
 use ag_grammar::limits::{
-    MAX_ATTRIBUTES, MAX_ITEMS, MAX_LITERAL_BYTES, MAX_LITERALS, MAX_PRODUCTIONS, MAX_CHILDREN,
+    MAX_ATTRIBUTES, MAX_CHILDREN, MAX_ITEMS, MAX_LITERAL_BYTES, MAX_LITERALS, MAX_PRODUCTIONS,
     MAX_SYMBOLS,
 };
 use ag_grammar::{RawItem, RawProduction, RawSymbol};

@@ -1,5 +1,6 @@
 -- The initial and the final table.
-use Rattle.std.proofs.Common.{ℕ, ◌≡◌, ◌+◌, ◌<◌, ◌≤◌, Bool, true, false, cond, nat_lt, List, [], ◌∷◌, Some, None, zero, suc, ◌⊎◌, slice_get, get_or, length, unwrap_or, inl, inr, refl, ap, ◌∙◌, sym, subst, arith}
+use Rattle.std.proofs.Common.{ℕ, ◌≡◌, ◌+◌, ◌<◌, ◌≤◌, Bool, true, false, cond, nat_lt, List, [], ◌∷◌, Some, None, zero, suc, ◌⊎◌}
+use Rattle.std.proofs.Common.{slice_get, get_or, length, unwrap_or, inl, inr, refl, ap, ◌∙◌, sym, subst, arith}
 use Rattle.std.proofs.lemmas.Bool.{cases_lt, lt-ltb, ltb-true}
 use Rattle.std.proofs.lemmas.Option.{slice_get_within, slice_get_past, slice_get-get_or}
 use Rattle.std.proofs.Math.ListN.{get_or-eq_default}
@@ -13,7 +14,8 @@ use Rattle.passassign.specs.PassesSoFar.{IsAcceptedWith, IsProgress, open_count}
 use Rattle.ag_grammar.specs.grammars.Accepted.{max_passes}
 use Rattle.passassign.specs.Rows.{passes_of, AreWithinMaxPasses}
 use Rattle.passassign.specs.Searching.{BelongTo}
-use Rattle.passassign.specs.Tables.{slot_of, state_at, state_of, pass_of_state, first_state, attribute_count, table_passes, IsFirstTable, IsTable, IsDeclared, AreRowsOfTable}
+use Rattle.passassign.specs.Tables.{slot_of, state_at, state_of, pass_of_state, first_state, attribute_count, table_passes}
+use Rattle.passassign.specs.Tables.{IsFirstTable, IsTable, IsDeclared, AreRowsOfTable}
 use Rattle.passassign.specs.declared.assigning.PassesSoFar.{PassesSoFar}
 use Rattle.passassign.specs.declared.dependency.Dependency.{Dependency}
 use Rattle.passassign.specs.declared.table.State.{State}
@@ -29,10 +31,13 @@ declared_at symbols s a lt = go (symbol_kinds (slice_get symbols s)) refl
   where
     go : (kinds : List Kind) → symbol_kinds (slice_get symbols s) ≡ kinds → IsDeclared symbols s a
     go [] e = absurd (let n = kinds_names (slice_get symbols s) in let m = ap length e in omega arith)
-    go (k ∷ kinds) e = let n = kinds_names (slice_get symbols s) in let m : a < length (symbol_kinds (slice_get symbols s)) = omega arith in (get_or (symbol_kinds (slice_get symbols s)) a k, slice_get-get_or (symbol_kinds (slice_get symbols s)) a k m)
+    go (k ∷ kinds) e = let n = kinds_names (slice_get symbols s) in
+        let m : a < length (symbol_kinds (slice_get symbols s)) = omega arith in
+        (get_or (symbol_kinds (slice_get symbols s)) a k, slice_get-get_or (symbol_kinds (slice_get symbols s)) a k m)
 
 declared_within : (symbols : List Symbol) (s a : ℕ) → IsDeclared symbols s a → a < attribute_count (slice_get symbols s)
-declared_within symbols s a is = let w = slice_get_within (symbol_kinds (slice_get symbols s)) a is.0 is.1 in let n = kinds_names (slice_get symbols s) in omega arith
+declared_within symbols s a is = let w = slice_get_within (symbol_kinds (slice_get symbols s)) a is.0 is.1 in
+    let n = kinds_names (slice_get symbols s) in omega arith
 
 pub first_state_open : (n a : ℕ) → a < n → first_state n a ≡ Open
 first_state_open n a lt = ap (λ b. cond b Open Absent) (lt-ltb a n lt)
@@ -53,16 +58,20 @@ first_state_none n a = go (nat_lt a n)
 
 module _ (symbols : List Symbol) (states : List State) (first : IsFirstTable symbols states) where
   -- the initial state of any attribute
-  first_of : (s a : ℕ) → (state_of states s a ≡ Absent) ⊎ ((a < 16) × (state_of states s a ≡ first_state (attribute_count (slice_get symbols s)) a))
+  first_of : (s a : ℕ) → (state_of states s a ≡ Absent)
+      ⊎ ((a < 16) × (state_of states s a ≡ first_state (attribute_count (slice_get symbols s)) a))
   first_of s a = go (nat_lt a 16) refl
     where
-      in_range : a < 16 → (state_at states (slot_of s a) ≡ Absent) ⊎ (state_at states (slot_of s a) ≡ first_state (attribute_count (slice_get symbols s)) a)
+      in_range : a < 16 → (state_at states (slot_of s a) ≡ Absent)
+          ⊎ (state_at states (slot_of s a) ≡ first_state (attribute_count (slice_get symbols s)) a)
       in_range lt = elim (cases_lt s (length symbols)) [
         | inl l ↦ inr (first.at s a lt l)
         | inr le ↦ inl (get_or-eq_default states Absent (let e = first.len in omega arith))
       ]
 
-      go : (b : Bool) → nat_lt a 16 ≡ b → (state_of states s a ≡ Absent) ⊎ ((a < 16) × (state_of states s a ≡ first_state (attribute_count (slice_get symbols s)) a))
+      go : (b : Bool) → nat_lt a 16 ≡ b
+          → (state_of states s a ≡ Absent)
+          ⊎ ((a < 16) × (state_of states s a ≡ first_state (attribute_count (slice_get symbols s)) a))
       go false e = inl (ap (λ b. cond b (state_at states (slot_of s a)) Absent) e)
       go true e =
           let lt = ltb-true a 16 e in
@@ -84,15 +93,19 @@ module _ (symbols : List Symbol) (states : List State) (first : IsFirstTable sym
       ]),
       (λ is e. (
           let w = small s a is in
-          let o : state_of states s a ≡ Open = state_in states s a w.0 ∙ first.at s a w.0 w.1 ∙ first_state_open (attribute_count (slice_get symbols s)) a (declared_within symbols s a is) in
+          let o : state_of states s a ≡ Open =
+          state_in states s a w.0 ∙ first.at s a w.0 w.1
+          ∙ first_state_open (attribute_count (slice_get symbols s)) a (declared_within symbols s a is) in
           let bad : Open ≡ Absent = sym o ∙ e in cc)),
     );
   }
 
-pub with_of : (symbols : List Symbol) (productions : List Production) (g : Grammar) (all : List Dependency) (states : List State) → IsAcceptedWith symbols productions g → AreDependencies productions all → IsFirstTable symbols states → BelongTo g all states
+pub with_of : (symbols : List Symbol) (productions : List Production) (g : Grammar) (all : List Dependency) (states : List State)
+    → IsAcceptedWith symbols productions g → AreDependencies productions all → IsFirstTable symbols states → BelongTo g all states
 with_of symbols productions g all states w are first =
     let f : IsFirstTable g.symbols states = subst (λ symbols. IsFirstTable symbols states) (sym w.symbols_are) first in
-    let of_g : AreDependencies g.productions all = subst (λ productions. AreDependencies productions all) (sym w.productions_are) are in
+    let of_g : AreDependencies g.productions all =
+    subst (λ productions. AreDependencies productions all) (sym w.productions_are) are in
     record {
       accepted = w.accepted;
       dependencies = of_g;
@@ -100,10 +113,13 @@ with_of symbols productions g all states w are first =
       led = λ u h e.
           let is = target_is g u w.accepted (parts g u ((of_g u).0 h)) in
           let within = attribute_within g u.strike.symbol u.strike.attr w.accepted is in
-          f.at u.strike.symbol u.strike.attr within.0 within.1 ∙ first_state_open (attribute_count (slice_get g.symbols u.strike.symbol)) u.strike.attr (declared_within g.symbols u.strike.symbol u.strike.attr is);
+          f.at u.strike.symbol u.strike.attr within.0 within.1
+          ∙ first_state_open (attribute_count (slice_get g.symbols u.strike.symbol)) u.strike.attr
+          (declared_within g.symbols u.strike.symbol u.strike.attr is);
     }
 
-pub first_made : (g : Grammar) (symbols : List Symbol) (states : List State) → IsFirstTable symbols states → IsMade g 1 (table_passes states)
+pub first_made : (g : Grammar) (symbols : List Symbol) (states : List State) → IsFirstTable symbols states
+    → IsMade g 1 (table_passes states)
 first_made g symbols states first = start (table_passes states) (first_none symbols states first)
 
 none_open : (states : List State) → open_count states ≡ 0 → (k : ℕ) → state_at states k ≡ Open → ⊥
@@ -120,12 +136,15 @@ given_pass Open there o = absurd (o refl)
 given_pass (Assigned p) there o = refl
 
 -- the rows of a table without open attributes agree with the table
-module _ (g : Grammar) (all : List Dependency) (p : PassesSoFar) (symbols : List Symbol) (productions : List Production) (rows : List (List ℕ)) (w : IsAcceptedWith symbols productions g) (progress : IsProgress g all p) (none : open_count p.states.items ≡ 0)
+module _ (g : Grammar) (all : List Dependency) (p : PassesSoFar) (symbols : List Symbol) (productions : List Production)
+    (rows : List (List ℕ)) (w : IsAcceptedWith symbols productions g) (progress : IsProgress g all p)
+    (none : open_count p.states.items ≡ 0)
     (rows_are : AreRowsOfTable symbols p.states.items rows) where
   are : AreRowsOfTable g.symbols p.states.items rows
   are = subst (λ symbols. AreRowsOfTable symbols p.states.items rows) (sym w.symbols_are) rows_are
 
-  none_there : (s a : ℕ) → attribute_count (slice_get g.symbols s) ≤ a → (x : State) → state_of p.states.items s a ≡ x → pass_of_state x ≡ None
+  none_there : (s a : ℕ) → attribute_count (slice_get g.symbols s) ≤ a → (x : State) → state_of p.states.items s a ≡ x
+      → pass_of_state x ≡ None
   none_there s a le Absent e = refl
   none_there s a le Open e = refl
   none_there s a le (Assigned q) e =
@@ -138,12 +157,16 @@ module _ (g : Grammar) (all : List Dependency) (p : PassesSoFar) (symbols : List
         let d = declared_at g.symbols s a lt in
         let l = (attribute_within g s a w.accepted d).0 in
         let e = state_in p.states.items s a l in
-        are.passes s a lt ∙ given_pass (state_at p.states.items (slot_of s a)) (λ f. (progress.of.table.there s a).1 d (e ∙ f)) (none_open p.states.items none (slot_of s a)) ∙ ap pass_of_state (sym e))
-    | inr le ↦ slice_get_past (passes_of rows s) a (let n = are.len s in omega arith) ∙ sym (none_there s a le (state_of p.states.items s a) refl)
+        are.passes s a lt ∙ given_pass (state_at p.states.items (slot_of s a)) (λ f. (progress.of.table.there s a).1 d (e ∙ f))
+        (none_open p.states.items none (slot_of s a)) ∙ ap pass_of_state (sym e))
+    | inr le ↦ slice_get_past (passes_of rows s) a (let n = are.len s in omega arith)
+        ∙ sym (none_there s a le (state_of p.states.items s a) refl)
   ]
 
   pub least : IsLeast g (passes_of rows)
-  least = whole_least g p.next (table_passes p.states.items) (passes_of rows) w.accepted.complete w.accepted.normal progress.made (λ s. are.len s ∙ sym (kinds_names (slice_get g.symbols s))) is_table
+  least =
+      whole_least g p.next (table_passes p.states.items) (passes_of rows) w.accepted.complete w.accepted.normal progress.made
+      (λ s. are.len s ∙ sym (kinds_names (slice_get g.symbols s))) is_table
 
   pub few : p.next ≤ max_passes + 1 → AreWithinMaxPasses rows
   few next s a k e = let lt : k < p.next = made_before progress.made s a k (sym (is_table s a) ∙ e) in omega (arith, lt, next)

@@ -7,9 +7,12 @@ use Rattle.passassign.specs.Certificate.{IsStruckBy, AreGood}
 use Rattle.passassign.specs.Least.{Partial, IsAttribute, AssignsOnlyAttributes}
 use Rattle.passassign.specs.Making.{IsOpen, AreFinished, IsPass, AreMarks, pass_after}
 
-pub pass_by_marks : (g : Grammar) (k : ℕ) (m after : Partial) (xs : List Strike) (hit : ℕ → ℕ → Bool) → AssignsOnlyAttributes g m → AssignsOnlyAttributes g after → AreGood g (direction_of k) (IsOpen g m) [] xs → AreFinished g (direction_of k) (IsOpen g m) xs → AreMarks hit xs
+pub pass_by_marks : (g : Grammar) (k : ℕ) (m after : Partial) (xs : List Strike) (hit : ℕ → ℕ → Bool) → AssignsOnlyAttributes g m
+    → AssignsOnlyAttributes g after → AreGood g (direction_of k) (IsOpen g m) [] xs
+    → AreFinished g (direction_of k) (IsOpen g m) xs → AreMarks hit xs
     → ((s a : ℕ) → IsAttribute g s a → after s a ≡ pass_after k (m s a) (hit s a)) → IsPass g k m after xs
-pass_by_marks g k m after xs hit known known_after good finished marks is = record { good = good; finished = finished; kept = kept; gained = gained; left = left }
+pass_by_marks g k m after xs hit known known_after good finished marks is =
+    record { good = good; finished = finished; kept = kept; gained = gained; left = left }
   where
     kept : (s a p : ℕ) → m s a ≡ Some p → after s a ≡ Some p
     kept s a p e = is s a (known s a p e) ∙ ap (λ x. pass_after k x (hit s a)) e

@@ -24,30 +24,40 @@ later_from m k s a i = let lt = i.2 in (i.0, i.1, omega arith)
 module _ (g : Grammar) (rows : List (List ℕ)) (lists : List (List Strike)) (are : AreStrikesOf g rows lists) where
   -- the strikes of a pass
   at_pass : (k : ℕ) → suc k ≤ length lists → AreStrikesAt g (passes_of rows) (suc k) (get_or lists k [])
-  at_pass k le = subst (λ j. AreStrikesAt g (passes_of rows) j (get_or lists k [])) (add-one k) (are.each k (get_or lists k []) (slice_get-get_or lists k [] (omega arith)))
+  at_pass k le =
+      subst (λ j. AreStrikesAt g (passes_of rows) j (get_or lists k [])) (add-one k)
+      (are.each k (get_or lists k []) (slice_get-get_or lists k [] (omega arith)))
 
   -- pass by pass: an attribute without a pass before one here has none there
-  climb : (n : Partial) (legal : IsLegalPartial g n) (k : ℕ) → k ≤ length lists → AtLeast g n legal (suc k) (HasPassFrom (passes_of rows) (suc k))
+  climb : (n : Partial) (legal : IsLegalPartial g n) (k : ℕ) → k ≤ length lists
+      → AtLeast g n legal (suc k) (HasPassFrom (passes_of rows) (suc k))
   climb n legal zero le s a q i e = legal.positive s a q e
   climb n legal (suc k) le s a q i e =
       let one = at_pass k le in
       let low = climb n legal k (omega arith) in
       let later : suc k < i.0 = let lt = i.2 in omega arith in
-      struck_later g n legal (suc k) (HasPassFrom (passes_of rows) (suc k)) [] low (λ u b c none has. absurd none) (get_or lists k []) one.good s a q (one.all s a (i.0, i.1, later)) e
+      struck_later g n legal (suc k) (HasPassFrom (passes_of rows) (suc k)) [] low (λ u b c none has. absurd none)
+      (get_or lists k []) one.good s a q (one.all s a (i.0, i.1, later)) e
 
-  pub not_earlier : (n : Partial) → IsLegalPartial g n → (s a p q : ℕ) → partial_of (passes_of rows) s a ≡ Some p → n s a ≡ Some q → p ≤ q
+  pub not_earlier : (n : Partial) → IsLegalPartial g n → (s a p q : ℕ) → partial_of (passes_of rows) s a ≡ Some p → n s a ≡ Some q
+      → p ≤ q
   not_earlier n legal s a zero q e f = omega arith
   not_earlier n legal s a (suc p) q e f =
       let most = given_at_most rows (length lists) s a (suc p) are.count.most e in
       climb n legal p (omega arith) s a q (suc p, e, omega arith) f
 
   pub least_by_strikes : IsLegal g (passes_of rows) → IsLeast g (passes_of rows)
-  least_by_strikes legal = record { legal = legal; least = λ other h s a p q e f. not_earlier (partial_of other) (partial_legal g other h) s a p q e f }
+  least_by_strikes legal =
+      record
+      { legal = legal; least = λ other h s a p q e f. not_earlier (partial_of other) (partial_legal g other h) s a p q e f }
 
-pub none_earlier : (g : Grammar) (rows : List (List ℕ)) (lists : List (List Strike)) (other : Passes) → AreStrikesOf g rows lists → IsLegal g other → (s a p q : ℕ) → partial_of (passes_of rows) s a ≡ Some p → partial_of other s a ≡ Some q → p ≤ q
-none_earlier g rows lists other are legal s a p q e f = not_earlier g rows lists are (partial_of other) (partial_legal g other legal) s a p q e f
+pub none_earlier : (g : Grammar) (rows : List (List ℕ)) (lists : List (List Strike)) (other : Passes) → AreStrikesOf g rows lists
+    → IsLegal g other → (s a p q : ℕ) → partial_of (passes_of rows) s a ≡ Some p → partial_of other s a ≡ Some q → p ≤ q
+none_earlier g rows lists other are legal s a p q e f =
+    not_earlier g rows lists are (partial_of other) (partial_legal g other legal) s a p q e f
 
-pub strikes_least : (g : Grammar) (rows : List (List ℕ)) (lists : List (List Strike)) → IsLegal g (passes_of rows) → AreStrikesOf g rows lists → IsLeast g (passes_of rows)
+pub strikes_least : (g : Grammar) (rows : List (List ℕ)) (lists : List (List Strike)) → IsLegal g (passes_of rows)
+    → AreStrikesOf g rows lists → IsLeast g (passes_of rows)
 strikes_least g rows lists legal are = least_by_strikes g rows lists are legal
 
 -- the list of a certificate for a direction strikes all members
@@ -57,22 +67,30 @@ all_for g c is LeftToRight = is.even
 
 -- The lists of a certificate are the strikes of each pass of an assignment in which exactly its members have
 -- that pass or a later one, and none of them has that pass.
-pub certificate_strikes : (g : Grammar) (c : Stuck) (m : Passes) (k : ℕ) → IsCertificate g c → ((s a : ℕ) → Members c.set s a ↔ HasPassFrom m k s a) → ((s a : ℕ) → Members c.set s a ↔ HasPassAfter m k s a) → AreStrikesAt g m k (list_for c (direction_of k))
+pub certificate_strikes : (g : Grammar) (c : Stuck) (m : Passes) (k : ℕ) → IsCertificate g c
+    → ((s a : ℕ) → Members c.set s a ↔ HasPassFrom m k s a) → ((s a : ℕ) → Members c.set s a ↔ HasPassAfter m k s a)
+    → AreStrikesAt g m k (list_for c (direction_of k))
 certificate_strikes g c m k is from after =
-    exactly_same g (direction_of k) (Members c.set) (HasPassFrom m k) (Members c.set) (HasPassAfter m k) (λ s a. (from s a).0) (λ s a. (after s a).0) (λ s a. (after s a).1) (list_for c (direction_of k)) (all_for g c is (direction_of k))
+    exactly_same g (direction_of k) (Members c.set) (HasPassFrom m k) (Members c.set) (HasPassAfter m k) (λ s a. (from s a).0)
+    (λ s a. (after s a).0) (λ s a. (after s a).1) (list_for c (direction_of k)) (all_for g c is (direction_of k))
 
-pub chain_shows : (g : Grammar) (rows : List (List ℕ)) (lists : List (List Strike)) (k s a : ℕ) (xs : List Strike) (other : Passes) → AreStrikesOf g rows lists → k ≤ length lists → IsChainOf g (direction_of (suc k)) (HasPassFrom (passes_of rows) (suc k)) s a xs → IsLegal g other → (p : ℕ) → partial_of other s a ≡ Some p → suc k < p
+pub chain_shows : (g : Grammar) (rows : List (List ℕ)) (lists : List (List Strike)) (k s a : ℕ) (xs : List Strike)
+    (other : Passes) → AreStrikesOf g rows lists → k ≤ length lists
+    → IsChainOf g (direction_of (suc k)) (HasPassFrom (passes_of rows) (suc k)) s a xs → IsLegal g other → (p : ℕ)
+    → partial_of other s a ≡ Some p → suc k < p
 chain_shows g rows lists k s a xs other are le chain legal p e =
     let h = partial_legal g other legal in
     let low = climb g rows lists are (partial_of other) h k le in
     let later = chain_later g (partial_of other) h (suc k) (HasPassFrom (passes_of rows) (suc k)) low s a xs chain p e in
     omega (arith, later)
 
-pub chain_there : (g : Grammar) (m : Passes) (k : ℕ) (xs : List Strike) → AreStrikesAt g m k xs → (s a : ℕ) → HasPassAfter m k s a → (ys : List Strike) × IsChainOf g (direction_of k) (HasPassFrom m k) s a ys
+pub chain_there : (g : Grammar) (m : Passes) (k : ℕ) (xs : List Strike) → AreStrikesAt g m k xs → (s a : ℕ) → HasPassAfter m k s a
+    → (ys : List Strike) × IsChainOf g (direction_of k) (HasPassFrom m k) s a ys
 chain_there g m k xs are s a later = good_chains g (direction_of k) (HasPassFrom m k) xs are.good s a (are.all s a later)
 
 -- the strikes of a pass before that of some attribute
-pub strikes_at : (g : Grammar) (rows : List (List ℕ)) (lists : List (List Strike)) → AreStrikesOf g rows lists → (k s a : ℕ) → 1 ≤ k → HasPassAfter (passes_of rows) k s a → AreStrikesAt g (passes_of rows) k (strikes_of lists k)
+pub strikes_at : (g : Grammar) (rows : List (List ℕ)) (lists : List (List Strike)) → AreStrikesOf g rows lists → (k s a : ℕ)
+    → 1 ≤ k → HasPassAfter (passes_of rows) k s a → AreStrikesAt g (passes_of rows) k (strikes_of lists k)
 strikes_at g rows lists are zero s a le later = absurd (let bad : ⊥ = omega arith in bad)
 strikes_at g rows lists are (suc k) s a le later =
     let most = given_at_most rows (length lists) s a later.0 are.count.most later.1 in

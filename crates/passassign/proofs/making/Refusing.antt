@@ -1,5 +1,6 @@
 -- The attributes left open by two passes that assign nothing have no pass.
-use Rattle.std.proofs.Common.{ℕ, zero, suc, ◌≡◌, ◌<◌, ◌≤◌, ◌+◌, ◌/◌, ◌%◌, ◌↔◌, cond, List, [], ◌∷◌, None, length, inl, inr, refl, ap, ◌∙◌, sym, subst, arith, add-one}
+use Rattle.std.proofs.Common.{ℕ, zero, suc, ◌≡◌, ◌<◌, ◌≤◌, ◌+◌, ◌/◌, ◌%◌, ◌↔◌, cond, List, [], ◌∷◌, None, length, inl, inr, refl}
+use Rattle.std.proofs.Common.{ap, ◌∙◌, sym, subst, arith, add-one}
 use Rattle.std.proofs.lemmas.Bool.{cases_order}
 use Rattle.std.proofs.lemmas.List.Sums.{sum_by-cons}
 use Rattle.ag_grammar.specs.Lists.{Has, Differ}
@@ -27,8 +28,18 @@ differ : (set : List (ℕ × ℕ)) → IsInDeclaredOrder set → Differ set
 differ set ordered i j x y ex ey same = elim (cases_order i j) [
   | inl e ↦ e
   | inr o ↦ elim o [
-    | inl lt ↦ absurd (elim (ordered i j x y ex ey lt) [ inl l ↦ (let e = ap (λ (z : ℕ × ℕ). z.0) same in omega arith) | inr l ↦ (let e = ap (λ (z : ℕ × ℕ). z.1) same in let m = l.1 in omega arith) ])
-    | inr gt ↦ absurd (elim (ordered j i y x ey ex gt) [ inl l ↦ (let e = ap (λ (z : ℕ × ℕ). z.0) same in omega arith) | inr l ↦ (let e = ap (λ (z : ℕ × ℕ). z.1) same in let m = l.1 in omega arith) ])
+    | inl lt ↦ absurd
+        (elim (ordered i j x y ex ey lt) [
+          | inl l ↦ (let e = ap (λ (z : ℕ × ℕ). z.0) same in omega arith)
+          | inr l ↦
+              (let e = ap (λ (z : ℕ × ℕ). z.1) same in let m = l.1 in omega arith)
+        ])
+    | inr gt ↦ absurd
+        (elim (ordered j i y x ey ex gt) [
+          | inl l ↦ (let e = ap (λ (z : ℕ × ℕ). z.0) same in omega arith)
+          | inr l ↦
+              (let e = ap (λ (z : ℕ × ℕ). z.1) same in let m = l.1 in omega arith)
+        ])
   ]
 ]
 
@@ -55,15 +66,18 @@ count_le : (xs ys : List State) → length ys ≡ length xs → KeepPasses ys xs
 count_le [] [] len h = omega arith
 count_le [] (y ∷ ys) len h = absurd (omega arith)
 count_le (x ∷ xs) [] len h = absurd (omega arith)
-count_le (x ∷ xs) (y ∷ ys) len h = let a = bit_le x y (h zero) in let b = count_le xs ys (omega arith) (λ k. h (suc k)) in omega (arith, open_step x xs, open_step y ys, a, b)
+count_le (x ∷ xs) (y ∷ ys) len h = let a = bit_le x y (h zero) in let b = count_le xs ys (omega arith) (λ k. h (suc k)) in
+    omega (arith, open_step x xs, open_step y ys, a, b)
 
 -- if as many are left open, each that was open is
 same_open : (xs ys : List State) → length ys ≡ length xs → KeepPasses ys xs → open_count xs ≤ open_count ys → KeepPasses xs ys
 same_open [] [] len h le k e = e
 same_open [] (y ∷ ys) len h le k e = absurd (omega arith)
 same_open (x ∷ xs) [] len h le k e = absurd (omega arith)
-same_open (x ∷ xs) (y ∷ ys) len h le zero e = let b = count_le xs ys (omega arith) (λ k. h (suc k)) in bit_same x y e (omega (arith, open_step x xs, open_step y ys, b, le))
-same_open (x ∷ xs) (y ∷ ys) len h le (suc k) e = let a = bit_le x y (h zero) in same_open xs ys (omega arith) (λ k. h (suc k)) (omega (arith, open_step x xs, open_step y ys, a, le)) k e
+same_open (x ∷ xs) (y ∷ ys) len h le zero e = let b = count_le xs ys (omega arith) (λ k. h (suc k)) in
+    bit_same x y e (omega (arith, open_step x xs, open_step y ys, b, le))
+same_open (x ∷ xs) (y ∷ ys) len h le (suc k) e = let a = bit_le x y (h zero) in
+    same_open xs ys (omega arith) (λ k. h (suc k)) (omega (arith, open_step x xs, open_step y ys, a, le)) k e
 
 some_open : (xs : List State) → 0 < open_count xs → (k : ℕ) × (state_at xs k ≡ Open)
 some_open [] lt = absurd (omega arith)
@@ -75,7 +89,11 @@ turned_twice : (d : Direction) → other (other d) ≡ d
 turned_twice LeftToRight = refl
 turned_twice RightToLeft = refl
 
-module _ (g : Grammar) (all : List Dependency) (old new last : PassesSoFar) (first second : List Strike) (one : IsNext g all old new first) (two : IsNext g all new last second) (before : IsProgress g all old) (next : new.next ≡ old.next + 1) (next_two : last.next ≡ new.next + 1) (len : length last.states.items ≡ length old.states.items) (kept : KeepPasses last.states.items old.states.items) (most : open_count old.states.items ≤ open_count last.states.items) where
+module _ (g : Grammar) (all : List Dependency) (old new last : PassesSoFar) (first second : List Strike)
+    (one : IsNext g all old new first) (two : IsNext g all new last second) (before : IsProgress g all old)
+    (next : new.next ≡ old.next + 1) (next_two : last.next ≡ new.next + 1)
+    (len : length last.states.items ≡ length old.states.items) (kept : KeepPasses last.states.items old.states.items)
+    (most : open_count old.states.items ≤ open_count last.states.items) where
   still : KeepPasses old.states.items last.states.items
   still = same_open old.states.items last.states.items len kept most
 
@@ -104,9 +122,12 @@ module _ (g : Grammar) (all : List Dependency) (old new last : PassesSoFar) (fir
   }
 
   direction : last.direction ≡ direction_of old.next
-  direction = two.progress.turned ∙ ap direction_of (next_two ∙ add-one new.next ∙ ap suc one_more) ∙ turned_twice (direction_of old.next)
+  direction =
+      two.progress.turned ∙ ap direction_of (next_two ∙ add-one new.next ∙ ap suc one_more) ∙ turned_twice (direction_of old.next)
 
-  module _ (c : Stuck) (strikes : c ≡ stuck_of last.direction c.set first second) (members : (s a : ℕ) → Has c.set (s, a) ↔ ((a < 16) × (state_at last.states.items (slot_of s a) ≡ Open))) (ordered : IsInDeclaredOrder c.set) (some : 0 < open_count old.states.items) where
+  module _ (c : Stuck) (strikes : c ≡ stuck_of last.direction c.set first second)
+      (members : (s a : ℕ) → Has c.set (s, a) ↔ ((a < 16) × (state_at last.states.items (slot_of s a) ≡ Open)))
+      (ordered : IsInDeclaredOrder c.set) (some : 0 < open_count old.states.items) where
     open_members : (s a : ℕ) → Members c.set s a ↔ IsOpen g (table_passes old.states.items) s a
     open_members s a = (
       (λ h. let m = (members s a).0 h in open_there g all old.states.items before.of s a m.0 (kept (slot_of s a) m.1)),
@@ -123,16 +144,33 @@ module _ (g : Grammar) (all : List Dependency) (old new last : PassesSoFar) (fir
         ((o.0 / 16, o.0 % 16), (members (o.0 / 16) (o.0 % 16)).1 (omega arith, ap (state_at last.states.items) e ∙ still o.0 o.1))
 
     certificate : IsCertificate g c
-    certificate = subst (IsCertificate g) (sym is_stuck) (rest_certified g old.next (table_passes old.states.items) first second are_idle c.set (differ c.set ordered) member open_members)
+    certificate =
+        subst (IsCertificate g) (sym is_stuck)
+        (rest_certified g old.next (table_passes old.states.items) first second are_idle c.set
+        (differ c.set ordered) member open_members)
 
     pub refused : IsRefused g c
     refused = record {
       none = certified_refused g c before.of.accepted.complete certificate;
       all = λ s a. (
-        (λ h. let i = (open_members s a).0 h in (i.0, rest_stuck g old.next (table_passes old.states.items) first second are_idle s a i)),
-        (λ h. (open_members s a).1 (h.0, (stuck_left g old.next (table_passes old.states.items) first second before.of.accepted.complete before.of.accepted.normal before.made are_idle s a h.0).1 h.1)),
+        (λ h. let i = (open_members s a).0 h in
+            (i.0, rest_stuck g old.next (table_passes old.states.items) first second are_idle s a i)),
+        (λ h. (open_members s a).1 (
+          h.0,
+          (stuck_left g old.next (table_passes old.states.items) first second before.of.accepted.complete
+              before.of.accepted.normal before.made are_idle s a h.0).1 h.1,
+        )),
       );
       ordered = ordered;
       certificate = certificate;
-      made = record { pass = old.next; before = table_passes old.states.items; first = first; second = second; made = before.made; idle = are_idle; strikes = is_stuck };
+      made =
+          record {
+            pass = old.next;
+            before = table_passes old.states.items;
+            first = first;
+            second = second;
+            made = before.made;
+            idle = are_idle;
+            strikes = is_stuck;
+          };
     }

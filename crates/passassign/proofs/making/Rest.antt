@@ -15,14 +15,19 @@ use Rattle.passassign.proofs.strikes.Exactly.{are_good_more, exactly_same, strik
 use Rattle.passassign.proofs.making.Struck.{AtLeast, struck_later}
 
 -- candidates that are struck in both directions have no pass in a legal partial assignment
-module _ (g : Grammar) (candidate : Attributes) (odd even : List Strike) (rightward : StrikesAll g RightToLeft candidate odd) (leftward : StrikesAll g LeftToRight candidate even) where
+module _ (g : Grammar) (candidate : Attributes) (odd even : List Strike) (rightward : StrikesAll g RightToLeft candidate odd)
+    (leftward : StrikesAll g LeftToRight candidate even) where
   climb : (n : Partial) (legal : IsLegalPartial g n) (k : ℕ) → AtLeast g n legal k candidate
   climb n legal zero s a p i e = omega arith
   climb n legal (suc k) s a p i e = go (direction_of k) refl (climb n legal k)
     where
       go : (d : Direction) → direction_of k ≡ d → AtLeast g n legal k candidate → suc k ≤ p
-      go RightToLeft f low = struck_later g n legal k candidate [] low (λ u b c none has. absurd none) odd (subst (λ d. AreGood g d candidate [] odd) (sym f) rightward.good) s a p (rightward.all s a i) e
-      go LeftToRight f low = struck_later g n legal k candidate [] low (λ u b c none has. absurd none) even (subst (λ d. AreGood g d candidate [] even) (sym f) leftward.good) s a p (leftward.all s a i) e
+      go RightToLeft f low =
+          struck_later g n legal k candidate [] low (λ u b c none has. absurd none) odd
+          (subst (λ d. AreGood g d candidate [] odd) (sym f) rightward.good) s a p (rightward.all s a i) e
+      go LeftToRight f low =
+          struck_later g n legal k candidate [] low (λ u b c none has. absurd none) even
+          (subst (λ d. AreGood g d candidate [] even) (sym f) leftward.good) s a p (leftward.all s a i) e
 
   all_stuck : (s a : ℕ) → candidate s a → IsStuck g s a
   all_stuck s a i n legal = none_of (n s a) (λ p e. let h : suc p ≤ p = climb n legal (suc p) s a p i e in omega arith)
@@ -44,23 +49,41 @@ module _ (g : Grammar) (k : ℕ) (m : Partial) (first second : List Strike) (h :
   second_all : StrikesAll g (other (direction_of k)) (IsOpen g m) second
   second_all =
       strikes_all g (other (direction_of k)) (IsOpen g m) second
-      (are_good_more g (other (direction_of k)) (IsOpen g h.between) (IsOpen g m) (λ s a i. (i.0, before_none s a i.1)) [] second h.other.good)
+      (are_good_more g (other (direction_of k)) (IsOpen g h.between) (IsOpen g m) (λ s a i. (i.0, before_none s a i.1))
+      [] second h.other.good)
       (λ s a i. h.other.left s a (i.0, between_none s a i.1) (h.idle s a i.1))
 
   pub rest_stuck : (s a : ℕ) → IsOpen g m s a → IsStuck g s a
   rest_stuck = go (direction_of k) first_all second_all
     where
-      go : (d : Direction) → StrikesAll g d (IsOpen g m) first → StrikesAll g (other d) (IsOpen g m) second → (s a : ℕ) → IsOpen g m s a → IsStuck g s a
+      go : (d : Direction) → StrikesAll g d (IsOpen g m) first → StrikesAll g (other d) (IsOpen g m) second → (s a : ℕ)
+          → IsOpen g m s a → IsStuck g s a
       go RightToLeft x y = all_stuck g (IsOpen g m) first second x y
       go LeftToRight x y = all_stuck g (IsOpen g m) second first y x
 
-  of_members : (set : List (ℕ × ℕ)) → ((s a : ℕ) → Members set s a ↔ IsOpen g m s a) → (d : Direction) (xs : List Strike) → StrikesAll g d (IsOpen g m) xs → StrikesAll g d (Members set) xs
+  of_members : (set : List (ℕ × ℕ)) → ((s a : ℕ) → Members set s a ↔ IsOpen g m s a) → (d : Direction) (xs : List Strike)
+      → StrikesAll g d (IsOpen g m) xs → StrikesAll g d (Members set) xs
   of_members set is d xs x =
-      exactly_same g d (IsOpen g m) (Members set) (IsOpen g m) (Members set) (λ s a i. (is s a).1 i) (λ s a i. (is s a).1 i) (λ s a i. (is s a).0 i) xs x
+      exactly_same g d (IsOpen g m) (Members set) (IsOpen g m) (Members set) (λ s a i. (is s a).1 i) (λ s a i. (is s a).1 i)
+      (λ s a i. (is s a).0 i) xs x
 
-  pub rest_certified : (set : List (ℕ × ℕ)) → Differ set → ((x : ℕ × ℕ) × Has set x) → ((s a : ℕ) → Members set s a ↔ IsOpen g m s a) → IsCertificate g (stuck_of (direction_of k) set first second)
+  pub rest_certified : (set : List (ℕ × ℕ)) → Differ set → ((x : ℕ × ℕ) × Has set x)
+      → ((s a : ℕ) → Members set s a ↔ IsOpen g m s a) → IsCertificate g (stuck_of (direction_of k) set first second)
   rest_certified set single some is = go (direction_of k) first_all second_all
     where
-      go : (d : Direction) → StrikesAll g d (IsOpen g m) first → StrikesAll g (other d) (IsOpen g m) second → IsCertificate g (stuck_of d set first second)
-      go RightToLeft x y = record { some = some; single = single; odd = of_members set is RightToLeft first x; even = of_members set is LeftToRight second y }
-      go LeftToRight x y = record { some = some; single = single; odd = of_members set is RightToLeft second y; even = of_members set is LeftToRight first x }
+      go : (d : Direction) → StrikesAll g d (IsOpen g m) first → StrikesAll g (other d) (IsOpen g m) second
+          → IsCertificate g (stuck_of d set first second)
+      go RightToLeft x y =
+          record {
+            some = some;
+            single = single;
+            odd = of_members set is RightToLeft first x;
+            even = of_members set is LeftToRight second y;
+          }
+      go LeftToRight x y =
+          record {
+            some = some;
+            single = single;
+            odd = of_members set is RightToLeft second y;
+            even = of_members set is LeftToRight first x;
+          }

@@ -1,5 +1,6 @@
 -- Assignments of all attributes, and grammars that have none.
-use Rattle.std.proofs.Common.{ℕ, zero, suc, ◌≡◌, ◌↔◌, inl, inr, List, [], ◌∷◌, Option, Some, None, slice_get, length, refl, sym, ◌∙◌, subst}
+use Rattle.std.proofs.Common.{ℕ, zero, suc, ◌≡◌, ◌↔◌, inl, inr, List, [], ◌∷◌, Option, Some, None, slice_get, length, refl, sym}
+use Rattle.std.proofs.Common.{◌∙◌, subst}
 use Rattle.ag_grammar.specs.Lists.{Each}
 use Rattle.ag_grammar.specs.declared.grammar.Item.TheVariants as item
 use Rattle.ag_grammar.specs.declared.grammar.Item.{Item}
@@ -14,14 +15,16 @@ use Rattle.ag_grammar.proofs.grammars.OneSolution.{counterpart}
 use Rattle.passassign.specs.declared.stuck.Strike.{Strike}
 use Rattle.passassign.specs.declared.stuck.Stuck.{Stuck}
 use Rattle.passassign.specs.Certificate.{Attributes, Members, IsStruckBy, AreGood, IsCertificate}
-use Rattle.passassign.specs.Least.{Partial, partial_of, pass_at, HasPassIn, IsAttribute, IsLegalPartial, IsStuck, IsLeast, IsAlternating}
+use Rattle.passassign.specs.Least.{Partial, partial_of, pass_at, HasPassIn, IsAttribute, IsLegalPartial, IsStuck, IsLeast}
+use Rattle.passassign.specs.Least.{IsAlternating}
 use Rattle.passassign.specs.Making.{IsMade, AreIdle}
 use Rattle.passassign.proofs.slots.Options.{some_none}
 use Rattle.passassign.proofs.making.Made.{made_at_most}
 use Rattle.passassign.proofs.making.Legal.{made_legal}
 use Rattle.passassign.proofs.making.Rest.{members_stuck, rest_stuck}
 
-same_pass : (n : Partial) (m : Passes) → ((s a : ℕ) → partial_of m s a ≡ n s a) → (x : Option Item) (a : ℕ) → pass_at n x a ≡ slice_get (item_passes m x) a
+same_pass : (n : Partial) (m : Passes) → ((s a : ℕ) → partial_of m s a ≡ n s a) → (x : Option Item) (a : ℕ)
+    → pass_at n x a ≡ slice_get (item_passes m x) a
 same_pass n m h None zero = refl
 same_pass n m h None (suc a) = refl
 same_pass n m h (Some (item.Symbol s)) a = sym (h s a)
@@ -43,12 +46,16 @@ partial_legal g m legal = record { known = known; positive = λ s a p e. legal.p
         let l = legal.allowed i q get r o k rule arg (sym (same (item_at q r.target.place) r.target.attr) ∙ has) in
         (l.0, same (item_at q o.place) o.attr ∙ l.1, l.2)
 
-pub whole_least : (g : Grammar) (k : ℕ) (n : Partial) (m : Passes) → Each (IsComplete g) g.productions → Each (IsNormal g) g.productions → IsMade g k n → ((s : ℕ) → length (m s) ≡ length (symbol_kinds (slice_get g.symbols s))) → ((s a : ℕ) → partial_of m s a ≡ n s a)
+pub whole_least : (g : Grammar) (k : ℕ) (n : Partial) (m : Passes) → Each (IsComplete g) g.productions
+    → Each (IsNormal g) g.productions → IsMade g k n → ((s : ℕ) → length (m s) ≡ length (symbol_kinds (slice_get g.symbols s)))
+    → ((s a : ℕ) → partial_of m s a ≡ n s a)
     → IsLeast g m
 whole_least g k n m complete normal made whole is =
     record {
       legal = record { whole = whole; positive = λ s a p e. legal.positive s a p (sym (is s a) ∙ e); allowed = allowed };
-      least = λ other h s a p q e f. made_at_most g k n (partial_of other) made (partial_legal g other h) s a p q (sym (is s a) ∙ e) f;
+      least =
+          λ other h s a p q e f. made_at_most g k n (partial_of other) made (partial_legal g other h) s a p q
+          (sym (is s a) ∙ e) f;
     }
   where
     legal : IsLegalPartial g n
@@ -68,16 +75,22 @@ stuck_refused g s a is stuck (m, legal) =
     some_none (partial_of m s a) c.0 c.1 (stuck (partial_of m) (partial_legal g m legal))
 
 -- the names that good strikes strike are attributes, since a complete production has only rules of attributes
-struck_known : (g : Grammar) → Each (IsComplete g) g.productions → (d : Direction) (candidate : Attributes) (struck xs : List Strike) → AreGood g d candidate struck xs → (s a : ℕ) → IsStruckBy xs s a → IsAttribute g s a
+struck_known : (g : Grammar) → Each (IsComplete g) g.productions
+    → (d : Direction) (candidate : Attributes) (struck xs : List Strike) → AreGood g d candidate struck xs → (s a : ℕ)
+    → IsStruckBy xs s a → IsAttribute g s a
 struck_known g complete d candidate struck [] good s a hit = absurd hit
-struck_known g complete d candidate struck (x ∷ xs) (is, new, one, more) s a hit = go hit (struck_known g complete d candidate (x ∷ struck) xs more s a)
+struck_known g complete d candidate struck (x ∷ xs) (is, new, one, more) s a hit =
+    go hit (struck_known g complete d candidate (x ∷ struck) xs more s a)
   where
     target : (s a : ℕ) → (x.symbol ≡ s) × (x.attr ≡ a) → IsAttribute g s a
     target s a (u, b) = (
       defined_kind one.rule.target.place,
       subst (λ s. slice_get (symbol_kinds (slice_get g.symbols s)) a ≡ Some (defined_kind one.rule.target.place)) u
           (subst (λ y. slice_get (item_kinds g y) a ≡ Some (defined_kind one.rule.target.place)) one.symbol
-          (subst (λ a. slice_get (item_kinds g (item_at one.production one.rule.target.place)) a ≡ Some (defined_kind one.rule.target.place)) (one.attr ∙ b) ((complete x.production one.production one.is_production).no_other x.rule one.rule one.is_rule))),
+          (subst
+          (λ a. slice_get (item_kinds g (item_at one.production one.rule.target.place)) a ≡ Some
+          (defined_kind one.rule.target.place)) (one.attr ∙ b)
+          ((complete x.production one.production one.is_production).no_other x.rule one.rule one.is_rule))),
     )
 
     go : IsStruckBy (x ∷ xs) s a → (IsStruckBy xs s a → IsAttribute g s a) → IsAttribute g s a
@@ -87,7 +100,12 @@ struck_known g complete d candidate struck (x ∷ xs) (is, new, one, more) s a h
 pub certified_refused : (g : Grammar) (c : Stuck) → Each (IsComplete g) g.productions → IsCertificate g c → IsAlternating g → ⊥
 certified_refused g c complete is =
     let x = is.some.0 in
-    stuck_refused g x.0 x.1 (struck_known g complete RightToLeft (Members c.set) [] c.odd is.odd.good x.0 x.1 (is.odd.all x.0 x.1 is.some.1)) (members_stuck g c is x.0 x.1 is.some.1)
+    stuck_refused g x.0 x.1
+    (struck_known g complete RightToLeft (Members c.set) [] c.odd is.odd.good x.0 x.1 (is.odd.all x.0 x.1 is.some.1))
+    (members_stuck g c is x.0 x.1 is.some.1)
 
-pub stuck_left : (g : Grammar) (k : ℕ) (m : Partial) (first second : List Strike) → Each (IsComplete g) g.productions → Each (IsNormal g) g.productions → IsMade g k m → AreIdle g k m first second → (s a : ℕ) → IsAttribute g s a → (m s a ≡ None) ↔ IsStuck g s a
-stuck_left g k m first second complete normal made h s a is = (λ none. rest_stuck g k m first second h s a (is, none), λ stuck. stuck m (made_legal g k m complete normal made))
+pub stuck_left : (g : Grammar) (k : ℕ) (m : Partial) (first second : List Strike) → Each (IsComplete g) g.productions
+    → Each (IsNormal g) g.productions → IsMade g k m → AreIdle g k m first second → (s a : ℕ) → IsAttribute g s a
+    → (m s a ≡ None) ↔ IsStuck g s a
+stuck_left g k m first second complete normal made h s a is =
+    (λ none. rest_stuck g k m first second h s a (is, none), λ stuck. stuck m (made_legal g k m complete normal made))

@@ -1,6 +1,7 @@
 -- A production has few rules and a rule has few arguments, since each is for another attribute, and a
 -- production has few places with few attributes each.
-use Rattle.std.proofs.Common.{ℕ, zero, suc, ◌≡◌, ◌+◌, ◌*◌, ◌<◌, ◌≤◌, true, List, [], ◌∷◌, Option, Some, None, map, slice_get, get_or, length, inl, inr, refl, ap, ◌∙◌, sym, subst, eqb, arith}
+use Rattle.std.proofs.Common.{ℕ, zero, suc, ◌≡◌, ◌+◌, ◌*◌, ◌<◌, ◌≤◌, true, List, [], ◌∷◌, Option, Some, None, map, slice_get}
+use Rattle.std.proofs.Common.{get_or, length, inl, inr, refl, ap, ◌∙◌, sym, subst, eqb, arith}
 use Rattle.std.specs.List.{list_any, IsDistinct}
 use Rattle.std.specs.Prelude.{◌||◌}
 use Rattle.std.proofs.lemmas.Bool.{cases_order}
@@ -18,7 +19,8 @@ use Rattle.ag_grammar.specs.declared.grammar.Terminal.TheVariants.{Literal, Clas
 use Rattle.ag_grammar.specs.declared.syntax.occurrence.Occ.{Occ}
 use Rattle.ag_grammar.specs.expressions.Occurrences.{AreDifferent}
 use Rattle.ag_grammar.specs.grammars.Accepted.{IsAccepted}
-use Rattle.ag_grammar.specs.grammars.AttributeGrammar.{Grammar, IsProduction, IsRule, Kind, Synthesized, HasKind, RefersTo, used_kind, defined_kind, item_at, item_kinds, item_names, stored_items}
+use Rattle.ag_grammar.specs.grammars.AttributeGrammar.{Grammar, IsProduction, IsRule, Kind, Synthesized, HasKind, RefersTo}
+use Rattle.ag_grammar.specs.grammars.AttributeGrammar.{used_kind, defined_kind, item_at, item_kinds, item_names, stored_items}
 use Rattle.passassign.proofs.slots.Linked.{attribute_within, same_parts}
 
 -- a number for a place and an attribute
@@ -26,7 +28,9 @@ abbrev slot : Target → ℕ
 slot o = o.place * 16 + o.attr
 
 -- There are few members for different attributes of few places.
-module _ {X : Type 0} (of : X → Target) (xs : List X) (single : (i j : ℕ) (x y : X) → slice_get xs i ≡ Some x → slice_get xs j ≡ Some y → of x ≡ of y → i ≡ j) (small : (i : ℕ) (x : X) → slice_get xs i ≡ Some x → ((of x).place ≤ 16) × ((of x).attr < 16)) where
+module _ {X : Type 0} (of : X → Target) (xs : List X)
+    (single : (i j : ℕ) (x y : X) → slice_get xs i ≡ Some x → slice_get xs j ≡ Some y → of x ≡ of y → i ≡ j)
+    (small : (i : ℕ) (x : X) → slice_get xs i ≡ Some x → ((of x).place ≤ 16) × ((of x).attr < 16)) where
   mapped : (ys : List X) (i : ℕ) (x : X) → slice_get ys i ≡ Some x → slice_get (map (λ x. slot (of x)) ys) i ≡ Some (slot (of x))
   mapped [] i x e = absurd (let bad : ⊥ = cc in bad)
   mapped (y ∷ ys) zero x e = let same : y ≡ x = cc in ap (λ (w : X). Some (slot (of w))) same
@@ -48,30 +52,37 @@ module _ {X : Type 0} (of : X → Target) (xs : List X) (single : (i j : ℕ) (x
       let len : length (map (λ x. slot (of x)) xs) ≡ length xs = length-map xs (λ x. slot (of x)) in
       let x = member xs i (omega arith) in
       let y = member xs j (omega arith) in
-      let a : get_or (map (λ x. slot (of x)) xs) i d ≡ slot (of x.0) = get_or_from_slice_get (map (λ x. slot (of x)) xs) i (slot (of x.0)) d (mapped xs i x.0 x.1) in
-      let b : get_or (map (λ x. slot (of x)) xs) j d ≡ slot (of y.0) = get_or_from_slice_get (map (λ x. slot (of x)) xs) j (slot (of y.0)) d (mapped xs j y.0 y.1) in
+      let a : get_or (map (λ x. slot (of x)) xs) i d ≡ slot (of x.0) =
+      get_or_from_slice_get (map (λ x. slot (of x)) xs) i (slot (of x.0)) d (mapped xs i x.0 x.1) in
+      let b : get_or (map (λ x. slot (of x)) xs) j d ≡ slot (of y.0) =
+      get_or_from_slice_get (map (λ x. slot (of x)) xs) j (slot (of y.0)) d (mapped xs j y.0 y.1) in
       elim (eqb_tells (get_or (map (λ x. slot (of x)) xs) i d) (get_or (map (λ x. slot (of x)) xs) j d)) [
         | inl same ↦ absurd (let both : i ≡ j = one i j x.0 y.0 x.1 y.1 (sym a ∙ same.1 ∙ b) in omega arith)
         | inr other ↦ other.0
       ])
 
-  below : (ys : List X) → ((i : ℕ) (x : X) → slice_get ys i ≡ Some x → slot (of x) < 272) → (n : ℕ) → list_any (eqb n) (map (λ x. slot (of x)) ys) ≡ true → n < 272
+  below : (ys : List X) → ((i : ℕ) (x : X) → slice_get ys i ≡ Some x → slot (of x) < 272) → (n : ℕ)
+      → list_any (eqb n) (map (λ x. slot (of x)) ys) ≡ true → n < 272
   below [] h n e = absurd (let bad : ⊥ = cc in bad)
   below (y ∷ ys) h n e = elim (eqb_tells n (slot (of y))) [
     | inl same ↦ (let w = h 0 y refl in let f = same.1 in omega arith)
-    | inr other ↦ below ys (λ i x f. h (suc i) x f) n (ap (λ b. b || list_any (eqb n) (map (λ x. slot (of x)) ys)) (sym other.0) ∙ e)
+    | inr other ↦ below ys (λ i x f. h (suc i) x f) n
+        (ap (λ b. b || list_any (eqb n) (map (λ x. slot (of x)) ys)) (sym other.0) ∙ e)
   ]
 
   few : length xs ≤ 65536
   few =
-      let len : length (map (λ x. slot (of x)) xs) ≤ 272 = length-le_from_distinct_below (map (λ x. slot (of x)) xs) 272 distinct (below xs (λ i x e. let s = small i x e in let a = s.0 in let b = s.1 in omega arith)) in
+      let len : length (map (λ x. slot (of x)) xs) ≤ 272 =
+      length-le_from_distinct_below (map (λ x. slot (of x)) xs) 272 distinct
+      (below xs (λ i x e. let s = small i x e in let a = s.0 in let b = s.1 in omega arith)) in
       let same = length-map xs (λ x. slot (of x)) in
       omega arith
 
 module _ (g : Grammar) (accepted : IsAccepted g) (p : ℕ) (q : Production) (at : IsProduction g p q) where
   place_few : (j : ℕ) (x : Item) → item_at q j ≡ Some x → j ≤ 16
   place_few zero x e = omega arith
-  place_few (suc j) x e = let w = slice_get_within (stored_items q.items) j x e in let most = accepted.limits.stored_count p q at in omega arith
+  place_few (suc j) x e = let w = slice_get_within (stored_items q.items) j x e in
+      let most = accepted.limits.stored_count p q at in omega arith
 
   small_parts : (o : Target) (k : Kind) → HasKind g q o k → (o.place ≤ 16) × (o.attr < 16)
   small_parts o k is = go (item_at q o.place) refl
@@ -85,15 +96,22 @@ module _ (g : Grammar) (accepted : IsAccepted g) (p : ℕ) (q : Production) (at 
 
       go : (x : Option Item) → item_at q o.place ≡ x → (o.place ≤ 16) × (o.attr < 16)
       go None f = absurd (let bad : slice_get {X = Kind} [] o.attr ≡ Some k = there None f in let worse : ⊥ = cc in worse)
-      go (Some (item.Symbol s)) f = (place_few o.place (item.Symbol s) f, (attribute_within g s o.attr accepted (k, there (Some (item.Symbol s)) f)).0)
-      go (Some (item.Terminal (Class c))) f = (place_few o.place (item.Terminal (Class c)) f, lex o.attr (there (Some (item.Terminal (Class c))) f))
-      go (Some (item.Terminal (Literal l))) f = absurd (let bad : slice_get {X = Kind} [] o.attr ≡ Some k = there (Some (item.Terminal (Literal l))) f in let worse : ⊥ = cc in worse)
+      go (Some (item.Symbol s)) f =
+          (place_few o.place (item.Symbol s) f, (attribute_within g s o.attr accepted (k, there (Some (item.Symbol s)) f)).0)
+      go (Some (item.Terminal (Class c))) f =
+          (place_few o.place (item.Terminal (Class c)) f, lex o.attr (there (Some (item.Terminal (Class c))) f))
+      go (Some (item.Terminal (Literal l))) f =
+          absurd (let bad : slice_get {X = Kind} [] o.attr ≡ Some k = there (Some (item.Terminal (Literal l))) f in
+          let worse : ⊥ = cc in worse)
 
   pub few_rules : length q.rules ≤ 65536
-  few_rules = few (λ r. r.target) q.rules (accepted.complete p q at).single (λ i r e. small_parts r.target (defined_kind r.target.place) ((accepted.complete p q at).no_other i r e))
+  few_rules =
+      few (λ r. r.target) q.rules (accepted.complete p q at).single
+      (λ i r e. small_parts r.target (defined_kind r.target.place) ((accepted.complete p q at).no_other i r e))
 
   pub few_arguments : (r : Rule) → IsRule q r → AreDifferent r.expr.1 → length r.args ≤ 65536
-  few_arguments r is different = few (λ o. o) r.args single (λ i o e. small_parts o (used_kind o.place) (accepted.normal p q at is.0 r is.1 i o e))
+  few_arguments r is different =
+      few (λ o. o) r.args single (λ i o e. small_parts o (used_kind o.place) (accepted.normal p q at is.0 r is.1 i o e))
     where
       named : (i : ℕ) (x : Occ) (o : Target) → slice_get r.expr.1 i ≡ Some x → slice_get r.args i ≡ Some o → RefersTo g q x o
       named = (accepted.named.rules_named p q at is.0 r is.1).arguments.each
@@ -111,7 +129,8 @@ module _ (g : Grammar) (accepted : IsAccepted g) (p : ℕ) (q : Production) (at 
           let first : RefersTo g q x o = named i x o (slice_get-get_or r.expr.1 i d (omega (arith, long))) e in
           let second : RefersTo g q y w = named j y w (slice_get-get_or r.expr.1 j d (omega (arith, long))) f in
           let places : x.place ≡ y.place = sym first.place ∙ ap (λ (o : Target). o.place) same ∙ second.place in
-          let names : Some x.attr ≡ Some y.attr = sym first.name ∙ ap (λ (o : Target). slice_get (item_names g (item_at q o.place)) o.attr) same ∙ second.name in
+          let names : Some x.attr ≡ Some y.attr =
+          sym first.name ∙ ap (λ (o : Target). slice_get (item_names g (item_at q o.place)) o.attr) same ∙ second.name in
           let attrs : x.attr ≡ y.attr = cc in
           different i j d less (omega (arith, long)) places attrs
 

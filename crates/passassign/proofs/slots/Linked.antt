@@ -1,5 +1,6 @@
 -- The slots of a table and the dependencies in a list, for a grammar's attributes and arguments.
-use Rattle.std.proofs.Common.{ℕ, zero, suc, ◌≡◌, ◌<◌, ◌*◌, cond, List, Option, Some, None, slice_get, length, map, refl, ap, ◌∙◌, sym, subst, arith}
+use Rattle.std.proofs.Common.{ℕ, zero, suc, ◌≡◌, ◌<◌, ◌*◌, cond, List, Option, Some, None, slice_get, length, map, refl, ap, ◌∙◌}
+use Rattle.std.proofs.Common.{sym, subst, arith}
 use Rattle.std.proofs.lemmas.Bool.{lt-ltb}
 use Rattle.std.proofs.lemmas.Option.{slice_get_within}
 use Rattle.std.proofs.lemmas.List.{length-map}
@@ -12,7 +13,8 @@ use Rattle.ag_grammar.specs.declared.grammar.Rule.{Rule}
 use Rattle.ag_grammar.specs.declared.grammar.Symbol.{Symbol}
 use Rattle.ag_grammar.specs.declared.grammar.Target.{Target}
 use Rattle.ag_grammar.specs.grammars.Accepted.{IsAccepted}
-use Rattle.ag_grammar.specs.grammars.AttributeGrammar.{Grammar, Synthesized, Inherited, IsProduction, item_at, item_kinds, used_kind, defined_kind, symbol_kinds, symbol_names, places_of}
+use Rattle.ag_grammar.specs.grammars.AttributeGrammar.{Grammar, Synthesized, Inherited, IsProduction, item_at, item_kinds}
+use Rattle.ag_grammar.specs.grammars.AttributeGrammar.{used_kind, defined_kind, symbol_kinds, symbol_names, places_of}
 use Rattle.passassign.specs.Dependencies.{symbol_of, table_slot, IsDependency, AreDependencies}
 use Rattle.passassign.specs.Least.{IsAttribute}
 use Rattle.passassign.specs.Making.{IsOpen}
@@ -26,14 +28,18 @@ use Rattle.passassign.specs.declared.table.State.TheVariants.{Absent, Open, Assi
 pub kinds_names : (s : Option Symbol) → length (symbol_kinds s) ≡ length (symbol_names s)
 kinds_names None = refl
 kinds_names (Some s) =
-    length-append (map (λ n. Synthesized) s.syn) (map (λ n. Inherited) s.inh) ∙ (let a = length-map s.syn (λ n. Synthesized) in let b = length-map s.inh (λ n. Inherited) in let c = length-append s.syn s.inh in omega arith)
+    length-append (map (λ n. Synthesized) s.syn) (map (λ n. Inherited) s.inh)
+    ∙ (let a = length-map s.syn (λ n. Synthesized) in let b = length-map s.inh (λ n. Inherited) in
+    let c = length-append s.syn s.inh in omega arith)
 
 -- an attribute's numbers are within the limits
 pub attribute_within : (g : Grammar) (s a : ℕ) → IsAccepted g → IsAttribute g s a → (a < 16) × (s < length g.symbols)
 attribute_within g s a accepted is = go (slice_get g.symbols s) refl
   where
     go : (o : Option Symbol) → slice_get g.symbols s ≡ o → (a < 16) × (s < length g.symbols)
-    go None e = absurd (let bad : slice_get (symbol_kinds None) a ≡ Some is.0 = ap (λ o. slice_get (symbol_kinds o) a) (sym e) ∙ is.1 in let worse : ⊥ = cc in worse)
+    go None e =
+        absurd (let bad : slice_get (symbol_kinds None) a ≡ Some is.0 = ap (λ o. slice_get (symbol_kinds o) a) (sym e) ∙ is.1 in
+        let worse : ⊥ = cc in worse)
     go (Some x) e = (
       (let w = slice_get_within (symbol_kinds (Some x)) a is.0 (ap (λ o. slice_get (symbol_kinds o) a) (sym e) ∙ is.1) in
           let n = kinds_names (Some x) in
@@ -65,12 +71,14 @@ not_absent : (x : State) → x ≡ Open → x ≡ Absent → ⊥
 not_absent x e f = let bad : Open ≡ Absent = sym e ∙ f in cc
 
 -- an attribute has no pass if the table has it as open
-pub open_there : (g : Grammar) (all : List Dependency) (states : List State) → BelongTo g all states → (s a : ℕ) → a < 16 → state_at states (slot_of s a) ≡ Open → IsOpen g (table_passes states) s a
+pub open_there : (g : Grammar) (all : List Dependency) (states : List State) → BelongTo g all states → (s a : ℕ) → a < 16
+    → state_at states (slot_of s a) ≡ Open → IsOpen g (table_passes states) s a
 open_there g all states of s a lt e =
     let f : state_of states s a ≡ Open = state_in states s a lt ∙ e in
     ((of.table.there s a).0 (not_absent (state_of states s a) f), open_given (state_of states s a) f)
 
-pub open_state : (g : Grammar) (all : List Dependency) (states : List State) → BelongTo g all states → (s a : ℕ) → IsOpen g (table_passes states) s a → (a < 16) × (state_at states (slot_of s a) ≡ Open)
+pub open_state : (g : Grammar) (all : List Dependency) (states : List State) → BelongTo g all states → (s a : ℕ)
+    → IsOpen g (table_passes states) s a → (a < 16) × (state_at states (slot_of s a) ≡ Open)
 open_state g all states of s a i =
     let lt = (attribute_within g s a of.accepted i.0).0 in
     (lt, sym (state_in states s a lt) ∙ is_open_state (state_of states s a) i.1 ((of.table.there s a).1 i.0))
@@ -127,12 +135,21 @@ module _ (g : Grammar) (u : Dependency) (accepted : IsAccepted g) (p : Parts g u
   -- the target of a dependency is an attribute, and so is its argument
   pub target_is : IsAttribute g u.strike.symbol u.strike.attr
   target_is =
-      let k = (accepted.complete u.strike.production p.production p.is_production).no_other u.strike.rule p.rule p.is_rule in
-      (defined_kind p.rule.target.place, subst (λ a. slice_get (symbol_kinds (slice_get g.symbols u.strike.symbol)) a ≡ Some (defined_kind p.rule.target.place)) p.attr (subst (λ x. slice_get (item_kinds g x) p.rule.target.attr ≡ Some (defined_kind p.rule.target.place)) p.symbol k))
+      let k = (accepted.complete u.strike.production p.production p.is_production).no_other u.strike.rule p.rule p.is_rule in (
+        defined_kind p.rule.target.place,
+        subst (λ a. slice_get (symbol_kinds (slice_get g.symbols u.strike.symbol)) a ≡ Some (defined_kind p.rule.target.place))
+            p.attr
+            (subst (λ x. slice_get (item_kinds g x) p.rule.target.attr ≡ Some (defined_kind p.rule.target.place)) p.symbol
+            k),
+      )
 
   argument_is : IsAttribute g p.of p.argument.attr
-  argument_is =
-      (used_kind p.argument.place, subst (λ x. slice_get (item_kinds g x) p.argument.attr ≡ Some (used_kind p.argument.place)) p.is_symbol (accepted.normal u.strike.production p.production p.is_production u.strike.rule p.rule p.is_rule u.strike.arg p.argument p.is_argument))
+  argument_is = (
+    used_kind p.argument.place,
+    subst (λ x. slice_get (item_kinds g x) p.argument.attr ≡ Some (used_kind p.argument.place)) p.is_symbol
+        (accepted.normal u.strike.production p.production p.is_production u.strike.rule p.rule p.is_rule u.strike.arg
+        p.argument p.is_argument),
+  )
 
   pub argument_within : p.argument.attr < 16
   argument_within = (attribute_within g p.of p.argument.attr accepted argument_is).0
@@ -145,5 +162,6 @@ module _ (g : Grammar) (u : Dependency) (accepted : IsAccepted g) (p : Parts g u
       let at = p.at in
       (omega (arith, t.0, t.1, a.0, a.1, at, e), omega (arith, t.0, t.1, e))
 
-pub all_in_table : (g : Grammar) (all : List Dependency) → IsAccepted g → AreDependencies g.productions all → (count : ℕ) → count ≡ length g.symbols * 16 → (u : Dependency) → Has all u → (u.argument < count) × (target_of u < count)
+pub all_in_table : (g : Grammar) (all : List Dependency) → IsAccepted g → AreDependencies g.productions all → (count : ℕ)
+    → count ≡ length g.symbols * 16 → (u : Dependency) → Has all u → (u.argument < count) × (target_of u < count)
 all_in_table g all accepted are count e u h = in_table g u accepted (parts g u ((are u).0 h)) count e

@@ -1,5 +1,6 @@
 -- The attributes without a pass, as they are found in a table.
-use Rattle.std.proofs.Common.{ℕ, ◌≡◌, ◌<◌, ◌+◌, ◌/◌, ◌%◌, ◌⊎◌, ◌↔◌, ◌++◌, Bool, true, false, List, [], ◌∷◌, length, inl, inr, refl, ap, ◌∙◌, sym, subst, arith}
+use Rattle.std.proofs.Common.{ℕ, ◌≡◌, ◌<◌, ◌+◌, ◌/◌, ◌%◌, ◌⊎◌, ◌↔◌, ◌++◌, Bool, true, false, List, [], ◌∷◌, length, inl, inr}
+use Rattle.std.proofs.Common.{refl, ap, ◌∙◌, sym, subst, arith}
 use Rattle.std.proofs.lemmas.Bool.{cases_eq, cases_lt}
 use Rattle.ag_grammar.specs.Lists.{Has}
 use Rattle.passassign.specs.Answer.{IsInDeclaredOrder}
@@ -31,10 +32,12 @@ before x i lt less = elim (cases_lt x.0 (i / 16)) [ inl l ↦ inl l | inr m ↦ 
 slot_split : (s a i : ℕ) → a < 16 → slot_of s a ≡ i → (i / 16 ≡ s) × (i % 16 ≡ a)
 slot_split s a i lt e = (omega arith, omega arith)
 
-found : (states : List State) (i : ℕ) (xs : List (ℕ × ℕ)) → state_at states i ≡ Open → AreOpenOnes states i xs → AreOpenOnes states (i + 1) (xs ++ (i / 16, i % 16) ∷ [])
+found : (states : List State) (i : ℕ) (xs : List (ℕ × ℕ)) → state_at states i ≡ Open → AreOpenOnes states i xs
+    → AreOpenOnes states (i + 1) (xs ++ (i / 16, i % 16) ∷ [])
 found states i xs is h = record { all = λ s a. (there s a, in_it s a); ordered = ordered }
   where
-    there : (s a : ℕ) → Has (xs ++ (i / 16, i % 16) ∷ []) (s, a) → (a < 16) × (slot_of s a < i + 1) × (state_at states (slot_of s a) ≡ Open)
+    there : (s a : ℕ) → Has (xs ++ (i / 16, i % 16) ∷ []) (s, a)
+        → (a < 16) × (slot_of s a < i + 1) × (state_at states (slot_of s a) ≡ Open)
     there s a m = elim (has_cases xs (i / 16, i % 16) (s, a) m) [
       | inl old ↦ (let o = (h.all s a).0 old in (o.0, omega (arith, o.1), o.2))
       | inr new ↦ (
@@ -44,11 +47,13 @@ found states i xs is h = record { all = λ s a. (there s a, in_it s a); ordered 
           (omega arith, omega arith, ap (state_at states) e ∙ is))
     ]
 
-    in_it : (s a : ℕ) → (a < 16) × (slot_of s a < i + 1) × (state_at states (slot_of s a) ≡ Open) → Has (xs ++ (i / 16, i % 16) ∷ []) (s, a)
+    in_it : (s a : ℕ) → (a < 16) × (slot_of s a < i + 1) × (state_at states (slot_of s a) ≡ Open)
+        → Has (xs ++ (i / 16, i % 16) ∷ []) (s, a)
     in_it s a m = elim (cases_eq (slot_of s a) i) [
       | inl e ↦ (
           let p = slot_split s a i m.0 e in
-          subst (λ x. Has (xs ++ (i / 16, i % 16) ∷ []) (x, a)) p.0 (subst (λ x. Has (xs ++ (i / 16, i % 16) ∷ []) (i / 16, x)) p.1 (has_put xs (i / 16, i % 16))))
+          subst (λ x. Has (xs ++ (i / 16, i % 16) ∷ []) (x, a)) p.0
+          (subst (λ x. Has (xs ++ (i / 16, i % 16) ∷ []) (i / 16, x)) p.1 (has_put xs (i / 16, i % 16))))
       | inr e ↦ has_kept xs (i / 16, i % 16) (s, a) ((h.all s a).1 (m.0, omega (arith, m.1), m.2))
     ]
 
@@ -66,7 +71,8 @@ found states i xs is h = record { all = λ s a. (there s a, in_it s a); ordered 
       ]
     ]
 
-passed : (states : List State) (i : ℕ) (xs : List (ℕ × ℕ)) → (state_at states i ≡ Open → ⊥) → AreOpenOnes states i xs → AreOpenOnes states (i + 1) xs
+passed : (states : List State) (i : ℕ) (xs : List (ℕ × ℕ)) → (state_at states i ≡ Open → ⊥) → AreOpenOnes states i xs
+    → AreOpenOnes states (i + 1) xs
 passed states i xs no_open h = record {
   all = λ s a. (
     (λ m. let o = (h.all s a).0 m in (o.0, omega (arith, o.1), o.2)),
@@ -78,7 +84,9 @@ passed states i xs no_open h = record {
   ordered = h.ordered;
 }
 
-pub open_more : (states : List State) (i : ℕ) (st : State) (xs ys : List (ℕ × ℕ)) → st ≡ state_at states i → (is_open st ≡ true → ys ≡ xs ++ (i / 16, i % 16) ∷ []) → (is_open st ≡ false → ys ≡ xs) → AreOpenOnes states i xs → AreOpenOnes states (i + 1) ys
+pub open_more : (states : List State) (i : ℕ) (st : State) (xs ys : List (ℕ × ℕ)) → st ≡ state_at states i
+    → (is_open st ≡ true → ys ≡ xs ++ (i / 16, i % 16) ∷ []) → (is_open st ≡ false → ys ≡ xs) → AreOpenOnes states i xs
+    → AreOpenOnes states (i + 1) ys
 open_more states i st xs ys is yes_open none h = go (is_open st) refl
   where
     go : (b : Bool) → is_open st ≡ b → AreOpenOnes states (i + 1) ys

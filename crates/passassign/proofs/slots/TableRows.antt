@@ -1,5 +1,6 @@
 -- The rows of a table, as they are made one after the other.
-use Rattle.std.proofs.Common.{ℕ, ◌≡◌, ◌<◌, ◌≤◌, ◌+◌, ◌*◌, ◌++◌, List, [], ◌∷◌, Some, slice_get, length, unwrap_or, inl, inr, ap, ◌∙◌, sym, subst, arith}
+use Rattle.std.proofs.Common.{ℕ, ◌≡◌, ◌<◌, ◌≤◌, ◌+◌, ◌*◌, ◌++◌, List, [], ◌∷◌, Some, slice_get, length, unwrap_or, inl, inr, ap}
+use Rattle.std.proofs.Common.{◌∙◌, sym, subst, arith}
 use Rattle.std.proofs.lemmas.Bool.{cases_eq, cases_lt}
 use Rattle.std.proofs.lemmas.List.{get_or_append_left, get_or_push, map-append}
 use Rattle.std.proofs.lemmas.Option.{slice_get_past, slice_get_within}
@@ -16,11 +17,17 @@ pub record AreRowsBelow (symbols : List Symbol) (states : List State) (n : ℕ) 
   pub count : length rows ≡ n
   pub within : n ≤ length symbols
   pub len : (s : ℕ) → s < n → length (passes_of rows s) ≡ attribute_count (slice_get symbols s)
-  pub passes : (s a : ℕ) → s < n → a < attribute_count (slice_get symbols s) → slice_get (passes_of rows s) a ≡ Some (unwrap_or (pass_of_state (state_at states (slot_of s a))) 0)
+  pub passes : (s a : ℕ) → s < n → a < attribute_count (slice_get symbols s)
+      → slice_get (passes_of rows s) a ≡ Some (unwrap_or (pass_of_state (state_at states (slot_of s a))) 0)
 
-rows_push : (rows : List (List ℕ)) (row : List ℕ) (symbols : List Symbol) (states : List State) (n : ℕ) (symbol : Symbol) → slice_get symbols n ≡ Some symbol → length row ≡ length (attribute_names symbol) → ((a : ℕ) → a < length (attribute_names symbol) → slice_get row a ≡ Some (unwrap_or (pass_of_state (state_at states (n * 16 + a))) 0)) → AreRowsBelow symbols states n rows
+rows_push : (rows : List (List ℕ)) (row : List ℕ) (symbols : List Symbol) (states : List State) (n : ℕ) (symbol : Symbol)
+    → slice_get symbols n ≡ Some symbol → length row ≡ length (attribute_names symbol)
+    → ((a : ℕ) → a < length (attribute_names symbol)
+    → slice_get row a ≡ Some (unwrap_or (pass_of_state (state_at states (n * 16 + a))) 0))
+    → AreRowsBelow symbols states n rows
     → AreRowsBelow symbols states (n + 1) (rows ++ row ∷ [])
-rows_push rows row symbols states n symbol is count has h = record { count = more; within = let w = slice_get_within symbols n symbol is in omega arith; len = len; passes = passes }
+rows_push rows row symbols states n symbol is count has h =
+    record { count = more; within = let w = slice_get_within symbols n symbol is in omega arith; len = len; passes = passes }
   where
     more : length (rows ++ row ∷ []) ≡ n + 1
     more = length-append rows (row ∷ []) ∙ (let e = h.count in omega arith)
@@ -40,19 +47,28 @@ rows_push rows row symbols states n symbol is count has h = record { count = mor
       | inr ne ↦ (let l : s < n = omega arith in ap length (same s l) ∙ h.len s l)
     ]
 
-    passes : (s a : ℕ) → s < n + 1 → a < attribute_count (slice_get symbols s) → slice_get (passes_of (rows ++ row ∷ []) s) a ≡ Some (unwrap_or (pass_of_state (state_at states (slot_of s a))) 0)
+    passes : (s a : ℕ) → s < n + 1 → a < attribute_count (slice_get symbols s)
+        → slice_get (passes_of (rows ++ row ∷ []) s) a ≡ Some (unwrap_or (pass_of_state (state_at states (slot_of s a))) 0)
     passes s a lt less = elim (cases_eq s n) [
-      | inl e ↦ ap (λ r. slice_get r a) (here s e) ∙ has a (subst (λ m. a < m) (symbol_here s e) less) ∙ ap (λ s. Some (unwrap_or (pass_of_state (state_at states (s * 16 + a))) 0)) (sym e)
+      | inl e ↦ ap (λ r. slice_get r a) (here s e) ∙ has a (subst (λ m. a < m) (symbol_here s e) less)
+          ∙ ap (λ s. Some (unwrap_or (pass_of_state (state_at states (s * 16 + a))) 0)) (sym e)
       | inr ne ↦ (let l : s < n = omega arith in ap (λ r. slice_get r a) (same s l) ∙ h.passes s a l less)
     ]
 
-pub rows_more : (table rest : List (Vec ℕ)) (row : Vec ℕ) (symbols : List Symbol) (states : List State) (n : ℕ) (symbol : Symbol) → rest ≡ table ++ row ∷ [] → slice_get symbols n ≡ Some symbol → length row.items ≡ length (attribute_names symbol) → ((a : ℕ) → a < length (attribute_names symbol) → slice_get row.items a ≡ Some (unwrap_or (pass_of_state (state_at states (n * 16 + a))) 0)) → AreRowsBelow symbols states n (numbers_of table)
+pub rows_more : (table rest : List (Vec ℕ)) (row : Vec ℕ) (symbols : List Symbol) (states : List State) (n : ℕ) (symbol : Symbol)
+    → rest ≡ table ++ row ∷ [] → slice_get symbols n ≡ Some symbol → length row.items ≡ length (attribute_names symbol)
+    → ((a : ℕ) → a < length (attribute_names symbol)
+    → slice_get row.items a ≡ Some (unwrap_or (pass_of_state (state_at states (n * 16 + a))) 0))
+    → AreRowsBelow symbols states n (numbers_of table)
     → AreRowsBelow symbols states (n + 1) (numbers_of rest)
 rows_more table rest row symbols states n symbol e is count has h =
-    subst (AreRowsBelow symbols states (n + 1)) (sym (ap numbers_of e ∙ map-append (λ (v : Vec ℕ). v.items) table (row ∷ []))) (rows_push (numbers_of table) row.items symbols states n symbol is count has h)
+    subst (AreRowsBelow symbols states (n + 1)) (sym (ap numbers_of e ∙ map-append (λ (v : Vec ℕ). v.items) table (row ∷ [])))
+    (rows_push (numbers_of table) row.items symbols states n symbol is count has h)
 
-pub rows_end : (symbols : List Symbol) (states : List State) (n : ℕ) (rows : List (List ℕ)) → length symbols ≤ n → AreRowsBelow symbols states n rows → AreRowsOfTable symbols states rows
-rows_end symbols states n rows most h = record { count = let e = h.count in let w = h.within in omega arith; len = len; passes = passes }
+pub rows_end : (symbols : List Symbol) (states : List State) (n : ℕ) (rows : List (List ℕ)) → length symbols ≤ n
+    → AreRowsBelow symbols states n rows → AreRowsOfTable symbols states rows
+rows_end symbols states n rows most h =
+    record { count = let e = h.count in let w = h.within in omega arith; len = len; passes = passes }
   where
     none : (s : ℕ) → n ≤ s → attribute_count (slice_get symbols s) ≡ 0
     none s le = ap attribute_count (slice_get_past symbols s (omega arith))
@@ -63,7 +79,8 @@ rows_end symbols states n rows most h = record { count = let e = h.count in let 
       | inr le ↦ ap length (get_or-eq_default rows [] (let e = h.count in omega arith)) ∙ sym (none s le)
     ]
 
-    passes : (s a : ℕ) → a < attribute_count (slice_get symbols s) → slice_get (passes_of rows s) a ≡ Some (unwrap_or (pass_of_state (state_at states (slot_of s a))) 0)
+    passes : (s a : ℕ) → a < attribute_count (slice_get symbols s)
+        → slice_get (passes_of rows s) a ≡ Some (unwrap_or (pass_of_state (state_at states (slot_of s a))) 0)
     passes s a less = elim (cases_lt s n) [
       | inl lt ↦ h.passes s a lt less
       | inr le ↦ absurd (let e = none s le in omega arith)

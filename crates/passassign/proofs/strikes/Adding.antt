@@ -1,5 +1,6 @@
 -- Lists to which members are added.
-use Rattle.std.proofs.Common.{ℕ, ◌≡◌, ◌≤◌, ◌+◌, ◌↔◌, ◌++◌, List, [], ◌∷◌, Some, slice_get, length, inl, inr, ap, ◌∙◌, sym, subst, arith}
+use Rattle.std.proofs.Common.{ℕ, ◌≡◌, ◌≤◌, ◌+◌, ◌↔◌, ◌++◌, List, [], ◌∷◌, Some, slice_get, length, inl, inr, ap, ◌∙◌, sym, subst}
+use Rattle.std.proofs.Common.{arith}
 use Rattle.std.proofs.lemmas.Bool.{cases_eq}
 use Rattle.std.proofs.lemmas.Option.{slice_get_within}
 use Rattle.ag_grammar.specs.Lists.{Has}
@@ -13,11 +14,13 @@ adds_push xs y = record {
   only = λ x h. elim (has_cases xs y x h) [ inl old ↦ inl old | inr e ↦ inr (sym e) ];
 }
 
-pub adds_more : {X Y : Type 0} (R : ℕ → X → Y → Type 0) (xs : List X) (i : ℕ) (x : X) (a b c : List Y) → slice_get xs i ≡ Some x → Adds (OfPrefix R xs i) a b → Adds (R i x) b c → Adds (OfPrefix R xs (i + 1)) a c
+pub adds_more : {X Y : Type 0} (R : ℕ → X → Y → Type 0) (xs : List X) (i : ℕ) (x : X) (a b c : List Y) → slice_get xs i ≡ Some x
+    → Adds (OfPrefix R xs i) a b → Adds (R i x) b c → Adds (OfPrefix R xs (i + 1)) a c
 adds_more R xs i x a b c is m n = record {
   kept = λ y h. n.kept y (m.kept y h);
   all = λ y h. elim (cases_eq h.0 i) [
-    | inl same ↦ (let e : Some h.1 ≡ Some x = sym h.3 ∙ ap (slice_get xs) same ∙ is in let f : h.1 ≡ x = cc in n.all y (subst (λ k. R k x y) same (subst (λ z. R h.0 z y) f h.4)))
+    | inl same ↦ (let e : Some h.1 ≡ Some x = sym h.3 ∙ ap (slice_get xs) same ∙ is in let f : h.1 ≡ x = cc in
+        n.all y (subst (λ k. R k x y) same (subst (λ z. R h.0 z y) f h.4)))
     | inr other ↦ (let l = h.2 in n.kept y (m.all y (h.0, h.1, omega arith, h.3, h.4)))
   ];
   only = λ y h. elim (n.only y h) [
@@ -29,7 +32,8 @@ adds_more R xs i x a b c is m n = record {
   ];
 }
 
-pub adds_all : {X Y : Type 0} (R : ℕ → X → Y → Type 0) (xs : List X) (i : ℕ) (a b : List Y) → length xs ≤ i → Adds (OfPrefix R xs i) a b → Adds (OfEach R xs) a b
+pub adds_all : {X Y : Type 0} (R : ℕ → X → Y → Type 0) (xs : List X) (i : ℕ) (a b : List Y) → length xs ≤ i
+    → Adds (OfPrefix R xs i) a b → Adds (OfEach R xs) a b
 adds_all R xs i a b most m = record {
   kept = m.kept;
   all = λ y h. let w = slice_get_within xs h.0 h.1 h.2 in m.all y (h.0, h.1, omega arith, h.2, h.3);

@@ -28,18 +28,23 @@ has_strikes_at (y ∷ xs) (suc i) x e = inr (has_strikes_at xs i x e)
 pub has_strikes : (xs : List Strike) (x : Strike) → Has xs x → IsStruckBy xs x.symbol x.attr
 has_strikes xs x h = has_strikes_at xs h.0 x h.1
 
-pub strikes_open : (g : Grammar) (d : Direction) (candidate : Attributes) (struck xs : List Strike) → AreGood g d candidate struck xs → (s a : ℕ) → IsStruckBy xs s a → candidate s a
+pub strikes_open : (g : Grammar) (d : Direction) (candidate : Attributes) (struck xs : List Strike)
+    → AreGood g d candidate struck xs → (s a : ℕ) → IsStruckBy xs s a → candidate s a
 strikes_open g d candidate struck [] good s a h = absurd h
-strikes_open g d candidate struck (x ∷ xs) (is, new, one, more) s a h = go h (λ m. strikes_open g d candidate (x ∷ struck) xs more s a m)
+strikes_open g d candidate struck (x ∷ xs) (is, new, one, more) s a h =
+    go h (λ m. strikes_open g d candidate (x ∷ struck) xs more s a m)
   where
     go : IsStruckBy (x ∷ xs) s a → (IsStruckBy xs s a → candidate s a) → candidate s a
     go (inl e) later = subst (λ s. candidate s a) e.0 (subst (candidate x.symbol) e.1 is)
     go (inr m) later = later m
 
 -- the attributes that a search has struck, by attributes and by slots
-module _ (g : Grammar) (all : List Dependency) (d : Direction) (states : List State) (xs : List Strike) (of : BelongTo g all states) (good : AreGood g d (IsOpen g (table_passes states)) [] xs) where
+module _ (g : Grammar) (all : List Dependency) (d : Direction) (states : List State) (xs : List Strike)
+    (of : BelongTo g all states) (good : AreGood g d (IsOpen g (table_passes states)) [] xs) where
   pub struck_within : (x : Strike) → Has xs x → x.attr < 16
-  struck_within x h = (open_state g all states of x.symbol x.attr (strikes_open g d (IsOpen g (table_passes states)) [] xs good x.symbol x.attr (has_strikes xs x h))).0
+  struck_within x h =
+      (open_state g all states of x.symbol x.attr
+      (strikes_open g d (IsOpen g (table_passes states)) [] xs good x.symbol x.attr (has_strikes xs x h))).0
 
   pub struck_at : (s a : ℕ) → IsStruckBy xs s a → IsStruckAt xs (slot_of s a)
   struck_at s a h = let o = strikes_has xs s a h in (o.0, o.1, ap (λ s. slot_of s o.0.attr) o.2 ∙ ap (slot_of s) o.3)
@@ -50,8 +55,20 @@ module _ (g : Grammar) (all : List Dependency) (d : Direction) (states : List St
       subst (λ s. IsStruckBy xs s a) e.0 (subst (IsStruckBy xs h.0.symbol) e.1 (has_strikes xs h.0 h.1))
 
   -- a strike by a dependency whose target is kept out, or whose argument is struck, is a good one
-  pub good_by : (u : Dependency) → Parts g u → IsBarred d states u ⊎ IsStruckAt xs u.argument → IsGood g d (IsOpen g (table_passes states)) xs u.strike
-  good_by u p why = record { production = p.production; rule = p.rule; argument = p.argument; is_production = p.is_production; is_rule = p.is_rule; is_argument = p.is_argument; symbol = p.symbol; attr = p.attr; reason = reason }
+  pub good_by : (u : Dependency) → Parts g u → IsBarred d states u ⊎ IsStruckAt xs u.argument
+      → IsGood g d (IsOpen g (table_passes states)) xs u.strike
+  good_by u p why =
+      record {
+        production = p.production;
+        rule = p.rule;
+        argument = p.argument;
+        is_production = p.is_production;
+        is_rule = p.is_rule;
+        is_argument = p.is_argument;
+        symbol = p.symbol;
+        attr = p.attr;
+        reason = reason;
+      }
     where
       lt : p.argument.attr < 16
       lt = argument_within g u of.accepted p
@@ -61,6 +78,10 @@ module _ (g : Grammar) (all : List Dependency) (d : Direction) (states : List St
 
       reason : IsReason d (IsOpen g (table_passes states)) xs p.production p.rule.target.place p.argument
       reason = elim why [
-        | inl b ↦ inr (subst (λ j. IsSameOrLater d j p.argument.place) p.place (subst (IsSameOrLater d u.place) p.from b.0), is_one (IsOpen g (table_passes states)) (open_there g all states of p.of p.argument.attr lt (subst (λ k. state_at states k ≡ Open) p.at b.1)))
+        | inl b ↦ inr (
+          subst (λ j. IsSameOrLater d j p.argument.place) p.place (subst (IsSameOrLater d u.place) p.from b.0),
+          is_one (IsOpen g (table_passes states))
+              (open_there g all states of p.of p.argument.attr lt (subst (λ k. state_at states k ≡ Open) p.at b.1)),
+        )
         | inr h ↦ inl (is_one (IsStruckBy xs) (at_struck p.of p.argument.attr lt (subst (IsStruckAt xs) p.at h)))
       ]

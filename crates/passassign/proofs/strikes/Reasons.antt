@@ -17,11 +17,14 @@ one_more some more h None a i = i
 one_more some more h (Some (item.Symbol s)) a i = h s a i
 one_more some more h (Some (item.Terminal t)) a i = i
 
-reason_more : (d : Direction) (some more : Attributes) → AreWithin some more → (xs ys : List Strike) → AreWithin (IsStruckBy xs) (IsStruckBy ys) → (q : Production) (j : ℕ) (o : Target) → IsReason d some xs q j o → IsReason d more ys q j o
+reason_more : (d : Direction) (some more : Attributes) → AreWithin some more → (xs ys : List Strike)
+    → AreWithin (IsStruckBy xs) (IsStruckBy ys) → (q : Production) (j : ℕ) (o : Target) → IsReason d some xs q j o
+    → IsReason d more ys q j o
 reason_more d some more h xs ys l q j o (inl i) = inl (one_more (IsStruckBy xs) (IsStruckBy ys) l (item_at q o.place) o.attr i)
 reason_more d some more h xs ys l q j o (inr (ahead, i)) = inr (ahead, one_more some more h (item_at q o.place) o.attr i)
 
-pub good_more : (g : Grammar) (d : Direction) (some more : Attributes) → AreWithin some more → (xs ys : List Strike) → AreWithin (IsStruckBy xs) (IsStruckBy ys) → (x : Strike) → IsGood g d some xs x → IsGood g d more ys x
+pub good_more : (g : Grammar) (d : Direction) (some more : Attributes) → AreWithin some more → (xs ys : List Strike)
+    → AreWithin (IsStruckBy xs) (IsStruckBy ys) → (x : Strike) → IsGood g d some xs x → IsGood g d more ys x
 good_more g d some more h xs ys l x i = record {
   production = i.production;
   rule = i.rule;

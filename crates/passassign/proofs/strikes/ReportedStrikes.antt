@@ -1,5 +1,6 @@
 -- The strikes of a pass, by the additions along the edges of dependencies.
-use Rattle.std.proofs.Common.{ℕ, zero, suc, ◌≡◌, ◌<◌, ◌≤◌, ◌+◌, ◌⊎◌, ◌↔◌, Bool, true, List, [], ◌∷◌, ◌++◌, Option, Some, None, All, map, take, slice_get, length, get_or, inl, inr, refl, ap, ◌∙◌, sym, subst, arith, add-one}
+use Rattle.std.proofs.Common.{ℕ, zero, suc, ◌≡◌, ◌<◌, ◌≤◌, ◌+◌, ◌⊎◌, ◌↔◌, Bool, true, List, [], ◌∷◌, ◌++◌, Option, Some, None}
+use Rattle.std.proofs.Common.{All, map, take, slice_get, length, get_or, inl, inr, refl, ap, ◌∙◌, sym, subst, arith, add-one}
 use Rattle.std.proofs.lemmas.Bool.{cases_eq}
 use Rattle.std.proofs.lemmas.List.{take_more, take_all}
 use Rattle.std.proofs.lemmas.List.Elements.{All-head, All-map}
@@ -21,7 +22,8 @@ use Rattle.closure.proofs.Reached.{step}
 use Rattle.passassign.specs.Certificate.{IsStruckBy, IsSameOrLater, IsOneOf, IsGood, AreGood}
 use Rattle.passassign.specs.Dependencies.{symbol_of, table_slot, dependency_of, head_of}
 use Rattle.passassign.specs.Making.{IsOpen}
-use Rattle.passassign.specs.Searching.{struck_slot, target_of, edge_of, dependency_by, IsBarred, AreBarred, IsStrikeOf, AreStrikesBy, IsStruckAt, BelongTo, IsSearch}
+use Rattle.passassign.specs.Searching.{struck_slot, target_of, edge_of, dependency_by, IsBarred, AreBarred, IsStrikeOf}
+use Rattle.passassign.specs.Searching.{AreStrikesBy, IsStruckAt, BelongTo, IsSearch}
 use Rattle.passassign.specs.Tables.{slot_of, state_at, is_marked, table_passes}
 use Rattle.passassign.specs.declared.dependency.Dependency.{Dependency}
 use Rattle.passassign.specs.declared.stuck.Strike.{Strike}
@@ -33,7 +35,8 @@ use Rattle.passassign.proofs.strikes.Growing.{strikes_grow}
 use Rattle.passassign.proofs.slots.Linked.{parts, attribute_within, open_there, open_state, places_item, target_is}
 
 -- the members before an index are those of the list's prefix
-pub in_take : {A : Type 0} (n : ℕ) (xs : List A) (i : ℕ) (x : A) → slice_get (take n xs) i ≡ Some x → (i < n) × (slice_get xs i ≡ Some x)
+pub in_take : {A : Type 0} (n : ℕ) (xs : List A) (i : ℕ) (x : A) → slice_get (take n xs) i ≡ Some x
+    → (i < n) × (slice_get xs i ≡ Some x)
 in_take zero xs i x e = absurd (let bad : ⊥ = cc in bad)
 in_take (suc n) [] i x e = absurd (let bad : ⊥ = cc in bad)
 in_take (suc n) (y ∷ xs) zero x e = (omega arith, e)
@@ -49,24 +52,37 @@ take_has (suc n) (y ∷ xs) (suc i) x lt e = take_has n xs i x (omega arith) e
 abbrev pub clauses_of : List Dependency → List Clause
 clauses_of all = map clause_of_edge (map edge_of all)
 
-pub edges_below : (all : List Dependency) (count : ℕ) → ((u : Dependency) → Has all u → (u.argument < count) × (target_of u < count)) → All (IsEdgeBelow count) (map edge_of all)
-edges_below all count within = All-map (IsEdgeBelow count) edge_of all (λ k d lt. let w = within (get_or all k d) (k, slice_get-get_or all k d lt) in record { from = w.0; to = w.1 })
+pub edges_below : (all : List Dependency) (count : ℕ)
+    → ((u : Dependency) → Has all u → (u.argument < count) × (target_of u < count)) → All (IsEdgeBelow count) (map edge_of all)
+edges_below all count within =
+    All-map (IsEdgeBelow count) edge_of all
+    (λ k d lt. let w = within (get_or all k d) (k, slice_get-get_or all k d lt) in record { from = w.0; to = w.1 })
 
-pub seeds_below : (all barred : List Dependency) (d : Direction) (states : List State) → AreBarred d states all barred → (count : ℕ) → ((u : Dependency) → Has all u → (u.argument < count) × (target_of u < count)) → All (λ t. t < count) (map target_of barred)
-seeds_below all barred d states bars count within = All-map (λ t. t < count) target_of barred (λ k o lt. (within (get_or barred k o) ((bars (get_or barred k o)).0 (k, slice_get-get_or barred k o lt)).0).1)
+pub seeds_below : (all barred : List Dependency) (d : Direction) (states : List State) → AreBarred d states all barred
+    → (count : ℕ) → ((u : Dependency) → Has all u → (u.argument < count) × (target_of u < count))
+    → All (λ t. t < count) (map target_of barred)
+seeds_below all barred d states bars count within =
+    All-map (λ t. t < count) target_of barred
+    (λ k o lt. (within (get_or barred k o) ((bars (get_or barred k o)).0 (k, slice_get-get_or barred k o lt)).0).1)
 
 -- one more strike is by the reason of the next addition
-pub strike_more : (all barred : List Dependency) (added : List Addition) (xs : List Strike) (n : ℕ) (o : Addition) (u : Dependency) → length xs ≡ n → dependency_by all barred (get_or added n o).reason ≡ Some u → ((i : ℕ) (x : Addition) → i < n → slice_get added i ≡ Some x → IsStrikeOf all barred xs i x)
+pub strike_more : (all barred : List Dependency) (added : List Addition) (xs : List Strike) (n : ℕ) (o : Addition)
+    (u : Dependency) → length xs ≡ n → dependency_by all barred (get_or added n o).reason ≡ Some u
+    → ((i : ℕ) (x : Addition) → i < n → slice_get added i ≡ Some x → IsStrikeOf all barred xs i x)
     → (i : ℕ) (x : Addition) → i < n + 1 → slice_get added i ≡ Some x → IsStrikeOf all barred (xs ++ u.strike ∷ []) i x
 strike_more all barred added xs n o u len by before i x lt e = elim (cases_eq i n) [
   | inl same ↦ (
-      let here : get_or added n o ≡ x = get_or_from_slice_get added n x o (rw same at e) in
-      (u, subst (λ (y : Addition). dependency_by all barred y.reason ≡ Some u) here by, subst (λ k. slice_get (xs ++ u.strike ∷ []) k ≡ Some u.strike) (len ∙ sym same) (get_push_end xs u.strike)))
+      let here : get_or added n o ≡ x = get_or_from_slice_get added n x o (rw same at e) in (
+        u,
+        subst (λ (y : Addition). dependency_by all barred y.reason ≡ Some u) here by,
+        subst (λ k. slice_get (xs ++ u.strike ∷ []) k ≡ Some u.strike) (len ∙ sym same) (get_push_end xs u.strike),
+      ))
   | inr other ↦ (let w = before i x (omega arith) e in (w.0, w.1, get_push_front xs u.strike w.0.strike i w.2))
 ]
 
 -- a reason names a dependency
-pub named : (all barred : List Dependency) (there : ℕ → Type 0) (n : ℕ) (r : Reason) → IsReasonOf (clauses_of all) (map target_of barred) there n r → (u : Dependency) × (dependency_by all barred r ≡ Some u)
+pub named : (all barred : List Dependency) (there : ℕ → Type 0) (n : ℕ) (r : Reason)
+    → IsReasonOf (clauses_of all) (map target_of barred) there n r → (u : Dependency) × (dependency_by all barred r ≡ Some u)
 named all barred there n (reason.Seed i) h = let w = mapped_at target_of barred i n h in (w.0, w.1)
 named all barred there n (reason.Clause p) h =
     let c = mapped_at clause_of_edge (map edge_of all) p h.0 h.1 in
@@ -74,7 +90,8 @@ named all barred there n (reason.Clause p) h =
     (w.0, w.1)
 
 -- The dependency of a strike, which keeps its target out of the pass, or whose argument is struck before.
-record IsReportedAt (all : List Dependency) (d : Direction) (states : List State) (added : List Addition) (xs : List Strike) (i : ℕ) (x : Addition) : Type 0 where
+record IsReportedAt (all : List Dependency) (d : Direction) (states : List State) (added : List Addition) (xs : List Strike)
+    (i : ℕ) (x : Addition) : Type 0 where
   u : Dependency
   among : Has all u
   strike : slice_get xs i ≡ Some u.strike
@@ -83,17 +100,24 @@ record IsReportedAt (all : List Dependency) (d : Direction) (states : List State
 
 module _ (all barred : List Dependency) (d : Direction) (states : List State) (bars : AreBarred d states all barred) where
   -- Its target is the number that is added, and it keeps that out of the pass, or its argument was added.
-  by_name : (there : ℕ → Type 0) (n : ℕ) (r : Reason) (u : Dependency) → dependency_by all barred r ≡ Some u → IsReasonOf (clauses_of all) (map target_of barred) there n r → Has all u × (target_of u ≡ n) × (IsBarred d states u ⊎ there u.argument)
+  by_name : (there : ℕ → Type 0) (n : ℕ) (r : Reason) (u : Dependency) → dependency_by all barred r ≡ Some u
+      → IsReasonOf (clauses_of all) (map target_of barred) there n r
+      → Has all u × (target_of u ≡ n) × (IsBarred d states u ⊎ there u.argument)
   by_name there n (reason.Seed i) u is h =
       let e : Some (target_of u) ≡ Some n = sym (at_mapped target_of barred i u is) ∙ h in
       let b = (bars u).0 (i, is) in
       (b.0, cc, inl b.1)
   by_name there n (reason.Clause p) u is h =
-      let e : Some (clause_of_edge (edge_of u)) ≡ Some h.0 = sym (at_mapped clause_of_edge (map edge_of all) p (edge_of u) (at_mapped edge_of all p u is)) ∙ h.1 in
-      let f : clause_of_edge (edge_of u) ≡ h.0 = cc in
-      ((p, is), ap (λ (q : Clause). q.head) f ∙ h.2, inr (All-head there u.argument [] (subst (λ (q : Clause). All there q.body) (sym f) h.3)))
+      let e : Some (clause_of_edge (edge_of u)) ≡ Some h.0 =
+      sym (at_mapped clause_of_edge (map edge_of all) p (edge_of u) (at_mapped edge_of all p u is)) ∙ h.1 in
+      let f : clause_of_edge (edge_of u) ≡ h.0 = cc in (
+        (p, is),
+        ap (λ (q : Clause). q.head) f ∙ h.2,
+        inr (All-head there u.argument [] (subst (λ (q : Clause). All there q.body) (sym f) h.3)),
+      )
 
-  module _ (added : List Addition) (order : AreInOrder (clauses_of all) (map target_of barred) added) (xs : List Strike) (exact : AreStrikesBy all barred added xs) where
+  module _ (added : List Addition) (order : AreInOrder (clauses_of all) (map target_of barred) added) (xs : List Strike)
+      (exact : AreStrikesBy all barred added xs) where
     reported_at : (i : ℕ) (x : Addition) → slice_get added i ≡ Some x → IsReportedAt all d states added xs i x
     reported_at i x e =
         let t = exact.exact i x e in
@@ -102,7 +126,8 @@ module _ (all barred : List Dependency) (d : Direction) (states : List State) (b
 
     -- the additions are struck, in the same order, and the converse
     struck_before : (n k : ℕ) → IsAddedBefore added n k → IsStruckAt (take n xs) k
-    struck_before n k (i, x, lt, e, is) = let t = reported_at i x e in (t.u.strike, (i, take_has n xs i t.u.strike lt t.strike), t.target ∙ is)
+    struck_before n k (i, x, lt, e, is) = let t = reported_at i x e in
+        (t.u.strike, (i, take_has n xs i t.u.strike lt t.strike), t.target ∙ is)
 
     added_before : (n k : ℕ) → IsStruckAt (take n xs) k → IsAddedBefore added n k
     added_before n k (y, (i, e), is) =
@@ -118,7 +143,8 @@ module _ (all barred : List Dependency) (d : Direction) (states : List State) (b
 
     module _ (g : Grammar) (of : BelongTo g all states) where
       -- the next strike is a good one
-      good_next : (n : ℕ) (y : Strike) → slice_get xs n ≡ Some y → AreGood g d (IsOpen g (table_passes states)) [] (take n xs) → AreGood g d (IsOpen g (table_passes states)) [] (take n xs ++ y ∷ [])
+      good_next : (n : ℕ) (y : Strike) → slice_get xs n ≡ Some y → AreGood g d (IsOpen g (table_passes states)) [] (take n xs)
+          → AreGood g d (IsOpen g (table_passes states)) [] (take n xs ++ y ∷ [])
       good_next n y e before =
           let lt = slice_get_within xs n y e in
           let len = exact.len in
@@ -134,16 +160,23 @@ module _ (all barred : List Dependency) (d : Direction) (states : List State) (b
             | inl b ↦ b.1
             | inr h ↦ (
                 let o = struck_before n t.u.argument h in
-                subst (λ k. state_at states k ≡ Open) o.2 (open_state g all states of o.0.symbol o.0.attr (strikes_open g d (IsOpen g (table_passes states)) [] (take n xs) before o.0.symbol o.0.attr (has_strikes (take n xs) o.0 o.1))).1)
+                subst (λ k. state_at states k ≡ Open) o.2
+                (open_state g all states of o.0.symbol o.0.attr
+                (strikes_open g d (IsOpen g (table_passes states)) [] (take n xs) before o.0.symbol o.0.attr
+                (has_strikes (take n xs) o.0 o.1))).1)
           ] in
           subst (λ y. AreGood g d (IsOpen g (table_passes states)) [] (take n xs ++ y ∷ [])) same
-          (strikes_grow g d (table_passes states) (take n xs) t.u.strike before (open_there g all states of t.u.strike.symbol t.u.strike.attr is.0 (of.led t.u t.among argument))
+          (strikes_grow g d (table_passes states) (take n xs) t.u.strike before
+          (open_there g all states of t.u.strike.symbol t.u.strike.attr is.0 (of.led t.u t.among argument))
           (λ h.
-          let b = added_before n (target_of t.u) (struck_at g all d states (take n xs) of before t.u.strike.symbol t.u.strike.attr h) in
+          let b =
+          added_before n (target_of t.u)
+          (struck_at g all d states (take n xs) of before t.u.strike.symbol t.u.strike.attr h) in
           let again : b.0 ≡ n = order.once b.0 n b.1 (get_or added n none) b.3 here (b.4 ∙ t.target) in
           let less = b.2 in
           omega arith)
-          (good_by g all d states (take n xs) of before t.u p (elim t.why [ inl b ↦ inl b | inr h ↦ inr (struck_before n t.u.argument h) ])))
+          (good_by g all d states (take n xs) of before t.u p
+          (elim t.why [ inl b ↦ inl b | inr h ↦ inr (struck_before n t.u.argument h) ])))
 
       good_prefix : (n : ℕ) → n ≤ length xs → AreGood g d (IsOpen g (table_passes states)) [] (take n xs)
       good_prefix zero most = tt
@@ -154,38 +187,83 @@ module _ (all barred : List Dependency) (d : Direction) (states : List State) (b
           (good_next n (get_or xs n none) (slice_get-get_or xs n none lt) (good_prefix n (omega arith)))
 
       good_all : AreGood g d (IsOpen g (table_passes states)) [] xs
-      good_all = subst (AreGood g d (IsOpen g (table_passes states)) []) (take_all (length xs) xs (omega arith)) (good_prefix (length xs) (omega arith))
+      good_all =
+          subst (AreGood g d (IsOpen g (table_passes states)) []) (take_all (length xs) xs (omega arith))
+          (good_prefix (length xs) (omega arith))
 
-    module _ (marks : List Bool) (is_added : (t : ℕ) → is_marked marks t ≡ true ↔ IsAdded added t) (closure : AreClosure (clauses_of all) (map target_of barred) marks) where
+    module _ (marks : List Bool) (is_added : (t : ℕ) → is_marked marks t ≡ true ↔ IsAdded added t)
+        (closure : AreClosure (clauses_of all) (map target_of barred) marks) where
       marked : (k : ℕ) → (is_marked marks k ≡ true) ↔ IsStruckAt xs k
       marked k = (
-        (λ m. let a = (is_added k).0 m in let w = slice_get_within added a.0 a.1 a.2 in let len = exact.len in subst (λ ys. IsStruckAt ys k) (take_all (length xs) xs (omega arith)) (struck_before (length xs) k (a.0, a.1, omega arith, a.2, a.3))),
-        (λ h. let b = added_before (length xs) k (subst (λ ys. IsStruckAt ys k) (sym (take_all (length xs) xs (omega arith))) h) in (is_added k).1 (b.0, b.1, b.3, b.4)),
+        (λ m. let a = (is_added k).0 m in let w = slice_get_within added a.0 a.1 a.2 in let len = exact.len in
+            subst (λ ys. IsStruckAt ys k) (take_all (length xs) xs (omega arith))
+            (struck_before (length xs) k (a.0, a.1, omega arith, a.2, a.3))),
+        (λ h. let b =
+            added_before (length xs) k (subst (λ ys. IsStruckAt ys k) (sym (take_all (length xs) xs (omega arith))) h) in
+            (is_added k).1 (b.0, b.1, b.3, b.4)),
       )
 
       closed : (u : Dependency) → Has all u → is_marked marks u.argument ≡ true → is_marked marks (target_of u) ≡ true
-      closed u h m = (closure (target_of u)).1 (step (map edge_of all) (map target_of barred) (edge_of u) (element_at (map edge_of all) h.0 (edge_of u) (at_mapped edge_of all h.0 u h.1)) ((closure u.argument).0 m))
+      closed u h m =
+          (closure (target_of u)).1
+          (step (map edge_of all) (map target_of barred) (edge_of u)
+          (element_at (map edge_of all) h.0 (edge_of u) (at_mapped edge_of all h.0 u h.1)) ((closure u.argument).0 m))
 
       kept_out : (u : Dependency) → Has all u → IsBarred d states u → is_marked marks (target_of u) ≡ true
-      kept_out u h b = let w = (bars u).1 (h, b) in (closure (target_of u)).1 (seed (element_at (map target_of barred) w.0 (target_of u) (at_mapped target_of barred w.0 u w.1)))
+      kept_out u h b = let w = (bars u).1 (h, b) in
+          (closure (target_of u)).1
+          (seed (element_at (map target_of barred) w.0 (target_of u) (at_mapped target_of barred w.0 u w.1)))
 
       -- if there is a reason to strike an attribute, it is struck
-      module _ (g : Grammar) (of : BelongTo g all states) (x : Strike) (is : IsOpen g (table_passes states) x.symbol x.attr) (good : IsGood g d (IsOpen g (table_passes states)) xs x) where
+      module _ (g : Grammar) (of : BelongTo g all states) (x : Strike) (is : IsOpen g (table_passes states) x.symbol x.attr)
+          (good : IsGood g d (IsOpen g (table_passes states)) xs x) where
         one : ℕ → Dependency
-        one s = dependency_of (head_of x.production x.rule good.rule x.symbol) good.rule.target.place x.arg (slot_of s good.argument.attr) good.argument.place
+        one s =
+            dependency_of (head_of x.production x.rule good.rule x.symbol) good.rule.target.place x.arg
+            (slot_of s good.argument.attr) good.argument.place
 
         among : (s : ℕ) → item_at good.production good.argument.place ≡ Some (item.Symbol s) → Has all (one s)
         unfolding one
         among s e =
-            (of.dependencies (dependency_of (head_of x.production x.rule good.rule x.symbol) good.rule.target.place x.arg (slot_of s good.argument.attr) good.argument.place)).1
-            (x.production, good.production, good.is_production, (x.rule, good.rule, good.is_rule, (x.symbol, ap symbol_of (places_item good.production good.rule.target.place ∙ good.symbol), (x.arg, good.argument, good.is_argument, (slot_of s good.argument.attr, ap (λ y. table_slot (symbol_of y) good.argument.attr) (places_item good.production good.argument.place ∙ e), refl)))))
+            (of.dependencies
+            (dependency_of (head_of x.production x.rule good.rule x.symbol) good.rule.target.place x.arg
+            (slot_of s good.argument.attr) good.argument.place)).1 (
+              x.production,
+              good.production,
+              good.is_production,
+              (
+                x.rule,
+                good.rule,
+                good.is_rule,
+                (
+                  x.symbol,
+                  ap symbol_of (places_item good.production good.rule.target.place ∙ good.symbol),
+                  (
+                    x.arg,
+                    good.argument,
+                    good.is_argument,
+                    (
+                      slot_of s good.argument.attr,
+                      ap (λ y. table_slot (symbol_of y) good.argument.attr)
+                          (places_item good.production good.argument.place ∙ e),
+                      refl,
+                    ),
+                  ),
+                ),
+              ),
+            )
 
-        settled : (y : Option Item) → item_at good.production good.argument.place ≡ y → IsOneOf (IsStruckBy xs) y good.argument.attr ⊎ (IsSameOrLater d good.rule.target.place good.argument.place × IsOneOf (IsOpen g (table_passes states)) y good.argument.attr) → is_marked marks (slot_of x.symbol good.rule.target.attr) ≡ true
+        settled : (y : Option Item) → item_at good.production good.argument.place ≡ y
+            → IsOneOf (IsStruckBy xs) y good.argument.attr
+            ⊎ (IsSameOrLater d good.rule.target.place good.argument.place
+            × IsOneOf (IsOpen g (table_passes states)) y good.argument.attr)
+            → is_marked marks (slot_of x.symbol good.rule.target.attr) ≡ true
         unfolding one
         settled None e why = elim why [ inl bad ↦ absurd bad | inr bad ↦ absurd bad.1 ]
         settled (Some (item.Terminal t)) e why = elim why [ inl bad ↦ absurd bad | inr bad ↦ absurd bad.1 ]
         settled (Some (item.Symbol s)) e why = elim why [
-          | inl h ↦ closed (one s) (among s e) ((marked (slot_of s good.argument.attr)).1 (struck_at g all d states xs of (good_all g of) s good.argument.attr h))
+          | inl h ↦ closed (one s) (among s e)
+              ((marked (slot_of s good.argument.attr)).1 (struck_at g all d states xs of (good_all g of) s good.argument.attr h))
           | inr b ↦ kept_out (one s) (among s e) (b.0, (open_state g all states of s good.argument.attr b.1).1)
         ]
 
@@ -193,7 +271,8 @@ module _ (all barred : List Dependency) (d : Direction) (states : List State) (b
         finished_at =
             let here = open_state g all states of x.symbol x.attr is in
             let m = settled (item_at good.production good.argument.place) refl good.reason in
-            at_struck g all d states xs of (good_all g of) x.symbol x.attr here.0 ((marked (slot_of x.symbol x.attr)).0 (subst (λ a. is_marked marks (slot_of x.symbol a) ≡ true) good.attr m))
+            at_struck g all d states xs of (good_all g of) x.symbol x.attr here.0
+            ((marked (slot_of x.symbol x.attr)).0 (subst (λ a. is_marked marks (slot_of x.symbol a) ≡ true) good.attr m))
 
       pub is_search : IsSearch all d states xs marks
       is_search = record { marked = marked; closed = closed; good = good_all; finished = finished_at }

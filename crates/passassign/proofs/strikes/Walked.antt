@@ -1,5 +1,6 @@
 -- A walk down the strikes of a list, from each to the one that it waits for.
-use Rattle.std.proofs.Common.{ℕ, ◌≡◌, ◌<◌, ◌++◌, List, [], ◌∷◌, Option, None, Some, Result, Ok, Err, IfOk, IfSome, slice_get, get_or, take, length, ap, ◌∙◌, inl, inr, sym, subst, refl}
+use Rattle.std.proofs.Common.{ℕ, ◌≡◌, ◌<◌, ◌++◌, List, [], ◌∷◌, Option, None, Some, Result, Ok, Err, IfOk, IfSome, slice_get}
+use Rattle.std.proofs.Common.{get_or, take, length, ap, ◌∙◌, inl, inr, sym, subst, refl}
 use Rattle.std.proofs.lemmas.Option.{slice_get-get_or, get_or_from_slice_get}
 use Rattle.ag_grammar.specs.Lists.{Has}
 use Rattle.ag_grammar.specs.grammars.AttributeGrammar.{Grammar}
@@ -22,32 +23,55 @@ prefix_at xs n j lt =
 
 module _ (g : Grammar) (d : Direction) (xs : List Strike) (at s a : ℕ) where
   -- the strike of an awaited attribute in a prefix is the one that is awaited
-  pub found_before : WaitsFor g d (strike_at xs at) s a → (r : Option ℕ) → IfSome r (λ i. (i < length (take at xs)) × ((strike_at (take at xs) i).symbol ≡ s) × ((strike_at (take at xs) i).attr ≡ a)) → IfSome r (λ i. (i < at) × WaitsFor g d (strike_at xs at) (strike_at xs i).symbol (strike_at xs i).attr)
+  pub found_before : WaitsFor g d (strike_at xs at) s a → (r : Option ℕ)
+      → IfSome r (λ i. (i < length (take at xs)) × ((strike_at (take at xs) i).symbol ≡ s)
+      × ((strike_at (take at xs) i).attr ≡ a))
+      → IfSome r (λ i. (i < at) × WaitsFor g d (strike_at xs at) (strike_at xs i).symbol (strike_at xs i).attr)
   found_before waits None h = tt
   found_before waits (Some i) (lt, symbol, attr) =
       let here = prefix_at xs at i lt in
       let first : s ≡ (strike_at xs i).symbol = sym symbol ∙ ap (λ (z : Strike). z.symbol) here.1 in
-      let second : a ≡ (strike_at xs i).attr = sym attr ∙ ap (λ (z : Strike). z.attr) here.1 in
-      (here.0, subst (λ a. WaitsFor g d (strike_at xs at) (strike_at xs i).symbol a) second (subst (λ s. WaitsFor g d (strike_at xs at) s a) first waits))
+      let second : a ≡ (strike_at xs i).attr = sym attr ∙ ap (λ (z : Strike). z.attr) here.1 in (
+        here.0,
+        subst (λ a. WaitsFor g d (strike_at xs at) (strike_at xs i).symbol a) second
+            (subst (λ s. WaitsFor g d (strike_at xs at) s a) first waits),
+      )
 
   -- if the awaited attribute is struck before, there is such a strike
-  pub none_before : at < length xs → WaitsFor g d (strike_at xs at) s a → (r : Option ℕ) → (r ≡ None → IsStruckBy (take at xs) s a → ⊥) → r ≡ None → AreAwaitedBefore g d xs → WaitsForNone g d (strike_at xs at)
-  none_before lt waits r missing e order = absurd (missing e (order at (strike_at xs at) (slice_get-get_or xs at none lt) s a waits))
+  pub none_before : at < length xs → WaitsFor g d (strike_at xs at) s a → (r : Option ℕ)
+      → (r ≡ None → IsStruckBy (take at xs) s a → ⊥) → r ≡ None → AreAwaitedBefore g d xs → WaitsForNone g d (strike_at xs at)
+  none_before lt waits r missing e order =
+      absurd (missing e (order at (strike_at xs at) (slice_get-get_or xs at none lt) s a waits))
 
 -- links that are among some strikes, and one more of these
-pub among_more : (xs links more : List Strike) (y : Strike) → more ≡ links ++ y ∷ [] → Has xs y → ((i : ℕ) (x : Strike) → slice_get links i ≡ Some x → Has xs x) → (i : ℕ) (x : Strike) → slice_get more i ≡ Some x → Has xs x
-among_more xs links more y items has before i x e = elim (get_push_cases links y x i (subst (λ l. slice_get l i ≡ Some x) items e)) [ inl old ↦ before i x old | inr new ↦ subst (Has xs) new.1 has ]
+pub among_more : (xs links more : List Strike) (y : Strike) → more ≡ links ++ y ∷ [] → Has xs y
+    → ((i : ℕ) (x : Strike) → slice_get links i ≡ Some x → Has xs x) → (i : ℕ) (x : Strike) → slice_get more i ≡ Some x → Has xs x
+among_more xs links more y items has before i x e =
+    elim (get_push_cases links y x i (subst (λ l. slice_get l i ≡ Some x) items e))
+    [ inl old ↦ before i x old | inr new ↦ subst (Has xs) new.1 has ]
 
 -- links of which the first is the strike of an attribute
-pub starts : (xs links : List Strike) (at s a : ℕ) → at < length xs → (strike_at xs at).symbol ≡ s → (strike_at xs at).attr ≡ a → slice_get links 0 ≡ slice_get xs at → StartsWith s a links
-starts xs [] at s a lt symbol attr e = absurd (let here = slice_get-get_or xs at none lt in let bad : None ≡ Some (strike_at xs at) = e ∙ here in let worse : ⊥ = cc in worse)
+pub starts : (xs links : List Strike) (at s a : ℕ) → at < length xs → (strike_at xs at).symbol ≡ s → (strike_at xs at).attr ≡ a
+    → slice_get links 0 ≡ slice_get xs at → StartsWith s a links
+starts xs [] at s a lt symbol attr e =
+    absurd (let here = slice_get-get_or xs at none lt in let bad : None ≡ Some (strike_at xs at) = e ∙ here in
+    let worse : ⊥ = cc in worse)
 starts xs (y ∷ ys) at s a lt symbol attr e =
     let both : Some y ≡ Some (strike_at xs at) = e ∙ slice_get-get_or xs at none lt in
     let same : y ≡ strike_at xs at = cc in
-    record { first = y; others = ys; is = refl; symbol = ap (λ (z : Strike). z.symbol) same ∙ symbol; attr = ap (λ (z : Strike). z.attr) same ∙ attr }
+    record {
+      first = y;
+      others = ys;
+      is = refl;
+      symbol = ap (λ (z : Strike). z.symbol) same ∙ symbol;
+      attr = ap (λ (z : Strike). z.attr) same ∙ attr;
+    }
 
 -- The result of a walk down good strikes is a chain.
-pub walked : (g : Grammar) (d : Direction) (candidate : Attributes) (xs links : List Strike) (s a : ℕ) → AreGood g d candidate [] xs → IsStruckBy xs s a → (AreAwaitedBefore g d xs → AreLinked g d links) → ((i : ℕ) (x : Strike) → slice_get links i ≡ Some x → Has xs x) → (IsStruckBy xs s a → StartsWith s a links) → IsChainOf g d candidate s a links
+pub walked : (g : Grammar) (d : Direction) (candidate : Attributes) (xs links : List Strike) (s a : ℕ)
+    → AreGood g d candidate [] xs → IsStruckBy xs s a → (AreAwaitedBefore g d xs → AreLinked g d links)
+    → ((i : ℕ) (x : Strike) → slice_get links i ≡ Some x → Has xs x) → (IsStruckBy xs s a → StartsWith s a links)
+    → IsChainOf g d candidate s a links
 walked g d candidate xs links s a good hit linked among first =
     let start = first hit in
     record {
@@ -60,6 +84,7 @@ walked g d candidate xs links s a good hit linked among first =
     }
 
 -- a consequence of three facts of a result, if there is one
-pub of_three : {A E : Type 0} (r : Result A E) (P Q R S : A → Type 0) → ((x : A) → P x → Q x → R x → S x) → IfOk r P → IfOk r Q → IfOk r R → IfOk r S
+pub of_three : {A E : Type 0} (r : Result A E) (P Q R S : A → Type 0) → ((x : A) → P x → Q x → R x → S x) → IfOk r P → IfOk r Q
+    → IfOk r R → IfOk r S
 of_three (Ok x) P Q R S f p q r = f x p q r
 of_three (Err e) P Q R S f p q r = tt

@@ -1,5 +1,6 @@
 -- The children still to be read at each step.
-use Rattle.std.proofs.Common.{ℕ, suc, ◌≡◌, ◌<◌, ◌≤◌, true, List, [], ◌∷◌, ◌++◌, Option, Some, None, Result, Ok, Err, Bor, slice_get, length, refl, ap, ◌∙◌, sym, subst, arith}
+use Rattle.std.proofs.Common.{ℕ, suc, ◌≡◌, ◌<◌, ◌≤◌, true, List, [], ◌∷◌, ◌++◌, Option, Some, None, Result, Ok, Err, Bor}
+use Rattle.std.proofs.Common.{slice_get, length, refl, ap, ◌∙◌, sym, subst, arith}
 use Rattle.ag_value.specs.declared.value.Value.{Value}
 use Rattle.ag_grammar.specs.declared.grammar.Item.{Item}
 use Rattle.ag_grammar.specs.declared.grammar.Item.TheVariants as item
@@ -18,7 +19,8 @@ use Rattle.treefile.specs.framing.Ending.{ReadsAs}
 use Rattle.treefile.specs.records.Records.{node_body, values_up_to}
 use Rattle.treefile.specs.records.TreeFile.{body_of, version_two}
 use Rattle.treefile.specs.framing.ExpectedRecords as expected
-use Rattle.treefile.specs.framing.ExpectedRecords.{Child, MatchesCopy, IsNodeRecord, IsRecordOf, Pending, before_others, children_with_copies}
+use Rattle.treefile.specs.framing.ExpectedRecords.{Child, MatchesCopy, IsNodeRecord, IsRecordOf, Pending, before_others}
+use Rattle.treefile.specs.framing.ExpectedRecords.{children_with_copies}
 use Rattle.treefile.proofs.framing.PendingChildren.{all_pending, next_pending}
 use Rattle.treefile.proofs.framing.Backward.{damage_is_there, never_no_file}
 use Rattle.treefile.proofs.records.Fitting.{fits_version_two}
@@ -42,14 +44,18 @@ use Rattle.passrun.proofs.places.Slots.{copied_is}
 use Rattle.passrun.proofs.places.Tables.{same_values, text_row}
 
 -- The children of the record that was read for an item.
-abbrev pub children_read : (c : Setting) (x : Item) (p : ℕ) (body : List ℕ) (old new : List Value) → IsRead c x p body old new → List Child
-children_read c (item.Symbol s) p body old new h = children_with_copies true c.grammar c.passes c.read (stored_items h.production.items) (copies c c.read (stored_items h.production.items) h.table)
+abbrev pub children_read : (c : Setting) (x : Item) (p : ℕ) (body : List ℕ) (old new : List Value) → IsRead c x p body old new
+    → List Child
+children_read c (item.Symbol s) p body old new h =
+    children_with_copies true c.grammar c.passes c.read (stored_items h.production.items)
+    (copies c c.read (stored_items h.production.items) h.table)
 children_read c (item.Terminal (Class d)) p body old new h = []
 children_read c (item.Terminal (Literal l)) p body old new h = []
 
 -- A record that was read is one of its item, and matches the copy in its parent's record if it agrees with
 -- it.
-pub is_record : (c : Setting) (x : Item) (p : ℕ) (body : List ℕ) (old new : List Value) (h : IsRead c x p body old new) (copy : Option (List Value)) → MatchesCopy copy (values_up_to c.read (copied_passes c x) (read_values c x p body old new h))
+pub is_record : (c : Setting) (x : Item) (p : ℕ) (body : List ℕ) (old new : List Value) (h : IsRead c x p body old new)
+    (copy : Option (List Value)) → MatchesCopy copy (values_up_to c.read (copied_passes c x) (read_values c x p body old new h))
     → IsRecordOf version_two c.grammar c.passes c.read (x, copy) body (children_read c x p body old new h)
 is_record c (item.Symbol s) p body old new h copy matching = (
   p,
@@ -60,57 +66,81 @@ is_record c (item.Symbol s) p body old new h copy matching = (
     left = h.left;
     well = λ a n is le. h.well a;
     copies = copies c c.read (stored_items h.production.items) h.table;
-    are_copies = (copies_counted c c.read (stored_items h.production.items) h.table, copies_well c c.read (stored_items h.production.items) h.table h.table_well);
+    are_copies = (
+      copies_counted c c.read (stored_items h.production.items) h.table,
+      copies_well c c.read (stored_items h.production.items) h.table h.table_well,
+    );
     occurs = h.same;
   },
   refl,
   matching,
 )
-is_record c (item.Terminal (Class d)) p body old new h copy matching = (h.1.text, h.1.fits, h.1.same, refl, subst (MatchesCopy copy) (text_row c.read h.1.text) matching)
+is_record c (item.Terminal (Class d)) p body old new h copy matching =
+    (h.1.text, h.1.fits, h.1.same, refl, subst (MatchesCopy copy) (text_row c.read h.1.text) matching)
 is_record c (item.Terminal (Literal l)) p body old new h copy matching = elim h [ ]
 
 -- A body that is not a record with well values is not a record.
-pub no_record : (c : Setting) (x : Item) (body : List ℕ) (copy : Option (List Value)) → IsNoRecord c x body → expected.IsNoRecord version_two c.grammar c.passes c.read (x, copy) body
+pub no_record : (c : Setting) (x : Item) (body : List ℕ) (copy : Option (List Value)) → IsNoRecord c x body
+    → expected.IsNoRecord version_two c.grammar c.passes c.read (x, copy) body
 no_record c (item.Symbol s) body copy none ys (p, q, e, is, same, matching) =
     let own = mended c.read (c.passes s) e is.well in
     let row = tabled c c.read (stored_items q.items) is.copies is.are_copies.0 is.are_copies.1 in
     let cs = copies c c.read (stored_items q.items) row.0 in
-    let ps : c.passes s ≡ left_passes c.passes (slice_get c.grammar.productions p) = ap c.passes (sym is.left) ∙ ap (left_passes c.passes) (sym is.production) in
+    let ps : c.passes s ≡ left_passes c.passes (slice_get c.grammar.productions p) =
+    ap c.passes (sym is.left) ∙ ap (left_passes c.passes) (sym is.production) in
     none p q own.0 row.0 is.production is.left own.1 row.1
-    (is.occurs ∙ ap (node_body version_two c.grammar c.passes c.read p e) (sym row.2) ∙ ap (λ ps. body_of Node p (values_up_to c.read ps e ++ cs)) (sym ps) ∙ ap (λ vs. body_of Node p (vs ++ cs)) own.2 ∙ ap (λ ps. body_of Node p (values_up_to c.read ps own.0 ++ cs)) ps)
+    (is.occurs ∙ ap (node_body version_two c.grammar c.passes c.read p e) (sym row.2)
+    ∙ ap (λ ps. body_of Node p (values_up_to c.read ps e ++ cs)) (sym ps) ∙ ap (λ vs. body_of Node p (vs ++ cs)) own.2
+    ∙ ap (λ ps. body_of Node p (values_up_to c.read ps own.0 ++ cs)) ps)
 no_record c (item.Terminal (Class d)) body copy none ys (text, fits, is, same, matching) = none text fits is
 no_record c (item.Terminal (Literal l)) body copy none ys h = elim h [ ]
 
 -- The children still to be read at a node, one after the other.
-pub behind_next : (c : Setting) (q : Production) (e : Table) (i level : ℕ) (others : Pending) (x : Item) → i < arity q → item_at q (place_of q c.write i) ≡ Some x
-    → following c q e i level others ≡ (level, (x, Some (values_up_to c.read (copied_passes c x) (e (place_of q c.write i))))) ∷ following c q e (suc i) level others
+pub behind_next : (c : Setting) (q : Production) (e : Table) (i level : ℕ) (others : Pending) (x : Item) → i < arity q
+    → item_at q (place_of q c.write i) ≡ Some x
+    → following c q e i level others ≡ (level, (x, Some (values_up_to c.read (copied_passes c x) (e (place_of q c.write i)))))
+    ∷ following c q e (suc i) level others
 behind_next c q e i level others x within occurs =
     let long = copies_length c c.read (stored_items q.items) (copies c c.read (stored_items q.items) (in_children e)) in
     let copy = values_up_to c.read (copied_passes c x) (e (place_of q c.write i)) in
     let child = copies_at c c.read (stored_items q.items) (in_children e) (nth (pass_direction c) (arity q) i) x occurs in
-    next_pending (pass_direction c) level i (children_of c q e) (x, Some copy) others (omega arith) (subst (λ n. slice_get (children_of c q e) (nth (pass_direction c) n i) ≡ Some (x, Some copy)) (sym long) child)
+    next_pending (pass_direction c) level i (children_of c q e) (x, Some copy) others (omega arith)
+    (subst (λ n. slice_get (children_of c q e) (nth (pass_direction c) n i) ≡ Some (x, Some copy)) (sym long) child)
 
-pub after_last : (c : Setting) (q : Production) (e : Table) (i level : ℕ) (others : Pending) → i ≡ arity q → following c q e i level others ≡ others
+pub after_last : (c : Setting) (q : Production) (e : Table) (i level : ℕ) (others : Pending) → i ≡ arity q
+    → following c q e i level others ≡ others
 after_last c q e i level others full =
     let long = copies_length c c.read (stored_items q.items) (copies c c.read (stored_items q.items) (in_children e)) in
-    ap (λ n. following c q e n level others) (full ∙ sym long) ∙ (all_pending (pass_direction c) level (children_of c q e) others).1
+    ap (λ n. following c q e n level others) (full ∙ sym long)
+    ∙ (all_pending (pass_direction c) level (children_of c q e) others).1
 
 -- They are the same for a table with the same copies of earlier passes.
-pub after_same : (c : Setting) (q : Production) (e h : Table) (i level : ℕ) (others : Pending) → copies c c.read (stored_items q.items) (in_children e) ≡ copies c c.read (stored_items q.items) (in_children h) → following c q e i level others ≡ following c q h i level others
-after_same c q e h i level others same = ap (λ cs. before_others (pass_direction c) level (expected.remaining_of (pass_direction c) (children_with_copies true c.grammar c.passes c.read (stored_items q.items) cs) i) others) same
+pub after_same : (c : Setting) (q : Production) (e h : Table) (i level : ℕ) (others : Pending)
+    → copies c c.read (stored_items q.items) (in_children e) ≡ copies c c.read (stored_items q.items) (in_children h)
+    → following c q e i level others ≡ following c q h i level others
+after_same c q e h i level others same =
+    ap
+    (λ cs. before_others (pass_direction c) level
+    (expected.remaining_of (pass_direction c)
+    (children_with_copies true c.grammar c.passes c.read (stored_items q.items) cs) i) others) same
 
 module _ (c : Setting) (sound : IsSound c) where
   dir : pass_direction c ≡ other (direction_of c.read)
   dir = ap direction_of sound.next
 
   -- All children of a node whose record was read.
-  pub of_node_is : (p : ℕ) (q : Production) (e : Table) (level : ℕ) (others : Pending) → IsProduction c.grammar p q → pending_of_child c (slice_get c.grammar.productions p) e level others ≡ before_others (other (direction_of c.read)) level (children_of c q e) others
+  pub of_node_is : (p : ℕ) (q : Production) (e : Table) (level : ℕ) (others : Pending) → IsProduction c.grammar p q
+      → pending_of_child c (slice_get c.grammar.productions p) e level others ≡ before_others (other (direction_of c.read)) level
+      (children_of c q e) others
   of_node_is p q e level others there =
-      ap (λ o. pending_of_child c o e level others) there ∙ ap (λ (xs : List Child). before_others (pass_direction c) level xs others) (all_pending (pass_direction c) level (children_of c q e) others).0
+      ap (λ o. pending_of_child c o e level others) there
+      ∙ ap (λ (xs : List Child). before_others (pass_direction c) level xs others)
+      (all_pending (pass_direction c) level (children_of c q e) others).0
       ∙ ap (λ d. before_others d level (children_of c q e) others) dir
 
   -- A record that does not agree with the copy in its parent's record is not a record of that child.
-  pub differs : (x : Item) (p : ℕ) (body : List ℕ) (old new : List Value) (h : IsRead c x p body old new) (f : ℕ → Value) → (AgreeAt c x f (read_values c x p body old new h) → ⊥)
+  pub differs : (x : Item) (p : ℕ) (body : List ℕ) (old new : List Value) (h : IsRead c x p body old new) (f : ℕ → Value)
+      → (AgreeAt c x f (read_values c x p body old new h) → ⊥)
       → expected.IsNoRecord version_two c.grammar c.passes c.read (x, Some (values_up_to c.read (copied_passes c x) f)) body
   differs (item.Symbol s) p body old new h f apart ys (r, w, e, is, same, matching) =
       let cs = copies c c.read (stored_items h.production.items) h.table in
@@ -119,11 +149,18 @@ module _ (c : Setting) (sound : IsSound c) where
         left = h.left;
         well = λ a n is le. h.well a;
         copies = cs;
-        are_copies = (copies_counted c c.read (stored_items h.production.items) h.table, copies_well c c.read (stored_items h.production.items) h.table h.table_well);
+        are_copies = (
+          copies_counted c c.read (stored_items h.production.items) h.table,
+          copies_well c c.read (stored_items h.production.items) h.table h.table_well,
+        );
         occurs = h.same;
       } in
-      let one = same_node version_two c.grammar c.passes c.read s s p r body h.production w h.values e (fits_version_two c.grammar c.passes sound.accepted sound.legal).0 own is in
-      apart (sym matching ∙ same_values c.read (copied_passes c (item.Symbol s)) e h.values (λ a n at le. sym (one.1 a n (copied_is c (item.Symbol s) a n at) le)))
+      let one =
+      same_node version_two c.grammar c.passes c.read s s p r body h.production w h.values e
+      (fits_version_two c.grammar c.passes sound.accepted sound.legal).0 own is in
+      apart
+      (sym matching ∙ same_values c.read (copied_passes c (item.Symbol s)) e h.values
+      (λ a n at le. sym (one.1 a n (copied_is c (item.Symbol s) a n at) le)))
   differs (item.Terminal (Class d)) p body old new h f apart ys (text, fits, is, same, matching) =
       let t = h.1 in
       let well = well_text text fits.utf8 (let short = fits.short in omega arith) in
@@ -131,33 +168,78 @@ module _ (c : Setting) (sound : IsSound c) where
       apart (sym matching ∙ ap (λ v. v ∷ []) one ∙ sym (text_row c.read t.text))
   differs (item.Terminal (Literal l)) p body old new h f apart ys bad = elim bad [ ]
 
-  missing_breaks : (x : Item) (copy : Option (List Value)) (level : ℕ) (todo : Pending) (found : Result (Option (List ℕ)) FrameFault) → IsMissing c x found → expected.Breaks version_two c.grammar c.passes c.read ((level, (x, copy)) ∷ todo) found
+  missing_breaks : (x : Item) (copy : Option (List Value)) (level : ℕ) (todo : Pending)
+      (found : Result (Option (List ℕ)) FrameFault) → IsMissing c x found
+      → expected.Breaks version_two c.grammar c.passes c.read ((level, (x, copy)) ∷ todo) found
   missing_breaks x copy level todo (Err e) h = tt
   missing_breaks x copy level todo (Ok None) h = tt
   missing_breaks x copy level todo (Ok (Some body)) h = no_record c x body copy h
 
-  pub unfetched : (x : Item) (copy : Option (List Value)) (open_count : ℕ) (content : List ℕ) (state : BackState) (todo : Pending) (f : RunFault) → IsReadable (source c) content → (h : ArrivesAt (source c) content state.progress.at ((suc open_count, (x, copy)) ∷ todo)) → state.progress.records ≡ length h.bodies
+  pub unfetched : (x : Item) (copy : Option (List Value)) (open_count : ℕ) (content : List ℕ) (state : BackState) (todo : Pending)
+      (f : RunFault) → IsReadable (source c) content
+      → (h : ArrivesAt (source c) content state.progress.at ((suc open_count, (x, copy)) ∷ todo))
+      → state.progress.records ≡ length h.bodies
       → IsUnfetched c x open_count content state f → IsRunFault c content f
   unfetched x copy n content state todo (fault.Damaged at) readable h count (same, missing, deep, few) =
-      subst (IsDamaged (source c) content) (sym same) (broken (source c) (decidable c sound) content state.progress.at readable ((suc n, (x, copy)) ∷ todo, h, (omega arith, omega arith), missing_breaks x copy (suc n) todo (next_before version_two content state.progress.at) missing))
+      subst (IsDamaged (source c) content) (sym same)
+      (broken (source c) (decidable c sound) content state.progress.at readable (
+        (suc n, (x, copy)) ∷ todo,
+        h,
+        (omega arith, omega arith),
+        missing_breaks x copy (suc n) todo (next_before version_two content state.progress.at) missing,
+      ))
   unfetched x copy n content state todo fault.TooDeep readable h count deep =
-      too_deep (source c) (decidable c sound) content (record { readable = readable; at = state.progress.at; level = suc n; next = (x, copy); others = todo; arrival = h; deep = omega arith })
+      too_deep (source c) (decidable c sound) content
+      (record {
+        readable = readable;
+        at = state.progress.at;
+        level = suc n;
+        next = (x, copy);
+        others = todo;
+        arrival = h;
+        deep = omega arith;
+      })
   unfetched x copy n content state todo fault.TooManyNodes readable h count (many, deep) =
       let most = h.few in
-      too_many (source c) (decidable c sound) content (record { readable = readable; at = state.progress.at; level = suc n; next = (x, copy); others = todo; arrival = h; within = omega arith; full = omega arith })
+      too_many (source c) (decidable c sound) content
+      (record {
+        readable = readable;
+        at = state.progress.at;
+        level = suc n;
+        next = (x, copy);
+        others = todo;
+        arrival = h;
+        within = omega arith;
+        full = omega arith;
+      })
   unfetched x copy n content state todo fault.Device readable h count u = tt
   unfetched x copy n content state todo fault.NoMemory readable h count u = tt
 
   -- A record that was read and does not agree is damage.
-  pub disagreed : (x : Item) (p level : ℕ) (content body : List ℕ) (at : ℕ) (todo : Pending) (old new : List Value) (h : IsRead c x p body old new) (f : ℕ → Value) → (AgreeAt c x f (read_values c x p body old new h) → ⊥) → IsReadable (source c) content
-      → (here : ArrivesAt (source c) content at ((level, (x, Some (values_up_to c.read (copied_passes c x) f))) ∷ todo)) → level ≤ max_depth → length here.bodies < max_nodes → next_before version_two content at ≡ Ok (Some body) → IsDamaged (source c) content at
+  pub disagreed : (x : Item) (p level : ℕ) (content body : List ℕ) (at : ℕ) (todo : Pending) (old new : List Value)
+      (h : IsRead c x p body old new) (f : ℕ → Value) → (AgreeAt c x f (read_values c x p body old new h) → ⊥)
+      → IsReadable (source c) content
+      → (here : ArrivesAt (source c) content at ((level, (x, Some (values_up_to c.read (copied_passes c x) f))) ∷ todo))
+      → level ≤ max_depth → length here.bodies < max_nodes → next_before version_two content at ≡ Ok (Some body)
+      → IsDamaged (source c) content at
   disagreed x p level content body at todo old new h f apart readable here deep few found =
       let first : Pending = (level, (x, Some (values_up_to c.read (copied_passes c x) f))) ∷ todo in
-      broken (source c) (decidable c sound) content at readable (first, here, (deep, few), subst (expected.Breaks version_two c.grammar c.passes c.read first) (sym found) (differs x p body old new h f apart))
+      broken (source c) (decidable c sound) content at readable (
+        first,
+        here,
+        (deep, few),
+        subst (expected.Breaks version_two c.grammar c.passes c.read first) (sym found)
+            (differs x p body old new h f apart),
+      )
 
 -- No frame was found.
-pub frame_unfetched : (c : Setting) (x : Item) (open_count : ℕ) (content : List ℕ) (state : BackState) (view : Option (Bor (List ℕ)) → Option (List ℕ)) (f : FrameFault) → open_count < max_depth → state.progress.records < max_nodes → ReadsAs view (Err f) (next_before version_two content state.progress.at) → IsUnfetched c x open_count content state (run_fault_of_frame f)
-frame_unfetched c x n content state view frame_fault.NotATreeFile deep few exact = absurd (never_no_file version_two content state.progress.at exact)
-frame_unfetched c x n content state view (frame_fault.Damaged at) deep few exact = (damage_is_there version_two content state.progress.at at exact, subst (IsMissing c x) (sym exact) tt, deep, few)
+pub frame_unfetched : (c : Setting) (x : Item) (open_count : ℕ) (content : List ℕ) (state : BackState)
+    (view : Option (Bor (List ℕ)) → Option (List ℕ)) (f : FrameFault) → open_count < max_depth
+    → state.progress.records < max_nodes → ReadsAs view (Err f) (next_before version_two content state.progress.at)
+    → IsUnfetched c x open_count content state (run_fault_of_frame f)
+frame_unfetched c x n content state view frame_fault.NotATreeFile deep few exact =
+    absurd (never_no_file version_two content state.progress.at exact)
+frame_unfetched c x n content state view (frame_fault.Damaged at) deep few exact =
+    (damage_is_there version_two content state.progress.at at exact, subst (IsMissing c x) (sym exact) tt, deep, few)
 frame_unfetched c x n content state view frame_fault.Device deep few exact = tt
 frame_unfetched c x n content state view frame_fault.NoMemory deep few exact = tt

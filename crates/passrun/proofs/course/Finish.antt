@@ -24,26 +24,33 @@ use Rattle.treefile.specs.framing.ExpectedRecords.{Pending}
 use Rattle.passrun.specs.passing.RunInvariant.{Transcript, IsRootReady, below, root_body}
 
 -- One body is read for each node.
-pub count_of : (d : Direction) (g : Grammar) (m : Passes) (k : ℕ) (t : Tree) (v : Valuation) → length (prefix d (bodies_of version_two g m k t v)) ≡ node_count t
+pub count_of : (d : Direction) (g : Grammar) (m : Passes) (k : ℕ) (t : Tree) (v : Valuation)
+    → length (prefix d (bodies_of version_two g m k t v)) ≡ node_count t
 count_of d g m k t v = length-prefix d (bodies_of version_two g m k t v) ∙ bodies_count version_two g m k t v
 
 whole : (d : Direction) (b : BodyTree) → below d b ++ root_body b ∷ [] ≡ postfix d b
 whole d (branch body ts) = refl
 
 -- The pass is done.
-pub finished : (c : Setting) → IsSound c → (root : ℕ) (content to : List ℕ) (values : List Value) (transcript : Transcript) (place count evals : ℕ) (body : List ℕ) (todo : Pending)
-    → (ready : IsRootReady c root values transcript evals todo) → body ≡ root_body (bodies_of version_two c.grammar c.passes c.write ready.tree ready.valuation)
+pub finished : (c : Setting) → IsSound c
+    → (root : ℕ) (content to : List ℕ) (values : List Value) (transcript : Transcript) (place count evals : ℕ) (body : List ℕ)
+    (todo : Pending)
+    → (ready : IsRootReady c root values transcript evals todo)
+    → body ≡ root_body (bodies_of version_two c.grammar c.passes c.write ready.tree ready.valuation)
     → IsBytes content → is_tree_file version_two content ≡ true → pass_of content ≡ c.read
     → ReadsTo version_two content (length content) transcript.read place → next_before version_two content place ≡ Ok None
-    → to ≡ header version_two c.write ++ flat_map frame (transcript.put ++ body ∷ []) → count ≡ length transcript.read → length transcript.read ≤ max_nodes
+    → to ≡ header version_two c.write ++ flat_map frame (transcript.put ++ body ∷ []) → count ≡ length transcript.read
+    → length transcript.read ≤ max_nodes
     → IsPassed c content to count evals
-finished c sound root content to values transcript place count evals body todo ready own bytes is_file pass read end put counted few =
+finished c sound root content to values transcript place count evals body todo ready own bytes is_file pass read end put counted
+    few =
     let t = ready.tree in
     let w = ready.valuation in
     let d = direction_of c.read in
     let bt = bodies_of version_two c.grammar c.passes c.read t w in
     let dir : pass_direction c ≡ other d = ap direction_of sound.next in
-    let back : reverse transcript.read ≡ postfix d bt = ap reverse (ready.ready.read ∙ ap (λ d. prefix d bt) dir ∙ sym (turned d bt)) ∙ reverse-reverse (postfix d bt) in
+    let back : reverse transcript.read ≡ postfix d bt =
+    ap reverse (ready.ready.read ∙ ap (λ d. prefix d bt) dir ∙ sym (turned d bt)) ∙ reverse-reverse (postfix d bt) in
     let n = count_of (pass_direction c) c.grammar c.passes c.read t w in
     let len : length transcript.read ≡ node_count t = ap length ready.ready.read ∙ n in
     record {
@@ -51,14 +58,26 @@ finished c sound root content to values transcript place count evals body todo r
       values = w;
       fits = ready.ready.evaluated.fits;
       from = record {
-        occurs = back_is_file version_two content bytes transcript.read version_two_usable is_file (reads_whole version_two content transcript.read (length content) place read end)
+        occurs =
+            back_is_file version_two content bytes transcript.read version_two_usable is_file
+            (reads_whole version_two content transcript.read (length content) place read end)
             ∙ ap (λ k. file version_two k (reverse transcript.read)) pass ∙ ap (file version_two c.read) back;
-        texts = solves_wider (OfPass c.passes c.write) NoRule c.grammar (λ p q r production rule bad. absurd bad) t w ready.ready.evaluated.solved;
-        well = each_map (WellAt (λ p. p ≤ c.write)) (WellAt (λ p. p ≤ c.read)) c.grammar c.passes (λ ps d e r a p is le. r a p is (let s = sound.next in omega arith)) t w w ready.ready.evaluated.well;
+        texts =
+            solves_wider (OfPass c.passes c.write) NoRule c.grammar
+            (λ p q r production rule bad. absurd bad) t w ready.ready.evaluated.solved;
+        well =
+            each_map (WellAt (λ p. p ≤ c.write)) (WellAt (λ p. p ≤ c.read)) c.grammar c.passes
+            (λ ps d e r a p is le. r a p is (let s = sound.next in omega arith)) t w w ready.ready.evaluated.well;
       };
       written = record {
-        occurs = put ∙ ap (λ xs. header version_two c.write ++ flat_map frame xs) (ap (λ b. transcript.put ++ b ∷ []) own ∙ ap (λ xs. xs ++ root_body (bodies_of version_two c.grammar c.passes c.write t w) ∷ []) ready.ready.put ∙ whole (pass_direction c) (bodies_of version_two c.grammar c.passes c.write t w));
-        texts = solves_wider (OfPass c.passes c.write) NoRule c.grammar (λ p q r production rule bad. absurd bad) t w ready.ready.evaluated.solved;
+        occurs =
+            put ∙ ap (λ xs. header version_two c.write ++ flat_map frame xs)
+            (ap (λ b. transcript.put ++ b ∷ []) own
+            ∙ ap (λ xs. xs ++ root_body (bodies_of version_two c.grammar c.passes c.write t w) ∷ []) ready.ready.put
+            ∙ whole (pass_direction c) (bodies_of version_two c.grammar c.passes c.write t w));
+        texts =
+            solves_wider (OfPass c.passes c.write) NoRule c.grammar
+            (λ p q r production rule bad. absurd bad) t w ready.ready.evaluated.solved;
         well = ready.ready.evaluated.well;
       };
       solved = ready.ready.evaluated.solved;

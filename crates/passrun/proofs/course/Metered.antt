@@ -10,7 +10,9 @@ use Rattle.passrun.specs.passing.Running.{Runs}
 use Rattle.passrun.proofs.course.Counted.{rules_bound}
 use Rattle.passrun.proofs.course.Finish.{count_of}
 
-pub meter_few : (c : Setting) → IsSound c → (honest : Bool) (content : List ℕ) (to_honest : Bool) (to : List ℕ) (meter : ℕ) (m : Machine) → Runs c honest content to_honest to meter m None → (m.begun ≤ meter) × (meter ≤ m.begun + 2 ^ 36)
+pub meter_few : (c : Setting) → IsSound c
+    → (honest : Bool) (content : List ℕ) (to_honest : Bool) (to : List ℕ) (meter : ℕ) (m : Machine)
+    → Runs c honest content to_honest to meter m None → (m.begun ≤ meter) × (meter ≤ m.begun + 2 ^ 36)
 meter_few c sound honest content to_honest to meter m r =
     let h = r.running.invariant in
     let read = ap length h.ready.read in
@@ -29,6 +31,7 @@ pub on_ok_more : (P Q : Type 0) (r : Result Passed RunFault) → (P → Q) → O
 on_ok_more P Q (Ok p) go h = go h
 on_ok_more P Q (Err f) go h = tt
 
-pub on_err : (P : Type 0) (Q : RunFault → Type 0) (r : Result Passed RunFault) → ((f : RunFault) → Q f → P) → IfErr r Q → OnErr r P
+pub on_err : (P : Type 0) (Q : RunFault → Type 0) (r : Result Passed RunFault) → ((f : RunFault) → Q f → P) → IfErr r Q
+    → OnErr r P
 on_err P Q (Ok p) go h = h
 on_err P Q (Err f) go h = go f h

@@ -2,7 +2,8 @@
 use Rattle.std.specs.Global.{Vec}
 use Rattle.std.specs.Option.{option_to_list}
 use Rattle.std.specs.Prelude.{slice_index_or}
-use Rattle.std.proofs.Common.{ℕ, zero, suc, ◌≡◌, ◌+◌, ◌*◌, ◌-◌, ◌<◌, ◌≤◌, ◌⊎◌, inl, inr, Bool, true, false, if◌then◌else◌, List, [], ◌∷◌, ◌++◌, Option, Some, None, slice_get, drop, length, reverse, refl, ap, ◌∙◌, sym, arith}
+use Rattle.std.proofs.Common.{ℕ, zero, suc, ◌≡◌, ◌+◌, ◌*◌, ◌-◌, ◌<◌, ◌≤◌, ◌⊎◌, inl, inr, Bool, true, false, if◌then◌else◌, List}
+use Rattle.std.proofs.Common.{[], ◌∷◌, ◌++◌, Option, Some, None, slice_get, drop, length, reverse, refl, ap, ◌∙◌, sym, arith}
 use Rattle.std.proofs.lemmas.List.{reverse-append}
 use Rattle.ag_value.specs.declared.value.Value.{Value}
 use Rattle.ag_grammar.specs.declared.grammar.Item.{Item}
@@ -39,7 +40,8 @@ list_within (row ∷ rows) zero k = omega arith
 list_within (row ∷ rows) (suc p) k = let h = list_within rows p k in omega arith
 
 -- One instruction fewer remains.
-fewer : (c : Setting) (x : OpenNode) (z : Instr) → slice_get (list_at c x.production) x.at ≡ Some z → length (rest_of c x) ≡ suc (length (drop (x.at + 1) (list_at c x.production)))
+fewer : (c : Setting) (x : OpenNode) (z : Instr) → slice_get (list_at c x.production) x.at ≡ Some z
+    → length (rest_of c x) ≡ suc (length (drop (x.at + 1) (list_at c x.production)))
 fewer c x z at = ap length (next_is (list_at c x.production) x.at z at)
 
 going_most : (c : Setting) (next : Option OpenNode) → reserved_work c next ≤ node_cost c
@@ -60,9 +62,13 @@ one_less b n h = let e : n ≡ suc (n - 1) = omega arith in ap (λ n. b * n) e �
     mul_suc b n = omega arith
 
 module _ (c : Setting) (sound : IsSound c) where
-  pub got_less : (m : Machine) (back : BackState) (values : Vec Value) (read : List Value) (honest : Bool) (content : List ℕ) (x next : OpenNode) (j p n : ℕ) (x' : Item)
-      → slice_get (list_at c x.production) x.at ≡ Some (instr.Get j) → HasFetched c x' p n honest content m.back back m.values.items read → next ≡ after_step x p
-      → measure c (record { back = back; writer = m.writer; values = values; waiting = m.waiting; root = m.root; begun = m.begun }) (Some next) < measure c m (Some x)
+  pub got_less : (m : Machine) (back : BackState) (values : Vec Value) (read : List Value) (honest : Bool) (content : List ℕ)
+      (x next : OpenNode) (j p n : ℕ) (x' : Item)
+      → slice_get (list_at c x.production) x.at ≡ Some (instr.Get j)
+      → HasFetched c x' p n honest content m.back back m.values.items read → next ≡ after_step x p
+      → measure c
+      (record { back = back; writer = m.writer; values = values; waiting = m.waiting; root = m.root; begun = m.begun })
+      (Some next) < measure c m (Some x)
   got_less m back values read honest content x next j p n x' at h on =
       let r = ap (λ g. g.records) h.progress in
       let few = h.few in
@@ -74,45 +80,69 @@ module _ (c : Setting) (sound : IsSound c) where
       let d = ap (λ n. node_cost c * n) e in
       omega arith
 
-  pub put_less : (m : Machine) (out : writing.Progress) (x next : OpenNode) (j : ℕ) → RunsSomehow c m (Some x) → slice_get (list_at c x.production) x.at ≡ Some (instr.Put j) → next ≡ after_step x x.child
-      → measure c (record { back = m.back; writer = out; values = m.values; waiting = m.waiting; root = m.root; begun = m.begun }) (Some next) < measure c m (Some x)
+  pub put_less : (m : Machine) (out : writing.Progress) (x next : OpenNode) (j : ℕ) → RunsSomehow c m (Some x)
+      → slice_get (list_at c x.production) x.at ≡ Some (instr.Put j) → next ≡ after_step x x.child
+      → measure c (record { back = m.back; writer = out; values = m.values; waiting = m.waiting; root = m.root; begun = m.begun })
+      (Some next) < measure c m (Some x)
   put_less m out x next j (honest, content, to_honest, to, meter, r) at on =
       let l = fewer c x (instr.Put j) at in
       let k = ap (λ next. length (rest_of c next)) on in
-      let g = going_none c next (ap (λ next. goes_next (rest_of c next)) on ∙ put_stays c sound m.root x (reverse m.waiting.items) m.values.items r.running.transcript (meter - m.begun) r.running.todo j at r.running.invariant) in
+      let g =
+      going_none c next (ap (λ next. goes_next (rest_of c next)) on
+      ∙ put_stays c sound m.root x (reverse m.waiting.items) m.values.items r.running.transcript
+      (meter - m.begun) r.running.todo j at r.running.invariant) in
       omega arith
 
-  pub given_less : (m : Machine) (values : Vec Value) (x next : OpenNode) (rule : ℕ) → RunsRuleNext c x rule → next ≡ after_step x x.child
-      → measure c (record { back = m.back; writer = m.writer; values = values; waiting = m.waiting; root = m.root; begun = m.begun }) (Some next) < measure c m (Some x)
+  pub given_less : (m : Machine) (values : Vec Value) (x next : OpenNode) (rule : ℕ) → RunsRuleNext c x rule
+      → next ≡ after_step x x.child
+      → measure c
+      (record { back = m.back; writer = m.writer; values = values; waiting = m.waiting; root = m.root; begun = m.begun })
+      (Some next) < measure c m (Some x)
   given_less m values x next rule (j, a, z, giving, at) on =
       let l = fewer c x z at in
       let k = ap (λ next. length (rest_of c next)) on in
-      let same : goes_next (drop (x.at + 1) (list_at c x.production)) ≡ goes_next (rest_of c x) = go z giving ∙ sym (ap goes_next (next_is (list_at c x.production) x.at z at)) in
-      let g : reserved_work c (Some next) ≡ reserved_work c (Some x) = ap (λ next. reserved_work c (Some next)) on ∙ ap (λ b. if b then node_cost c else 0) same in
+      let same : goes_next (drop (x.at + 1) (list_at c x.production)) ≡ goes_next (rest_of c x) =
+      go z giving ∙ sym (ap goes_next (next_is (list_at c x.production) x.at z at)) in
+      let g : reserved_work c (Some next) ≡ reserved_work c (Some x) =
+      ap (λ next. reserved_work c (Some next)) on ∙ ap (λ b. if b then node_cost c else 0) same in
       omega arith
     where
-      go : (z : Instr) → (z ≡ instr.Set j a rule) ⊎ ((z ≡ instr.Def a rule) × (j ≡ 0)) → goes_next (drop (x.at + 1) (list_at c x.production)) ≡ goes_next (z ∷ drop (x.at + 1) (list_at c x.production))
+      go : (z : Instr) → (z ≡ instr.Set j a rule) ⊎ ((z ≡ instr.Def a rule) × (j ≡ 0))
+          → goes_next (drop (x.at + 1) (list_at c x.production)) ≡ goes_next (z ∷ drop (x.at + 1) (list_at c x.production))
       go z (inl e) = ap (λ z. goes_next (z ∷ drop (x.at + 1) (list_at c x.production))) (sym e)
       go z (inr e) = ap (λ z. goes_next (z ∷ drop (x.at + 1) (list_at c x.production))) (sym e.0)
 
-  pub entered_less : (m : Machine) (waiting : Vec OpenNode) (x child : OpenNode) (j : ℕ) → RunsSomehow c m (Some x) → slice_get (list_at c x.production) x.at ≡ Some (instr.Go j)
+  pub entered_less : (m : Machine) (waiting : Vec OpenNode) (x child : OpenNode) (j : ℕ) → RunsSomehow c m (Some x)
+      → slice_get (list_at c x.production) x.at ≡ Some (instr.Go j)
       → child.production ≡ x.child → child.at ≡ 0 → waiting.items ≡ m.waiting.items ++ left_at x j ∷ []
-      → measure c (record { back = m.back; writer = m.writer; values = m.values; waiting = waiting; root = m.root; begun = m.begun }) (Some child) < measure c m (Some x)
+      → measure c
+      (record { back = m.back; writer = m.writer; values = m.values; waiting = waiting; root = m.root; begun = m.begun })
+      (Some child) < measure c m (Some x)
   entered_less m waiting x child j (honest, content, to_honest, to, meter, r) at is first pushed =
       let l = fewer c x (instr.Go j) at in
-      let stack : reverse waiting.items ≡ left_at x j ∷ reverse m.waiting.items = ap reverse pushed ∙ reverse-append m.waiting.items (left_at x j ∷ []) in
+      let stack : reverse waiting.items ≡ left_at x j ∷ reverse m.waiting.items =
+      ap reverse pushed ∙ reverse-append m.waiting.items (left_at x j ∷ []) in
       let n = ap (remaining_work c) stack in
-      let here : reserved_work c (Some x) ≡ node_cost c = ap (λ xs. if goes_next xs then node_cost c else 0) (next_is (list_at c x.production) x.at (instr.Go j) at) in
-      let h = child_of c sound x (reverse m.waiting.items) m.values.items j at (m.root, r.running.transcript, meter - m.begun, r.running.todo, r.running.invariant) in
-      let rest : rest_of c child ≡ list_at c x.child = ap (λ p. drop child.at (list_at c p)) is ∙ ap (λ n. drop n (list_at c x.child)) first in
-      let g = going_none c child (ap goes_next rest ∙ goes_nowhere c h.production start (list_at c x.child) (λ e. let bad : ⊥ = cc in bad) (sound.course x.child h.production h.there)) in
+      let here : reserved_work c (Some x) ≡ node_cost c =
+      ap (λ xs. if goes_next xs then node_cost c else 0) (next_is (list_at c x.production) x.at (instr.Go j) at) in
+      let h =
+      child_of c sound x (reverse m.waiting.items) m.values.items j at
+      (m.root, r.running.transcript, meter - m.begun, r.running.todo, r.running.invariant) in
+      let rest : rest_of c child ≡ list_at c x.child =
+      ap (λ p. drop child.at (list_at c p)) is ∙ ap (λ n. drop n (list_at c x.child)) first in
+      let g =
+      going_none c child (ap goes_next rest
+      ∙ goes_nowhere c h.production start (list_at c x.child) (λ e. let bad : ⊥ = cc in bad)
+      (sound.course x.child h.production h.there)) in
       let w = list_within c.code x.child c.read in
       let k = ap length rest in
       omega arith
 
-  pub ended_less : (m : Machine) (values : Vec Value) (waiting : Vec OpenNode) (out : writing.Progress) (x : OpenNode) (result : Option OpenNode) → RunsSomehow c m (Some x)
+  pub ended_less : (m : Machine) (values : Vec Value) (waiting : Vec OpenNode) (out : writing.Progress) (x : OpenNode)
+      (result : Option OpenNode) → RunsSomehow c m (Some x)
       → m.waiting.items ≡ waiting.items ++ option_to_list result → (result ≡ None → length m.waiting.items ≡ 0)
-      → measure c (record { back = m.back; writer = out; values = values; waiting = waiting; root = m.root; begun = m.begun }) result < measure c m (Some x)
+      → measure c (record { back = m.back; writer = out; values = values; waiting = waiting; root = m.root; begun = m.begun })
+      result < measure c m (Some x)
   ended_less m values waiting out x result (honest, content, to_honest, to, meter, r) popped_is none =
       let stack = popped result m.waiting.items waiting.items popped_is none in
       let n = ap (remaining_work c) stack in
@@ -121,4 +151,7 @@ module _ (c : Setting) (sound : IsSound c) where
     where
       is_open : (result : Option OpenNode) → reverse m.waiting.items ≡ stack_of result waiting.items → reserved_work c result ≡ 0
       is_open None e = refl
-      is_open (Some y) e = going_none c y (waits_stay c sound m.root x (reverse m.waiting.items) m.values.items r.running.transcript (meter - m.begun) r.running.todo y (reverse waiting.items) e r.running.invariant)
+      is_open (Some y) e =
+          going_none c y
+          (waits_stay c sound m.root x (reverse m.waiting.items) m.values.items r.running.transcript
+          (meter - m.begun) r.running.todo y (reverse waiting.items) e r.running.invariant)

@@ -4,6 +4,8 @@ use Rattle.passrun.specs.Laws.{PlansCanRun}
 
 pub plans_can_run : PlansCanRun
 plans_can_run context passes accepted plan greatest one most layout = record {
-  sound = plans_are_sound context.grammar.now context.plan.now.0 context.plan.now.1 passes context.pass accepted plan greatest one most;
+  sound =
+      plans_are_sound context.grammar.now context.plan.now.0 context.plan.now.1 passes context.pass accepted plan greatest one
+      most;
   layout = layout;
 }

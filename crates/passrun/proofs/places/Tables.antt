@@ -1,5 +1,6 @@
 -- A table with one value changed, and the values of its rows.
-use Rattle.std.proofs.Common.{ℕ, zero, suc, ◌≡◌, ◌≤◌, Bool, true, false, ◌&&◌, nat_eq, nat_le, cond, if◌then◌else◌, All, ◌≢◌, List, [], ◌∷◌, ◌++◌, Some, slice_get, refl, ap, ◌∙◌, sym, subst, arith}
+use Rattle.std.proofs.Common.{ℕ, zero, suc, ◌≡◌, ◌≤◌, Bool, true, false, ◌&&◌, nat_eq, nat_le, cond, if◌then◌else◌, All, ◌≢◌}
+use Rattle.std.proofs.Common.{List, [], ◌∷◌, ◌++◌, Some, slice_get, refl, ap, ◌∙◌, sym, subst, arith}
 use Rattle.std.proofs.lemmas.Bool.{leb-true, le-leb, eqb-true, eq-eqb}
 use Rattle.std.proofs.lemmas.List.Elements.{All-cons, All-head, All-nil, All-tail}
 use Rattle.ag_value.specs.declared.value.Value.{Value, Text}
@@ -27,13 +28,15 @@ set_other e j a v i b h = go (nat_eq i j) refl
     go false z = refl
     go true z = second (nat_eq b a) z refl
 
-pub set_target : (e : Table) (j a : ℕ) (v : Value) (o t : Target) → t ≡ record { place = j; attr = a } → (o ≡ t → ⊥) → set e j a v o.place o.attr ≡ e o.place o.attr
+pub set_target : (e : Table) (j a : ℕ) (v : Value) (o t : Target) → t ≡ record { place = j; attr = a } → (o ≡ t → ⊥)
+    → set e j a v o.place o.attr ≡ e o.place o.attr
 set_target e j a v o t is h = set_other e j a v o.place o.attr (λ both.
     let x = both.0 in
     let y = both.1 in
     h (ap (λ j. record { place = j; attr = o.attr }) x ∙ ap (λ b. record { place = j; attr = b }) y ∙ sym is))
 
-value_same : (p k : ℕ) (x y : Value) (xs ys : List Value) → (p ≤ k → x ≡ y) → xs ≡ ys → (if nat_le p k then x ∷ [] else []) ++ xs ≡ (if nat_le p k then y ∷ [] else []) ++ ys
+value_same : (p k : ℕ) (x y : Value) (xs ys : List Value) → (p ≤ k → x ≡ y) → xs ≡ ys
+    → (if nat_le p k then x ∷ [] else []) ++ xs ≡ (if nat_le p k then y ∷ [] else []) ++ ys
 value_same p k x y xs ys h e = go (nat_le p k) refl
   where
     go : (b : Bool) → nat_le p k ≡ b → (if b then x ∷ [] else []) ++ xs ≡ (if b then y ∷ [] else []) ++ ys
@@ -41,9 +44,11 @@ value_same p k x y xs ys h e = go (nat_le p k) refl
     go true z = let s : x ≡ y = h (leb-true p k z) in cc
 
 -- Only the values of passes up to k determine a row.
-pub same_values : (k : ℕ) (ps : List ℕ) (f h : ℕ → Value) → ((a p : ℕ) → slice_get ps a ≡ Some p → p ≤ k → f a ≡ h a) → values_up_to k ps f ≡ values_up_to k ps h
+pub same_values : (k : ℕ) (ps : List ℕ) (f h : ℕ → Value) → ((a p : ℕ) → slice_get ps a ≡ Some p → p ≤ k → f a ≡ h a)
+    → values_up_to k ps f ≡ values_up_to k ps h
 same_values k [] f h e = refl
-same_values k (p ∷ ps) f h e = value_same p k (f 0) (h 0) (values_up_to k ps (λ a. f (suc a))) (values_up_to k ps (λ a. h (suc a))) (e 0 p refl)
+same_values k (p ∷ ps) f h e =
+    value_same p k (f 0) (h 0) (values_up_to k ps (λ a. f (suc a))) (values_up_to k ps (λ a. h (suc a))) (e 0 p refl)
     (same_values k ps (λ a. f (suc a)) (λ a. h (suc a)) (λ a. e (suc a)))
 
 -- The table with the values at one place replaced.
@@ -61,21 +66,30 @@ with_other e j f i a h = go (nat_eq i j) refl
     go true z = absurd (h (eqb-true i j z))
 
 -- A value in a row has the property that all values of the row have.
-value_has : (P : Value → Type 0) (p k : ℕ) (x : Value) (xs : List Value) → All P ((if nat_le p k then x ∷ [] else []) ++ xs) → (p ≤ k → P x) × All P xs
+value_has : (P : Value → Type 0) (p k : ℕ) (x : Value) (xs : List Value) → All P ((if nat_le p k then x ∷ [] else []) ++ xs)
+    → (p ≤ k → P x) × All P xs
 value_has P p k x xs h = go (nat_le p k) refl h
   where
     go : (b : Bool) → nat_le p k ≡ b → All P ((if b then x ∷ [] else []) ++ xs) → (p ≤ k → P x) × All P xs
     go false z h = ((λ l. let y = le-leb p k l in absurd (cc)), h)
     go true z h = ((λ l. All-head P x xs h), All-tail P x xs h)
 
-pub in_row : (P : Value → Type 0) (k : ℕ) (ps : List ℕ) (f : ℕ → Value) → All P (values_up_to k ps f) → (a p : ℕ) → slice_get ps a ≡ Some p → p ≤ k → P (f a)
+pub in_row : (P : Value → Type 0) (k : ℕ) (ps : List ℕ) (f : ℕ → Value) → All P (values_up_to k ps f) → (a p : ℕ)
+    → slice_get ps a ≡ Some p → p ≤ k → P (f a)
 in_row P k [] f h a p at le = cc
-in_row P k (x ∷ ps) f h zero p at le = let e : x ≡ p = cc in (value_has P x k (f 0) (values_up_to k ps (λ a. f (suc a))) h).0 (subst (λ p. p ≤ k) (sym e) le)
-in_row P k (x ∷ ps) f h (suc a) p at le = in_row P k ps (λ a. f (suc a)) (value_has P x k (f 0) (values_up_to k ps (λ a. f (suc a))) h).1 a p at le
+in_row P k (x ∷ ps) f h zero p at le = let e : x ≡ p = cc in
+    (value_has P x k (f 0) (values_up_to k ps (λ a. f (suc a))) h).0 (subst (λ p. p ≤ k) (sym e) le)
+in_row P k (x ∷ ps) f h (suc a) p at le =
+    in_row P k ps (λ a. f (suc a)) (value_has P x k (f 0) (values_up_to k ps (λ a. f (suc a))) h).1 a p at le
 
 -- Equal values of passes up to k make the same record.
-pub body_same : (k : ℕ) (g : Grammar) (m : Passes) (p s : ℕ) (f h : ℕ → Value) (cs : List Value) → left_passes m (slice_get g.productions p) ≡ m s → ((a n : ℕ) → slice_get (m s) a ≡ Some n → n ≤ k → f a ≡ h a) → node_body version_two g m k p f cs ≡ node_body version_two g m k p h cs
-body_same k g m p s f h cs is same = ap (λ vs. body_of Node p (vs ++ cs)) (same_values k (left_passes m (slice_get g.productions p)) f h (λ a n at le. same a n (subst (λ ps. slice_get ps a ≡ Some n) is at) le))
+pub body_same : (k : ℕ) (g : Grammar) (m : Passes) (p s : ℕ) (f h : ℕ → Value) (cs : List Value)
+    → left_passes m (slice_get g.productions p) ≡ m s → ((a n : ℕ) → slice_get (m s) a ≡ Some n → n ≤ k → f a ≡ h a)
+    → node_body version_two g m k p f cs ≡ node_body version_two g m k p h cs
+body_same k g m p s f h cs is same =
+    ap (λ vs. body_of Node p (vs ++ cs))
+    (same_values k (left_passes m (slice_get g.productions p)) f h
+    (λ a n at le. same a n (subst (λ ps. slice_get ps a ≡ Some n) is at) le))
 
 -- The row of a token.
 pub text_row : (k : ℕ) (text : List ℕ) → values_up_to k (0 ∷ []) (λ a. Text text) ≡ Text text ∷ []

@@ -10,7 +10,8 @@ use Rattle.passrun.specs.passing.Ahead.{goes_next}
 
 -- If no record was read since the pass left a child, or since the node's own record was read, the pass enters
 -- no child before it reads the next record.
-pub goes_nowhere : (c : Setting) (q : Production) (state : State) (xs : List Instr) → (state.phase ≡ Got → ⊥) → Runs c.passes q c.write state xs → goes_next xs ≡ false
+pub goes_nowhere : (c : Setting) (q : Production) (state : State) (xs : List Instr) → (state.phase ≡ Got → ⊥)
+    → Runs c.passes q c.write state xs → goes_next xs ≡ false
 goes_nowhere c q state [] apart runs = refl
 goes_nowhere c q state (instr.Get j ∷ xs) apart runs = refl
 goes_nowhere c q state (instr.Set j a r ∷ xs) apart runs = absurd (apart runs.0.0.phase_is)

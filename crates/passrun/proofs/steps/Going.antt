@@ -1,5 +1,6 @@
 -- Entering a child.
-use Rattle.std.proofs.Common.{ℕ, ◌≡◌, ◌-◌, ◌≤◌, List, [], ◌∷◌, ◌++◌, Some, slice_get, length, reverse, ap, ◌∙◌, sym, subst, arith, length-append}
+use Rattle.std.proofs.Common.{ℕ, ◌≡◌, ◌-◌, ◌≤◌, List, [], ◌∷◌, ◌++◌, Some, slice_get, length, reverse, ap, ◌∙◌, sym, subst, arith}
+use Rattle.std.proofs.Common.{length-append}
 use Rattle.std.proofs.lemmas.List.{reverse-append}
 use Rattle.ag_value.specs.declared.value.Value.{Value}
 use Rattle.ag_grammar.specs.declared.grammar.Production.{Production}
@@ -22,7 +23,8 @@ pub record HasChild (c : Setting) (p : ℕ) (values : List Value) : Type 0 where
   pub there : IsProduction c.grammar p production
   pub width : stored_width c production ≤ length values
 
-pub child_of : (c : Setting) → IsSound c → (x : OpenNode) (xs : List OpenNode) (values : List Value) (j : ℕ) → slice_get (list_at c x.production) x.at ≡ Some (instr.Go j) → IsConsistent c (x ∷ xs) values → HasChild c x.child values
+pub child_of : (c : Setting) → IsSound c → (x : OpenNode) (xs : List OpenNode) (values : List Value) (j : ℕ)
+    → slice_get (list_at c x.production) x.at ≡ Some (instr.Go j) → IsConsistent c (x ∷ xs) values → HasChild c x.child values
 child_of c sound x xs values j at (root, t, now, todo, (s, f, under, old, before, others, waits, ph, here)) =
     let o = at_go here j at in
     let q = o.production in
@@ -35,12 +37,14 @@ child_of c sound x xs values j at (root, t, now, todo, (s, f, under, old, before
     let e = ap length o.values_are in
     record { production = g.production; there = g.there; width = omega arith }
 
-pub goes : (c : Setting) → IsSound c → (x : OpenNode) (old new : List OpenNode) (values : List Value) (j width : ℕ) → slice_get (list_at c x.production) x.at ≡ Some (instr.Go j)
+pub goes : (c : Setting) → IsSound c → (x : OpenNode) (old new : List OpenNode) (values : List Value) (j width : ℕ)
+    → slice_get (list_at c x.production) x.at ≡ Some (instr.Go j)
     → ((q : Production) → IsProduction c.grammar x.child q → width ≡ stored_width c q) → new ≡ old ++ left_at x j ∷ []
     → ContinuesAs c (x ∷ reverse old) values (first_at x.child (length values - width) ∷ reverse new) values
 goes c sound x old new values j width at is pushed root t now todo h =
     let child = child_of c sound x (reverse old) values j at (root, t, now, todo, h) in
-    subst (λ ys. RunInvariant c root (first_at x.child (length values - width) ∷ ys) values t now todo) (sym (ap reverse pushed ∙ reverse-append old (left_at x j ∷ [])))
+    subst (λ ys. RunInvariant c root (first_at x.child (length values - width) ∷ ys) values t now todo)
+    (sym (ap reverse pushed ∙ reverse-append old (left_at x j ∷ [])))
     (step_go c sound root x (reverse old) values t now todo j (length values - width) at (λ q there.
     let same : Some child.production ≡ Some q = sym child.there ∙ there in
     let one : child.production ≡ q = cc in

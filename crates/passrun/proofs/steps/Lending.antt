@@ -10,5 +10,6 @@ one_well [] i d h w = w
 one_well (x ∷ xs) zero d h w = All-head IsWell x xs h
 one_well (x ∷ xs) (suc i) d h w = one_well xs i d (All-tail IsWell x xs h) w
 
-pub are_well : (n : ℕ) (xs : List Value) (slots : List ℕ) (d : Value) → All IsWell xs → IsWell d → AreWell n (λ k. get_or xs (slice_index slots k) d)
+pub are_well : (n : ℕ) (xs : List Value) (slots : List ℕ) (d : Value) → All IsWell xs → IsWell d
+    → AreWell n (λ k. get_or xs (slice_index slots k) d)
 are_well n xs slots d h w = record { well = λ k less. one_well xs (slice_index slots k) d h w }

@@ -2,7 +2,9 @@
 use Rattle.std.specs.Global.{Vec}
 use Rattle.std.specs.Option.{option_to_list}
 use Rattle.std.specs.Prelude.{IfOk, IsTrue, MatchOption}
-use Rattle.std.proofs.Common.{ℕ, suc, zero, ◌≡◌, ◌+◌, ◌-◌, ◌^◌, ◌<◌, ◌≤◌, nat_le, if◌then◌else◌, false, Bool, List, [], ◌∷◌, ◌++◌, Option, Some, None, Result, Ok, Err, All, slice_get, slice_index, get_or, length, take, drop, reverse, set, refl, ap, ◌∙◌, sym, subst, arith, append_assoc, append-nil, true}
+use Rattle.std.proofs.Common.{ℕ, suc, zero, ◌≡◌, ◌+◌, ◌-◌, ◌^◌, ◌<◌, ◌≤◌, nat_le, if◌then◌else◌, false, Bool, List, [], ◌∷◌, ◌++◌}
+use Rattle.std.proofs.Common.{Option, Some, None, Result, Ok, Err, All, slice_get, slice_index, get_or, length, take, drop}
+use Rattle.std.proofs.Common.{reverse, set, refl, ap, ◌∙◌, sym, subst, arith, append_assoc, append-nil, true}
 use Rattle.std.proofs.lemmas.Bool.{le-leb}
 use Rattle.std.proofs.lemmas.Option.{slice_get-get_or, slice_get_within}
 use Rattle.std.proofs.lemmas.List.{drop_at, length-reverse, reverse-append}
@@ -39,7 +41,8 @@ use Rattle.passrun.specs.passing.RunInvariant.{ContinuesAs, IsConsistent, RunInv
 use Rattle.passrun.specs.passing.Places.{copied_passes, copies, kept_values}
 use Rattle.passrun.specs.passing.Putting.{HasPut}
 use Rattle.passrun.specs.reading.Reading.{Agrees, IsRead, read_values}
-use Rattle.passrun.specs.passing.Running.{RunsRuleNext, RunsAt, RunsFrom, RunsSomehow, Leads, LeadsAt, LeadsFrom, LeadsTo, stack_of}
+use Rattle.passrun.specs.passing.Running.{RunsRuleNext, RunsAt, RunsFrom, RunsSomehow, Leads, LeadsAt, LeadsFrom, LeadsTo}
+use Rattle.passrun.specs.passing.Running.{stack_of}
 use Rattle.passrun.specs.layouts.Slots.{copied_width, copy_start, known_width, target_slot}
 use Rattle.treefile.proofs.records.Values.{count_of_values}
 use Rattle.passrun.proofs.places.Agreeing.{Agree}
@@ -58,7 +61,9 @@ abbrev pub Answers : Setting → OpenNode → ℕ → Option PlaceRow → Type 0
 Answers c x j answer = (q : Production) → IsProduction c.grammar x.production q → answer ≡ slice_get (place_rows c q) j
 
 -- Two rows agree by the passes of the copies.
-pub agrees_by : (g : Grammar) (plan : List (List ℕ) × Lists) (k : ℕ) (x : Item) (ps : List ℕ) (ours theirs : List Value) (answer : Bool) → ps ≡ copied_passes (setting_of g plan k) x → Agree ps k ours theirs (IsTrue answer) → Agrees (setting_of g plan k) x ours theirs answer
+pub agrees_by : (g : Grammar) (plan : List (List ℕ) × Lists) (k : ℕ) (x : Item) (ps : List ℕ) (ours theirs : List Value)
+    (answer : Bool) → ps ≡ copied_passes (setting_of g plan k) x → Agree ps k ours theirs (IsTrue answer)
+    → Agrees (setting_of g plan k) x ours theirs answer
 agrees_by g plan k x ps ours theirs answer is h = subst (λ (ps : List ℕ). Agree ps k ours theirs (IsTrue answer)) is h
 
 -- Two rows agree if no earlier pass computed a copied value.
@@ -66,25 +71,39 @@ pub nothing_read : (c : Setting) (x : Item) (ours theirs : List Value) → known
 nothing_read c x ours theirs none f h rest others ours_are theirs_are = ((λ yes. nothing f ∙ sym (nothing h)), (λ same. refl))
   where
     nothing : (f : ℕ → Value) → values_up_to c.read (copied_passes c x) f ≡ []
-    nothing f = empty_is (values_up_to c.read (copied_passes c x) f) (let n = count_of_values c.read (copied_passes c x) f in omega arith)
+    nothing f =
+        empty_is (values_up_to c.read (copied_passes c x) f) (let n = count_of_values c.read (copied_passes c x) f in omega arith)
 
 -- The row that was read begins with the copied values.
-pub begins_so : (c : Setting) (x : Item) (p : ℕ) (body : List ℕ) (old new : List Value) (h : IsRead c x p body old new) → (others : List Value) × (drop (length old) new ≡ values_up_to c.write (copied_passes c x) (read_values c x p body old new h) ++ others)
+pub begins_so : (c : Setting) (x : Item) (p : ℕ) (body : List ℕ) (old new : List Value) (h : IsRead c x p body old new)
+    → (others : List Value)
+    × (drop (length old) new ≡ values_up_to c.write (copied_passes c x) (read_values c x p body old new h) ++ others)
 begins_so c (item.Symbol s) p body old new h =
     let begins = begins_with_copy c (item.Symbol s) h.values in
     let share = values_up_to c.write (copied_passes c (item.Symbol s)) h.values in
-    let copied = copies c c.write (stored_items h.production.items) h.table in
-    (begins.0 ++ copied, ap (drop (length old)) h.row ∙ drop_at old (values_up_to c.write (c.passes s) h.values ++ copied) (length old) refl ∙ ap (λ vs. vs ++ copied) begins.1 ∙ append_assoc share begins.0 copied)
-begins_so c (item.Terminal (Class d)) p body old new h =
-    ([], ap (drop (length old)) h.1.row ∙ drop_at old (Text h.1.text ∷ []) (length old) refl ∙ sym (text_row c.write h.1.text) ∙ sym (append-nil (values_up_to c.write (0 ∷ []) (λ a. Text h.1.text))))
+    let copied = copies c c.write (stored_items h.production.items) h.table in (
+      begins.0 ++ copied,
+      ap (drop (length old)) h.row ∙ drop_at old (values_up_to c.write (c.passes s) h.values ++ copied) (length old) refl
+          ∙ ap (λ vs. vs ++ copied) begins.1 ∙ append_assoc share begins.0 copied,
+    )
+begins_so c (item.Terminal (Class d)) p body old new h = (
+  [],
+  ap (drop (length old)) h.1.row ∙ drop_at old (Text h.1.text ∷ []) (length old) refl ∙ sym (text_row c.write h.1.text)
+      ∙ sym (append-nil (values_up_to c.write (0 ∷ []) (λ a. Text h.1.text))),
+)
 begins_so c (item.Terminal (Literal l)) p body old new h = elim h [ ]
 
 -- The values that agree.
-pub has_agreed : (c : Setting) (q : Production) (x : OpenNode) (j : ℕ) (x' : Item) (p : ℕ) (body : List ℕ) (old new ours theirs : List Value) (from start : ℕ) (answer : Bool) (h : IsRead c x' p body old new) → Agrees c x' ours theirs answer → IsTrue answer
-    → ours ≡ drop from new → theirs ≡ drop start new → from ≡ x.base + copy_start c q j → start ≡ length old → HasAgreed c q x j x' new (read_values c x' p body old new h)
-has_agreed c q x j x' p body old new ours theirs from start answer h agrees true_is ours_are theirs_are from_is start_is f rest prefix =
+pub has_agreed : (c : Setting) (q : Production) (x : OpenNode) (j : ℕ) (x' : Item) (p : ℕ) (body : List ℕ)
+    (old new ours theirs : List Value) (from start : ℕ) (answer : Bool) (h : IsRead c x' p body old new)
+    → Agrees c x' ours theirs answer → IsTrue answer
+    → ours ≡ drop from new → theirs ≡ drop start new → from ≡ x.base + copy_start c q j → start ≡ length old
+    → HasAgreed c q x j x' new (read_values c x' p body old new h)
+has_agreed c q x j x' p body old new ours theirs from start answer h agrees true_is ours_are theirs_are from_is start_is f rest
+    prefix =
     let back = begins_so c x' p body old new h in
-    (agrees f (read_values c x' p body old new h) rest back.0 (ours_are ∙ ap (λ n. drop n new) from_is ∙ prefix) (theirs_are ∙ ap (λ n. drop n new) start_is ∙ back.1)).0 true_is
+    (agrees f (read_values c x' p body old new h) rest back.0 (ours_are ∙ ap (λ n. drop n new) from_is ∙ prefix)
+    (theirs_are ∙ ap (λ n. drop n new) start_is ∙ back.1)).0 true_is
 
 -- An item that is not a terminal is a symbol.
 pub symbol_there : (x : Item) → ((t : Terminal) → x ≡ item.Terminal t → ⊥) → (s : ℕ) × (x ≡ item.Symbol s)
@@ -92,11 +111,13 @@ symbol_there (item.Symbol s) other = (s, refl)
 symbol_there (item.Terminal t) other = absurd (other t refl)
 
 -- No literal is a child.
-class_there : (xs : List Item) (b : ℕ) (t : Terminal) → slice_get (stored_items xs) b ≡ Some (item.Terminal t) → (d : ℕ) × (t ≡ Class d)
+class_there : (xs : List Item) (b : ℕ) (t : Terminal) → slice_get (stored_items xs) b ≡ Some (item.Terminal t)
+    → (d : ℕ) × (t ≡ Class d)
 class_there [] b t at = absurd (let bad : ⊥ = cc in bad)
 class_there (item.Symbol s ∷ xs) zero t at = absurd (let bad : ⊥ = cc in bad)
 class_there (item.Symbol s ∷ xs) (suc b) t at = class_there xs b t at
-class_there (item.Terminal (Class d) ∷ xs) zero t at = (d, let e : Some (item.Terminal (Class d)) ≡ Some (item.Terminal t) = at in cc)
+class_there (item.Terminal (Class d) ∷ xs) zero t at =
+    (d, let e : Some (item.Terminal (Class d)) ≡ Some (item.Terminal t) = at in cc)
 class_there (item.Terminal (Class d) ∷ xs) (suc b) t at = class_there xs b t at
 class_there (item.Terminal (Literal l) ∷ xs) b t at = class_there xs b t at
 
@@ -105,9 +126,11 @@ class_at q zero t at = absurd (let bad : ⊥ = cc in bad)
 class_at q (suc b) t at = class_there q.items b t at
 
 -- The production at an index.
-pub indexed : (c : Setting) (p : ℕ) (xs : List Production) (q r : Production) → xs ≡ c.grammar.productions → q ≡ get_or xs p q → IsProduction c.grammar p r → IsProduction c.grammar p q
+pub indexed : (c : Setting) (p : ℕ) (xs : List Production) (q r : Production) → xs ≡ c.grammar.productions → q ≡ get_or xs p q
+    → IsProduction c.grammar p r → IsProduction c.grammar p q
 indexed c p xs q r same is there =
-    let less : p < length xs = let l = slice_get_within c.grammar.productions p r there in let m = ap length same in omega arith in
+    let less : p < length xs = let l = slice_get_within c.grammar.productions p r there in let m = ap length same in
+    omega arith in
     ap (λ xs. slice_get xs p) (sym same) ∙ slice_get-get_or xs p q less ∙ ap Some (sym is)
 
 -- Popping an empty stack returns nothing.
@@ -125,12 +148,14 @@ pub some_is : (x : OpenNode) → Some x ≡ None → ⊥
 some_is x is = let bad : ⊥ = cc in bad
 
 -- The rule at an index.
-pub rule_indexed : (xs rules : List Rule) (r : ℕ) (u w : Rule) → xs ≡ rules → u ≡ get_or xs r u → slice_get rules r ≡ Some w → slice_get rules r ≡ Some u
+pub rule_indexed : (xs rules : List Rule) (r : ℕ) (u w : Rule) → xs ≡ rules → u ≡ get_or xs r u → slice_get rules r ≡ Some w
+    → slice_get rules r ≡ Some u
 rule_indexed xs rules r u w same is there =
     let less : r < length xs = let l = slice_get_within rules r w there in let m = ap length same in omega arith in
     ap (λ xs. slice_get xs r) (sym same) ∙ slice_get-get_or xs r u less ∙ ap Some (sym is)
 
-pub popped : (r : Option OpenNode) (xs ys : List OpenNode) → xs ≡ ys ++ option_to_list r → (r ≡ None → length xs ≡ 0) → reverse xs ≡ stack_of r ys
+pub popped : (r : Option OpenNode) (xs ys : List OpenNode) → xs ≡ ys ++ option_to_list r → (r ≡ None → length xs ≡ 0)
+    → reverse xs ≡ stack_of r ys
 popped None [] ys e none = refl
 popped None (x ∷ xs) ys e none = let n = none refl in absurd (omega arith)
 popped (Some x) xs ys e none = ap reverse e ∙ reverse-append ys (x ∷ [])
@@ -144,10 +169,18 @@ pub record IsPlace (c : Setting) (x : OpenNode) (j : ℕ) (row : PlaceRow) (valu
   pub known : row.known ≡ known_width c row.item
   pub within : x.base + (copy_start c production j + copied_width c row.item) ≤ length values
 
-the_place : (c : Setting) (x : OpenNode) (j : ℕ) (row : PlaceRow) (values : List Value) → HasPlace c x j values → Answers c x j (Some row) → IsPlace c x j row values
+the_place : (c : Setting) (x : OpenNode) (j : ℕ) (row : PlaceRow) (values : List Value) → HasPlace c x j values
+    → Answers c x j (Some row) → IsPlace c x j row values
 the_place c x j row values h is =
     let z = place_is c h.production j row h.item h.some (is h.production h.there) h.occurs in
-    record { production = h.production; there = h.there; occurs = h.occurs ∙ ap Some (sym z.0); start = z.1; known = z.3 ∙ ap (known_width c) (sym z.0); within = subst (λ x'. x.base + (copy_start c h.production j + copied_width c x') ≤ length values) (sym z.0) h.within }
+    record {
+      production = h.production;
+      there = h.there;
+      occurs = h.occurs ∙ ap Some (sym z.0);
+      start = z.1;
+      known = z.3 ∙ ap (known_width c) (sym z.0);
+      within = subst (λ x'. x.base + (copy_start c h.production j + copied_width c x') ≤ length values) (sym z.0) h.within;
+    }
 
 -- A node's production and rule, as the code finds them, and the slot of the rule's target.
 pub record Giver (c : Setting) (m : Machine) (x : OpenNode) (r : ℕ) (q : Production) (u : Rule) : Type 0 where
@@ -157,46 +190,88 @@ pub record Giver (c : Setting) (m : Machine) (x : OpenNode) (r : ℕ) (q : Produ
   pub occurrences : length u.expr.1 ≡ length u.args
 
 module _ (c : Setting) (sound : IsSound c) where
-  get_at : (honest : Bool) (content : List ℕ) (m : Machine) (x : OpenNode) (j : ℕ) → RunsFrom c honest content m (Some x) → slice_get (list_at c x.production) x.at ≡ Some (instr.Get j) → HasPlace c x j m.values.items
-  get_at honest content m x j (to_honest, to, meter, r) at = get_place c sound m.root x (reverse m.waiting.items) m.values.items r.running.transcript (meter - m.begun) r.running.todo j at r.running.invariant
+  get_at : (honest : Bool) (content : List ℕ) (m : Machine) (x : OpenNode) (j : ℕ) → RunsFrom c honest content m (Some x)
+      → slice_get (list_at c x.production) x.at ≡ Some (instr.Get j) → HasPlace c x j m.values.items
+  get_at honest content m x j (to_honest, to, meter, r) at =
+      get_place c sound m.root x (reverse m.waiting.items) m.values.items r.running.transcript
+      (meter - m.begun) r.running.todo j at r.running.invariant
 
-  pub no_item : (honest : Bool) (content : List ℕ) (m : Machine) (x : OpenNode) (j : ℕ) (answer : Option PlaceRow) → RunsFrom c honest content m (Some x) → slice_get (list_at c x.production) x.at ≡ Some (instr.Get j) → Answers c x j answer → answer ≡ None → ⊥
-  no_item honest content m x j answer runs at is none = let h = get_at honest content m x j runs at in place_there c h.production j h.item h.occurs answer (is h.production h.there) none
+  pub no_item : (honest : Bool) (content : List ℕ) (m : Machine) (x : OpenNode) (j : ℕ) (answer : Option PlaceRow)
+      → RunsFrom c honest content m (Some x) → slice_get (list_at c x.production) x.at ≡ Some (instr.Get j) → Answers c x j answer
+      → answer ≡ None → ⊥
+  no_item honest content m x j answer runs at is none = let h = get_at honest content m x j runs at in
+      place_there c h.production j h.item h.occurs answer (is h.production h.there) none
 
   -- The returned row is that of the place.
-  pub got_place : (honest : Bool) (content : List ℕ) (m : Machine) (x : OpenNode) (j : ℕ) (row : PlaceRow) → RunsFrom c honest content m (Some x) → slice_get (list_at c x.production) x.at ≡ Some (instr.Get j) → Answers c x j (Some row) → IsPlace c x j row m.values.items
-  got_place honest content m x j row runs at is = let h = get_at honest content m x j runs at in the_place c x j row m.values.items h is
+  pub got_place : (honest : Bool) (content : List ℕ) (m : Machine) (x : OpenNode) (j : ℕ) (row : PlaceRow)
+      → RunsFrom c honest content m (Some x) → slice_get (list_at c x.production) x.at ≡ Some (instr.Get j)
+      → Answers c x j (Some row) → IsPlace c x j row m.values.items
+  got_place honest content m x j row runs at is = let h = get_at honest content m x j runs at in
+      the_place c x j row m.values.items h is
 
-  pub got_leads : (m : Machine) (back : BackState) (values : Vec Value) (honest honest' : Bool) (content content' : List ℕ) (x next : OpenNode) (j p n : ℕ) (row : PlaceRow) (read : List Value)
-      → slice_get (list_at c x.production) x.at ≡ Some (instr.Get j) → Answers c x j (Some row) → (h : HasFetched c row.item p n honest content m.back back m.values.items read) → n ≡ length m.waiting.items + 1
-      → ((q : Production) → IsProduction c.grammar x.production q → row.start ≡ copy_start c q j → HasAgreed c q x j row.item read (read_values c row.item p h.body m.values.items read h.taken))
-      → values.items ≡ kept_values row.item m.values.items read → honest' ≡ honest → LeavesContent honest content content' → next ≡ after_step x p
-      → LeadsFrom c honest honest' content content' m (record { back = back; writer = m.writer; values = values; waiting = m.waiting; root = m.root; begun = m.begun }) (Some x) (Some next)
-  got_leads m back values honest honest' content content' x next j p n row read at is h count agreed kept same leaves on to_honest to meter r =
+  pub got_leads : (m : Machine) (back : BackState) (values : Vec Value) (honest honest' : Bool) (content content' : List ℕ)
+      (x next : OpenNode) (j p n : ℕ) (row : PlaceRow) (read : List Value)
+      → slice_get (list_at c x.production) x.at ≡ Some (instr.Get j) → Answers c x j (Some row)
+      → (h : HasFetched c row.item p n honest content m.back back m.values.items read) → n ≡ length m.waiting.items + 1
+      → ((q : Production) → IsProduction c.grammar x.production q → row.start ≡ copy_start c q j
+      → HasAgreed c q x j row.item read (read_values c row.item p h.body m.values.items read h.taken))
+      → values.items ≡ kept_values row.item m.values.items read → honest' ≡ honest → LeavesContent honest content content'
+      → next ≡ after_step x p
+      → LeadsFrom c honest honest' content content' m
+      (record { back = back; writer = m.writer; values = values; waiting = m.waiting; root = m.root; begun = m.begun })
+      (Some x) (Some next)
+  got_leads m back values honest honest' content content' x next j p n row read at is h count agreed kept same leaves on to_honest
+      to meter r =
       let i = got_place honest content m x j row (to_honest, to, meter, r) at is in
       let levels : n ≡ suc (length (reverse m.waiting.items)) = let l = length-reverse m.waiting.items in omega arith in
-      let run = got_runs c sound m.root honest honest' to_honest content content' to m.back back m.writer m.values.items read x (reverse m.waiting.items) (meter - m.begun) j p i.production row.item at i.there i.occurs (fetched levels) (agreed i.production i.there i.start) same leaves r.running in
+      let run =
+      got_runs c sound m.root honest honest' to_honest content content' to m.back back m.writer m.values.items read x
+      (reverse m.waiting.items) (meter - m.begun) j p i.production row.item at i.there i.occurs (fetched levels)
+      (agreed i.production i.there i.start) same leaves r.running in
       record {
-        running = subst (λ next. IsRunning c m.root honest' content' to_honest to back m.writer values.items (next ∷ reverse m.waiting.items) (meter - m.begun)) (sym on)
-            (subst (λ vs. IsRunning c m.root honest' content' to_honest to back m.writer vs (after_step x p ∷ reverse m.waiting.items) (meter - m.begun)) (sym kept) run);
+        running =
+            subst
+            (λ next. IsRunning c m.root honest' content' to_honest to back m.writer values.items
+            (next ∷ reverse m.waiting.items) (meter - m.begun)) (sym on)
+            (subst
+            (λ vs. IsRunning c m.root honest' content' to_honest to back m.writer vs
+            (after_step x p ∷ reverse m.waiting.items) (meter - m.begun)) (sym kept) run);
         begun = r.begun;
         low = r.low;
       }
     where
-      fetched : n ≡ suc (length (reverse m.waiting.items)) → HasFetched c row.item p (suc (length (reverse m.waiting.items))) honest content m.back back m.values.items read
-      fetched levels = record { body = h.body; found = h.found; taken = h.taken; over = h.over; progress = h.progress; deep = let d = h.deep in omega arith; few = h.few }
+      fetched : n ≡ suc (length (reverse m.waiting.items))
+          → HasFetched c row.item p (suc (length (reverse m.waiting.items))) honest content m.back back m.values.items read
+      fetched levels =
+          record {
+            body = h.body;
+            found = h.found;
+            taken = h.taken;
+            over = h.over;
+            progress = h.progress;
+            deep = let d = h.deep in omega arith;
+            few = h.few;
+          }
 
-  put_at : (m : Machine) (x : OpenNode) (j : ℕ) → RunsSomehow c m (Some x) → slice_get (list_at c x.production) x.at ≡ Some (instr.Put j) → HasPlace c x j m.values.items
-  put_at m x j (honest, content, to_honest, to, meter, r) at = put_place c sound m.root x (reverse m.waiting.items) m.values.items r.running.transcript (meter - m.begun) r.running.todo j at r.running.invariant
+  put_at : (m : Machine) (x : OpenNode) (j : ℕ) → RunsSomehow c m (Some x)
+      → slice_get (list_at c x.production) x.at ≡ Some (instr.Put j) → HasPlace c x j m.values.items
+  put_at m x j (honest, content, to_honest, to, meter, r) at =
+      put_place c sound m.root x (reverse m.waiting.items) m.values.items r.running.transcript
+      (meter - m.begun) r.running.todo j at r.running.invariant
 
-  pub no_row : (m : Machine) (x : OpenNode) (j : ℕ) (answer : Option PlaceRow) → RunsSomehow c m (Some x) → slice_get (list_at c x.production) x.at ≡ Some (instr.Put j) → Answers c x j answer → answer ≡ None → ⊥
-  no_row m x j answer runs at is none = let h = put_at m x j runs at in place_there c h.production j h.item h.occurs answer (is h.production h.there) none
+  pub no_row : (m : Machine) (x : OpenNode) (j : ℕ) (answer : Option PlaceRow) → RunsSomehow c m (Some x)
+      → slice_get (list_at c x.production) x.at ≡ Some (instr.Put j) → Answers c x j answer → answer ≡ None → ⊥
+  no_row m x j answer runs at is none = let h = put_at m x j runs at in
+      place_there c h.production j h.item h.occurs answer (is h.production h.there) none
 
-  pub put_is : (m : Machine) (x : OpenNode) (j : ℕ) (row : PlaceRow) → RunsSomehow c m (Some x) → slice_get (list_at c x.production) x.at ≡ Some (instr.Put j) → Answers c x j (Some row) → IsPlace c x j row m.values.items
+  pub put_is : (m : Machine) (x : OpenNode) (j : ℕ) (row : PlaceRow) → RunsSomehow c m (Some x)
+      → slice_get (list_at c x.production) x.at ≡ Some (instr.Put j) → Answers c x j (Some row) → IsPlace c x j row m.values.items
   put_is m x j row runs at is = the_place c x j row m.values.items (put_at m x j runs at) is
 
   -- A token's text is among the values.
-  pub text_within : (m : Machine) (x : OpenNode) (j : ℕ) (row : PlaceRow) (t : Terminal) → RunsSomehow c m (Some x) → slice_get (list_at c x.production) x.at ≡ Some (instr.Put j) → Answers c x j (Some row) → row.item ≡ item.Terminal t → x.base + row.start + 1 ≤ length m.values.items
+  pub text_within : (m : Machine) (x : OpenNode) (j : ℕ) (row : PlaceRow) (t : Terminal) → RunsSomehow c m (Some x)
+      → slice_get (list_at c x.production) x.at ≡ Some (instr.Put j) → Answers c x j (Some row) → row.item ≡ item.Terminal t
+      → x.base + row.start + 1 ≤ length m.values.items
   text_within m x j row t runs at is token =
       let i = put_is m x j row runs at is in
       let d = class_at i.production j t (i.occurs ∙ ap Some token) in
@@ -206,74 +281,123 @@ module _ (c : Setting) (sound : IsSound c) where
       omega arith
     where
       token_width : (d : ℕ) → copied_width c (item.Terminal (Class d)) ≡ 1
-      token_width d = let one : ◌≡◌ {A = ℕ} (if nat_le 0 c.write then 1 else 0) 1 = ap (λ b. if b then 1 else 0) (le-leb 0 c.write (omega arith)) in omega arith
+      token_width d = let one : ◌≡◌ {A = ℕ} (if nat_le 0 c.write then 1 else 0) 1 =
+          ap (λ b. if b then 1 else 0) (le-leb 0 c.write (omega arith)) in omega arith
 
   pub put_room : (m : Machine) (x : OpenNode) → RunsSomehow c m (Some x) → m.writer.written < 2 ^ 64 - 1
   put_room m x (honest, content, to_honest, to, meter, r) =
-      let n = passing_counted c sound m.root x (reverse m.waiting.items) m.values.items r.running.transcript (meter - m.begun) r.running.todo r.running.invariant in
+      let n =
+      passing_counted c sound m.root x (reverse m.waiting.items) m.values.items r.running.transcript
+      (meter - m.begun) r.running.todo r.running.invariant in
       let a = n.0 in
       let few = r.running.few in
       let w = r.running.written in
       omega arith
 
-  pub whole_of : (m : Machine) (next : Option OpenNode) → RunsSomehow c m next → (m.writer.is_broken ≡ false) × All IsWell m.values.items
+  pub whole_of : (m : Machine) (next : Option OpenNode) → RunsSomehow c m next
+      → (m.writer.is_broken ≡ false) × All IsWell m.values.items
   whole_of m next (honest, content, to_honest, to, meter, r) = (r.running.whole, r.running.well)
 
-  pub put_leads : (m : Machine) (out : writing.Progress) (honest honest' : Bool) (content content' : List ℕ) (x next : OpenNode) (j : ℕ) (row : PlaceRow) (t : Terminal) (text : List Value)
-      → RunsSomehow c m (Some x) → slice_get (list_at c x.production) x.at ≡ Some (instr.Put j) → Answers c x j (Some row) → row.item ≡ item.Terminal t → text ≡ take 1 (drop (x.base + row.start) m.values.items) → HasPut Token x.child text honest content content' m.writer out → honest' ≡ honest → next ≡ after_step x x.child
-      → LeadsTo c honest honest' content content' m (record { back = m.back; writer = out; values = m.values; waiting = m.waiting; root = m.root; begun = m.begun }) (Some x) (Some next)
-  put_leads m out honest honest' content content' x next j row t text runs at is token text_is h same on from_honest from meter r =
+  pub put_leads : (m : Machine) (out : writing.Progress) (honest honest' : Bool) (content content' : List ℕ) (x next : OpenNode)
+      (j : ℕ) (row : PlaceRow) (t : Terminal) (text : List Value)
+      → RunsSomehow c m (Some x) → slice_get (list_at c x.production) x.at ≡ Some (instr.Put j) → Answers c x j (Some row)
+      → row.item ≡ item.Terminal t → text ≡ take 1 (drop (x.base + row.start) m.values.items)
+      → HasPut Token x.child text honest content content' m.writer out → honest' ≡ honest → next ≡ after_step x x.child
+      → LeadsTo c honest honest' content content' m
+      (record { back = m.back; writer = out; values = m.values; waiting = m.waiting; root = m.root; begun = m.begun })
+      (Some x) (Some next)
+  put_leads m out honest honest' content content' x next j row t text runs at is token text_is h same on from_honest from meter
+      r =
       let i = put_is m x j row runs at is in
       let d = class_at i.production j t (i.occurs ∙ ap Some token) in
-      let occurs : item_at i.production j ≡ Some (item.Terminal (Class d.0)) = i.occurs ∙ ap Some (token ∙ ap item.Terminal d.1) in
+      let occurs : item_at i.production j ≡ Some (item.Terminal (Class d.0)) =
+      i.occurs ∙ ap Some (token ∙ ap item.Terminal d.1) in
       record {
-        running = subst (λ next. IsRunning c m.root from_honest from honest' content' m.back out m.values.items (next ∷ reverse m.waiting.items) (meter - m.begun)) (sym on)
-            (put_runs c sound m.root from_honest honest honest' from content content' m.back m.writer out m.values.items x (reverse m.waiting.items) (meter - m.begun) j d.0 i.production text at i.there occurs (text_is ∙ ap (λ n. take 1 (drop (x.base + n) m.values.items)) i.start) h same r.running);
+        running =
+            subst
+            (λ next. IsRunning c m.root from_honest from honest' content' m.back out m.values.items
+            (next ∷ reverse m.waiting.items) (meter - m.begun)) (sym on)
+            (put_runs c sound m.root from_honest honest honest' from content content' m.back m.writer out m.values.items x
+            (reverse m.waiting.items) (meter - m.begun) j d.0 i.production text at i.there occurs
+            (text_is ∙ ap (λ n. take 1 (drop (x.base + n) m.values.items)) i.start) h same r.running);
         begun = r.begun;
         low = r.low;
       }
 
   pub left_leads : (m : Machine) (honest : Bool) (content : List ℕ) (x next : OpenNode) (j s : ℕ) (row : PlaceRow)
-      → RunsSomehow c m (Some x) → slice_get (list_at c x.production) x.at ≡ Some (instr.Put j) → Answers c x j (Some row) → row.item ≡ item.Symbol s → next ≡ after_step x x.child → LeadsTo c honest honest content content m m (Some x) (Some next)
+      → RunsSomehow c m (Some x) → slice_get (list_at c x.production) x.at ≡ Some (instr.Put j) → Answers c x j (Some row)
+      → row.item ≡ item.Symbol s → next ≡ after_step x x.child
+      → LeadsTo c honest honest content content m m (Some x) (Some next)
   left_leads m honest content x next j s row runs at is node on from_honest from meter r =
       let i = put_is m x j row runs at is in
-      let goes = left_node c sound x (reverse m.waiting.items) m.values.items j s i.production at i.there (i.occurs ∙ ap Some node) in
+      let goes =
+      left_node c sound x (reverse m.waiting.items) m.values.items j s i.production at i.there (i.occurs ∙ ap Some node) in
       record {
-        running = subst (λ next. IsRunning c m.root from_honest from honest content m.back m.writer m.values.items (next ∷ reverse m.waiting.items) (meter - m.begun)) (sym on)
-            (gone_runs c sound m.root from_honest honest from content m.back m.writer m.values.items (x ∷ reverse m.waiting.items) (after_step x x.child ∷ reverse m.waiting.items) (meter - m.begun) goes r.running);
+        running =
+            subst
+            (λ next. IsRunning c m.root from_honest from honest content m.back m.writer m.values.items
+            (next ∷ reverse m.waiting.items) (meter - m.begun)) (sym on)
+            (gone_runs c sound m.root from_honest honest from content m.back m.writer m.values.items (x ∷ reverse m.waiting.items)
+            (after_step x x.child ∷ reverse m.waiting.items) (meter - m.begun) goes r.running);
         begun = r.begun;
         low = r.low;
       }
 
-  pub is_passing : (m : Machine) (x : OpenNode) (values : List Value) → values ≡ m.values.items → RunsSomehow c m (Some x) → IsConsistent c (x ∷ reverse m.waiting.items) values
-  is_passing m x values vs (honest, content, to_honest, to, meter, r) = subst (IsConsistent c (x ∷ reverse m.waiting.items)) (sym vs) (m.root, r.running.transcript, meter - m.begun, r.running.todo, r.running.invariant)
+  pub is_passing : (m : Machine) (x : OpenNode) (values : List Value) → values ≡ m.values.items → RunsSomehow c m (Some x)
+      → IsConsistent c (x ∷ reverse m.waiting.items) values
+  is_passing m x values vs (honest, content, to_honest, to, meter, r) =
+      subst (IsConsistent c (x ∷ reverse m.waiting.items)) (sym vs)
+      (m.root, r.running.transcript, meter - m.begun, r.running.todo, r.running.invariant)
 
-  pub entered : (m : Machine) (x : OpenNode) (waiting : Vec OpenNode) (values : List Value) (result : Result OpenNode NoMemory) → values ≡ m.values.items
+  pub entered : (m : Machine) (x : OpenNode) (waiting : Vec OpenNode) (values : List Value) (result : Result OpenNode NoMemory)
+      → values ≡ m.values.items
       → IfOk result (λ child. ContinuesAs c (x ∷ reverse m.waiting.items) values (child ∷ reverse waiting.items) values)
-      → IfOk result (λ child. Leads c m (record { back = m.back; writer = m.writer; values = m.values; waiting = waiting; root = m.root; begun = m.begun }) (Some x) (Some child))
+      → IfOk result
+      (λ child.
+      Leads c m
+      (record {
+        back = m.back;
+        writer = m.writer;
+        values = m.values;
+        waiting = waiting;
+        root = m.root;
+        begun = m.begun;
+      }) (Some x) (Some child))
   entered m x waiting values (Err e) vs goes = goes
   entered m x waiting values (Ok child) vs goes = λ meter honest content to_honest to r.
       let g = subst (λ vs. ContinuesAs c (x ∷ reverse m.waiting.items) vs (child ∷ reverse waiting.items) vs) vs goes in
       record {
-        running = gone_runs c sound m.root honest to_honest content to m.back m.writer m.values.items (x ∷ reverse m.waiting.items) (child ∷ reverse waiting.items) (meter - m.begun) g r.running;
+        running =
+            gone_runs c sound m.root honest to_honest content to m.back m.writer m.values.items (x ∷ reverse m.waiting.items)
+            (child ∷ reverse waiting.items) (meter - m.begun) g r.running;
         begun = r.begun;
         low = r.low;
       }
 
   -- When a node ends, its row is the last one.
-  pub own_of : (m : Machine) (x : OpenNode) → RunsSomehow c m (Some x) → slice_get (list_at c x.production) x.at ≡ Some instr.End → HasOwn c x m.values.items
-  own_of m x (honest, content, to_honest, to, meter, r) at = own_row c sound m.root x (reverse m.waiting.items) m.values.items r.running.transcript (meter - m.begun) r.running.todo at r.running.invariant
+  pub own_of : (m : Machine) (x : OpenNode) → RunsSomehow c m (Some x) → slice_get (list_at c x.production) x.at ≡ Some instr.End
+      → HasOwn c x m.values.items
+  own_of m x (honest, content, to_honest, to, meter, r) at =
+      own_row c sound m.root x (reverse m.waiting.items) m.values.items r.running.transcript
+      (meter - m.begun) r.running.todo at r.running.invariant
 
   -- When a node ends, the copies of its values come before its row, in the row of the node that waits.
-  pub waited_for : (m : Machine) (waiting : List OpenNode) (x y : OpenNode) → RunsSomehow c m (Some x) → slice_get (list_at c x.production) x.at ≡ Some instr.End → m.waiting.items ≡ waiting ++ y ∷ [] → HasWaited c y x.base m.values.items
+  pub waited_for : (m : Machine) (waiting : List OpenNode) (x y : OpenNode) → RunsSomehow c m (Some x)
+      → slice_get (list_at c x.production) x.at ≡ Some instr.End → m.waiting.items ≡ waiting ++ y ∷ []
+      → HasWaited c y x.base m.values.items
   waited_for m waiting x y (honest, content, to_honest, to, meter, r) at is =
       let stack : reverse m.waiting.items ≡ y ∷ reverse waiting = ap reverse is ∙ reverse-append waiting (y ∷ []) in
-      waited c sound m.root x y (reverse waiting) m.values.items r.running.transcript (meter - m.begun) r.running.todo at (subst (λ xs. RunInvariant c m.root (x ∷ xs) m.values.items r.running.transcript (meter - m.begun) r.running.todo) stack r.running.invariant)
+      waited c sound m.root x y (reverse waiting) m.values.items r.running.transcript (meter - m.begun) r.running.todo at
+      (subst (λ xs. RunInvariant c m.root (x ∷ xs) m.values.items r.running.transcript (meter - m.begun) r.running.todo) stack
+      r.running.invariant)
 
-  pub no_waited : (y : OpenNode) (base : ℕ) (values : List Value) (answer : Option PlaceRow) → HasWaited c y base values → Answers c y y.place answer → answer ≡ None → ⊥
-  no_waited y base values answer h is none = place_there c h.production y.place h.item h.occurs answer (is h.production h.there) none
+  pub no_waited : (y : OpenNode) (base : ℕ) (values : List Value) (answer : Option PlaceRow) → HasWaited c y base values
+      → Answers c y y.place answer → answer ≡ None → ⊥
+  no_waited y base values answer h is none =
+      place_there c h.production y.place h.item h.occurs answer (is h.production h.there) none
 
-  pub waited_place : (y : OpenNode) (base : ℕ) (values : List Value) (row : PlaceRow) → HasWaited c y base values → Answers c y y.place (Some row) → (y.base + row.start + row.width ≤ base) × (base + row.width ≤ length values)
+  pub waited_place : (y : OpenNode) (base : ℕ) (values : List Value) (row : PlaceRow) → HasWaited c y base values
+      → Answers c y y.place (Some row) → (y.base + row.start + row.width ≤ base) × (base + row.width ≤ length values)
   waited_place y base values row h is =
       let z = place_is c h.production y.place row h.item h.some (is h.production h.there) h.occurs in
       let a = z.1 in
@@ -282,45 +406,76 @@ module _ (c : Setting) (sound : IsSound c) where
       let v = h.wide in
       (omega arith, omega arith)
 
-  pub ended_leads : (m : Machine) (values : Vec Value) (waiting : Vec OpenNode) (out : writing.Progress) (honest honest' : Bool) (content content' : List ℕ) (x y : OpenNode) (row : PlaceRow) (put : List Value) (from : ℕ)
-      → RunsSomehow c m (Some x) → slice_get (list_at c x.production) x.at ≡ Some instr.End → m.waiting.items ≡ waiting.items ++ y ∷ [] → Answers c y y.place (Some row) → from ≡ y.base + row.start
+  pub ended_leads : (m : Machine) (values : Vec Value) (waiting : Vec OpenNode) (out : writing.Progress) (honest honest' : Bool)
+      (content content' : List ℕ) (x y : OpenNode) (row : PlaceRow) (put : List Value) (from : ℕ)
+      → RunsSomehow c m (Some x) → slice_get (list_at c x.production) x.at ≡ Some instr.End
+      → m.waiting.items ≡ waiting.items ++ y ∷ [] → Answers c y y.place (Some row) → from ≡ y.base + row.start
       → put ≡ drop x.base m.values.items → HasPut Node x.production put honest content content' m.writer out → honest' ≡ honest
-      → values.items ≡ take from m.values.items ++ (take row.width (drop x.base m.values.items) ++ drop (from + row.width) (take x.base m.values.items))
-      → LeadsTo c honest honest' content content' m (record { back = m.back; writer = out; values = values; waiting = waiting; root = m.root; begun = m.begun }) (Some x) (Some y)
-  ended_leads m values waiting out honest honest' content content' x y row put from runs at pushed is from_is put_is' h same vs from_honest from_content meter r =
+      → values.items ≡ take from m.values.items
+      ++ (take row.width (drop x.base m.values.items) ++ drop (from + row.width) (take x.base m.values.items))
+      → LeadsTo c honest honest' content content' m
+      (record { back = m.back; writer = out; values = values; waiting = waiting; root = m.root; begun = m.begun }) (Some x)
+      (Some y)
+  ended_leads m values waiting out honest honest' content content' x y row put from runs at pushed is from_is put_is' h same vs
+      from_honest from_content meter r =
       let w = waited_for m waiting.items x y runs at pushed in
-      let stack : reverse m.waiting.items ≡ y ∷ reverse waiting.items = ap reverse pushed ∙ reverse-append waiting.items (y ∷ []) in
-      let running = subst (λ xs. IsRunning c m.root from_honest from_content honest content m.back m.writer m.values.items (x ∷ xs) (meter - m.begun)) stack r.running in
+      let stack : reverse m.waiting.items ≡ y ∷ reverse waiting.items =
+      ap reverse pushed ∙ reverse-append waiting.items (y ∷ []) in
+      let running =
+      subst
+      (λ xs. IsRunning c m.root from_honest from_content honest content m.back m.writer m.values.items (x ∷ xs)
+      (meter - m.begun)) stack r.running in
       record {
-        running = ended_runs c sound m.root from_honest honest honest' from_content content content' m.back m.writer out m.values.items values.items x y (reverse waiting.items) (meter - m.begun) from row.width at
-            (λ q x' there occurs. let z = place_is c q y.place row x' w.some (is q there) occurs in (from_is ∙ ap (λ n. y.base + n) z.1, z.2)) vs (subst (λ vs. HasPut Node x.production vs honest content content' m.writer out) put_is' h) same running;
+        running =
+            ended_runs c sound m.root from_honest honest honest' from_content content content' m.back m.writer out m.values.items
+            values.items x y (reverse waiting.items) (meter - m.begun) from row.width at
+            (λ q x' there occurs. let z = place_is c q y.place row x' w.some (is q there) occurs in
+            (from_is ∙ ap (λ n. y.base + n) z.1, z.2)) vs
+            (subst (λ vs. HasPut Node x.production vs honest content content' m.writer out) put_is' h) same running;
         begun = r.begun;
         low = r.low;
       }
 
   pub root_leads : (m : Machine) (waiting : Vec OpenNode) (honest : Bool) (content : List ℕ) (x : OpenNode)
-      → slice_get (list_at c x.production) x.at ≡ Some instr.End → m.waiting.items ≡ [] → waiting.items ≡ [] → LeadsTo c honest honest content content m (record { back = m.back; writer = m.writer; values = m.values; waiting = waiting; root = m.root; begun = m.begun }) (Some x) None
+      → slice_get (list_at c x.production) x.at ≡ Some instr.End → m.waiting.items ≡ [] → waiting.items ≡ []
+      → LeadsTo c honest honest content content m
+      (record { back = m.back; writer = m.writer; values = m.values; waiting = waiting; root = m.root; begun = m.begun })
+      (Some x) None
   root_leads m waiting honest content x at none still from_honest from meter r =
-      let running = subst (λ xs. IsRunning c m.root from_honest from honest content m.back m.writer m.values.items (x ∷ reverse xs) (meter - m.begun)) none r.running in
+      let running =
+      subst
+      (λ xs. IsRunning c m.root from_honest from honest content m.back m.writer m.values.items (x ∷ reverse xs)
+      (meter - m.begun)) none r.running in
       record {
-        running = gone_runs c sound m.root from_honest honest from content m.back m.writer m.values.items (x ∷ []) [] (meter - m.begun) (root_ended c sound x m.values.items at r.running.well) running;
+        running =
+            gone_runs c sound m.root from_honest honest from content m.back m.writer m.values.items (x ∷ []) [] (meter - m.begun)
+            (root_ended c sound x m.values.items at r.running.well) running;
         begun = r.begun;
         low = r.low;
       }
 
-  pub rule_of : (m : Machine) (x : OpenNode) (meter r : ℕ) → RunsAt c meter m (Some x) → (next : RunsRuleNext c x r) → HasRule c x next.0 next.1 r m.values.items
-  rule_of m x meter r (honest, content, to_honest, to, runs) (j, a, z, giving, at) = given_rule c sound m.root x (reverse m.waiting.items) m.values.items runs.running.transcript (meter - m.begun) runs.running.todo j a r z giving at runs.running.invariant
+  pub rule_of : (m : Machine) (x : OpenNode) (meter r : ℕ) → RunsAt c meter m (Some x) → (next : RunsRuleNext c x r)
+      → HasRule c x next.0 next.1 r m.values.items
+  rule_of m x meter r (honest, content, to_honest, to, runs) (j, a, z, giving, at) =
+      given_rule c sound m.root x (reverse m.waiting.items) m.values.items runs.running.transcript
+      (meter - m.begun) runs.running.todo j a r z giving at runs.running.invariant
 
   -- The rule and its slot, for a known production.
-  pub ruled : (m : Machine) (x : OpenNode) (meter r : ℕ) (q : Production) → RunsAt c meter m (Some x) → RunsRuleNext c x r → IsProduction c.grammar x.production q → (u : Rule) × (slice_get q.rules r ≡ Some u) × (x.base + target_slot c q u.target.place u.target.attr < length m.values.items)
+  pub ruled : (m : Machine) (x : OpenNode) (meter r : ℕ) (q : Production) → RunsAt c meter m (Some x) → RunsRuleNext c x r
+      → IsProduction c.grammar x.production q
+      → (u : Rule) × (slice_get q.rules r ≡ Some u)
+      × (x.base + target_slot c q u.target.place u.target.attr < length m.values.items)
   ruled m x meter r q runs next there =
       let h = rule_of m x meter r runs next in
       let same = same_production c x.production h.production q h.there there in
-      let slots : target_slot c q h.rule.target.place h.rule.target.attr ≡ target_slot c h.production next.0 next.1 = ap (λ t. target_slot c q t.place t.attr) h.target ∙ ap (λ q. target_slot c q next.0 next.1) (sym same) in
+      let slots : target_slot c q h.rule.target.place h.rule.target.attr ≡ target_slot c h.production next.0 next.1 =
+      ap (λ t. target_slot c q t.place t.attr) h.target ∙ ap (λ q. target_slot c q next.0 next.1) (sym same) in
       let n = h.within in
       (h.rule, subst (λ q. slice_get q.rules r ≡ Some h.rule) same h.numbered, omega arith)
 
-  pub rule_less : (m : Machine) (x : OpenNode) (meter r : ℕ) (ps : List Production) (q : Production) (us : List Rule) → ps ≡ c.grammar.productions → q ≡ get_or ps x.production q → us ≡ q.rules → RunsAt c meter m (Some x) → RunsRuleNext c x r → r < length us
+  pub rule_less : (m : Machine) (x : OpenNode) (meter r : ℕ) (ps : List Production) (q : Production) (us : List Rule)
+      → ps ≡ c.grammar.productions → q ≡ get_or ps x.production q → us ≡ q.rules → RunsAt c meter m (Some x) → RunsRuleNext c x r
+      → r < length us
   rule_less m x meter r ps q us same is rules runs next =
       let h = rule_of m x meter r runs next in
       let w = ruled m x meter r q runs next (indexed c x.production ps q h.production same is h.there) in
@@ -328,7 +483,9 @@ module _ (c : Setting) (sound : IsSound c) where
       let n = ap length rules in
       omega arith
 
-  pub giver : (m : Machine) (x : OpenNode) (meter r : ℕ) (ps : List Production) (q : Production) (us : List Rule) (u : Rule) → ps ≡ c.grammar.productions → q ≡ get_or ps x.production q → us ≡ q.rules → u ≡ get_or us r u → RunsAt c meter m (Some x) → RunsRuleNext c x r → Giver c m x r q u
+  pub giver : (m : Machine) (x : OpenNode) (meter r : ℕ) (ps : List Production) (q : Production) (us : List Rule) (u : Rule)
+      → ps ≡ c.grammar.productions → q ≡ get_or ps x.production q → us ≡ q.rules → u ≡ get_or us r u → RunsAt c meter m (Some x)
+      → RunsRuleNext c x r → Giver c m x r q u
   giver m x meter r ps q us u same is rules at runs next =
       let h = rule_of m x meter r runs next in
       let there = indexed c x.production ps q h.production same is h.there in
@@ -344,8 +501,10 @@ module _ (c : Setting) (sound : IsSound c) where
       }
 
   -- The value of a rule over the values that are lent.
-  pub lent_value : (q : Production) (u : Rule) (slots : RuleSlots) (m : Machine) (base : ℕ) (values lent : List Value) (numbers : List ℕ) (spare v : Value) → values ≡ m.values.items → lent ≡ drop base values → numbers ≡ slots.args
-      → v ≡ value_of u.expr.0 (λ k. get_or lent (slice_index numbers k) spare) → v ≡ value_of u.expr.0 (λ k. get_or (drop base m.values.items) (slice_index slots.args k) spare)
+  pub lent_value : (q : Production) (u : Rule) (slots : RuleSlots) (m : Machine) (base : ℕ) (values lent : List Value)
+      (numbers : List ℕ) (spare v : Value) → values ≡ m.values.items → lent ≡ drop base values → numbers ≡ slots.args
+      → v ≡ value_of u.expr.0 (λ k. get_or lent (slice_index numbers k) spare)
+      → v ≡ value_of u.expr.0 (λ k. get_or (drop base m.values.items) (slice_index slots.args k) spare)
   lent_value q u slots m base values lent numbers spare v vs prefix ns is =
       subst (λ vs. v ≡ value_of u.expr.0 (λ k. get_or (drop base vs) (slice_index slots.args k) spare)) vs
       (subst (λ lent. v ≡ value_of u.expr.0 (λ k. get_or lent (slice_index slots.args k) spare)) prefix
@@ -356,25 +515,40 @@ module _ (c : Setting) (sound : IsSound c) where
 
   pub meter_of : (m : Machine) (x : OpenNode) (meter : ℕ) → RunsAt c meter m (Some x) → meter < 2 ^ 64 - 1
   meter_of m x meter (honest, content, to_honest, to, r) =
-      let n = passing_counted c sound m.root x (reverse m.waiting.items) m.values.items r.running.transcript (meter - m.begun) r.running.todo r.running.invariant in
+      let n =
+      passing_counted c sound m.root x (reverse m.waiting.items) m.values.items r.running.transcript
+      (meter - m.begun) r.running.todo r.running.invariant in
       let a = n.1 in
       let few = r.running.few in
       let b = r.begun in
       let d = r.low in
       omega arith
 
-  pub rule_leads : (m : Machine) (values : Vec Value) (x next : OpenNode) (meter meter' rule : ℕ) (q : Production) (u : Rule) (slots : RuleSlots) (spare v : Value)
+  pub rule_leads : (m : Machine) (values : Vec Value) (x next : OpenNode) (meter meter' rule : ℕ) (q : Production) (u : Rule)
+      (slots : RuleSlots) (spare v : Value)
       → RunsRuleNext c x rule → IsProduction c.grammar x.production q → slice_get q.rules rule ≡ Some u → AreSlotsOf c q u slots
-      → v ≡ value_of u.expr.0 (λ k. get_or (drop x.base m.values.items) (slice_index slots.args k) spare) → IsWell v → values.items ≡ set m.values.items (x.base + slots.target) v
+      → v ≡ value_of u.expr.0 (λ k. get_or (drop x.base m.values.items) (slice_index slots.args k) spare) → IsWell v
+      → values.items ≡ set m.values.items (x.base + slots.target) v
       → meter' ≡ meter + 1 → next ≡ after_step x x.child
-      → LeadsAt c meter meter' m (record { back = m.back; writer = m.writer; values = values; waiting = m.waiting; root = m.root; begun = m.begun }) (Some x) (Some next)
-  rule_leads m values x next meter meter' rule q u slots spare v (j, a, z, giving, at) there num are is well vs count on honest content to_honest to r =
+      → LeadsAt c meter meter' m
+      (record { back = m.back; writer = m.writer; values = values; waiting = m.waiting; root = m.root; begun = m.begun })
+      (Some x) (Some next)
+  rule_leads m values x next meter meter' rule q u slots spare v
+      (j, a, z, giving, at) there num are is well vs count on honest content to_honest to r =
       let b = r.begun in
       let evals : meter - m.begun + 1 ≡ meter' - m.begun = omega arith in
-      let run = given_runs c sound m.root honest to_honest content to m.back m.writer m.values.items values.items x (reverse m.waiting.items) (meter - m.begun) j a rule z q u slots spare v giving at there num are is well vs r.running in
+      let run =
+      given_runs c sound m.root honest to_honest content to m.back m.writer m.values.items values.items x
+      (reverse m.waiting.items) (meter - m.begun) j a rule z q u slots spare v giving at there num are is well vs
+      r.running in
       record {
-        running = subst (λ n. IsRunning c m.root honest content to_honest to m.back m.writer values.items (next ∷ reverse m.waiting.items) n) evals
-            (subst (λ next. IsRunning c m.root honest content to_honest to m.back m.writer values.items (next ∷ reverse m.waiting.items) (meter - m.begun + 1)) (sym on) run);
+        running =
+            subst
+            (λ n. IsRunning c m.root honest content to_honest to m.back m.writer values.items
+            (next ∷ reverse m.waiting.items) n) evals
+            (subst
+            (λ next. IsRunning c m.root honest content to_honest to m.back m.writer values.items
+            (next ∷ reverse m.waiting.items) (meter - m.begun + 1)) (sym on) run);
         begun = omega arith;
         low = r.low;
       }

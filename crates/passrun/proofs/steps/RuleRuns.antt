@@ -24,7 +24,8 @@ use Rattle.passrun.proofs.places.Tables.{set_here, set_other, set_target}
 use Rattle.passrun.proofs.steps.RuleTargets.{target_kind, one_rule, no_argument}
 
 -- A rule still holds if its target and its arguments have the same values.
-pub holds_same : (r : Rule) (e f : Table) → e r.target.place r.target.attr ≡ f r.target.place r.target.attr → ((o : Target) → IsArgument r o → e o.place o.attr ≡ f o.place o.attr) → Holds r e → Holds r f
+pub holds_same : (r : Rule) (e f : Table) → e r.target.place r.target.attr ≡ f r.target.place r.target.attr
+    → ((o : Target) → IsArgument r o → e o.place o.attr ≡ f o.place o.attr) → Holds r e → Holds r f
 holds_same r e f t same h env is = sym t ∙ h env (λ k o at. is k o at ∙ sym (same o (k, at)))
 
 -- The places of the visited children are neither the node's own nor the next one.
@@ -39,15 +40,19 @@ IsPlaced c q state j = (j ≡ 0) ⊎ IsTurnOf q c.write state Got j
 pub known_here : (c : Setting) (q : Production) (i j : ℕ) → j ≡ place_of q c.write i → IsReached c q (suc i) j
 known_here c q i j e = inr (i, omega arith, e)
 
-pub place_known : (c : Setting) (q : Production) (state : State) (j : ℕ) → IsPlaced c q state j → IsReached c q (read_count state.phase state.turn) j
+pub place_known : (c : Setting) (q : Production) (state : State) (j : ℕ) → IsPlaced c q state j
+    → IsReached c q (read_count state.phase state.turn) j
 place_known c q state j h = elim h [
   | inl own ↦ inl own
-  | inr turn ↦ subst (λ ph. IsReached c q (read_count ph state.turn) j) (sym turn.phase_is) (known_here c q state.turn j turn.place)
+  | inr turn ↦ subst (λ ph. IsReached c q (read_count ph state.turn) j) (sym turn.phase_is)
+      (known_here c q state.turn j turn.place)
 ]
 
 module _ (c : Setting) (sound : IsSound c) where
-  pub open_after_rule : (s : ℕ) (f : ℕ → Value) (level p : ℕ) (q : Production) (state : State) (e : Table) (ts : Forest) (ws : ℕ → Valuation) (old new : Transcript) (j a r : ℕ) (v : Value)
-      → (g : MayCompute c.passes q c.write state j a r) → ((env : ℕ → Value) → Supplies g.rule e env → v ≡ value_of g.rule.expr.0 env) → IsPlaced c q state j
+  pub open_after_rule : (s : ℕ) (f : ℕ → Value) (level p : ℕ) (q : Production) (state : State) (e : Table) (ts : Forest)
+      (ws : ℕ → Valuation) (old new : Transcript) (j a r : ℕ) (v : Value)
+      → (g : MayCompute c.passes q c.write state j a r)
+      → ((env : ℕ → Value) → Supplies g.rule e env → v ≡ value_of g.rule.expr.0 env) → IsPlaced c q state j
       → IsOpenNode c s f level p q state e ts ws old new
       → IsOpenNode c s f level p q (record state { done = r ∷ state.done }) (set e j a v) ts ws old new
   open_after_rule s f level p q state e ts ws old new j a r v g is placed is_open =
@@ -55,16 +60,26 @@ module _ (c : Setting) (sound : IsSound c) where
         there = is_open.there;
         left = is_open.left;
         entered = entered;
-        visits = subst (λ cs. Visited c q state.turn level ts ws (after_reading c p f cs old) new) (sym (copies_set c q e j a v sound.next passed_here)) is_open.visits;
-        roots = λ b m l. is_open.roots b m l ∙ sym (set_other e j a v (suc (leftmost (pass_direction c) (arity q) state.turn + b)) m (λ z. not_open b l placed z.0));
+        visits =
+            subst (λ cs. Visited c q state.turn level ts ws (after_reading c p f cs old) new)
+            (sym (copies_set c q e j a v sound.next passed_here)) is_open.visits;
+        roots =
+            λ b m l. is_open.roots b m l ∙ sym
+            (set_other e j a v (suc (leftmost (pass_direction c) (arity q) state.turn + b)) m (λ z. not_open b l placed z.0));
         held = held;
       }
     where
       passed_here : HasPass c.passes q (record { place = j; attr = a }) c.write
       passed_here = subst (λ t. HasPass c.passes q t c.write) g.target g.passed
 
-      not_open : (b : ℕ) → b < state.turn → IsPlaced c q state j → suc (leftmost (pass_direction c) (arity q) state.turn + b) ≡ j → ⊥
-      not_open b l o z = elim o [ inl own ↦ omega arith | inr turn ↦ seen_differs (pass_direction c) (arity q) state.turn b l turn.within (z ∙ turn.place) ]
+      not_open : (b : ℕ) → b < state.turn → IsPlaced c q state j → suc (leftmost (pass_direction c) (arity q) state.turn + b) ≡ j
+          → ⊥
+      not_open b l o z =
+          elim o [
+            | inl own ↦ omega arith
+            | inr turn ↦ seen_differs (pass_direction c) (arity q) state.turn b l turn.within
+                (z ∙ turn.place)
+          ]
 
       target_place : g.rule.target.place ≡ j
       target_place = ap (λ t. t.place) g.target
@@ -76,32 +91,54 @@ module _ (c : Setting) (sound : IsSound c) where
       entered b n at le other = set_other e j a v 0 b (λ z.
           let zj : 0 ≡ j = z.0 in
           let zb : b ≡ a = z.1 in
-          let pass : HasPass c.passes q (record { place = 0; attr = b }) c.write = subst (λ t. HasPass c.passes q t c.write) (g.target ∙ ap (λ j. record { place = j; attr = a }) (sym zj) ∙ ap (λ b. record { place = 0; attr = b }) (sym zb)) g.passed in
-          let kind : HasKind c.grammar q (record { place = 0; attr = b }) Synthesized = subst (λ t. HasKind c.grammar q t (defined_kind t.place)) (g.target ∙ ap (λ j. record { place = j; attr = a }) (sym zj) ∙ ap (λ b. record { place = 0; attr = b }) (sym zb)) (target_kind c.grammar sound.accepted p q is_open.there r g.rule g.numbered) in
-          let at' : slice_get (c.passes q.left) b ≡ Some n = subst (λ s. slice_get (c.passes s) b ≡ Some n) (sym is_open.left) at in
+          let pass : HasPass c.passes q (record { place = 0; attr = b }) c.write =
+          subst (λ t. HasPass c.passes q t c.write)
+          (g.target ∙ ap (λ j. record { place = j; attr = a }) (sym zj)
+          ∙ ap (λ b. record { place = 0; attr = b }) (sym zb)) g.passed in
+          let kind : HasKind c.grammar q (record { place = 0; attr = b }) Synthesized =
+          subst (λ t. HasKind c.grammar q t (defined_kind t.place))
+          (g.target ∙ ap (λ j. record { place = j; attr = a }) (sym zj)
+          ∙ ap (λ b. record { place = 0; attr = b }) (sym zb))
+          (target_kind c.grammar sound.accepted p q is_open.there r g.rule g.numbered) in
+          let at' : slice_get (c.passes q.left) b ≡ Some n =
+          subst (λ s. slice_get (c.passes s) b ≡ Some n) (sym is_open.left) at in
           let pp : Some n ≡ Some c.write = sym at' ∙ pass in
           let pw : n ≡ c.write = cc in
-          other (pw, subst (λ s. slice_get (symbol_kinds (slice_get c.grammar.symbols s)) b ≡ Some Synthesized) is_open.left kind)) ∙ is_open.entered b n at le other
+          other
+          (pw, subst (λ s. slice_get (symbol_kinds (slice_get c.grammar.symbols s)) b ≡ Some Synthesized) is_open.left kind))
+          ∙ is_open.entered b n at le other
 
       -- No argument is the target.
-      argument : (r' : ℕ) (u : Rule) (o : Target) → slice_get q.rules r' ≡ Some u → IsArgument u o → e o.place o.attr ≡ set e j a v o.place o.attr
-      argument r' u o num arg = sym (set_target e j a v o g.rule.target g.target (λ z. no_argument c.grammar sound.accepted p q is_open.there r r' g.rule u o g.numbered num arg z))
+      argument : (r' : ℕ) (u : Rule) (o : Target) → slice_get q.rules r' ≡ Some u → IsArgument u o
+          → e o.place o.attr ≡ set e j a v o.place o.attr
+      argument r' u o num arg =
+          sym
+          (set_target e j a v o g.rule.target g.target
+          (λ z. no_argument c.grammar sound.accepted p q is_open.there r r' g.rule u o g.numbered num arg z))
 
       own : IsHeld c q (record state { done = r ∷ state.done }) (set e j a v) g.rule
       own = record {
         holds = λ env lends.
-            ap (λ j. set e j a v g.rule.target.place g.rule.target.attr) (sym target_place) ∙ ap (λ a. set e g.rule.target.place a v g.rule.target.place g.rule.target.attr) (sym target_attr)
-            ∙ set_here e g.rule.target.place g.rule.target.attr v ∙ is env (λ k o at. lends k o at ∙ sym (argument r g.rule o g.numbered (k, at)));
+            ap (λ j. set e j a v g.rule.target.place g.rule.target.attr) (sym target_place)
+            ∙ ap (λ a. set e g.rule.target.place a v g.rule.target.place g.rule.target.attr) (sym target_attr)
+            ∙ set_here e g.rule.target.place g.rule.target.attr v
+            ∙ is env (λ k o at. lends k o at ∙ sym (argument r g.rule o g.numbered (k, at)));
         passed = g.passed;
         target = subst (IsReached c q (read_count state.phase state.turn)) (sym target_place) (place_known c q state j placed);
         available = g.available;
       }
 
-      older : (r' : ℕ) (u : Rule) → Has state.done r' → slice_get q.rules r' ≡ Some u → IsHeld c q (record state { done = r ∷ state.done }) (set e j a v) u
+      older : (r' : ℕ) (u : Rule) → Has state.done r' → slice_get q.rules r' ≡ Some u
+          → IsHeld c q (record state { done = r ∷ state.done }) (set e j a v) u
       older r' u has num =
           let h = is_open.held r' u has num in
           record {
-            holds = holds_same u e (set e j a v) (sym (set_target e j a v u.target g.rule.target g.target (λ z. let w = one_rule c.grammar sound.accepted p q is_open.there r' r u g.rule num g.numbered z in g.fresh (subst (Has state.done) w has)))) (λ o arg. argument r' u o num arg) h.holds;
+            holds =
+                holds_same u e (set e j a v)
+                (sym
+                (set_target e j a v u.target g.rule.target g.target
+                (λ z. let w = one_rule c.grammar sound.accepted p q is_open.there r' r u g.rule num g.numbered z in
+                g.fresh (subst (Has state.done) w has)))) (λ o arg. argument r' u o num arg) h.holds;
             passed = h.passed;
             target = h.target;
             available = h.available;

@@ -1,6 +1,7 @@
 -- Running a rule: the values of its arguments, and the slot of its value.
 use Rattle.std.specs.Prelude.{cond}
-use Rattle.std.proofs.Common.{ℕ, zero, suc, ◌≡◌, ◌≢◌, ◌+◌, ◌-◌, ◌<◌, ◌⊎◌, inl, inr, true, Bool, List, [], ◌∷◌, ◌++◌, Option, Some, None, All, slice_get, slice_index, get_or, length, drop, set, refl, ap, ◌∙◌, sym, subst, arith}
+use Rattle.std.proofs.Common.{ℕ, zero, suc, ◌≡◌, ◌≢◌, ◌+◌, ◌-◌, ◌<◌, ◌⊎◌, inl, inr, true, Bool, List, [], ◌∷◌, ◌++◌, Option, Some}
+use Rattle.std.proofs.Common.{None, All, slice_get, slice_index, get_or, length, drop, set, refl, ap, ◌∙◌, sym, subst, arith}
 use Rattle.std.proofs.lemmas.List.{drop_at, set-append_left, set-append_right}
 use Rattle.std.proofs.lemmas.List.Elements.{All-set}
 use Rattle.std.proofs.lemmas.Option.{get_or_from_slice_get, slice_get_within}
@@ -10,7 +11,8 @@ use Rattle.ag_grammar.specs.declared.grammar.Item.{Item}
 use Rattle.ag_grammar.specs.declared.grammar.Production.{Production}
 use Rattle.ag_grammar.specs.declared.grammar.Rule.{Rule}
 use Rattle.ag_grammar.specs.declared.grammar.Target.{Target}
-use Rattle.ag_grammar.specs.grammars.AttributeGrammar.{IsArgument, IsProduction, Synthesized, used_kind, item_at, item_kinds, stored_items}
+use Rattle.ag_grammar.specs.grammars.AttributeGrammar.{IsArgument, IsProduction, Synthesized, used_kind, item_at, item_kinds}
+use Rattle.ag_grammar.specs.grammars.AttributeGrammar.{stored_items}
 use Rattle.ag_grammar.specs.grammars.Passes.{HasPass, item_passes}
 use Rattle.ag_grammar.specs.grammars.Solution.{Supplies, left_passes}
 use Rattle.ag_grammar.specs.expressions.Evaluation.{value_of}
@@ -47,11 +49,13 @@ use Rattle.passrun.proofs.steps.Steps.{IsGivingOf, give_next, rules_next, runs_n
 use Rattle.passrun.proofs.places.Tables.{body_same, set_here, set_other}
 
 -- A rule has as many occurrences as arguments, and its expression names no others.
-pub rule_named : (c : Setting) → IsSound c → (p r : ℕ) (q : Production) (u : Rule) → IsProduction c.grammar p q → slice_get q.rules r ≡ Some u → (length u.expr.1 ≡ length u.args)
+pub rule_named : (c : Setting) → IsSound c → (p r : ℕ) (q : Production) (u : Rule) → IsProduction c.grammar p q
+    → slice_get q.rules r ≡ Some u → (length u.expr.1 ≡ length u.args)
 rule_named c sound p r q u there num = (sound.accepted.named.rules_named p q there r u num).arguments.equally_long
 
 -- The pass of a target.
-passed_at : (c : Setting) (q : Production) (j a : ℕ) (u : Rule) → u.target ≡ record { place = j; attr = a } → HasPass c.passes q u.target c.write → HasPass c.passes q (record { place = j; attr = a }) c.write
+passed_at : (c : Setting) (q : Production) (j a : ℕ) (u : Rule) → u.target ≡ record { place = j; attr = a }
+    → HasPass c.passes q u.target c.write → HasPass c.passes q (record { place = j; attr = a }) c.write
 passed_at c q j a u is h = subst (λ t. HasPass c.passes q t c.write) is h
 
 -- The row of the child that was read last, after one of its values was replaced.
@@ -60,11 +64,17 @@ IsRowNow c q j a v row now = ((j ≡ 0) × (now ≡ row)) ⊎ ((j ≢ 0) × (now
 
 -- Replacing a value of the pass at its target does not change the state at the next place, except for that
 -- value in the child's row.
-current_stays : (c : Setting) (q : Production) (ph : Phase) (i : ℕ) (done : List ℕ) (level p : ℕ) (e of_child : Table) (row now : List Value) (j a : ℕ) (v : Value) (old new : Transcript) (count : ℕ) → c.write ≡ suc c.read → HasPass c.passes q (record { place = j; attr = a }) c.write → IsPlaced c q (state_of ph i done) j → IsRowNow c q j a v row now
-    → IsCurrent c q ph i level p e of_child row old new count → IsCurrent c q ph i level p (change.set e j a v) of_child now old new count
+current_stays : (c : Setting) (q : Production) (ph : Phase) (i : ℕ) (done : List ℕ) (level p : ℕ) (e of_child : Table)
+    (row now : List Value) (j a : ℕ) (v : Value) (old new : Transcript) (count : ℕ) → c.write ≡ suc c.read
+    → HasPass c.passes q (record { place = j; attr = a }) c.write → IsPlaced c q (state_of ph i done) j
+    → IsRowNow c q j a v row now
+    → IsCurrent c q ph i level p e of_child row old new count
+    → IsCurrent c q ph i level p (change.set e j a v) of_child now old new count
 current_stays c q Between i done level p e of_child row now j a v old new count next pass placed (inl k) h = (h.0, h.1, k.1 ∙ h.2)
-current_stays c q Between i done level p e of_child row now j a v old new count next pass placed (inr k) h = absurd (elim placed [ inl x ↦ k.0 x | inr x ↦ (let y = x.phase_is in let bad : ⊥ = cc in bad) ])
-current_stays c q Gone i done level p e of_child row now j a v old new count next pass placed (inr k) h = absurd (elim placed [ inl x ↦ k.0 x | inr x ↦ (let y = x.phase_is in let bad : ⊥ = cc in bad) ])
+current_stays c q Between i done level p e of_child row now j a v old new count next pass placed (inr k) h =
+    absurd (elim placed [ inl x ↦ k.0 x | inr x ↦ (let y = x.phase_is in let bad : ⊥ = cc in bad) ])
+current_stays c q Gone i done level p e of_child row now j a v old new count next pass placed (inr k) h =
+    absurd (elim placed [ inl x ↦ k.0 x | inr x ↦ (let y = x.phase_is in let bad : ⊥ = cc in bad) ])
 current_stays c q Gone i done level p e of_child row now j a v old new count next pass placed (inl k) (g, nothing) = (
   record {
     item = g.item;
@@ -73,7 +83,8 @@ current_stays c q Gone i done level p e of_child row now j a v old new count nex
     values = g.values;
     evaluated = g.evaluated;
     number = g.number;
-    root = λ b. g.root b ∙ sym (set_other e j a v (place_of q c.write i) b (λ both. let x = both.0 in let y = k.0 in omega arith));
+    root =
+        λ b. g.root b ∙ sym (set_other e j a v (place_of q c.write i) b (λ both. let x = both.0 in let y = k.0 in omega arith));
     read = g.read;
     put = g.put;
     counted = g.counted;
@@ -89,7 +100,10 @@ current_stays c q Got i done level p e of_child row now j a v old new count next
     production = g.production;
     there = g.there;
     left = g.left;
-    transcript = g.transcript ∙ ap (λ b. record { read = old.read ++ b ∷ []; put = old.put }) (body_same c.read c.grammar c.passes p g.symbol (e pl) (change.set e j a v pl) (copies c c.read (stored_items g.production.items) (in_children of_child))
+    transcript =
+        g.transcript ∙ ap (λ b. record { read = old.read ++ b ∷ []; put = old.put })
+        (body_same c.read c.grammar c.passes p g.symbol (e pl) (change.set e j a v pl)
+        (copies c c.read (stored_items g.production.items) (in_children of_child))
         (ap (left_passes c.passes) g.there ∙ ap c.passes g.left)
         (λ b n is le. sym (set_other e j a v pl b (λ both. let w = of_pass b n both.0 both.1 is in absurd (omega arith)))));
     deep = g.deep;
@@ -106,71 +120,108 @@ current_stays c q Got i done level p e of_child row now j a v old new count next
 
     of_pass : (b n : ℕ) → pl ≡ j → b ≡ a → slice_get (c.passes g.symbol) b ≡ Some n → n ≡ c.write
     of_pass b n bj ba is' =
-        let w : slice_get (item_passes c.passes (item_at q pl)) b ≡ Some c.write = subst (λ j. slice_get (item_passes c.passes (item_at q j)) b ≡ Some c.write) (sym bj) (subst (λ a. slice_get (item_passes c.passes (item_at q j)) a ≡ Some c.write) (sym ba) pass) in
+        let w : slice_get (item_passes c.passes (item_at q pl)) b ≡ Some c.write =
+        subst (λ j. slice_get (item_passes c.passes (item_at q j)) b ≡ Some c.write) (sym bj)
+        (subst (λ a. slice_get (item_passes c.passes (item_at q j)) a ≡ Some c.write) (sym ba) pass) in
         let w3 : Some n ≡ Some c.write = sym is' ∙ ap (λ ps. slice_get ps b) (sym there) ∙ w in
         cc
 
     row_is : IsRowNow c q j a v row now → now ≡ stored c g.production (change.set e j a v pl) of_child
-    row_is (inl k) = k.1 ∙ is ∙ stored_same c g.production (e pl) (change.set e j a v pl) of_child (λ b. sym (set_other e j a v pl b (λ both. let x = both.0 in let y = k.0 in omega arith)))
+    row_is (inl k) =
+        k.1 ∙ is ∙ stored_same c g.production (e pl) (change.set e j a v pl) of_child
+        (λ b. sym (set_other e j a v pl b (λ both. let x = both.0 in let y = k.0 in omega arith)))
     row_is (inr k) =
         let here : j ≡ pl = elim placed [ inl x ↦ absurd (k.0 x) | inr x ↦ x.place ] in
-        let ps : place_passes c q j ≡ c.passes g.production.left = ap (λ j. item_passes c.passes (item_at q j)) here ∙ there ∙ ap c.passes (sym g.left) in
+        let ps : place_passes c q j ≡ c.passes g.production.left =
+        ap (λ j. item_passes c.passes (item_at q j)) here ∙ there ∙ ap c.passes (sym g.left) in
         let at : slice_get (c.passes g.production.left) a ≡ Some c.write = ap (λ ps. slice_get ps a) (sym ps) ∙ pass in
         k.1 ∙ ap (λ ps. set row (rank c.write ps a) v) ps ∙ ap (λ vs. set vs (rank c.write (c.passes g.production.left) a) v) is
-        ∙ own_set c g.production (e pl) (change.set e j a v pl) of_child a c.write v at (omega arith) (ap (λ j. change.set e j a v pl a) here ∙ set_here e pl a v) (λ b apart. set_other e j a v pl b (λ both. apart both.1))
+        ∙ own_set c g.production (e pl) (change.set e j a v pl) of_child a c.write v at (omega arith)
+        (ap (λ j. change.set e j a v pl a) here ∙ set_here e pl a v)
+        (λ b apart. set_other e j a v pl b (λ both. apart both.1))
 
 module _ (c : Setting) (sound : IsSound c) where
   -- An argument is in its slot.
-  argument_there : (p : ℕ) (q : Production) (state : State) (r : ℕ) (u : Rule) (e s : Table) (row : List Value) → IsProduction c.grammar p q → slice_get q.rules r ≡ Some u → AgreesSoFar c q (run_count state.phase state.turn) e s → (o : Target) → IsArgument u o → IsAvailable c.passes q c.write state o
+  argument_there : (p : ℕ) (q : Production) (state : State) (r : ℕ) (u : Rule) (e s : Table) (row : List Value)
+      → IsProduction c.grammar p q → slice_get q.rules r ≡ Some u → AgreesSoFar c q (run_count state.phase state.turn) e s
+      → (o : Target) → IsArgument u o → IsAvailable c.passes q c.write state o
       → slice_get (stored c q (e 0) s ++ row) (argument_slot c q o.place o.attr) ≡ Some (e o.place o.attr)
-  argument_there p q state r u e s row there num shown o arg (n, pass, le, final) = go o.place pass final (argument_kind c.grammar sound.accepted p q there r u o num arg)
+  argument_there p q state r u e s row there num shown o arg (n, pass, le, final) =
+      go o.place pass final (argument_kind c.grammar sound.accepted p q there r u o num arg)
     where
-      go : (j : ℕ) → slice_get (item_passes c.passes (item_at q j)) o.attr ≡ Some n → IsFinal q c.write state j n → slice_get (item_kinds c.grammar (item_at q j)) o.attr ≡ Some (used_kind j) → slice_get (stored c q (e 0) s ++ row) (argument_slot c q j o.attr) ≡ Some (e j o.attr)
+      go : (j : ℕ) → slice_get (item_passes c.passes (item_at q j)) o.attr ≡ Some n → IsFinal q c.write state j n
+          → slice_get (item_kinds c.grammar (item_at q j)) o.attr ≡ Some (used_kind j)
+          → slice_get (stored c q (e 0) s ++ row) (argument_slot c q j o.attr) ≡ Some (e j o.attr)
       go zero pass final kind = own_at c q (e 0) s row o.attr n pass le
       go (suc b) pass final kind = child (item_at q (suc b)) refl pass kind
         where
-          child : (z : Option Item) → item_at q (suc b) ≡ z → slice_get (item_passes c.passes z) o.attr ≡ Some n → slice_get (item_kinds c.grammar z) o.attr ≡ Some Synthesized → slice_get (stored c q (e 0) s ++ row) (argument_slot c q (suc b) o.attr) ≡ Some (e (suc b) o.attr)
+          child : (z : Option Item) → item_at q (suc b) ≡ z → slice_get (item_passes c.passes z) o.attr ≡ Some n
+              → slice_get (item_kinds c.grammar z) o.attr ≡ Some Synthesized
+              → slice_get (stored c q (e 0) s ++ row) (argument_slot c q (suc b) o.attr) ≡ Some (e (suc b) o.attr)
           child None is pass kind = absurd (let bad : ⊥ = cc in bad)
           child (Some x) is pass kind =
               let copy = has_copy c x o.attr n kind pass in
               argument_at c q (e 0) s row b o.attr n x is copy le ∙ ap Some (shown b o.attr n x is copy le final)
 
   -- The values that are lent are those of the occurrences.
-  lent_is : (p : ℕ) (q : Production) (state : State) (r : ℕ) (u : Rule) (e s : Table) (row : List Value) (slots : RuleSlots) (spare : Value) → IsProduction c.grammar p q → slice_get q.rules r ≡ Some u → AgreesSoFar c q (run_count state.phase state.turn) e s → AreSlotsOf c q u slots
-      → ((o : Target) → IsArgument u o → IsAvailable c.passes q c.write state o) → (k : ℕ) (o : Target) → slice_get u.args k ≡ Some o → get_or (stored c q (e 0) s ++ row) (slice_index slots.args k) spare ≡ e o.place o.attr
+  lent_is : (p : ℕ) (q : Production) (state : State) (r : ℕ) (u : Rule) (e s : Table) (row : List Value) (slots : RuleSlots)
+      (spare : Value) → IsProduction c.grammar p q → slice_get q.rules r ≡ Some u
+      → AgreesSoFar c q (run_count state.phase state.turn) e s → AreSlotsOf c q u slots
+      → ((o : Target) → IsArgument u o → IsAvailable c.passes q c.write state o) → (k : ℕ) (o : Target)
+      → slice_get u.args k ≡ Some o → get_or (stored c q (e 0) s ++ row) (slice_index slots.args k) spare ≡ e o.place o.attr
   lent_is p q state r u e s row slots spare there num shown are available k o at =
       let less : k < length slots.args = let l = slice_get_within u.args k o at in let m = are.args.equally_long in omega arith in
       let z = some_at slots.args k less in
       let is : z.0 ≡ argument_slot c q o.place o.attr = are.args.each k o z.0 at z.1 in
-      let index : slice_index slots.args k ≡ argument_slot c q o.place o.attr = get_or_from_slice_get slots.args k z.0 0 z.1 ∙ is in
-      ap (λ i. get_or (stored c q (e 0) s ++ row) i spare) index ∙ get_or_from_slice_get (stored c q (e 0) s ++ row) (argument_slot c q o.place o.attr) (e o.place o.attr) spare (argument_there p q state r u e s row there num shown o (k, at) (available o (k, at)))
+      let index : slice_index slots.args k ≡ argument_slot c q o.place o.attr =
+      get_or_from_slice_get slots.args k z.0 0 z.1 ∙ is in
+      ap (λ i. get_or (stored c q (e 0) s ++ row) i spare) index
+      ∙ get_or_from_slice_get (stored c q (e 0) s ++ row) (argument_slot c q o.place o.attr) (e o.place o.attr) spare
+      (argument_there p q state r u e s row there num shown o (k, at) (available o (k, at)))
 
   -- The slot of the value among a node's values.
-  put_own : (q : Production) (e s : Table) (row : List Value) (a : ℕ) (v : Value) → HasPass c.passes q (record { place = 0; attr = a }) c.write → set (stored c q (e 0) s ++ row) (target_slot c q 0 a) v ≡ stored c q (change.set e 0 a v 0) s ++ row
+  put_own : (q : Production) (e s : Table) (row : List Value) (a : ℕ) (v : Value)
+      → HasPass c.passes q (record { place = 0; attr = a }) c.write
+      → set (stored c q (e 0) s ++ row) (target_slot c q 0 a) v ≡ stored c q (change.set e 0 a v 0) s ++ row
   put_own q e s row a v pass =
       let own = values_up_to c.write (c.passes q.left) (e 0) in
       let at : slice_get (c.passes q.left) a ≡ Some c.write = pass in
-      let less = slice_get_within own (rank c.write (c.passes q.left) a) (e 0 a) (row_at c.write (c.passes q.left) (e 0) a c.write at (omega arith)) in
+      let less =
+      slice_get_within own (rank c.write (c.passes q.left) a) (e 0 a)
+      (row_at c.write (c.passes q.left) (e 0) a c.write at (omega arith)) in
       let n = length_row c.write (c.passes q.left) (e 0) in
       let m = length_stored c q (e 0) s in
       let slot : target_slot c q 0 a ≡ rank c.write (c.passes q.left) a = omega arith in
-      ap (λ n. set (stored c q (e 0) s ++ row) n v) slot ∙ set-append_left (stored c q (e 0) s) row (rank c.write (c.passes q.left) a) v (omega arith)
-      ∙ ap (λ vs. vs ++ row) (own_set c q (e 0) (change.set e 0 a v 0) s a c.write v at (omega arith) (set_here e 0 a v) (λ b apart. set_other e 0 a v 0 b (λ both. apart both.1)))
+      ap (λ n. set (stored c q (e 0) s ++ row) n v) slot
+      ∙ set-append_left (stored c q (e 0) s) row (rank c.write (c.passes q.left) a) v (omega arith)
+      ∙ ap (λ vs. vs ++ row)
+      (own_set c q (e 0) (change.set e 0 a v 0) s a c.write v at (omega arith) (set_here e 0 a v)
+      (λ b apart. set_other e 0 a v 0 b (λ both. apart both.1)))
 
-  put_child_value : (q : Production) (e s : Table) (row : List Value) (b a : ℕ) (v : Value) → set (stored c q (e 0) s ++ row) (target_slot c q (suc b) a) v ≡ stored c q (change.set e (suc b) a v 0) s ++ set row (rank c.write (place_passes c q (suc b)) a) v
+  put_child_value : (q : Production) (e s : Table) (row : List Value) (b a : ℕ) (v : Value)
+      → set (stored c q (e 0) s ++ row) (target_slot c q (suc b) a) v ≡ stored c q (change.set e (suc b) a v 0) s ++ set row
+      (rank c.write (place_passes c q (suc b)) a) v
   put_child_value q e s row b a v =
       let m = length_stored c q (e 0) s in
       let r = rank c.write (place_passes c q (suc b)) a in
       let minus : stored_width c q + r - stored_width c q ≡ r = omega arith in
-      set-append_right (stored c q (e 0) s) row (stored_width c q) (target_slot c q (suc b) a) v m (omega arith) ∙ ap (λ i. stored c q (e 0) s ++ set row i v) minus
-      ∙ ap (λ vs. vs ++ set row r v) (stored_same c q (e 0) (change.set e (suc b) a v 0) s (λ n. sym (set_other e (suc b) a v 0 n (λ both. omega arith))))
+      set-append_right (stored c q (e 0) s) row (stored_width c q) (target_slot c q (suc b) a) v m (omega arith)
+      ∙ ap (λ i. stored c q (e 0) s ++ set row i v) minus
+      ∙ ap (λ vs. vs ++ set row r v)
+      (stored_same c q (e 0) (change.set e (suc b) a v 0) s (λ n. sym (set_other e (suc b) a v 0 n (λ both. omega arith))))
 
   -- A rule was run at the innermost open node, which has these values.
-  given_in : (s : ℕ) (f : ℕ → Value) (level : ℕ) (x : OpenNode) (under : List Value) (old : Transcript) (before : ℕ) (others : Pending) (ph : Phase) (values new : List Value) (t : Transcript) (now : ℕ) (todo : Pending) (j a r : ℕ) (v spare : Value) (z : Instr) (q0 : Production) (u0 : Rule) (slots : RuleSlots)
-      → IsGivingOf j a r z → slice_get (list_at c x.production) x.at ≡ Some z → IsProduction c.grammar x.production q0 → slice_get q0.rules r ≡ Some u0 → AreSlotsOf c q0 u0 slots
-      → v ≡ value_of u0.expr.0 (λ k. get_or (drop x.base values) (slice_index slots.args k) spare) → new ≡ set values (x.base + slots.target) v
-      → IsActive c s f level x under old before others ph values t now todo → IsActive c s f level (after_step x x.child) under old before others ph new t (now + 1) todo
-  given_in s f level x under old before others ph values new t now todo j a r v spare z q0 u0 slots giving at there0 num0 are0 is0 written o =
+  given_in : (s : ℕ) (f : ℕ → Value) (level : ℕ) (x : OpenNode) (under : List Value) (old : Transcript) (before : ℕ)
+      (others : Pending) (ph : Phase) (values new : List Value) (t : Transcript) (now : ℕ) (todo : Pending) (j a r : ℕ)
+      (v spare : Value) (z : Instr) (q0 : Production) (u0 : Rule) (slots : RuleSlots)
+      → IsGivingOf j a r z → slice_get (list_at c x.production) x.at ≡ Some z → IsProduction c.grammar x.production q0
+      → slice_get q0.rules r ≡ Some u0 → AreSlotsOf c q0 u0 slots
+      → v ≡ value_of u0.expr.0 (λ k. get_or (drop x.base values) (slice_index slots.args k) spare)
+      → new ≡ set values (x.base + slots.target) v
+      → IsActive c s f level x under old before others ph values t now todo
+      → IsActive c s f level (after_step x x.child) under old before others ph new t (now + 1) todo
+  given_in s f level x under old before others ph values new t now todo j a r v spare z q0 u0 slots giving at there0 num0 are0 is0
+      written o =
       record {
         production = q;
         i = o.i;
@@ -183,14 +234,22 @@ module _ (c : Setting) (sound : IsSound c) where
         valuations = o.valuations;
         mid = o.mid;
         count = o.count;
-        is_open = open_after_rule c sound s f level x.production q (state_of ph o.i o.done) e o.trees o.valuations old o.mid j a r v g value_is next.1 o.is_open;
+        is_open =
+            open_after_rule c sound s f level x.production q
+            (state_of ph o.i o.done) e o.trees o.valuations old o.mid j a r v g value_is next.1 o.is_open;
         runs = next.3;
         agreement = shown_set c q (run_count ph o.i) e o.copied j a v pass (fault_unless next.1) o.agreement;
-        current = current_stays c q ph o.i o.done level x.child e o.of_child o.row row_now j a v o.mid t o.count sound.next pass next.1 (both j refl).1 o.current;
-        counted = let n = o.counted in let l = rules_next c x z at in let one : ◌≡◌ {A = ℕ} (cond (is_computation z) 1 0) 1 = ap (λ b. cond b 1 0) next.2 in omega arith;
+        current =
+            current_stays c q ph o.i o.done level x.child e o.of_child o.row row_now j a v o.mid t o.count sound.next pass next.1
+            (both j refl).1 o.current;
+        counted = let n = o.counted in let l = rules_next c x z at in
+            let one : ◌≡◌ {A = ℕ} (cond (is_computation z) 1 0) 1 = ap (λ b. cond b 1 0) next.2 in omega arith;
         values_are =
-            written ∙ ap (λ vs. set vs (x.base + slots.target) v) o.values_are ∙ ap (λ i. set (under ++ prefix) i v) sum ∙ set-append_right under prefix (length under) (length under + target_slot c q j a) v refl (omega arith)
-            ∙ ap (λ i. under ++ set prefix i v) (let minus : length under + target_slot c q j a - length under ≡ target_slot c q j a = omega arith in minus) ∙ ap (λ vs. under ++ vs) (both j refl).0;
+            written ∙ ap (λ vs. set vs (x.base + slots.target) v) o.values_are ∙ ap (λ i. set (under ++ prefix) i v) sum
+            ∙ set-append_right under prefix (length under) (length under + target_slot c q j a) v refl (omega arith)
+            ∙ ap (λ i. under ++ set prefix i v)
+            (let minus : length under + target_slot c q j a - length under ≡ target_slot c q j a = omega arith in minus)
+            ∙ ap (λ vs. under ++ vs) (both j refl).0;
         base = o.base;
         todo_is = o.todo_is ∙ coming_same ph;
       }
@@ -204,8 +263,12 @@ module _ (c : Setting) (sound : IsSound c) where
       prefix : List Value
       prefix = stored c q (e 0) o.copied ++ o.row
 
-      next : MayCompute c.passes q c.write (state_of ph o.i o.done) j a r × IsPlaced c q (state_of ph o.i o.done) j × (is_computation z ≡ true) × Runs c.passes q c.write (state_of ph o.i (r ∷ o.done)) (drop (x.at + 1) (list_at c x.production))
-      next = give_next c q ph o.i o.done j a r z (drop (x.at + 1) (list_at c x.production)) giving (runs_next c x z at q ph o.i o.done o.runs)
+      next : MayCompute c.passes q c.write (state_of ph o.i o.done) j a r × IsPlaced c q (state_of ph o.i o.done) j
+          × (is_computation z ≡ true) × Runs c.passes q c.write (state_of ph o.i (r ∷ o.done))
+          (drop (x.at + 1) (list_at c x.production))
+      next =
+          give_next c q ph o.i o.done j a r z (drop (x.at + 1) (list_at c x.production)) giving
+          (runs_next c x z at q ph o.i o.done o.runs)
 
       g : MayCompute c.passes q c.write (state_of ph o.i o.done) j a r
       g = next.0
@@ -234,8 +297,13 @@ module _ (c : Setting) (sound : IsSound c) where
       value_is env lends =
           let lent : ℕ → Value = λ k. get_or prefix (slice_index slots.args k) spare in
           let dropped : drop x.base values ≡ prefix = ap (drop x.base) o.values_are ∙ drop_at under prefix x.base (sym o.base) in
-          is0 ∙ ap (λ u. value_of u.expr.0 (λ k. get_or (drop x.base values) (slice_index slots.args k) spare)) rules_same ∙ ap (λ vs. value_of g.rule.expr.0 (λ k. get_or vs (slice_index slots.args k) spare)) dropped
-          ∙ rule_has_one_value c.grammar q g.rule e lent env (sound.accepted.named.rules_named x.production q o.is_open.there r g.rule g.numbered) (λ k o' at'. lent_is x.production q (state_of ph o.i o.done) r g.rule e o.copied o.row slots spare o.is_open.there g.numbered o.agreement are g.available k o' at') lends
+          is0 ∙ ap (λ u. value_of u.expr.0 (λ k. get_or (drop x.base values) (slice_index slots.args k) spare)) rules_same
+          ∙ ap (λ vs. value_of g.rule.expr.0 (λ k. get_or vs (slice_index slots.args k) spare)) dropped
+          ∙ rule_has_one_value c.grammar q g.rule e lent env
+          (sound.accepted.named.rules_named x.production q o.is_open.there r g.rule g.numbered)
+          (λ k o' at'. lent_is x.production q
+          (state_of ph o.i o.done) r g.rule e o.copied o.row slots spare o.is_open.there g.numbered o.agreement are
+          g.available k o' at') lends
 
       row_of : ℕ → List Value
       row_of zero = o.row
@@ -244,46 +312,78 @@ module _ (c : Setting) (sound : IsSound c) where
       row_now : List Value
       row_now = row_of j
 
-      both : (n : ℕ) → n ≡ j → (set prefix (target_slot c q j a) v ≡ stored c q (change.set e j a v 0) o.copied ++ row_now) × IsRowNow c q j a v o.row row_now
+      both : (n : ℕ) → n ≡ j → (set prefix (target_slot c q j a) v ≡ stored c q (change.set e j a v 0) o.copied ++ row_now)
+          × IsRowNow c q j a v o.row row_now
       both zero is = (
-        ap (λ n. set prefix (target_slot c q n a) v) (sym is) ∙ put_own q e o.copied o.row a v (subst (λ n. HasPass c.passes q (record { place = n; attr = a }) c.write) (sym is) pass) ∙ ap (λ n. stored c q (change.set e n a v 0) o.copied ++ row_of n) is,
+        ap (λ n. set prefix (target_slot c q n a) v) (sym is)
+            ∙ put_own q e o.copied o.row a v
+            (subst (λ n. HasPass c.passes q (record { place = n; attr = a }) c.write) (sym is) pass)
+            ∙ ap (λ n. stored c q (change.set e n a v 0) o.copied ++ row_of n) is,
         inl (sym is, ap row_of (sym is)),
       )
       both (suc b) is = (
-        ap (λ n. set prefix (target_slot c q n a) v) (sym is) ∙ put_child_value q e o.copied o.row b a v ∙ ap (λ n. stored c q (change.set e n a v 0) o.copied ++ row_of n) is,
+        ap (λ n. set prefix (target_slot c q n a) v) (sym is) ∙ put_child_value q e o.copied o.row b a v
+            ∙ ap (λ n. stored c q (change.set e n a v 0) o.copied ++ row_of n) is,
         inr ((λ none. omega arith), ap row_of (sym is) ∙ ap (λ n. set o.row (rank c.write (place_passes c q n) a) v) is),
       )
 
       fault_unless : IsPlaced c q (state_of ph o.i o.done) j → IsReached c q (run_count ph o.i) j → j ≡ 0
       fault_unless (inl own) k = own
-      fault_unless (inr turn) k = absurd (known_differs c q o.i j turn.within (subst (λ ph. IsReached c q (run_count ph o.i) j) turn.phase_is k) turn.place)
+      fault_unless (inr turn) k =
+          absurd
+          (known_differs c q o.i j turn.within (subst (λ ph. IsReached c q (run_count ph o.i) j) turn.phase_is k) turn.place)
 
-      copied_same : copies c c.read (stored_items q.items) (in_children e) ≡ copies c c.read (stored_items q.items) (in_children (change.set e j a v))
+      copied_same : copies c c.read (stored_items q.items) (in_children e) ≡ copies c c.read (stored_items q.items)
+          (in_children (change.set e j a v))
       copied_same = sym (copies_set c q e j a v sound.next pass)
 
-      coming_same : (ph : Phase) → pending c q ph o.i x.child e o.of_child (suc level) others ≡ pending c q ph o.i x.child (change.set e j a v) o.of_child (suc level) others
+      coming_same : (ph : Phase) → pending c q ph o.i x.child e o.of_child (suc level) others ≡ pending c q ph o.i x.child
+          (change.set e j a v) o.of_child (suc level) others
       coming_same Between = after_same c q e (change.set e j a v) o.i (suc level) others copied_same
-      coming_same Got = ap (pending_of_child c (slice_get c.grammar.productions x.child) o.of_child (suc (suc level))) (after_same c q e (change.set e j a v) (suc o.i) (suc level) others copied_same)
+      coming_same Got =
+          ap (pending_of_child c (slice_get c.grammar.productions x.child) o.of_child (suc (suc level)))
+          (after_same c q e (change.set e j a v) (suc o.i) (suc level) others copied_same)
       coming_same Gone = after_same c q e (change.set e j a v) (suc o.i) (suc level) others copied_same
       coming_same Ended = refl
 
-  pub step_give : (root : ℕ) (x : OpenNode) (xs : List OpenNode) (values new : List Value) (t : Transcript) (now : ℕ) (todo : Pending) (j a r : ℕ) (v spare : Value) (z : Instr) (q : Production) (u : Rule) (slots : RuleSlots)
-      → IsGivingOf j a r z → slice_get (list_at c x.production) x.at ≡ Some z → IsProduction c.grammar x.production q → slice_get q.rules r ≡ Some u → AreSlotsOf c q u slots
-      → v ≡ value_of u.expr.0 (λ k. get_or (drop x.base values) (slice_index slots.args k) spare) → new ≡ set values (x.base + slots.target) v
+  pub step_give : (root : ℕ) (x : OpenNode) (xs : List OpenNode) (values new : List Value) (t : Transcript) (now : ℕ)
+      (todo : Pending) (j a r : ℕ) (v spare : Value) (z : Instr) (q : Production) (u : Rule) (slots : RuleSlots)
+      → IsGivingOf j a r z → slice_get (list_at c x.production) x.at ≡ Some z → IsProduction c.grammar x.production q
+      → slice_get q.rules r ≡ Some u → AreSlotsOf c q u slots
+      → v ≡ value_of u.expr.0 (λ k. get_or (drop x.base values) (slice_index slots.args k) spare)
+      → new ≡ set values (x.base + slots.target) v
       → RunInvariant c root (x ∷ xs) values t now todo → RunInvariant c root (after_step x x.child ∷ xs) new t (now + 1) todo
-  step_give root x xs values new t now todo j a r v spare z q u slots giving at there num are is written (s, f, under, old, before, others, waits, ph, o) =
-      (s, f, under, old, before, others, waits, ph, given_in s f (suc (length xs)) x under old before others ph values new t now todo j a r v spare z q u slots giving at there num are is written o)
+  step_give root x xs values new t now todo j a r v spare z q u slots giving at there num are is written
+      (s, f, under, old, before, others, waits, ph, o) = (
+        s,
+        f,
+        under,
+        old,
+        before,
+        others,
+        waits,
+        ph,
+        given_in s f (suc (length xs)) x under old before others ph values new t now todo j a r v spare z q u slots giving at
+            there num are is written o,
+      )
 
-  pub given_runs : (root : ℕ) (honest to_honest : Bool) (content to : List ℕ) (state : BackState) (out : writing.Progress) (values new : List Value) (x : OpenNode) (xs : List OpenNode) (evals j a r : ℕ) (z : Instr) (q : Production) (u : Rule) (slots : RuleSlots) (spare v : Value)
-      → IsGivingOf j a r z → slice_get (list_at c x.production) x.at ≡ Some z → IsProduction c.grammar x.production q → slice_get q.rules r ≡ Some u → AreSlotsOf c q u slots
-      → v ≡ value_of u.expr.0 (λ k. get_or (drop x.base values) (slice_index slots.args k) spare) → IsWell v → new ≡ set values (x.base + slots.target) v
+  pub given_runs : (root : ℕ) (honest to_honest : Bool) (content to : List ℕ) (state : BackState) (out : writing.Progress)
+      (values new : List Value) (x : OpenNode) (xs : List OpenNode) (evals j a r : ℕ) (z : Instr) (q : Production) (u : Rule)
+      (slots : RuleSlots) (spare v : Value)
+      → IsGivingOf j a r z → slice_get (list_at c x.production) x.at ≡ Some z → IsProduction c.grammar x.production q
+      → slice_get q.rules r ≡ Some u → AreSlotsOf c q u slots
+      → v ≡ value_of u.expr.0 (λ k. get_or (drop x.base values) (slice_index slots.args k) spare) → IsWell v
+      → new ≡ set values (x.base + slots.target) v
       → IsRunning c root honest content to_honest to state out values (x ∷ xs) evals
       → IsRunning c root honest content to_honest to state out new (after_step x x.child ∷ xs) (evals + 1)
-  given_runs root honest to_honest content to state out values new x xs evals j a r z q u slots spare v giving at there num are is well written run =
+  given_runs root honest to_honest content to state out values new x xs evals j a r z q u slots spare v giving at there num are is
+      well written run =
       record {
         transcript = run.transcript;
         todo = run.todo;
-        invariant = step_give root x xs values new run.transcript evals run.todo j a r v spare z q u slots giving at there num are is written run.invariant;
+        invariant =
+            step_give root x xs values new run.transcript evals run.todo j a r v spare z q u slots giving at there num are is
+            written run.invariant;
         over = run.over;
         read = run.read;
         records = run.records;

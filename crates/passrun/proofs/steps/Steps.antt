@@ -1,5 +1,7 @@
 -- The steps of a pass.
-use Rattle.std.proofs.Common.{ℕ, zero, suc, ◌≡◌, ◌+◌, ◌<◌, ◌≤◌, ◌⊎◌, inl, inr, List, [], ◌∷◌, ◌++◌, Some, All, if◌then◌else◌, true, slice_get, length, take, drop, refl, ap, ◌∙◌, sym, subst, arith, append_assoc, append-nil, length-append}
+use Rattle.std.proofs.Common.{ℕ, zero, suc, ◌≡◌, ◌+◌, ◌<◌, ◌≤◌, ◌⊎◌, inl, inr, List, [], ◌∷◌, ◌++◌, Some, All, if◌then◌else◌}
+use Rattle.std.proofs.Common.{true, slice_get, length, take, drop, refl, ap, ◌∙◌, sym, subst, arith, append_assoc, append-nil}
+use Rattle.std.proofs.Common.{length-append}
 use Rattle.std.specs.Prelude.{cond}
 use Rattle.std.specs.List.{count_by}
 use Rattle.std.proofs.lemmas.Bool.{le-leb}
@@ -37,7 +39,9 @@ use Rattle.passrun.specs.passing.Ahead.{following, children_of, pending_of_child
 use Rattle.passrun.specs.passing.Change.{node_table, with_row}
 use Rattle.passrun.specs.Damage.{AreRecords, source}
 use Rattle.passrun.specs.passing.Nodes.{first_at, left_at, after_step}
-use Rattle.passrun.specs.passing.RunInvariant.{Transcript, Keeps, IsEvaluatedTree, IsOpenNode, IsReady, IsActive, Expects, RunInvariant, below, after_reading, put_of, root_body, root_number, rules_left, state_of}
+use Rattle.passrun.specs.passing.RunInvariant.{Transcript, Keeps, IsEvaluatedTree, IsOpenNode, IsReady, IsActive, Expects}
+use Rattle.passrun.specs.passing.RunInvariant.{RunInvariant, below, after_reading, put_of, root_body, root_number, rules_left}
+use Rattle.passrun.specs.passing.RunInvariant.{state_of}
 use Rattle.passrun.specs.passing.Places.{Table, copied_passes, copies, in_children, rest_of, stored}
 use Rattle.passrun.specs.reading.Reading.{AgreeAt, IsNodeRead, IsTokenRead}
 use Rattle.passrun.specs.layouts.Slots.{copied_width, copy_start, stored_width}
@@ -68,22 +72,32 @@ abbrev pub IsGivingOf : ℕ → ℕ → ℕ → Instr → Type 0
 IsGivingOf j a r z = (z ≡ instr.Set j a r) ⊎ ((z ≡ instr.Def a r) × (j ≡ 0))
 
 -- A node's own values in its row are those at place 0.
-pub stored_same : (c : Setting) (q : Production) (f h : ℕ → Value) (s : Table) → ((a : ℕ) → f a ≡ h a) → stored c q f s ≡ stored c q h s
-stored_same c q f h s same = ap (λ vs. vs ++ copies c c.write (stored_items q.items) (in_children s)) (same_values c.write (c.passes q.left) f h (λ a p is le. same a))
+pub stored_same : (c : Setting) (q : Production) (f h : ℕ → Value) (s : Table) → ((a : ℕ) → f a ≡ h a)
+    → stored c q f s ≡ stored c q h s
+stored_same c q f h s same =
+    ap (λ vs. vs ++ copies c c.write (stored_items q.items) (in_children s))
+    (same_values c.write (c.passes q.left) f h (λ a p is le. same a))
 
 -- If the row of a child at a place begins with these values, they agree with those that were read.
 abbrev pub HasAgreed : Setting → Production → OpenNode → ℕ → Item → List Value → (ℕ → Value) → Type 0
-HasAgreed c q x j x' values h = (f : ℕ → Value) (rest : List Value) → drop (x.base + copy_start c q j) values ≡ values_up_to c.write (copied_passes c x') f ++ rest → AgreeAt c x' f h
+HasAgreed c q x j x' values h = (f : ℕ → Value) (rest : List Value)
+    → drop (x.base + copy_start c q j) values ≡ values_up_to c.write (copied_passes c x') f ++ rest → AgreeAt c x' f h
 
 -- A node continues after a record that was read.
-pub record ArrivesAtNode (c : Setting) (s : ℕ) (f : ℕ → Value) (level : ℕ) (x : OpenNode) (under : List Value) (old : Transcript) (before : ℕ) (others : Pending) (phase : Phase) (values : List Value) (t : Transcript) (body : List ℕ) (now : ℕ) (todo : Pending) : Type 0 where
+pub record ArrivesAtNode (c : Setting) (s : ℕ) (f : ℕ → Value) (level : ℕ) (x : OpenNode) (under : List Value) (old : Transcript)
+    (before : ℕ) (others : Pending) (phase : Phase) (values : List Value) (t : Transcript) (body : List ℕ) (now : ℕ)
+    (todo : Pending) : Type 0 where
   pub next : Pending
   pub records : AreRecords (source c) t.read todo → AreRecords (source c) (t.read ++ body ∷ []) next
-  pub opens : IsActive c s f level x under old before others phase values (record { read = t.read ++ body ∷ []; put = t.put }) now next
+  pub opens : IsActive c s f level x under old before others phase values
+      (record { read = t.read ++ body ∷ []; put = t.put }) now next
 
 -- The copies at a place, in a row that comes after other values.
-pub copies_there : (c : Setting) (q : Production) (f : ℕ → Value) (s : Table) (under row : List Value) (b base : ℕ) (x : Item) → base ≡ length under → slice_get (stored_items q.items) b ≡ Some x
-    → (rest : List Value) × (drop (base + copy_start c q (suc b)) (under ++ (stored c q f s ++ row)) ≡ values_up_to c.write (copied_passes c x) (s (suc b)) ++ rest)
+pub copies_there : (c : Setting) (q : Production) (f : ℕ → Value) (s : Table) (under row : List Value) (b base : ℕ) (x : Item)
+    → base ≡ length under → slice_get (stored_items q.items) b ≡ Some x
+    → (rest : List Value)
+    × (drop (base + copy_start c q (suc b)) (under ++ (stored c q f s ++ row)) ≡ values_up_to c.write (copied_passes c x)
+    (s (suc b)) ++ rest)
 copies_there c q f s under row b base x is at =
     let r = share_at c q f s row b x at in
     let start = copy_start c q (suc b) in
@@ -92,25 +106,33 @@ copies_there c q f s under row b base x is at =
   where
     beyond : (xs ys : List Value) (n : ℕ) → drop (length xs + n) (xs ++ ys) ≡ drop n ys
     beyond [] ys n = let z : 0 + n ≡ n = omega arith in ap (λ n. drop n ys) z
-    beyond (x ∷ xs) ys n = let z : suc (length xs) + n ≡ suc (length xs + n) = omega arith in ap (λ n. drop n (x ∷ (xs ++ ys))) z ∙ beyond xs ys n
+    beyond (x ∷ xs) ys n = let z : suc (length xs) + n ≡ suc (length xs + n) = omega arith in
+        ap (λ n. drop n (x ∷ (xs ++ ys))) z ∙ beyond xs ys n
 
 module _ (c : Setting) (x : OpenNode) (z : Instr) (at : slice_get (list_at c x.production) x.at ≡ Some z) where
   -- An instruction may run if the rest of a list that begins with it may run.
-  pub runs_next : (q : Production) (ph : Phase) (i : ℕ) (done : List ℕ) → Runs c.passes q c.write (state_of ph i done) (rest_of c x)
+  pub runs_next : (q : Production) (ph : Phase) (i : ℕ) (done : List ℕ)
+      → Runs c.passes q c.write (state_of ph i done) (rest_of c x)
       → Runs c.passes q c.write (state_of ph i done) (z ∷ drop (x.at + 1) (list_at c x.production))
-  runs_next q ph i done runs = subst (Runs c.passes q c.write (state_of ph i done)) (next_is (list_at c x.production) x.at z at) runs
+  runs_next q ph i done runs =
+      subst (Runs c.passes q c.write (state_of ph i done)) (next_is (list_at c x.production) x.at z at) runs
 
   -- If the instruction runs a rule, one rule fewer is left after it.
-  pub rules_next : rules_left c x ≡ cond (is_computation z) 1 0 + count_by is_computation (drop (x.at + 1) (list_at c x.production))
-  rules_next = ap (count_by is_computation) (next_is (list_at c x.production) x.at z at) ∙ count_more is_computation z (drop (x.at + 1) (list_at c x.production))
+  pub rules_next : rules_left c x ≡ cond (is_computation z) 1 0 + count_by is_computation
+      (drop (x.at + 1) (list_at c x.production))
+  rules_next =
+      ap (count_by is_computation) (next_is (list_at c x.production) x.at z at)
+      ∙ count_more is_computation z (drop (x.at + 1) (list_at c x.production))
 
 -- The innermost open node is in the phase in which its next instruction may run.
-module _ {c : Setting} {s : ℕ} {f : ℕ → Value} {level : ℕ} {x : OpenNode} {under : List Value} {old : Transcript} {before : ℕ} {others : Pending} {ph : Phase} {values : List Value} {t : Transcript} {now : ℕ} {todo : Pending}
+module _ {c : Setting} {s : ℕ} {f : ℕ → Value} {level : ℕ} {x : OpenNode} {under : List Value} {old : Transcript} {before : ℕ}
+    {others : Pending} {ph : Phase} {values : List Value} {t : Transcript} {now : ℕ} {todo : Pending}
     (o : IsActive c s f level x under old before others ph values t now todo) where
   abbrev pub IsIn : Phase → Type 0
   IsIn ph = IsActive c s f level x under old before others ph values t now todo
 
-  may_run : (z : Instr) → slice_get (list_at c x.production) x.at ≡ Some z → MayRun c.passes o.production c.write (state_of ph o.i o.done) z
+  may_run : (z : Instr) → slice_get (list_at c x.production) x.at ≡ Some z
+      → MayRun c.passes o.production c.write (state_of ph o.i o.done) z
   may_run z at = (runs_next c x z at o.production ph o.i o.done o.runs).0
 
   pub at_get : (j : ℕ) → slice_get (list_at c x.production) x.at ≡ Some (instr.Get j) → IsIn Between
@@ -128,32 +150,45 @@ module _ {c : Setting} {s : ℕ} {f : ℕ → Value} {level : ℕ} {x : OpenNode
   -- The node is done: its tree was read, and written except for its own record, which its row makes. The
   -- others are still to be read.
   pub record IsDone : Type 0 where
-    pub ready : IsReady c (item.Symbol s) x.production (o.table 0) (node x.production o.trees) (graft (o.table 0) o.valuations) old t
+    pub ready : IsReady c (item.Symbol s) x.production (o.table 0) (node x.production o.trees)
+        (graft (o.table 0) o.valuations) old t
     pub deep : depth_of (node x.production o.trees) + level ≤ suc max_depth
-    pub record_is : root_body (bodies_of version_two c.grammar c.passes c.write (node x.production o.trees) (graft (o.table 0) o.valuations)) ≡ body_of Node x.production (stored c o.production (o.table 0) o.copied)
+    pub record_is : root_body
+        (bodies_of version_two c.grammar c.passes c.write (node x.production o.trees) (graft (o.table 0) o.valuations))
+        ≡ body_of Node x.production (stored c o.production (o.table 0) o.copied)
     pub whole : values ≡ under ++ stored c o.production (o.table 0) o.copied
     pub counted : now ≡ before + rules_of_pass c.passes c.write c.grammar (node x.production o.trees)
     pub todo_is : todo ≡ others
 
 -- The target of an instruction that runs a rule is at the node itself, or at the child whose record was read.
-pub give_next : (c : Setting) (q : Production) (ph : Phase) (i : ℕ) (done : List ℕ) (j a r : ℕ) (z : Instr) (xs : List Instr) → IsGivingOf j a r z → Runs c.passes q c.write (state_of ph i done) (z ∷ xs)
-    → MayCompute c.passes q c.write (state_of ph i done) j a r × IsPlaced c q (state_of ph i done) j × (is_computation z ≡ true) × Runs c.passes q c.write (state_of ph i (r ∷ done)) xs
+pub give_next : (c : Setting) (q : Production) (ph : Phase) (i : ℕ) (done : List ℕ) (j a r : ℕ) (z : Instr) (xs : List Instr)
+    → IsGivingOf j a r z → Runs c.passes q c.write (state_of ph i done) (z ∷ xs)
+    → MayCompute c.passes q c.write (state_of ph i done) j a r × IsPlaced c q (state_of ph i done) j × (is_computation z ≡ true)
+    × Runs c.passes q c.write (state_of ph i (r ∷ done)) xs
 give_next c q ph i done j a r z xs giving runs = elim giving [
-  | inl is ↦ let g = subst (λ z. Runs c.passes q c.write (state_of ph i done) (z ∷ xs)) is runs in (g.0.1, inr g.0.0, ap is_computation is, g.1)
+  | inl is ↦ let g = subst (λ z. Runs c.passes q c.write (state_of ph i done) (z ∷ xs)) is runs in
+      (g.0.1, inr g.0.0, ap is_computation is, g.1)
   | inr is ↦ (
-      let g = subst (λ z. Runs c.passes q c.write (state_of ph i done) (z ∷ xs)) is.0 runs in
-      (subst (λ j. MayCompute c.passes q c.write (state_of ph i done) j a r) (sym is.1) g.0.1, inl is.1, ap is_computation is.0, g.1))
+      let g = subst (λ z. Runs c.passes q c.write (state_of ph i done) (z ∷ xs)) is.0 runs in (
+        subst (λ j. MayCompute c.passes q c.write (state_of ph i done) j a r) (sym is.1) g.0.1,
+        inl is.1,
+        ap is_computation is.0,
+        g.1,
+      ))
 ]
 
 module _ (c : Setting) (sound : IsSound c) where
   -- The list of a production has an instruction for each of its rules of the pass.
-  rules_first : (p : ℕ) (q : Production) → IsProduction c.grammar p q → count_by is_computation (list_at c p) ≡ pass_rule_count c.passes c.write (Some q)
+  rules_first : (p : ℕ) (q : Production) → IsProduction c.grammar p q
+      → count_by is_computation (list_at c p) ≡ pass_rule_count c.passes c.write (Some q)
   rules_first p q there =
       let n = sound.next in
-      lists_evaluate_rules c.passes q c.write (list_at c p) (agrees c.passes q c.write (list_at c p) (omega arith) (sound.course p q there))
+      lists_evaluate_rules c.passes q c.write (list_at c p)
+      (agrees c.passes q c.write (list_at c p) (omega arith) (sound.course p q there))
 
   -- The list of a production ends with `End`.
-  rules_last : (x : OpenNode) (q : Production) → IsProduction c.grammar x.production q → slice_get (list_at c x.production) x.at ≡ Some instr.End → rules_left c x ≡ 0
+  rules_last : (x : OpenNode) (q : Production) → IsProduction c.grammar x.production q
+      → slice_get (list_at c x.production) x.at ≡ Some instr.End → rules_left c x ≡ 0
   rules_last x q there at =
       let n = sound.next in
       let xs = list_at c x.production in
@@ -163,9 +198,13 @@ module _ (c : Setting) (sound : IsSound c) where
       omega arith
 
   -- The record of a node was read.
-  got_in : (s : ℕ) (f : ℕ → Value) (level : ℕ) (x : OpenNode) (under : List Value) (old : Transcript) (before : ℕ) (others : Pending) (ph : Phase) (values new : List Value) (t : Transcript) (now : ℕ) (todo : Pending) (j p s' : ℕ) (q0 : Production) (body : List ℕ) (read : IsNodeRead c s' p body values new)
-      → slice_get (list_at c x.production) x.at ≡ Some (instr.Get j) → IsProduction c.grammar x.production q0 → item_at q0 j ≡ Some (item.Symbol s') → level < max_depth → HasAgreed c q0 x j (item.Symbol s') new read.values
-      → IsActive c s f level x under old before others ph values t now todo → ArrivesAtNode c s f level (after_step x p) under old before others Got new t body now todo
+  got_in : (s : ℕ) (f : ℕ → Value) (level : ℕ) (x : OpenNode) (under : List Value) (old : Transcript) (before : ℕ)
+      (others : Pending) (ph : Phase) (values new : List Value) (t : Transcript) (now : ℕ) (todo : Pending) (j p s' : ℕ)
+      (q0 : Production) (body : List ℕ) (read : IsNodeRead c s' p body values new)
+      → slice_get (list_at c x.production) x.at ≡ Some (instr.Get j) → IsProduction c.grammar x.production q0
+      → item_at q0 j ≡ Some (item.Symbol s') → level < max_depth → HasAgreed c q0 x j (item.Symbol s') new read.values
+      → IsActive c s f level x under old before others ph values t now todo
+      → ArrivesAtNode c s f level (after_step x p) under old before others Got new t body now todo
   got_in s f level x under old before others ph values new t now todo j p s' q0 body read at there0 occurs0 deep agreed here =
       let o = at_get here j at in
       let q = o.production in
@@ -181,23 +220,40 @@ module _ (c : Setting) (sound : IsSound c) where
       let item_is : item_at q j ≡ Some (item.Symbol s') = ap (λ q. item_at q j) (sym same) ∙ occurs0 in
       let occurs : item_at q pl ≡ Some (item.Symbol s') = ap (item_at q) (sym place) ∙ item_is in
       let child_row = stored c read.production h of_child in
-      let row : child_row ≡ values_up_to c.write (c.passes s') h ++ copies c c.write (stored_items read.production.items) read.table = ap (λ s. values_up_to c.write (c.passes s) h ++ copies c c.write (stored_items read.production.items) read.table) read.left in
+      let row : child_row ≡ values_up_to c.write (c.passes s') h ++ copies c c.write
+      (stored_items read.production.items) read.table =
+      ap (λ s. values_up_to c.write (c.passes s) h ++ copies c c.write (stored_items read.production.items) read.table)
+      read.left in
       let whole : new ≡ under ++ (stored c q (o.table 0) o.copied ++ child_row) =
-      read.row ∙ ap (λ vs. vs ++ (values_up_to c.write (c.passes s') h ++ copies c c.write (stored_items read.production.items) read.table)) (o.values_are ∙ ap (λ r. under ++ (stored c q (o.table 0) o.copied ++ r)) o.current.2 ∙ ap (λ vs. under ++ vs) (append-nil (stored c q (o.table 0) o.copied)))
-      ∙ ap (λ vs. (under ++ stored c q (o.table 0) o.copied) ++ vs) (sym row) ∙ append_assoc under (stored c q (o.table 0) o.copied) child_row in
+      read.row
+      ∙ ap
+      (λ vs.
+      vs
+      ++ (values_up_to c.write (c.passes s') h ++ copies c c.write
+      (stored_items read.production.items) read.table))
+      (o.values_are ∙ ap (λ r. under ++ (stored c q (o.table 0) o.copied ++ r)) o.current.2
+      ∙ ap (λ vs. under ++ vs) (append-nil (stored c q (o.table 0) o.copied)))
+      ∙ ap (λ vs. (under ++ stored c q (o.table 0) o.copied) ++ vs) (sym row)
+      ∙ append_assoc under (stored c q (o.table 0) o.copied) child_row in
       let found = copies_there c q (o.table 0) o.copied under child_row b x.base (item.Symbol s') o.base occurs in
       let slot : copy_start c q0 j ≡ copy_start c q pl = ap (λ q. copy_start c q j) same ∙ ap (copy_start c q) place in
-      let agree = agreed (o.copied pl) found.0 (ap (λ n. drop (x.base + n) new) slot ∙ ap (drop (x.base + copy_start c q pl)) whole ∙ found.1) in
+      let agree =
+      agreed (o.copied pl) found.0 (ap (λ n. drop (x.base + n) new) slot ∙ ap (drop (x.base + copy_start c q pl)) whole
+      ∙ found.1) in
       let agree' = agree_table c q o.i o.table o.copied b (item.Symbol s') h occurs sound.next o.agreement agree in
       let copied = copies_row c q o.table b (item.Symbol s') h occurs agree' in
       let copy = values_up_to c.read (copied_passes c (item.Symbol s')) (o.table pl) in
       let rest = following c q o.table (suc o.i) (suc level) others in
       let ys : List Child = children_of c read.production of_child in
-      let first : todo ≡ (suc level, (item.Symbol s', Some copy)) ∷ rest = o.todo_is ∙ behind_next c q o.table o.i (suc level) others (item.Symbol s') within occurs in
+      let first : todo ≡ (suc level, (item.Symbol s', Some copy)) ∷ rest =
+      o.todo_is ∙ behind_next c q o.table o.i (suc level) others (item.Symbol s') within occurs in
       let next_todo = before_others (other (direction_of c.read)) (suc (suc level)) ys rest in
       record {
         next = next_todo;
-        records = λ here. leaves_on (source c) (other (direction_of c.read)) t.read body (suc level) (item.Symbol s', Some copy) ys (pending_root c.grammar) rest (subst (AreRecords (source c) t.read) first here) (omega arith) (is_record c (item.Symbol s') p body values new read (Some copy) (sym agree'));
+        records =
+            λ here. leaves_on (source c) (other (direction_of c.read)) t.read body (suc level) (item.Symbol s', Some copy) ys
+            (pending_root c.grammar) rest (subst (AreRecords (source c) t.read) first here) (omega arith)
+            (is_record c (item.Symbol s') p body values new read (Some copy) (sym agree'));
         opens = record {
           production = q;
           i = o.i;
@@ -210,9 +266,16 @@ module _ (c : Setting) (sound : IsSound c) where
           valuations = o.valuations;
           mid = o.mid;
           count = 0;
-          is_open = met_child c sound s f level x.production q Got o.i o.done o.table o.trees o.valuations old o.mid (item.Symbol s') h within occurs agree' refl (λ j n k. k) o.is_open;
-          runs = subst (λ x'. Runs c.passes q c.write (state_of (after_get x') o.i o.done) (drop (x.at + 1) (list_at c x.production))) item_is next.1;
-          agreement = shown_row c q o.i o.i o.table o.copied b (item.Symbol s') h occurs agree sound.next (λ b apart k. k) (λ a n at k. absurd (known_differs c q o.i pl within k refl)) o.agreement;
+          is_open =
+              met_child c sound s f level x.production q Got o.i o.done o.table o.trees o.valuations old o.mid
+              (item.Symbol s') h within occurs agree' refl (λ j n k. k) o.is_open;
+          runs =
+              subst
+              (λ x'. Runs c.passes q c.write (state_of (after_get x') o.i o.done) (drop (x.at + 1) (list_at c x.production)))
+              item_is next.1;
+          agreement =
+              shown_row c q o.i o.i o.table o.copied b (item.Symbol s') h occurs agree sound.next (λ b apart k. k)
+              (λ a n at k. absurd (known_differs c q o.i pl within k refl)) o.agreement;
           current = (
             record {
               symbol = s';
@@ -220,23 +283,41 @@ module _ (c : Setting) (sound : IsSound c) where
               production = read.production;
               there = read.there;
               left = read.left;
-              transcript = ap (λ bs. record { read = t.read ++ bs ∷ []; put = t.put }) read.same ∙ ap (after_reading c p h (copies c c.read (stored_items read.production.items) read.table)) o.current.0 ∙ sym (ap (λ f. after_reading c p f (copies c c.read (stored_items read.production.items) read.table) o.mid) (with_is o.table pl h));
+              transcript =
+                  ap (λ bs. record { read = t.read ++ bs ∷ []; put = t.put }) read.same
+                  ∙ ap (after_reading c p h (copies c c.read (stored_items read.production.items) read.table)) o.current.0
+                  ∙ sym
+                  (ap
+                  (λ f. after_reading c p f (copies c c.read (stored_items read.production.items) read.table)
+                  o.mid) (with_is o.table pl h));
               deep = deep;
             },
             refl,
             ap (λ f. stored c read.production f of_child) (sym (with_is o.table pl h)),
           );
           counted = let n = o.counted in let m = o.current.1 in let l = rules_next c x (instr.Get j) at in omega arith;
-          values_are = whole ∙ ap (λ vs. under ++ (vs ++ child_row)) (stored_same c q (o.table 0) (e 0) o.copied (λ a. sym (with_other o.table pl h 0 a (λ z. omega arith))));
+          values_are =
+              whole ∙ ap (λ vs. under ++ (vs ++ child_row))
+              (stored_same c q (o.table 0) (e 0) o.copied (λ a. sym (with_other o.table pl h 0 a (λ z. omega arith))));
           base = o.base;
-          todo_is = ap (before_others (other (direction_of c.read)) (suc (suc level)) ys) (sym (after_same c q e o.table (suc o.i) (suc level) others copied)) ∙ sym (of_node_is c sound p read.production of_child (suc (suc level)) (following c q e (suc o.i) (suc level) others) read.there);
+          todo_is =
+              ap (before_others (other (direction_of c.read)) (suc (suc level)) ys)
+              (sym (after_same c q e o.table (suc o.i) (suc level) others copied))
+              ∙ sym
+              (of_node_is c sound p read.production of_child (suc (suc level))
+              (following c q e (suc o.i) (suc level) others) read.there);
         };
       }
 
   -- The record of a token was read.
-  leaf_in : (s : ℕ) (f : ℕ → Value) (level : ℕ) (x : OpenNode) (under : List Value) (old : Transcript) (before : ℕ) (others : Pending) (ph : Phase) (values new : List Value) (t : Transcript) (now : ℕ) (todo : Pending) (j d : ℕ) (q0 : Production) (body : List ℕ) (read : IsTokenRead d body values new)
-      → slice_get (list_at c x.production) x.at ≡ Some (instr.Get j) → IsProduction c.grammar x.production q0 → item_at q0 j ≡ Some (item.Terminal (Class d)) → level < max_depth → HasAgreed c q0 x j (item.Terminal (Class d)) new (λ a. Text read.text)
-      → IsActive c s f level x under old before others ph values t now todo → ArrivesAtNode c s f level (after_step x d) under old before others Gone values t body now todo
+  leaf_in : (s : ℕ) (f : ℕ → Value) (level : ℕ) (x : OpenNode) (under : List Value) (old : Transcript) (before : ℕ)
+      (others : Pending) (ph : Phase) (values new : List Value) (t : Transcript) (now : ℕ) (todo : Pending) (j d : ℕ)
+      (q0 : Production) (body : List ℕ) (read : IsTokenRead d body values new)
+      → slice_get (list_at c x.production) x.at ≡ Some (instr.Get j) → IsProduction c.grammar x.production q0
+      → item_at q0 j ≡ Some (item.Terminal (Class d)) → level < max_depth
+      → HasAgreed c q0 x j (item.Terminal (Class d)) new (λ a. Text read.text)
+      → IsActive c s f level x under old before others ph values t now todo
+      → ArrivesAtNode c s f level (after_step x d) under old before others Gone values t body now todo
   leaf_in s f level x under old before others ph values new t now todo j d q0 body read at there0 occurs0 deep agreed here =
       let o = at_get here j at in
       let q = o.production in
@@ -252,18 +333,27 @@ module _ (c : Setting) (sound : IsSound c) where
       let item_is : item_at q j ≡ Some x' = ap (λ q. item_at q j) (sym same) ∙ occurs0 in
       let occurs : item_at q pl ≡ Some x' = ap (item_at q) (sym place) ∙ item_is in
       let whole : new ≡ under ++ (stored c q (o.table 0) o.copied ++ Text read.text ∷ []) =
-      read.row ∙ ap (λ vs. vs ++ Text read.text ∷ []) (o.values_are ∙ ap (λ r. under ++ (stored c q (o.table 0) o.copied ++ r)) o.current.2 ∙ ap (λ vs. under ++ vs) (append-nil (stored c q (o.table 0) o.copied))) ∙ append_assoc under (stored c q (o.table 0) o.copied) (Text read.text ∷ []) in
+      read.row ∙ ap (λ vs. vs ++ Text read.text ∷ [])
+      (o.values_are ∙ ap (λ r. under ++ (stored c q (o.table 0) o.copied ++ r)) o.current.2
+      ∙ ap (λ vs. under ++ vs) (append-nil (stored c q (o.table 0) o.copied)))
+      ∙ append_assoc under (stored c q (o.table 0) o.copied) (Text read.text ∷ []) in
       let found = copies_there c q (o.table 0) o.copied under (Text read.text ∷ []) b x.base x' o.base occurs in
       let slot : copy_start c q0 j ≡ copy_start c q pl = ap (λ q. copy_start c q j) same ∙ ap (copy_start c q) place in
-      let agree = agreed (o.copied pl) found.0 (ap (λ n. drop (x.base + n) new) slot ∙ ap (drop (x.base + copy_start c q pl)) whole ∙ found.1) in
+      let agree =
+      agreed (o.copied pl) found.0 (ap (λ n. drop (x.base + n) new) slot ∙ ap (drop (x.base + copy_start c q pl)) whole
+      ∙ found.1) in
       let agree' = agree_table c q o.i o.table o.copied b x' h occurs sound.next o.agreement agree in
       let copied = copies_row c q o.table b x' h occurs agree' in
       let copy = values_up_to c.read (copied_passes c x') (o.table pl) in
       let rest = following c q o.table (suc o.i) (suc level) others in
-      let first : todo ≡ (suc level, (x', Some copy)) ∷ rest = o.todo_is ∙ behind_next c q o.table o.i (suc level) others x' within occurs in
+      let first : todo ≡ (suc level, (x', Some copy)) ∷ rest =
+      o.todo_is ∙ behind_next c q o.table o.i (suc level) others x' within occurs in
       record {
         next = rest;
-        records = λ here. leaves_on (source c) (other (direction_of c.read)) t.read body (suc level) (x', Some copy) [] (pending_root c.grammar) rest (subst (AreRecords (source c) t.read) first here) (omega arith) (is_record c x' d body values new (refl, read) (Some copy) (sym agree'));
+        records =
+            λ here. leaves_on (source c) (other (direction_of c.read)) t.read body (suc level) (x', Some copy) []
+            (pending_root c.grammar) rest (subst (AreRecords (source c) t.read) first here) (omega arith)
+            (is_record c x' d body values new (refl, read) (Some copy) (sym agree'));
         opens = record {
           production = q;
           i = o.i;
@@ -276,9 +366,17 @@ module _ (c : Setting) (sound : IsSound c) where
           valuations = o.valuations;
           mid = o.mid;
           count = 0;
-          is_open = met_child c sound s f level x.production q Gone o.i o.done o.table o.trees o.valuations old o.mid x' h within occurs agree' refl (λ j n k. elim k [ inl l ↦ inl l | inr l ↦ inr (known_more c q o.i j l) ]) o.is_open;
-          runs = subst (λ x'. Runs c.passes q c.write (state_of (after_get x') o.i o.done) (drop (x.at + 1) (list_at c x.production))) item_is next.1;
-          agreement = shown_row c q o.i (suc o.i) o.table o.copied b x' h occurs agree sound.next (λ b' apart k. elim (known_last c q o.i (suc b') k) [ inl l ↦ l | inr here ↦ absurd (apart (omega arith)) ]) (λ a n at k. zero_pass a n at) o.agreement;
+          is_open =
+              met_child c sound s f level x.production q Gone o.i o.done o.table o.trees o.valuations old o.mid x' h within occurs
+              agree' refl (λ j n k. elim k [ inl l ↦ inl l | inr l ↦ inr (known_more c q o.i j l) ]) o.is_open;
+          runs =
+              subst
+              (λ x'. Runs c.passes q c.write (state_of (after_get x') o.i o.done) (drop (x.at + 1) (list_at c x.production)))
+              item_is next.1;
+          agreement =
+              shown_row c q o.i (suc o.i) o.table o.copied b x' h occurs agree sound.next
+              (λ b' apart k. elim (known_last c q o.i (suc b') k) [ inl l ↦ l | inr here ↦ absurd (apart (omega arith)) ])
+              (λ a n at k. zero_pass a n at) o.agreement;
           current = (
             record {
               item = x';
@@ -296,7 +394,10 @@ module _ (c : Setting) (sound : IsSound c) where
             refl,
           );
           counted = let n = o.counted in let m = o.current.1 in let l = rules_next c x (instr.Get j) at in omega arith;
-          values_are = o.values_are ∙ ap (λ r. under ++ (stored c q (o.table 0) o.copied ++ r)) o.current.2 ∙ ap (λ vs. under ++ (vs ++ [])) (stored_same c q (o.table 0) (e 0) o.copied (λ a. sym (with_other o.table pl h 0 a (λ z. omega arith))));
+          values_are =
+              o.values_are ∙ ap (λ r. under ++ (stored c q (o.table 0) o.copied ++ r)) o.current.2
+              ∙ ap (λ vs. under ++ (vs ++ []))
+              (stored_same c q (o.table 0) (e 0) o.copied (λ a. sym (with_other o.table pl h 0 a (λ z. omega arith))));
           base = o.base;
           todo_is = sym (after_same c q e o.table (suc o.i) (suc level) others copied);
         };
@@ -306,23 +407,42 @@ module _ (c : Setting) (sound : IsSound c) where
       zero_pass zero n at = let e : 0 ≡ n = cc in let next = sound.next in omega arith
       zero_pass (suc a) n at = absurd (let bad : ⊥ = cc in bad)
 
-  pub step_got : (root : ℕ) (x : OpenNode) (xs : List OpenNode) (values new : List Value) (t : Transcript) (now : ℕ) (todo : Pending) (j p s' : ℕ) (q0 : Production) (body : List ℕ) (read : IsNodeRead c s' p body values new)
-      → slice_get (list_at c x.production) x.at ≡ Some (instr.Get j) → IsProduction c.grammar x.production q0 → item_at q0 j ≡ Some (item.Symbol s') → suc (length xs) < max_depth → HasAgreed c q0 x j (item.Symbol s') new read.values
-      → RunInvariant c root (x ∷ xs) values t now todo → (next : Pending) × (AreRecords (source c) t.read todo → AreRecords (source c) (t.read ++ body ∷ []) next) × RunInvariant c root (after_step x p ∷ xs) new (record { read = t.read ++ body ∷ []; put = t.put }) now next
-  step_got root x xs values new t now todo j p s' q0 body read at there0 occurs0 deep agreed (s, f, under, old, before, others, waits, ph, o) =
-      let on = got_in s f (suc (length xs)) x under old before others ph values new t now todo j p s' q0 body read at there0 occurs0 deep agreed o in
+  pub step_got : (root : ℕ) (x : OpenNode) (xs : List OpenNode) (values new : List Value) (t : Transcript) (now : ℕ)
+      (todo : Pending) (j p s' : ℕ) (q0 : Production) (body : List ℕ) (read : IsNodeRead c s' p body values new)
+      → slice_get (list_at c x.production) x.at ≡ Some (instr.Get j) → IsProduction c.grammar x.production q0
+      → item_at q0 j ≡ Some (item.Symbol s') → suc (length xs) < max_depth
+      → HasAgreed c q0 x j (item.Symbol s') new read.values
+      → RunInvariant c root (x ∷ xs) values t now todo
+      → (next : Pending) × (AreRecords (source c) t.read todo → AreRecords (source c) (t.read ++ body ∷ []) next)
+      × RunInvariant c root (after_step x p ∷ xs) new (record { read = t.read ++ body ∷ []; put = t.put }) now next
+  step_got root x xs values new t now todo j p s' q0 body read at there0 occurs0 deep agreed
+      (s, f, under, old, before, others, waits, ph, o) =
+      let on =
+      got_in s f (suc (length xs)) x under old before others ph values new t now todo j p s' q0 body read at there0 occurs0
+      deep agreed o in
       (on.next, on.records, (s, f, under, old, before, others, waits, Got, on.opens))
 
-  pub step_leaf : (root : ℕ) (x : OpenNode) (xs : List OpenNode) (values new : List Value) (t : Transcript) (now : ℕ) (todo : Pending) (j d : ℕ) (q0 : Production) (body : List ℕ) (read : IsTokenRead d body values new)
-      → slice_get (list_at c x.production) x.at ≡ Some (instr.Get j) → IsProduction c.grammar x.production q0 → item_at q0 j ≡ Some (item.Terminal (Class d)) → suc (length xs) < max_depth → HasAgreed c q0 x j (item.Terminal (Class d)) new (λ a. Text read.text)
-      → RunInvariant c root (x ∷ xs) values t now todo → (next : Pending) × (AreRecords (source c) t.read todo → AreRecords (source c) (t.read ++ body ∷ []) next) × RunInvariant c root (after_step x d ∷ xs) values (record { read = t.read ++ body ∷ []; put = t.put }) now next
-  step_leaf root x xs values new t now todo j d q0 body read at there0 occurs0 deep agreed (s, f, under, old, before, others, waits, ph, o) =
-      let on = leaf_in s f (suc (length xs)) x under old before others ph values new t now todo j d q0 body read at there0 occurs0 deep agreed o in
+  pub step_leaf : (root : ℕ) (x : OpenNode) (xs : List OpenNode) (values new : List Value) (t : Transcript) (now : ℕ)
+      (todo : Pending) (j d : ℕ) (q0 : Production) (body : List ℕ) (read : IsTokenRead d body values new)
+      → slice_get (list_at c x.production) x.at ≡ Some (instr.Get j) → IsProduction c.grammar x.production q0
+      → item_at q0 j ≡ Some (item.Terminal (Class d)) → suc (length xs) < max_depth
+      → HasAgreed c q0 x j (item.Terminal (Class d)) new (λ a. Text read.text)
+      → RunInvariant c root (x ∷ xs) values t now todo
+      → (next : Pending) × (AreRecords (source c) t.read todo → AreRecords (source c) (t.read ++ body ∷ []) next)
+      × RunInvariant c root (after_step x d ∷ xs) values (record { read = t.read ++ body ∷ []; put = t.put }) now next
+  step_leaf root x xs values new t now todo j d q0 body read at there0 occurs0 deep agreed
+      (s, f, under, old, before, others, waits, ph, o) =
+      let on =
+      leaf_in s f (suc (length xs)) x under old before others ph values new t now todo j d q0 body read at there0 occurs0 deep
+      agreed o in
       (on.next, on.records, (s, f, under, old, before, others, waits, Gone, on.opens))
 
   -- A node whose record was just read.
-  pub opened : (p s : ℕ) (q : Production) (f : ℕ → Value) (e : Table) (level base : ℕ) (under : List Value) (old : Transcript) (before : ℕ) (others : Pending) → IsProduction c.grammar p q → q.left ≡ s → level ≤ max_depth → base ≡ length under
-      → IsActive c s f level (first_at p base) under old before others Between (under ++ stored c q f e) (after_reading c p f (copies c c.read (stored_items q.items) (in_children e)) old) before (following c q e 0 (suc level) others)
+  pub opened : (p s : ℕ) (q : Production) (f : ℕ → Value) (e : Table) (level base : ℕ) (under : List Value) (old : Transcript)
+      (before : ℕ) (others : Pending) → IsProduction c.grammar p q → q.left ≡ s → level ≤ max_depth → base ≡ length under
+      → IsActive c s f level (first_at p base) under old before others Between (under ++ stored c q f e)
+      (after_reading c p f (copies c c.read (stored_items q.items) (in_children e)) old) before
+      (following c q e 0 (suc level) others)
   opened p s q f e level base under old before others there left deep is =
       record {
         production = q;
@@ -360,8 +480,10 @@ module _ (c : Setting) (sound : IsSound c) where
         todo_is = refl;
       }
 
-  gone_in : (root s : ℕ) (f : ℕ → Value) (x : OpenNode) (xs : List OpenNode) (under : List Value) (old : Transcript) (before : ℕ) (others : Pending) (ph : Phase) (values : List Value) (t : Transcript) (now : ℕ) (todo : Pending) (j base : ℕ)
-      → slice_get (list_at c x.production) x.at ≡ Some (instr.Go j) → Expects c root xs s x.production f under old before others → IsActive c s f (suc (length xs)) x under old before others ph values t now todo
+  gone_in : (root s : ℕ) (f : ℕ → Value) (x : OpenNode) (xs : List OpenNode) (under : List Value) (old : Transcript) (before : ℕ)
+      (others : Pending) (ph : Phase) (values : List Value) (t : Transcript) (now : ℕ) (todo : Pending) (j base : ℕ)
+      → slice_get (list_at c x.production) x.at ≡ Some (instr.Go j) → Expects c root xs s x.production f under old before others
+      → IsActive c s f (suc (length xs)) x under old before others ph values t now todo
       → ((q : Production) → IsProduction c.grammar x.child q → base + stored_width c q ≡ length values)
       → RunInvariant c root (first_at x.child base ∷ left_at x j ∷ xs) values t now todo
   gone_in root s f x xs under old before others ph values t now todo j base at waits here is =
@@ -374,7 +496,9 @@ module _ (c : Setting) (sound : IsSound c) where
       let level = suc (length xs) in
       let rest = under ++ stored c q (o.table 0) o.copied in
       let child_row = stored c g.production h o.of_child in
-      let vs : values ≡ rest ++ child_row = o.values_are ∙ ap (λ r. under ++ (stored c q (o.table 0) o.copied ++ r)) o.current.2 ∙ sym (append_assoc under (stored c q (o.table 0) o.copied) child_row) in
+      let vs : values ≡ rest ++ child_row =
+      o.values_are ∙ ap (λ r. under ++ (stored c q (o.table 0) o.copied ++ r)) o.current.2
+      ∙ sym (append_assoc under (stored c q (o.table 0) o.copied) child_row) in
       let base' : base ≡ length rest =
       let a = is g.production g.there in
       let d = length_stored c g.production h o.of_child in
@@ -383,8 +507,11 @@ module _ (c : Setting) (sound : IsSound c) where
       omega arith in
       let deep = g.deep in
       let following_it = following c q o.table (suc o.i) (suc level) others in
-      let child = opened x.child g.symbol g.production h o.of_child (suc level) base rest o.mid now following_it g.there g.left (omega arith) base' in
-      let same_todo : todo ≡ following c g.production o.of_child 0 (suc (suc level)) following_it = o.todo_is ∙ ap (λ p. pending_of_child c p o.of_child (suc (suc level)) following_it) g.there in (
+      let child =
+      opened x.child g.symbol g.production h o.of_child (suc level) base rest o.mid now following_it g.there g.left
+      (omega arith) base' in
+      let same_todo : todo ≡ following c g.production o.of_child 0 (suc (suc level)) following_it =
+      o.todo_is ∙ ap (λ p. pending_of_child c p o.of_child (suc (suc level)) following_it) g.there in (
         g.symbol,
         h,
         rest,
@@ -423,20 +550,33 @@ module _ (c : Setting) (sound : IsSound c) where
           },
         ),
         Between,
-        subst (λ (z : Pending). IsActive c g.symbol h (suc level) (first_at x.child base) rest o.mid now following_it Between values t now z) (sym same_todo)
-            (subst (λ t. IsActive c g.symbol h (suc level) (first_at x.child base) rest o.mid now following_it Between values t now (following c g.production o.of_child 0 (suc (suc level)) following_it)) (sym g.transcript)
-            (subst (λ vs. IsActive c g.symbol h (suc level) (first_at x.child base) rest o.mid now following_it Between vs (after_reading c x.child h (copies c c.read (stored_items g.production.items) (in_children o.of_child)) o.mid) now (following c g.production o.of_child 0 (suc (suc level)) following_it)) (sym vs) child)),
+        subst
+            (λ (z : Pending). IsActive c g.symbol h (suc level)
+            (first_at x.child base) rest o.mid now following_it Between values t now z) (sym same_todo)
+            (subst
+            (λ t. IsActive c g.symbol h (suc level) (first_at x.child base) rest o.mid now following_it Between values t now
+            (following c g.production o.of_child 0 (suc (suc level)) following_it)) (sym g.transcript)
+            (subst
+            (λ vs. IsActive c g.symbol h (suc level) (first_at x.child base) rest o.mid now following_it Between vs
+            (after_reading c x.child h (copies c c.read (stored_items g.production.items) (in_children o.of_child)) o.mid)
+            now (following c g.production o.of_child 0 (suc (suc level)) following_it)) (sym vs) child)),
       )
 
-  pub step_go : (root : ℕ) (x : OpenNode) (xs : List OpenNode) (values : List Value) (t : Transcript) (now : ℕ) (todo : Pending) (j base : ℕ) → slice_get (list_at c x.production) x.at ≡ Some (instr.Go j)
+  pub step_go : (root : ℕ) (x : OpenNode) (xs : List OpenNode) (values : List Value) (t : Transcript) (now : ℕ) (todo : Pending)
+      (j base : ℕ) → slice_get (list_at c x.production) x.at ≡ Some (instr.Go j)
       → ((q : Production) → IsProduction c.grammar x.child q → base + stored_width c q ≡ length values)
-      → RunInvariant c root (x ∷ xs) values t now todo → RunInvariant c root (first_at x.child base ∷ left_at x j ∷ xs) values t now todo
-  step_go root x xs values t now todo j base at is (s, f, under, old, before, others, waits, ph, o) = gone_in root s f x xs under old before others ph values t now todo j base at waits o is
+      → RunInvariant c root (x ∷ xs) values t now todo
+      → RunInvariant c root (first_at x.child base ∷ left_at x j ∷ xs) values t now todo
+  step_go root x xs values t now todo j base at is (s, f, under, old, before, others, waits, ph, o) =
+      gone_in root s f x xs under old before others ph values t now todo j base at waits o is
 
   -- The pass leaves the tree at the next place, all of which was written.
-  left_in : (s : ℕ) (f : ℕ → Value) (level : ℕ) (x : OpenNode) (under : List Value) (old : Transcript) (before : ℕ) (others : Pending) (values : List Value) (t new : Transcript) (now : ℕ) (todo : Pending) (j : ℕ)
-      → slice_get (list_at c x.production) x.at ≡ Some (instr.Put j) → (o : IsActive c s f level x under old before others Gone values t now todo) → new.read ≡ t.read
-      → new.put ≡ o.mid.put ++ postfix (pass_direction c) (bodies_of version_two c.grammar c.passes c.write o.current.0.tree o.current.0.values)
+  left_in : (s : ℕ) (f : ℕ → Value) (level : ℕ) (x : OpenNode) (under : List Value) (old : Transcript) (before : ℕ)
+      (others : Pending) (values : List Value) (t new : Transcript) (now : ℕ) (todo : Pending) (j : ℕ)
+      → slice_get (list_at c x.production) x.at ≡ Some (instr.Put j)
+      → (o : IsActive c s f level x under old before others Gone values t now todo) → new.read ≡ t.read
+      → new.put ≡ o.mid.put ++ postfix (pass_direction c)
+      (bodies_of version_two c.grammar c.passes c.write o.current.0.tree o.current.0.values)
       → IsActive c s f level (after_step x x.child) under old before others Between values new now todo
   left_in s f level x under old before others values t new now todo j at o reads puts =
       let q = o.production in
@@ -454,43 +594,71 @@ module _ (c : Setting) (sound : IsSound c) where
         valuations = add_values (pass_direction c) o.trees o.valuations g.values;
         mid = new;
         count = 0;
-        is_open = put_child c sound s f level x.production x.child q o.i o.done o.table o.trees o.valuations old o.mid t new o.count next.0.within g reads puts o.is_open;
+        is_open =
+            put_child c sound s f level x.production x.child q o.i o.done o.table o.trees o.valuations old o.mid t new o.count
+            next.0.within g reads puts o.is_open;
         runs = next.1;
         agreement = o.agreement;
         current = (refl, refl, refl);
-        counted = let n = o.counted in let m = g.counted in let k = rules_add (pass_direction c) c o.trees g.tree in let l = rules_next c x (instr.Put j) at in omega arith;
+        counted = let n = o.counted in let m = g.counted in let k = rules_add (pass_direction c) c o.trees g.tree in
+            let l = rules_next c x (instr.Put j) at in omega arith;
         values_are = o.values_are ∙ ap (λ r. under ++ (stored c q (o.table 0) o.copied ++ r)) o.current.1;
         base = o.base;
         todo_is = o.todo_is;
       }
 
   -- Nothing is written for a node, all of which was written.
-  put_node_in : (s : ℕ) (f : ℕ → Value) (level : ℕ) (x : OpenNode) (under : List Value) (old : Transcript) (before : ℕ) (others : Pending) (ph : Phase) (values : List Value) (t : Transcript) (now : ℕ) (todo : Pending) (j s' : ℕ) (q0 : Production)
-      → slice_get (list_at c x.production) x.at ≡ Some (instr.Put j) → IsProduction c.grammar x.production q0 → item_at q0 j ≡ Some (item.Symbol s')
-      → IsActive c s f level x under old before others ph values t now todo → IsActive c s f level (after_step x x.child) under old before others Between values t now todo
+  put_node_in : (s : ℕ) (f : ℕ → Value) (level : ℕ) (x : OpenNode) (under : List Value) (old : Transcript) (before : ℕ)
+      (others : Pending) (ph : Phase) (values : List Value) (t : Transcript) (now : ℕ) (todo : Pending) (j s' : ℕ)
+      (q0 : Production)
+      → slice_get (list_at c x.production) x.at ≡ Some (instr.Put j) → IsProduction c.grammar x.production q0
+      → item_at q0 j ≡ Some (item.Symbol s')
+      → IsActive c s f level x under old before others ph values t now todo
+      → IsActive c s f level (after_step x x.child) under old before others Between values t now todo
   put_node_in s f level x under old before others ph values t now todo j s' q0 at there0 occurs0 here =
       let o = at_put here j at in
       let q = o.production in
       let place = (runs_next c x (instr.Put j) at q Gone o.i o.done o.runs).0.place in
       let g = o.current.0 in
       let same : q0 ≡ q = same_production c x.production q0 q there0 o.is_open.there in
-      let items : Some g.item ≡ Some (item.Symbol s') = sym (ap (item_at q) place ∙ g.occurs) ∙ ap (λ q. item_at q j) (sym same) ∙ occurs0 in
+      let items : Some g.item ≡ Some (item.Symbol s') =
+      sym (ap (item_at q) place ∙ g.occurs) ∙ ap (λ q. item_at q j) (sym same) ∙ occurs0 in
       let is : g.item ≡ item.Symbol s' = cc in
-      left_in s f level x under old before others values t t now todo j at o refl (g.put ∙ ap (λ xs. o.mid.put ++ xs) (whole g.tree g.values (subst (λ x. IsEvaluatedTree c x g.tree g.values) is g.evaluated)))
+      left_in s f level x under old before others values t t now todo j at o refl
+      (g.put ∙ ap (λ xs. o.mid.put ++ xs)
+      (whole g.tree g.values (subst (λ x. IsEvaluatedTree c x g.tree g.values) is g.evaluated)))
     where
-      whole : (u : Tree) (w : Valuation) → IsEvaluatedTree c (item.Symbol s') u w → put_of (pass_direction c) u (bodies_of version_two c.grammar c.passes c.write u w) ≡ postfix (pass_direction c) (bodies_of version_two c.grammar c.passes c.write u w)
+      whole : (u : Tree) (w : Valuation) → IsEvaluatedTree c (item.Symbol s') u w
+          → put_of (pass_direction c) u (bodies_of version_two c.grammar c.passes c.write u w) ≡ postfix (pass_direction c)
+          (bodies_of version_two c.grammar c.passes c.write u w)
       whole (leaf d text) w evaluated = elim evaluated.fits [ ]
       whole (node p ts) w evaluated = refl
 
-  pub step_put_node : (root : ℕ) (x : OpenNode) (xs : List OpenNode) (values : List Value) (t : Transcript) (now : ℕ) (todo : Pending) (j s' : ℕ) (q0 : Production) → slice_get (list_at c x.production) x.at ≡ Some (instr.Put j) → IsProduction c.grammar x.production q0 → item_at q0 j ≡ Some (item.Symbol s')
+  pub step_put_node : (root : ℕ) (x : OpenNode) (xs : List OpenNode) (values : List Value) (t : Transcript) (now : ℕ)
+      (todo : Pending) (j s' : ℕ) (q0 : Production) → slice_get (list_at c x.production) x.at ≡ Some (instr.Put j)
+      → IsProduction c.grammar x.production q0 → item_at q0 j ≡ Some (item.Symbol s')
       → RunInvariant c root (x ∷ xs) values t now todo → RunInvariant c root (after_step x x.child ∷ xs) values t now todo
-  step_put_node root x xs values t now todo j s' q0 at there0 occurs0 (s, f, under, old, before, others, waits, ph, o) =
-      (s, f, under, old, before, others, waits, Between, put_node_in s f (suc (length xs)) x under old before others ph values t now todo j s' q0 at there0 occurs0 o)
+  step_put_node root x xs values t now todo j s' q0 at there0 occurs0 (s, f, under, old, before, others, waits, ph, o) = (
+    s,
+    f,
+    under,
+    old,
+    before,
+    others,
+    waits,
+    Between,
+    put_node_in s f (suc (length xs)) x under old before others ph values t now todo j s' q0 at there0 occurs0 o,
+  )
 
   -- The record of a token is written, whose text is among the copies.
-  put_leaf_in : (s : ℕ) (f : ℕ → Value) (level : ℕ) (x : OpenNode) (under : List Value) (old : Transcript) (before : ℕ) (others : Pending) (ph : Phase) (values : List Value) (t : Transcript) (now : ℕ) (todo : Pending) (j d : ℕ) (q0 : Production) (text : List Value)
-      → slice_get (list_at c x.production) x.at ≡ Some (instr.Put j) → IsProduction c.grammar x.production q0 → item_at q0 j ≡ Some (item.Terminal (Class d)) → text ≡ take 1 (drop (x.base + copy_start c q0 j) values)
-      → IsActive c s f level x under old before others ph values t now todo → IsActive c s f level (after_step x x.child) under old before others Between values (record { read = t.read; put = t.put ++ body_of Token x.child text ∷ [] }) now todo
+  put_leaf_in : (s : ℕ) (f : ℕ → Value) (level : ℕ) (x : OpenNode) (under : List Value) (old : Transcript) (before : ℕ)
+      (others : Pending) (ph : Phase) (values : List Value) (t : Transcript) (now : ℕ) (todo : Pending) (j d : ℕ)
+      (q0 : Production) (text : List Value)
+      → slice_get (list_at c x.production) x.at ≡ Some (instr.Put j) → IsProduction c.grammar x.production q0
+      → item_at q0 j ≡ Some (item.Terminal (Class d)) → text ≡ take 1 (drop (x.base + copy_start c q0 j) values)
+      → IsActive c s f level x under old before others ph values t now todo
+      → IsActive c s f level (after_step x x.child) under old before others Between values
+      (record { read = t.read; put = t.put ++ body_of Token x.child text ∷ [] }) now todo
   put_leaf_in s f level x under old before others ph values t now todo j d q0 text at there0 occurs0 is here =
       let o = at_put here j at in
       let q = o.production in
@@ -500,43 +668,77 @@ module _ (c : Setting) (sound : IsSound c) where
       let pl = place_of q c.write o.i in
       let x' = item.Terminal (Class d) in
       let same : q0 ≡ q = same_production c x.production q0 q there0 o.is_open.there in
-      let occurs : item_at q pl ≡ Some (item.Terminal (Class d)) = ap (item_at q) (sym place) ∙ ap (λ q. item_at q j) (sym same) ∙ occurs0 in
+      let occurs : item_at q pl ≡ Some (item.Terminal (Class d)) =
+      ap (item_at q) (sym place) ∙ ap (λ q. item_at q j) (sym same) ∙ occurs0 in
       let items : Some g.item ≡ Some (item.Terminal (Class d)) = sym g.occurs ∙ occurs in
       let item_is : g.item ≡ item.Terminal (Class d) = cc in
       let found = copies_there c q (o.table 0) o.copied under o.row b x.base x' o.base occurs in
       let slot : copy_start c q0 j ≡ copy_start c q pl = ap (λ q. copy_start c q j) same ∙ ap (copy_start c q) place in
-      let first : text ≡ o.copied pl 0 ∷ [] = is ∙ ap (λ n. take 1 (drop (x.base + n) values)) slot ∙ ap (λ vs. take 1 (drop (x.base + copy_start c q pl) vs)) o.values_are ∙ ap (take 1) found.1 ∙ ap (λ b. take 1 (((if b then o.copied pl 0 ∷ [] else []) ++ []) ++ found.0)) (le-leb 0 c.write (omega arith)) in
-      let shown : o.copied pl 0 ≡ o.table pl 0 = o.agreement b 0 0 x' occurs refl (omega arith) (inr (known_here c q o.i pl refl)) in
+      let first : text ≡ o.copied pl 0 ∷ [] =
+      is ∙ ap (λ n. take 1 (drop (x.base + n) values)) slot
+      ∙ ap (λ vs. take 1 (drop (x.base + copy_start c q pl) vs)) o.values_are ∙ ap (take 1) found.1
+      ∙ ap (λ b. take 1 (((if b then o.copied pl 0 ∷ [] else []) ++ []) ++ found.0))
+      (le-leb 0 c.write (omega arith)) in
+      let shown : o.copied pl 0 ≡ o.table pl 0 =
+      o.agreement b 0 0 x' occurs refl (omega arith) (inr (known_here c q o.i pl refl)) in
       let evaluated = subst (λ x. IsEvaluatedTree c x g.tree g.values) item_is g.evaluated in
-      left_in s f level x under old before others values t (record { read = t.read; put = t.put ++ body_of Token x.child text ∷ [] }) now todo j at o refl
-      (put_all g.tree g.values (o.mid.put) t.put text evaluated g.number g.put (first ∙ ap (λ v. v ∷ []) (shown ∙ sym (g.root 0))))
+      left_in s f level x under old before others values t
+      (record { read = t.read; put = t.put ++ body_of Token x.child text ∷ [] }) now todo j at o refl
+      (put_all g.tree g.values (o.mid.put) t.put text evaluated g.number g.put
+      (first ∙ ap (λ v. v ∷ []) (shown ∙ sym (g.root 0))))
     where
-      put_all : (u : Tree) (w : Valuation) (before_it put : List (List ℕ)) (text : List Value) → IsEvaluatedTree c (item.Terminal (Class d)) u w → root_number u ≡ x.child → put ≡ before_it ++ put_of (pass_direction c) u (bodies_of version_two c.grammar c.passes c.write u w) → text ≡ w [] 0 ∷ []
-          → put ++ body_of Token x.child text ∷ [] ≡ before_it ++ postfix (pass_direction c) (bodies_of version_two c.grammar c.passes c.write u w)
+      put_all : (u : Tree) (w : Valuation) (before_it put : List (List ℕ)) (text : List Value)
+          → IsEvaluatedTree c (item.Terminal (Class d)) u w → root_number u ≡ x.child
+          → put ≡ before_it ++ put_of (pass_direction c) u (bodies_of version_two c.grammar c.passes c.write u w)
+          → text ≡ w [] 0 ∷ []
+          → put ++ body_of Token x.child text ∷ [] ≡ before_it ++ postfix (pass_direction c)
+          (bodies_of version_two c.grammar c.passes c.write u w)
       put_all (node p ts) w before_it put text evaluated number is same = elim evaluated.fits [ ]
       put_all (leaf e string) w before_it put text evaluated number is same =
-          ap (λ xs. xs ++ body_of Token x.child text ∷ []) (is ∙ append-nil before_it) ∙ ap (λ n. before_it ++ body_of Token n text ∷ []) (sym number) ∙ ap (λ vs. before_it ++ body_of Token e vs ∷ []) (same ∙ ap (λ v. v ∷ []) evaluated.solved)
+          ap (λ xs. xs ++ body_of Token x.child text ∷ []) (is ∙ append-nil before_it)
+          ∙ ap (λ n. before_it ++ body_of Token n text ∷ []) (sym number)
+          ∙ ap (λ vs. before_it ++ body_of Token e vs ∷ []) (same ∙ ap (λ v. v ∷ []) evaluated.solved)
 
-  pub step_put_leaf : (root : ℕ) (x : OpenNode) (xs : List OpenNode) (values : List Value) (t : Transcript) (now : ℕ) (todo : Pending) (j d : ℕ) (q0 : Production) (text : List Value)
-      → slice_get (list_at c x.production) x.at ≡ Some (instr.Put j) → IsProduction c.grammar x.production q0 → item_at q0 j ≡ Some (item.Terminal (Class d)) → text ≡ take 1 (drop (x.base + copy_start c q0 j) values)
-      → RunInvariant c root (x ∷ xs) values t now todo → RunInvariant c root (after_step x x.child ∷ xs) values (record { read = t.read; put = t.put ++ body_of Token x.child text ∷ [] }) now todo
-  step_put_leaf root x xs values t now todo j d q0 text at there0 occurs0 is (s, f, under, old, before, others, waits, ph, o) =
-      (s, f, under, old, before, others, waits, Between, put_leaf_in s f (suc (length xs)) x under old before others ph values t now todo j d q0 text at there0 occurs0 is o)
+  pub step_put_leaf : (root : ℕ) (x : OpenNode) (xs : List OpenNode) (values : List Value) (t : Transcript) (now : ℕ)
+      (todo : Pending) (j d : ℕ) (q0 : Production) (text : List Value)
+      → slice_get (list_at c x.production) x.at ≡ Some (instr.Put j) → IsProduction c.grammar x.production q0
+      → item_at q0 j ≡ Some (item.Terminal (Class d)) → text ≡ take 1 (drop (x.base + copy_start c q0 j) values)
+      → RunInvariant c root (x ∷ xs) values t now todo
+      → RunInvariant c root (after_step x x.child ∷ xs) values
+      (record { read = t.read; put = t.put ++ body_of Token x.child text ∷ [] }) now todo
+  step_put_leaf root x xs values t now todo j d q0 text at there0 occurs0 is (s, f, under, old, before, others, waits, ph, o) = (
+    s,
+    f,
+    under,
+    old,
+    before,
+    others,
+    waits,
+    Between,
+    put_leaf_in s f (suc (length xs)) x under old before others ph values t now todo j d q0 text at there0 occurs0 is o,
+  )
 
   -- A node is done, whose row is the last one.
-  node_done : (s : ℕ) (f : ℕ → Value) (level : ℕ) (x : OpenNode) (under : List Value) (old : Transcript) (before : ℕ) (others : Pending) (values : List Value) (t : Transcript) (now : ℕ) (todo : Pending) → slice_get (list_at c x.production) x.at ≡ Some instr.End → All IsWell values
+  node_done : (s : ℕ) (f : ℕ → Value) (level : ℕ) (x : OpenNode) (under : List Value) (old : Transcript) (before : ℕ)
+      (others : Pending) (values : List Value) (t : Transcript) (now : ℕ) (todo : Pending)
+      → slice_get (list_at c x.production) x.at ≡ Some instr.End → All IsWell values
       → (o : IsActive c s f (suc level) x under old before others Between values t now todo)
       → IsDone o
   node_done s f level x under old before others values t now todo at well o =
       let q = o.production in
       let next = (runs_next c x instr.End at q Between o.i o.done o.runs).0 in
       let row = stored c q (o.table 0) o.copied in
-      let whole : values ≡ under ++ row = o.values_are ∙ ap (λ r. under ++ (row ++ r)) o.current.2 ∙ ap (λ vs. under ++ vs) (append-nil row) in
+      let whole : values ≡ under ++ row =
+      o.values_are ∙ ap (λ r. under ++ (row ++ r)) o.current.2 ∙ ap (λ vs. under ++ vs) (append-nil row) in
       let own = values_up_to c.write (c.passes q.left) (o.table 0) in
       let copied = copies c c.write (stored_items q.items) (in_children o.copied) in
-      let own_well : All IsWell own = All-before IsWell own copied (All-after IsWell under (own ++ copied) (subst (All IsWell) whole well)) in
-      let done = ended c sound s f level x.production q o.i o.done o.table o.copied o.trees o.valuations old t next.1 next.2 own_well o.agreement
-      (subst (λ t. IsOpenNode c s f (suc level) x.production q (state_of Between o.i o.done) o.table o.trees o.valuations old t) (sym o.current.0) o.is_open) in
+      let own_well : All IsWell own =
+      All-before IsWell own copied (All-after IsWell under (own ++ copied) (subst (All IsWell) whole well)) in
+      let done =
+      ended c sound s f level x.production q o.i o.done o.table o.copied o.trees o.valuations old t next.1 next.2 own_well
+      o.agreement
+      (subst (λ t. IsOpenNode c s f (suc level) x.production q (state_of Between o.i o.done) o.table o.trees o.valuations old t)
+      (sym o.current.0) o.is_open) in
       record {
         ready = done.0;
         deep = let d = done.1 in omega arith;
@@ -552,8 +754,11 @@ module _ (c : Setting) (sound : IsSound c) where
       }
 
   -- The root is done.
-  pub step_end_root : (root : ℕ) (x : OpenNode) (values : List Value) (t : Transcript) (now : ℕ) (todo : Pending) → slice_get (list_at c x.production) x.at ≡ Some instr.End → All IsWell values → RunInvariant c root (x ∷ []) values t now todo → RunInvariant c root [] values t now todo
-  step_end_root root x values t now todo at well (s, f, under, old, before, others, (first, number, none_under, transcript, none_before, none_left), ph, here) =
+  pub step_end_root : (root : ℕ) (x : OpenNode) (values : List Value) (t : Transcript) (now : ℕ) (todo : Pending)
+      → slice_get (list_at c x.production) x.at ≡ Some instr.End → All IsWell values
+      → RunInvariant c root (x ∷ []) values t now todo → RunInvariant c root [] values t now todo
+  step_end_root root x values t now todo at well
+      (s, f, under, old, before, others, (first, number, none_under, transcript, none_before, none_left), ph, here) =
       let o = at_end here at in
       let q = o.production in
       let row = stored c q (o.table 0) o.copied in
@@ -565,19 +770,25 @@ module _ (c : Setting) (sound : IsSound c) where
         tree = tree;
         valuation = values_at;
         ready = subst (λ z. IsReady c (item.Symbol c.grammar.start) root (o.table 0) tree values_at z t) transcript
-            (subst (λ p. IsReady c (item.Symbol c.grammar.start) p (o.table 0) tree values_at old t) number (subst (λ s. IsReady c (item.Symbol s) x.production (o.table 0) tree values_at old t) first done.ready));
+            (subst (λ p. IsReady c (item.Symbol c.grammar.start) p (o.table 0) tree values_at old t) number
+            (subst (λ s. IsReady c (item.Symbol s) x.production (o.table 0) tree values_at old t) first done.ready));
         counted = let n = done.counted in omega arith;
         deep = let d = done.deep in omega arith;
-        few = let w = few_values c sound x.production q o.is_open.there in let n = length_stored c q (o.table 0) o.copied in let l = ap length single_value in omega arith;
+        few = let w = few_values c sound x.production q o.is_open.there in let n = length_stored c q (o.table 0) o.copied in
+            let l = ap length single_value in omega arith;
         record_is = done.record_is ∙ ap (body_of Node x.production) (sym single_value) ∙ ap (λ n. body_of Node n values) number;
         nothing = done.todo_is ∙ none_left;
       }
 
   -- The values of a node's synthesized attributes were moved to the copies in the row of the node that
   -- waited.
-  moved_copies : (q : Production) (f : ℕ → Value) (s : Table) (under row others : List Value) (b : ℕ) (x : Item) (h : ℕ → Value) (to count from : ℕ) (values : List Value)
-      → slice_get (stored_items q.items) b ≡ Some x → to ≡ length under + copy_start c q (suc b) → count ≡ copied_width c x → from ≡ length (under ++ stored c q f s) → row ≡ values_up_to c.write (copied_passes c x) h ++ others → values ≡ (under ++ stored c q f s) ++ row
-      → take to values ++ (take count (drop from values) ++ drop (to + count) (take from values)) ≡ under ++ stored c q f (with_row s (suc b) h)
+  moved_copies : (q : Production) (f : ℕ → Value) (s : Table) (under row others : List Value) (b : ℕ) (x : Item) (h : ℕ → Value)
+      (to count from : ℕ) (values : List Value)
+      → slice_get (stored_items q.items) b ≡ Some x → to ≡ length under + copy_start c q (suc b) → count ≡ copied_width c x
+      → from ≡ length (under ++ stored c q f s) → row ≡ values_up_to c.write (copied_passes c x) h ++ others
+      → values ≡ (under ++ stored c q f s) ++ row
+      → take to values ++ (take count (drop from values) ++ drop (to + count) (take from values)) ≡ under ++ stored c q f
+      (with_row s (suc b) h)
   moved_copies q f s under row others b x h to count from values at to_is count_is from_is row_is values_are =
       let xs = stored_items q.items in
       let ps = copied_passes c x in
@@ -586,10 +797,15 @@ module _ (c : Setting) (sound : IsSound c) where
       let old_share = values_up_to c.write ps (s (suc b)) in
       let share = values_up_to c.write ps h in
       let prefix = under ++ (own ++ r.0) in
-      let joined : (vs : List Value) → under ++ (own ++ (r.0 ++ vs)) ≡ prefix ++ vs = λ vs. ap (λ ws. under ++ ws) (sym (append_assoc own r.0 vs)) ∙ sym (append_assoc under (own ++ r.0) vs) in
-      let was : under ++ stored c q f s ≡ prefix ++ (old_share ++ r.1) = ap (λ vs. under ++ (own ++ vs)) (r.3 (in_children s) (λ j a z. refl)) ∙ joined (old_share ++ r.1) in
+      let joined : (vs : List Value) → under ++ (own ++ (r.0 ++ vs)) ≡ prefix ++ vs =
+      λ vs. ap (λ ws. under ++ ws) (sym (append_assoc own r.0 vs)) ∙ sym (append_assoc under (own ++ r.0) vs) in
+      let was : under ++ stored c q f s ≡ prefix ++ (old_share ++ r.1) =
+      ap (λ vs. under ++ (own ++ vs)) (r.3 (in_children s) (λ j a z. refl)) ∙ joined (old_share ++ r.1) in
       let now : under ++ stored c q f (with_row s (suc b) h) ≡ prefix ++ (share ++ r.1) =
-      ap (λ vs. under ++ (own ++ vs)) (r.3 (in_children (with_row s (suc b) h)) (λ j a z. with_other s (suc b) h (suc j) a (λ y. z (omega arith)))) ∙ joined (values_up_to c.write ps (with_row s (suc b) h (suc b)) ++ r.1) ∙ ap (λ g. prefix ++ (values_up_to c.write ps g ++ r.1)) (with_is s (suc b) h) in
+      ap (λ vs. under ++ (own ++ vs))
+      (r.3 (in_children (with_row s (suc b) h)) (λ j a z. with_other s (suc b) h (suc j) a (λ y. z (omega arith))))
+      ∙ joined (values_up_to c.write ps (with_row s (suc b) h (suc b)) ++ r.1)
+      ∙ ap (λ g. prefix ++ (values_up_to c.write ps g ++ r.1)) (with_is s (suc b) h) in
       let n = length_row c.write (c.passes q.left) f in
       let m = r.2 in
       let l = length-append own r.0 in
@@ -598,17 +814,30 @@ module _ (c : Setting) (sound : IsSound c) where
       let w = length_row c.write ps h in
       let z = length-append prefix old_share in
       let long : length prefix ≡ to = omega arith in
-      let beginning : take to values ≡ prefix = ap (take to) (values_are ∙ ap (λ vs. vs ++ row) was ∙ append_assoc prefix (old_share ++ r.1) row) ∙ take_at prefix ((old_share ++ r.1) ++ row) to long in
-      let middle : take count (drop from values) ≡ share = ap (take count) (ap (drop from) values_are ∙ drop_at (under ++ stored c q f s) row from (sym from_is) ∙ row_is) ∙ take_at share others count (omega arith) in
-      let end : drop (to + count) (take from values) ≡ r.1 = ap (drop (to + count)) (ap (take from) values_are ∙ take_at (under ++ stored c q f s) row from (sym from_is) ∙ was ∙ sym (append_assoc prefix old_share r.1)) ∙ drop_at (prefix ++ old_share) r.1 (to + count) (omega arith) in
-      ap (λ vs. vs ++ (take count (drop from values) ++ drop (to + count) (take from values))) beginning ∙ ap (λ vs. prefix ++ (vs ++ drop (to + count) (take from values))) middle ∙ ap (λ vs. prefix ++ (share ++ vs)) end ∙ sym now
+      let beginning : take to values ≡ prefix =
+      ap (take to) (values_are ∙ ap (λ vs. vs ++ row) was ∙ append_assoc prefix (old_share ++ r.1) row)
+      ∙ take_at prefix ((old_share ++ r.1) ++ row) to long in
+      let middle : take count (drop from values) ≡ share =
+      ap (take count) (ap (drop from) values_are ∙ drop_at (under ++ stored c q f s) row from (sym from_is) ∙ row_is)
+      ∙ take_at share others count (omega arith) in
+      let end : drop (to + count) (take from values) ≡ r.1 =
+      ap (drop (to + count)) (ap (take from) values_are ∙ take_at (under ++ stored c q f s) row from (sym from_is) ∙ was
+      ∙ sym (append_assoc prefix old_share r.1)) ∙ drop_at (prefix ++ old_share) r.1 (to + count) (omega arith) in
+      ap (λ vs. vs ++ (take count (drop from values) ++ drop (to + count) (take from values))) beginning
+      ∙ ap (λ vs. prefix ++ (vs ++ drop (to + count) (take from values))) middle ∙ ap (λ vs. prefix ++ (share ++ vs)) end
+      ∙ sym now
 
   -- A node is done, and another one waits for it.
-  pub step_end : (root : ℕ) (x y : OpenNode) (ys : List OpenNode) (values result : List Value) (t : Transcript) (now : ℕ) (todo : Pending) (to count : ℕ) → slice_get (list_at c x.production) x.at ≡ Some instr.End → All IsWell values
-      → ((q : Production) (x' : Item) → IsProduction c.grammar y.production q → item_at q y.place ≡ Some x' → (to ≡ y.base + copy_start c q y.place) × (count ≡ copied_width c x'))
+  pub step_end : (root : ℕ) (x y : OpenNode) (ys : List OpenNode) (values result : List Value) (t : Transcript) (now : ℕ)
+      (todo : Pending) (to count : ℕ) → slice_get (list_at c x.production) x.at ≡ Some instr.End → All IsWell values
+      → ((q : Production) (x' : Item) → IsProduction c.grammar y.production q → item_at q y.place ≡ Some x'
+      → (to ≡ y.base + copy_start c q y.place) × (count ≡ copied_width c x'))
       → result ≡ take to values ++ (take count (drop x.base values) ++ drop (to + count) (take x.base values))
-      → RunInvariant c root (x ∷ y ∷ ys) values t now todo → RunInvariant c root (y ∷ ys) result (record { read = t.read; put = t.put ++ body_of Node x.production (drop x.base values) ∷ [] }) now todo
-  step_end root x y ys values result t now todo to count at well slots result_is (s, f, under, old, before, others, (s', f', under', old', before', others', waits, z), ph, here) =
+      → RunInvariant c root (x ∷ y ∷ ys) values t now todo
+      → RunInvariant c root (y ∷ ys) result
+      (record { read = t.read; put = t.put ++ body_of Node x.production (drop x.base values) ∷ [] }) now todo
+  step_end root x y ys values result t now todo to count at well slots result_is
+      (s, f, under, old, before, others, (s', f', under', old', before', others', waits, z), ph, here) =
       let o = at_end here at in
       let done = node_done s f (suc (length ys)) x under old before others values t now todo at well o in
       let h = o.table 0 in
@@ -623,11 +852,16 @@ module _ (c : Setting) (sound : IsSound c) where
       let child_row = stored c o.production h o.copied in
       let copied_rest = copies c c.write (stored_items o.production.items) (in_children o.copied) in
       let share = values_up_to c.write (copied_passes c (item.Symbol s)) h in
-      let row : child_row ≡ share ++ (begins.0 ++ copied_rest) = ap (λ ps. values_up_to c.write ps h ++ copied_rest) (ap c.passes o.is_open.left) ∙ ap (λ vs. vs ++ copied_rest) begins.1 ∙ append_assoc share begins.0 copied_rest in
-      let to_is : to ≡ length under' + copy_start c q pl = slot.0 ∙ ap (λ j. y.base + copy_start c q j) z.place_is ∙ ap (λ n. n + copy_start c q pl) z.base in
+      let row : child_row ≡ share ++ (begins.0 ++ copied_rest) =
+      ap (λ ps. values_up_to c.write ps h ++ copied_rest) (ap c.passes o.is_open.left) ∙ ap (λ vs. vs ++ copied_rest) begins.1
+      ∙ append_assoc share begins.0 copied_rest in
+      let to_is : to ≡ length under' + copy_start c q pl =
+      slot.0 ∙ ap (λ j. y.base + copy_start c q j) z.place_is ∙ ap (λ n. n + copy_start c q pl) z.base in
       let keeps' : Keeps c s (z.table pl) h = λ a n is le other. o.is_open.entered a n is le other ∙ sym (z.row_is a) in
       let agree = kept_copy c sound s (z.table pl) h keeps' in
-      let record_is = ap (λ vs. body_of Node x.production vs) (ap (drop x.base) done.whole ∙ drop_at under child_row x.base (sym o.base)) ∙ sym done.record_is in
+      let record_is =
+      ap (λ vs. body_of Node x.production vs) (ap (drop x.base) done.whole ∙ drop_at under child_row x.base (sym o.base))
+      ∙ sym done.record_is in
       let bt = bodies_of version_two c.grammar c.passes c.write (node x.production o.trees) (graft h o.valuations) in (
         s',
         f',
@@ -649,9 +883,14 @@ module _ (c : Setting) (sound : IsSound c) where
           valuations = z.values;
           mid = old;
           count = rules_of_pass c.passes c.write c.grammar (node x.production o.trees);
-          is_open = returned c sound s' f' (suc (length ys)) y.production q z.i z.done z.table z.trees z.values old' old s h z.within z.occurs keeps' z.is_open;
+          is_open =
+              returned c sound s' f' (suc (length ys)) y.production q z.i z.done z.table z.trees z.values old' old s h z.within
+              z.occurs keeps' z.is_open;
           runs = z.runs;
-          agreement = shown_both c q z.i (suc z.i) z.table z.copied b h (λ b' apart k. elim (known_last c q z.i (suc b') k) [ inl l ↦ l | inr here ↦ absurd (apart (omega arith)) ]) z.agreement;
+          agreement =
+              shown_both c q z.i (suc z.i) z.table z.copied b h
+              (λ b' apart k. elim (known_last c q z.i (suc b') k) [ inl l ↦ l | inr here ↦ absurd (apart (omega arith)) ])
+              z.agreement;
           current = (
             record {
               item = item.Symbol s;
@@ -662,7 +901,10 @@ module _ (c : Setting) (sound : IsSound c) where
               number = sym z.number;
               root = λ a. sym (with_here z.table pl h a);
               read = done.ready.read;
-              put = ap (λ bs. t.put ++ bs ∷ []) record_is ∙ ap (λ bs. bs ++ root_body bt ∷ []) done.ready.put ∙ append_assoc old.put (below (pass_direction c) bt) (root_body bt ∷ []) ∙ ap (λ bs. old.put ++ bs) (whole (pass_direction c) bt);
+              put =
+                  ap (λ bs. t.put ++ bs ∷ []) record_is ∙ ap (λ bs. bs ++ root_body bt ∷ []) done.ready.put
+                  ∙ append_assoc old.put (below (pass_direction c) bt) (root_body bt ∷ [])
+                  ∙ ap (λ bs. old.put ++ bs) (whole (pass_direction c) bt);
               counted = refl;
               deep = let d = done.deep in omega arith;
             },
@@ -670,10 +912,18 @@ module _ (c : Setting) (sound : IsSound c) where
           );
           counted = let n = z.counted in let m = done.counted in omega arith;
           values_are =
-              result_is ∙ moved_copies q (z.table 0) z.copied under' child_row (begins.0 ++ copied_rest) b (item.Symbol s) h to count x.base values z.occurs to_is slot.1 (o.base ∙ ap length z.under_is) row (done.whole ∙ ap (λ vs. vs ++ child_row) z.under_is)
-              ∙ ap (λ vs. under' ++ vs) (stored_same c q (z.table 0) (e 0) (with_row z.copied pl h) (λ a. sym (with_other z.table pl h 0 a (λ y. omega arith)))) ∙ ap (λ vs. under' ++ vs) (sym (append-nil (stored c q (e 0) (with_row z.copied pl h))));
+              result_is ∙ moved_copies q (z.table 0) z.copied under' child_row (begins.0 ++ copied_rest) b
+              (item.Symbol s) h to count x.base values z.occurs to_is slot.1 (o.base ∙ ap length z.under_is) row
+              (done.whole ∙ ap (λ vs. vs ++ child_row) z.under_is)
+              ∙ ap (λ vs. under' ++ vs)
+              (stored_same c q (z.table 0) (e 0) (with_row z.copied pl h)
+              (λ a. sym (with_other z.table pl h 0 a (λ y. omega arith))))
+              ∙ ap (λ vs. under' ++ vs) (sym (append-nil (stored c q (e 0) (with_row z.copied pl h))));
           base = z.base;
-          todo_is = done.todo_is ∙ z.todo_is ∙ sym (after_same c q e z.table (suc z.i) (suc (suc (length ys))) others' (copies_row c q z.table b (item.Symbol s) h z.occurs agree));
+          todo_is =
+              done.todo_is ∙ z.todo_is ∙ sym
+              (after_same c q e z.table (suc z.i) (suc (suc (length ys))) others'
+              (copies_row c q z.table b (item.Symbol s) h z.occurs agree));
         },
       )
     where
@@ -681,10 +931,14 @@ module _ (c : Setting) (sound : IsSound c) where
       whole d (branch body ts) = refl
 
   -- The first child to be read at a `Get`, with the copy of its values in the row of the node.
-  pub get_first : (root : ℕ) (x : OpenNode) (xs : List OpenNode) (values : List Value) (t : Transcript) (now : ℕ) (todo : Pending) (j : ℕ) (q0 : Production) (x' : Item)
-      → slice_get (list_at c x.production) x.at ≡ Some (instr.Get j) → IsProduction c.grammar x.production q0 → item_at q0 j ≡ Some x' → RunInvariant c root (x ∷ xs) values t now todo
-      → (f : ℕ → Value) × (left : Pending) × (todo ≡ (suc (suc (length xs)), (x', Some (values_up_to c.read (copied_passes c x') f))) ∷ left)
-      × ((row : List Value) → (rest : List Value) × (drop (x.base + copy_start c q0 j) (values ++ row) ≡ values_up_to c.write (copied_passes c x') f ++ rest))
+  pub get_first : (root : ℕ) (x : OpenNode) (xs : List OpenNode) (values : List Value) (t : Transcript) (now : ℕ) (todo : Pending)
+      (j : ℕ) (q0 : Production) (x' : Item)
+      → slice_get (list_at c x.production) x.at ≡ Some (instr.Get j) → IsProduction c.grammar x.production q0
+      → item_at q0 j ≡ Some x' → RunInvariant c root (x ∷ xs) values t now todo
+      → (f : ℕ → Value) × (left : Pending)
+      × (todo ≡ (suc (suc (length xs)), (x', Some (values_up_to c.read (copied_passes c x') f))) ∷ left)
+      × ((row : List Value) → (rest : List Value)
+      × (drop (x.base + copy_start c q0 j) (values ++ row) ≡ values_up_to c.write (copied_passes c x') f ++ rest))
   get_first root x xs values t now todo j q0 x' at there0 occurs0 (s, f, under, old, before, others, waits, ph, here) =
       let o = at_get here j at in
       let q = o.production in
@@ -695,16 +949,25 @@ module _ (c : Setting) (sound : IsSound c) where
       let same : q0 ≡ q = same_production c x.production q0 q there0 o.is_open.there in
       let occurs : item_at q pl ≡ Some x' = ap (item_at q) (sym turn.place) ∙ ap (λ q. item_at q j) (sym same) ∙ occurs0 in
       let n = sound.next in
-      let copies_same : values_up_to c.read (copied_passes c x') (o.table pl) ≡ values_up_to c.read (copied_passes c x') (o.copied pl) =
-      same_values c.read (copied_passes c x') (o.table pl) (o.copied pl) (λ a p is le. sym (o.agreement b a p x' occurs is (omega arith) (inl (omega arith)))) in
+      let copies_same : values_up_to c.read (copied_passes c x') (o.table pl) ≡ values_up_to c.read (copied_passes c x')
+      (o.copied pl) =
+      same_values c.read (copied_passes c x') (o.table pl) (o.copied pl)
+      (λ a p is le. sym (o.agreement b a p x' occurs is (omega arith) (inl (omega arith)))) in
       let slot : copy_start c q0 j ≡ copy_start c q pl = ap (λ q. copy_start c q j) same ∙ ap (copy_start c q) turn.place in
-      let kept : values ≡ under ++ stored c q (o.table 0) o.copied = o.values_are ∙ ap (λ r. under ++ (stored c q (o.table 0) o.copied ++ r)) o.current.2 ∙ ap (λ vs. under ++ vs) (append-nil (stored c q (o.table 0) o.copied)) in (
+      let kept : values ≡ under ++ stored c q (o.table 0) o.copied =
+      o.values_are ∙ ap (λ r. under ++ (stored c q (o.table 0) o.copied ++ r)) o.current.2
+      ∙ ap (λ vs. under ++ vs) (append-nil (stored c q (o.table 0) o.copied)) in (
         o.copied pl,
         following c q o.table (suc o.i) level others,
-        o.todo_is ∙ behind_next c q o.table o.i level others x' turn.within occurs ∙ ap (λ vs. first level vs (following c q o.table (suc o.i) level others)) copies_same,
+        o.todo_is ∙ behind_next c q o.table o.i level others x' turn.within occurs
+            ∙ ap (λ vs. first level vs (following c q o.table (suc o.i) level others)) copies_same,
         (λ row.
-            let found = copies_there c q (o.table 0) o.copied under row b x.base x' o.base occurs in
-            (found.0, ap (λ n. drop (x.base + n) (values ++ row)) slot ∙ ap (λ vs. drop (x.base + copy_start c q pl) (vs ++ row)) kept ∙ ap (drop (x.base + copy_start c q pl)) (append_assoc under (stored c q (o.table 0) o.copied) row) ∙ found.1)),
+            let found = copies_there c q (o.table 0) o.copied under row b x.base x' o.base occurs in (
+              found.0,
+              ap (λ n. drop (x.base + n) (values ++ row)) slot ∙ ap (λ vs. drop (x.base + copy_start c q pl) (vs ++ row)) kept
+                  ∙ ap (drop (x.base + copy_start c q pl)) (append_assoc under (stored c q (o.table 0) o.copied) row)
+                  ∙ found.1,
+            )),
       )
     where
       first : ℕ → List Value → Pending → Pending

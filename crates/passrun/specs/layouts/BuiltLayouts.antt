@@ -13,11 +13,16 @@ use Rattle.passrun.specs.passing.Places.{row_passes}
 use Rattle.passrun.specs.declared.layouts.building.PlaceRow.{PlaceRow}
 use Rattle.passrun.specs.declared.layouts.building.ProductionRow.{ProductionRow}
 use Rattle.passrun.specs.declared.layouts.building.RuleSlots.{RuleSlots}
-use Rattle.passrun.specs.layouts.Slots.{argument_slot, copied_width, known_width, own_width, rank, row_start, stored_width, target_slot}
+use Rattle.passrun.specs.layouts.Slots.{argument_slot, copied_width, known_width, own_width, rank, row_start, stored_width}
+use Rattle.passrun.specs.layouts.Slots.{target_slot}
 
 -- The slots of a rule's target and of its arguments.
 abbrev pub rule_slots : Setting → Production → Rule → RuleSlots
-rule_slots c q u = record { target = target_slot c q u.target.place u.target.attr; args = map (λ (o : Target). argument_slot c q o.place o.attr) u.args }
+rule_slots c q u =
+    record {
+      target = target_slot c q u.target.place u.target.attr;
+      args = map (λ (o : Target). argument_slot c q o.place o.attr) u.args;
+    }
 
 -- The slots of each rule of a production.
 abbrev pub production_slots : Setting → Production → List RuleSlots
@@ -26,15 +31,25 @@ production_slots c q = map (rule_slots c q) q.rules
 -- The rows of the places of some items, whose copies begin at the index `start` of the node's row.
 abbrev pub rows_after : Setting → ℕ → List Item → List PlaceRow
 rows_after c start [] = []
-rows_after c start (x ∷ xs) = record { item = x; start = start; width = copied_width c x; known = known_width c x } ∷ rows_after c (start + copied_width c x) xs
+rows_after c start (x ∷ xs) =
+    record { item = x; start = start; width = copied_width c x; known = known_width c x } ∷ rows_after c
+    (start + copied_width c x) xs
 
 -- The rows of the places of a production. The left side has no copies.
 abbrev pub place_rows : Setting → Production → List PlaceRow
-place_rows c q = record { item = item.Symbol q.left; start = 0; width = 0; known = 0 } ∷ rows_after c (own_width c q) (stored_items q.items)
+place_rows c q =
+    record { item = item.Symbol q.left; start = 0; width = 0; known = 0 } ∷ rows_after c (own_width c q) (stored_items q.items)
 
 -- The layout of production q, which has number p.
 abbrev pub production_row : Setting → ℕ → Production → ProductionRow
-production_row c p q = record { list = list_at c p; width = stored_width c q; passes = row_passes c q; places = place_rows c q; rules = production_slots c q }
+production_row c p q =
+    record {
+      list = list_at c p;
+      width = stored_width c q;
+      passes = row_passes c q;
+      places = place_rows c q;
+      rules = production_slots c q;
+    }
 
 -- The layouts of some productions, the first of which has number p.
 abbrev pub rows_from : Setting → ℕ → List Production → List ProductionRow
@@ -75,4 +90,5 @@ abbrev pub target_slot_by : Passes → ℕ → (width : ℕ) → List PlaceRow �
 target_slot_by m k width rows o = row_start width o.place + rank k (item_passes m (item_in rows o.place)) o.attr
 
 abbrev pub rule_slots_by : Passes → ℕ → (width : ℕ) → List PlaceRow → Rule → RuleSlots
-rule_slots_by m k width rows u = record { target = target_slot_by m k width rows u.target; args = map (argument_slot_by m k rows) u.args }
+rule_slots_by m k width rows u =
+    record { target = target_slot_by m k width rows u.target; args = map (argument_slot_by m k rows) u.args }

@@ -23,7 +23,8 @@ pub record IsRowOf (c : Setting) (p : ℕ) (q : Production) (row : ProductionRow
   pub width : row.width ≡ stored_width c q
   pub passes : row.passes ≡ row_passes c q
   pub places : row.places ≡ place_rows c q
-  pub slots : (r : ℕ) (u : Rule) → slice_get q.rules r ≡ Some u → (s : RuleSlots) × (slice_get row.rules r ≡ Some s) × AreSlotsOf c q u s
+  pub slots : (r : ℕ) (u : Rule) → slice_get q.rules r ≡ Some u
+      → (s : RuleSlots) × (slice_get row.rules r ≡ Some s) × AreSlotsOf c q u s
 
 -- A row is the layout of the production with number p, if there is one.
 abbrev pub IsRowAt : Setting → ℕ → ProductionRow → Type 0
@@ -31,4 +32,5 @@ IsRowAt c p row = (q : Production) → IsProduction c.grammar p q → IsRowOf c 
 
 -- A list has such a row for each production, at the index of its number.
 abbrev pub IsLayout : Setting → List ProductionRow → Type 0
-IsLayout c rows = (p : ℕ) (q : Production) → IsProduction c.grammar p q → (row : ProductionRow) × (slice_get rows p ≡ Some row) × IsRowOf c p q row
+IsLayout c rows = (p : ℕ) (q : Production) → IsProduction c.grammar p q
+    → (row : ProductionRow) × (slice_get rows p ≡ Some row) × IsRowOf c p q row

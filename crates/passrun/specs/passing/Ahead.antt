@@ -27,11 +27,14 @@ goes_next (instr.End ∷ xs) = false
 
 -- The children of a node, each with the copies of its values that the node's record has, taken from the table.
 abbrev pub children_of : Setting → Production → Table → List Child
-children_of c q e = children_with_copies true c.grammar c.passes c.read (stored_items q.items) (copies c c.read (stored_items q.items) (in_children e))
+children_of c q e =
+    children_with_copies true c.grammar c.passes c.read (stored_items q.items)
+    (copies c c.read (stored_items q.items) (in_children e))
 
 -- The pending list of a node's children after the first n, at a level, followed by others.
 abbrev pub following : Setting → Production → Table → (n level : ℕ) → Pending → Pending
-following c q e n level others = before_others (pass_direction c) level (remaining_of (pass_direction c) (children_of c q e) n) others
+following c q e n level others =
+    before_others (pass_direction c) level (remaining_of (pass_direction c) (children_of c q e) n) others
 
 -- The pending list of all children of the node whose record was read last, followed by others. A token has none.
 abbrev pub pending_of_child : Setting → Option Production → Table → (level : ℕ) → Pending → Pending
@@ -42,7 +45,8 @@ pending_of_child c (Some q) e level others = following c q e 0 level others
 -- Got), then the node's own that were not read, then the others.
 abbrev pub pending : Setting → Production → Phase → (i child : ℕ) → Table → Table → (level : ℕ) → Pending → Pending
 pending c q Between i child e of_child level others = following c q e i level others
-pending c q Got i child e of_child level others = pending_of_child c (slice_get c.grammar.productions child) of_child (suc level) (following c q e (suc i) level others)
+pending c q Got i child e of_child level others =
+    pending_of_child c (slice_get c.grammar.productions child) of_child (suc level) (following c q e (suc i) level others)
 pending c q Gone i child e of_child level others = following c q e (suc i) level others
 pending c q Ended i child e of_child level others = others
 

@@ -72,7 +72,8 @@ IsReached c q n j = (j ≡ 0) ⊎ IsVisited q c.write n j
 -- The table s, of the copies in a node's row, agrees with the table e, of the values at the children, as far as
 -- these were computed: by earlier passes at each child, and by this pass at the first n visited children.
 abbrev pub AgreesSoFar : Setting → Production → ℕ → Table → Table → Type 0
-AgreesSoFar c q n e s = (j a p : ℕ) (x : Item) → slice_get (stored_items q.items) j ≡ Some x → slice_get (copied_passes c x) a ≡ Some p → p ≤ c.write → (p < c.write) ⊎ IsReached c q n (suc j) → s (suc j) a ≡ e (suc j) a
+AgreesSoFar c q n e s = (j a p : ℕ) (x : Item) → slice_get (stored_items q.items) j ≡ Some x
+    → slice_get (copied_passes c x) a ≡ Some p → p ≤ c.write → (p < c.write) ⊎ IsReached c q n (suc j) → s (suc j) a ≡ e (suc j) a
 
 -- The valuations of the trees of the first i visited children (of n) give their roots the values in the table.
 abbrev pub Roots : Direction → ℕ → ℕ → (ℕ → Valuation) → Table → Type 0

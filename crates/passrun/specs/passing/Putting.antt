@@ -9,7 +9,8 @@ use Rattle.treefile.specs.framing.Writing as writing
 use Rattle.passrun.specs.declared.run_fault.RunFault.{RunFault}
 
 -- A record with these values was written to an honest device, and the writer counted it.
-pub record HasPut (kind : Kind) (number : ℕ) (values : List Value) (honest : Bool) (old new : List ℕ) (old_writer new_writer : writing.Progress) : Type 0 where
+pub record HasPut (kind : Kind) (number : ℕ) (values : List Value) (honest : Bool) (old new : List ℕ)
+    (old_writer new_writer : writing.Progress) : Type 0 where
   pub there : WhenHonest honest (new ≡ old ++ frame (body_of kind number values))
   pub counted : new_writer ≡ record old_writer { written = old_writer.written + 1 }
 

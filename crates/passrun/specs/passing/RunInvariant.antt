@@ -51,7 +51,8 @@ root_number (node p ts) = p
 -- Of the values of a symbol's attributes of passes up to this one, only those of synthesized attributes of this
 -- pass may differ.
 abbrev pub Keeps : Setting → ℕ → (ℕ → Value) → (ℕ → Value) → Type 0
-Keeps c s old new = (a p : ℕ) → slice_get (c.passes s) a ≡ Some p → p ≤ c.write → ((p ≡ c.write) × (slice_get (symbol_kinds (slice_get c.grammar.symbols s)) a ≡ Some Synthesized) → ⊥) → new a ≡ old a
+Keeps c s old new = (a p : ℕ) → slice_get (c.passes s) a ≡ Some p → p ≤ c.write
+    → ((p ≡ c.write) × (slice_get (symbol_kinds (slice_get c.grammar.symbols s)) a ≡ Some Synthesized) → ⊥) → new a ≡ old a
 
 -- A tree of an item has values that satisfy the equations of the pass. Those of passes up to this one are well.
 pub record IsEvaluatedTree (c : Setting) (x : Item) (t : Tree) (w : Valuation) : Type 0 where
@@ -61,7 +62,8 @@ pub record IsEvaluatedTree (c : Setting) (x : Item) (t : Tree) (w : Valuation) :
 
 -- Trees of the first i visited items were read and written, one after the other. Below the node's level they
 -- are within the limit of levels.
-pub record Visited (c : Setting) (q : Production) (i level : ℕ) (ts : Forest) (ws : ℕ → Valuation) (old new : Transcript) : Type 0 where
+pub record Visited (c : Setting) (q : Production) (i level : ℕ) (ts : Forest) (ws : ℕ → Valuation)
+    (old new : Transcript) : Type 0 where
   pub fits : FitsAll c.grammar (visited (pass_direction c) (stored_items q.items) i) ts
   pub solved : SolvesAll (OfPass c.passes c.write) c.grammar ts ws
   pub well : AtEachNodeOf (WellAt (λ p. p ≤ c.write)) c.grammar c.passes ts ws ws
@@ -71,7 +73,8 @@ pub record Visited (c : Setting) (q : Production) (i level : ℕ) (ts : Forest) 
 
 -- The transcript after the record of a node with these values and copies was read.
 abbrev pub after_reading : Setting → ℕ → (ℕ → Value) → List Value → Transcript → Transcript
-after_reading c p f copied old = record { read = old.read ++ node_body version_two c.grammar c.passes c.read p f copied ∷ []; put = old.put }
+after_reading c p f copied old =
+    record { read = old.read ++ node_body version_two c.grammar c.passes c.read p f copied ∷ []; put = old.put }
 
 -- The record of the node at the next place was read, and has the values that the table e has there. The copies in
 -- its row are in the table `of_child`.
@@ -81,11 +84,13 @@ pub record IsGot (c : Setting) (q : Production) (i level p : ℕ) (e of_child : 
   pub production : Production
   pub there : IsProduction c.grammar p production
   pub left : production.left ≡ symbol
-  pub transcript : new ≡ after_reading c p (e (place_of q c.write i)) (copies c c.read (stored_items production.items) (in_children of_child)) old
+  pub transcript : new ≡ after_reading c p (e (place_of q c.write i))
+      (copies c c.read (stored_items production.items) (in_children of_child)) old
   pub deep : level < max_depth
 
 -- A tree was read, and written except for the record of its root, which has this number and these values.
-pub record IsReady (c : Setting) (x : Item) (p : ℕ) (f : ℕ → Value) (t : Tree) (w : Valuation) (old new : Transcript) : Type 0 where
+pub record IsReady (c : Setting) (x : Item) (p : ℕ) (f : ℕ → Value) (t : Tree) (w : Valuation)
+    (old new : Transcript) : Type 0 where
   pub evaluated : IsEvaluatedTree c x t w
   pub number : root_number t ≡ p
   pub root : (a : ℕ) → w [] a ≡ f a
@@ -113,9 +118,12 @@ pub record IsGone (c : Setting) (q : Production) (i level p : ℕ) (e : Table) (
 
 -- The state at the next place in a phase: the number of rules run in its tree, and its row, which is among the
 -- stored values until the pass leaves it. No open node is in the last phase.
-abbrev pub IsCurrent : Setting → Production → Phase → ℕ → ℕ → ℕ → Table → Table → List Value → Transcript → Transcript → ℕ → Type 0
+abbrev pub IsCurrent : Setting → Production → Phase → ℕ → ℕ → ℕ → Table → Table → List Value → Transcript → Transcript → ℕ
+    → Type 0
 IsCurrent c q Between i level p e of_child row old new count = (new ≡ old) × (count ≡ 0) × (row ≡ [])
-IsCurrent c q Got i level p e of_child row old new count = (got : IsGot c q i level p e of_child old new) × (count ≡ 0) × (row ≡ stored c got.production (e (place_of q c.write i)) of_child)
+IsCurrent c q Got i level p e of_child row old new count =
+    (got : IsGot c q i level p e of_child old new) × (count ≡ 0)
+    × (row ≡ stored c got.production (e (place_of q c.write i)) of_child)
 IsCurrent c q Gone i level p e of_child row old new count = IsGone c q i level p e old new count × (row ≡ [])
 IsCurrent c q Ended i level p e of_child row old new count = ⊥
 
@@ -138,11 +146,13 @@ AreHeld c q state e = (r : ℕ) (u : Rule) → Has state.done r → slice_get q.
 -- A node of production p and symbol s is open and in a state. Its record was read with the values f when the
 -- transcript was `old`; the values of the node and its children are now in the table e. The trees `ts` of the
 -- visited children were read and written since.
-pub record IsOpenNode (c : Setting) (s : ℕ) (f : ℕ → Value) (level p : ℕ) (q : Production) (state : State) (e : Table) (ts : Forest) (ws : ℕ → Valuation) (old new : Transcript) : Type 0 where
+pub record IsOpenNode (c : Setting) (s : ℕ) (f : ℕ → Value) (level p : ℕ) (q : Production) (state : State) (e : Table)
+    (ts : Forest) (ws : ℕ → Valuation) (old new : Transcript) : Type 0 where
   pub there : IsProduction c.grammar p q
   pub left : q.left ≡ s
   pub entered : Keeps c s f (e 0)
-  pub visits : Visited c q state.turn level ts ws (after_reading c p f (copies c c.read (stored_items q.items) (in_children e)) old) new
+  pub visits : Visited c q state.turn level ts ws
+      (after_reading c p f (copies c c.read (stored_items q.items) (in_children e)) old) new
   pub roots : Roots (pass_direction c) (arity q) state.turn ws e
   pub held : AreHeld c q state e
 
@@ -158,7 +168,9 @@ rules_left c x = count_by is_computation (rest_of c x)
 -- with the values f when the transcript was `new`. The values `under` come before the child's row. `evals` rules
 -- were evaluated before the child was entered, `evals_before` of them before x was. After the child's tree, the
 -- rest of x's list runs to its end.
-pub record Suspended (c : Setting) (s' : ℕ) (f' : ℕ → Value) (level : ℕ) (x : OpenNode) (under' : List Value) (old : Transcript) (evals_before : ℕ) (others : Pending) (s p : ℕ) (f : ℕ → Value) (under : List Value) (new : Transcript) (evals : ℕ) (todo : Pending) : Type 0 where
+pub record Suspended (c : Setting) (s' : ℕ) (f' : ℕ → Value) (level : ℕ) (x : OpenNode) (under' : List Value) (old : Transcript)
+    (evals_before : ℕ) (others : Pending) (s p : ℕ) (f : ℕ → Value) (under : List Value) (new : Transcript) (evals : ℕ)
+    (todo : Pending) : Type 0 where
   pub production : Production
   pub i : ℕ
   pub done : List ℕ
@@ -183,15 +195,19 @@ pub record Suspended (c : Setting) (s' : ℕ) (f' : ℕ → Value) (level : ℕ)
 -- The open nodes, the innermost first, wait for a node of production p and symbol s. After its tree these
 -- children are still to be read.
 abbrev pub Expects : Setting → ℕ → List OpenNode → ℕ → ℕ → (ℕ → Value) → List Value → Transcript → ℕ → Pending → Type 0
-Expects c root [] s p f under new evals todo = (s ≡ c.grammar.start) × (p ≡ root) × (under ≡ []) × (new ≡ record { read = []; put = [] }) × (evals ≡ 0) × (todo ≡ [])
+Expects c root [] s p f under new evals todo =
+    (s ≡ c.grammar.start) × (p ≡ root) × (under ≡ []) × (new ≡ record { read = []; put = [] }) × (evals ≡ 0) × (todo ≡ [])
 Expects c root (x ∷ xs) s p f under new evals todo =
     (s' : ℕ) × (f' : ℕ → Value) × (under' : List Value) × (old : Transcript) × (evals_before : ℕ) × (others : Pending)
-    × Expects c root xs s' x.production f' under' old evals_before others × Suspended c s' f' (suc (length xs)) x under' old evals_before others s p f under new evals todo
+    × Expects c root xs s' x.production f' under' old evals_before others
+    × Suspended c s' f' (suc (length xs)) x under' old evals_before others s p f under new evals todo
 
 -- The innermost open node (x) is in this phase, with this state at its next place. The rest of its list runs from
 -- there to the end. `evals` rules were evaluated, `evals_before` of them before x was entered. After its tree the
 -- others are still to be read.
-pub record IsActive (c : Setting) (s : ℕ) (f : ℕ → Value) (level : ℕ) (x : OpenNode) (under : List Value) (old : Transcript) (evals_before : ℕ) (others : Pending) (phase : Phase) (values : List Value) (new : Transcript) (evals : ℕ) (todo : Pending) : Type 0 where
+pub record IsActive (c : Setting) (s : ℕ) (f : ℕ → Value) (level : ℕ) (x : OpenNode) (under : List Value) (old : Transcript)
+    (evals_before : ℕ) (others : Pending) (phase : Phase) (values : List Value) (new : Transcript) (evals : ℕ)
+    (todo : Pending) : Type 0 where
   pub production : Production
   pub i : ℕ
   pub done : List ℕ
@@ -214,7 +230,8 @@ pub record IsActive (c : Setting) (s : ℕ) (f : ℕ → Value) (level : ℕ) (x
 
 -- The root's tree was read, and written except for the root's record, which has the remaining values. So many
 -- rules were evaluated.
-pub record IsRootReady (c : Setting) (root : ℕ) (values : List Value) (new : Transcript) (evals : ℕ) (todo : Pending) : Type 0 where
+pub record IsRootReady (c : Setting) (root : ℕ) (values : List Value) (new : Transcript) (evals : ℕ)
+    (todo : Pending) : Type 0 where
   pub tree : Tree
   pub valuation : Valuation
   pub ready : IsReady c (item.Symbol c.grammar.start) root (valuation []) tree valuation (record { read = []; put = [] }) new
@@ -230,12 +247,15 @@ abbrev pub RunInvariant : Setting → ℕ → List OpenNode → List Value → T
 RunInvariant c root [] values new evals todo = IsRootReady c root values new evals todo
 RunInvariant c root (x ∷ xs) values new evals todo =
     (s : ℕ) × (f : ℕ → Value) × (under : List Value) × (old : Transcript) × (evals_before : ℕ) × (others : Pending)
-    × Expects c root xs s x.production f under old evals_before others × (ph : Phase) × IsActive c s f (suc (length xs)) x under old evals_before others ph values new evals todo
+    × Expects c root xs s x.production f under old evals_before others × (ph : Phase)
+    × IsActive c s f (suc (length xs)) x under old evals_before others ph values new evals todo
 
 -- The invariant of a pass with some root, transcript, number of rules and children to be read.
 abbrev pub IsConsistent : Setting → List OpenNode → List Value → Type 0
-IsConsistent c xs values = (root : ℕ) × (t : Transcript) × (evals : ℕ) × (todo : Pending) × RunInvariant c root xs values t evals todo
+IsConsistent c xs values =
+    (root : ℕ) × (t : Transcript) × (evals : ℕ) × (todo : Pending) × RunInvariant c root xs values t evals todo
 
 -- The pass continues, and nothing was read, written or evaluated.
 abbrev pub ContinuesAs : Setting → List OpenNode → List Value → List OpenNode → List Value → Type 0
-ContinuesAs c xs values ys new = (root : ℕ) (t : Transcript) (evals : ℕ) (todo : Pending) → RunInvariant c root xs values t evals todo → RunInvariant c root ys new t evals todo
+ContinuesAs c xs values ys new = (root : ℕ) (t : Transcript) (evals : ℕ) (todo : Pending)
+    → RunInvariant c root xs values t evals todo → RunInvariant c root ys new t evals todo

@@ -14,38 +14,50 @@ stack_of (Some node) waiting = node ∷ reverse waiting
 
 -- A machine runs a pass from a device with a content to a second one. The node `next` continues (none if the root
 -- is done), and the meter has this count.
-pub record Runs (c : Setting) (honest : Bool) (content : List ℕ) (to_honest : Bool) (to : List ℕ) (meter : ℕ) (m : Machine) (next : Option OpenNode) : Type 0 where
-  pub running : IsRunning c m.root honest content to_honest to m.back m.writer m.values.items (stack_of next m.waiting.items) (meter - m.begun)
+pub record Runs (c : Setting) (honest : Bool) (content : List ℕ) (to_honest : Bool) (to : List ℕ) (meter : ℕ) (m : Machine)
+    (next : Option OpenNode) : Type 0 where
+  pub running : IsRunning c m.root honest content to_honest to m.back m.writer m.values.items (stack_of next m.waiting.items)
+      (meter - m.begun)
   pub begun : m.begun ≤ meter
   pub low : m.begun ≤ 2 ^ 63
 
 -- The machine runs from a first device, with some second device and count of the meter.
 abbrev pub RunsFrom : Setting → Bool → List ℕ → Machine → Option OpenNode → Type 0
-RunsFrom c honest content m next = (to_honest : Bool) × (to : List ℕ) × (meter : ℕ) × Runs c honest content to_honest to meter m next
+RunsFrom c honest content m next =
+    (to_honest : Bool) × (to : List ℕ) × (meter : ℕ) × Runs c honest content to_honest to meter m next
 
 -- The machine runs onto a second device, with some first device and count of the meter.
 abbrev pub RunsTo : Setting → Bool → List ℕ → Machine → Option OpenNode → Type 0
-RunsTo c to_honest to m next = (honest : Bool) × (content : List ℕ) × (meter : ℕ) × Runs c honest content to_honest to meter m next
+RunsTo c to_honest to m next =
+    (honest : Bool) × (content : List ℕ) × (meter : ℕ) × Runs c honest content to_honest to meter m next
 
 -- The machine runs at a count of the meter, with some devices.
 abbrev pub RunsAt : Setting → ℕ → Machine → Option OpenNode → Type 0
-RunsAt c meter m next = (honest : Bool) × (content : List ℕ) × (to_honest : Bool) × (to : List ℕ) × Runs c honest content to_honest to meter m next
+RunsAt c meter m next =
+    (honest : Bool) × (content : List ℕ) × (to_honest : Bool) × (to : List ℕ) × Runs c honest content to_honest to meter m next
 
 -- The machine runs, with some devices and count of the meter.
 abbrev pub RunsSomehow : Setting → Machine → Option OpenNode → Type 0
-RunsSomehow c m next = (honest : Bool) × (content : List ℕ) × (to_honest : Bool) × (to : List ℕ) × (meter : ℕ) × Runs c honest content to_honest to meter m next
+RunsSomehow c m next =
+    (honest : Bool) × (content : List ℕ) × (to_honest : Bool) × (to : List ℕ) × (meter : ℕ)
+    × Runs c honest content to_honest to meter m next
 
 -- A step that reads leads from one running machine to the next, for every second device and count of the meter.
-abbrev pub LeadsFrom : Setting → (old_honest new_honest : Bool) → (old_content new_content : List ℕ) → (old new : Machine) → (node next : Option OpenNode) → Type 0
-LeadsFrom c old_honest new_honest old_content new_content old new node next = (to_honest : Bool) (to : List ℕ) (meter : ℕ) → Runs c old_honest old_content to_honest to meter old node → Runs c new_honest new_content to_honest to meter new next
+abbrev pub LeadsFrom : Setting → (old_honest new_honest : Bool) → (old_content new_content : List ℕ) → (old new : Machine)
+    → (node next : Option OpenNode) → Type 0
+LeadsFrom c old_honest new_honest old_content new_content old new node next = (to_honest : Bool) (to : List ℕ) (meter : ℕ)
+    → Runs c old_honest old_content to_honest to meter old node → Runs c new_honest new_content to_honest to meter new next
 
 -- A step that writes leads from one running machine to the next, for every first device and count of the meter.
-abbrev pub LeadsTo : Setting → (old_honest new_honest : Bool) → (old_content new_content : List ℕ) → (old new : Machine) → (node next : Option OpenNode) → Type 0
-LeadsTo c old_honest new_honest old_content new_content old new node next = (honest : Bool) (content : List ℕ) (meter : ℕ) → Runs c honest content old_honest old_content meter old node → Runs c honest content new_honest new_content meter new next
+abbrev pub LeadsTo : Setting → (old_honest new_honest : Bool) → (old_content new_content : List ℕ) → (old new : Machine)
+    → (node next : Option OpenNode) → Type 0
+LeadsTo c old_honest new_honest old_content new_content old new node next = (honest : Bool) (content : List ℕ) (meter : ℕ)
+    → Runs c honest content old_honest old_content meter old node → Runs c honest content new_honest new_content meter new next
 
 -- A step that uses no device leads from one running machine and count of the meter to the next.
 abbrev pub LeadsAt : Setting → (old_meter new_meter : ℕ) → (old new : Machine) → (node next : Option OpenNode) → Type 0
-LeadsAt c old_meter new_meter old new node next = (honest : Bool) (content : List ℕ) (to_honest : Bool) (to : List ℕ) → Runs c honest content to_honest to old_meter old node → Runs c honest content to_honest to new_meter new next
+LeadsAt c old_meter new_meter old new node next = (honest : Bool) (content : List ℕ) (to_honest : Bool) (to : List ℕ)
+    → Runs c honest content to_honest to old_meter old node → Runs c honest content to_honest to new_meter new next
 
 -- A step that uses no device or meter leads from one running machine to the next, for every count of the meter.
 abbrev pub Leads : Setting → (old new : Machine) → (node next : Option OpenNode) → Type 0
@@ -53,4 +65,6 @@ Leads c old new node next = (meter : ℕ) → LeadsAt c meter meter old new node
 
 -- The next instruction runs the rule with number r: `Set`, or `Def` for a target at the node itself.
 abbrev pub RunsRuleNext : Setting → OpenNode → ℕ → Type 0
-RunsRuleNext c x r = (j a : ℕ) × (z : Instr) × ((z ≡ instr.Set j a r) ⊎ ((z ≡ instr.Def a r) × (j ≡ 0))) × (slice_get (list_at c x.production) x.at ≡ Some z)
+RunsRuleNext c x r =
+    (j a : ℕ) × (z : Instr) × ((z ≡ instr.Set j a r) ⊎ ((z ≡ instr.Def a r) × (j ≡ 0)))
+    × (slice_get (list_at c x.production) x.at ≡ Some z)

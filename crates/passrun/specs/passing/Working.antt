@@ -33,4 +33,6 @@ reserved_work c (Some x) = if goes_next (rest_of c x) then node_cost c else 0
 -- The measure: the bound of one node for each record that may still be read, plus the remaining instructions,
 -- plus the amount reserved.
 abbrev pub measure : Setting → Machine → Option OpenNode → ℕ
-measure c m next = node_cost c * (max_nodes - m.back.progress.records) + (remaining_work c (stack_of next m.waiting.items) + reserved_work c next)
+measure c m next =
+    node_cost c * (max_nodes - m.back.progress.records)
+    + (remaining_work c (stack_of next m.waiting.items) + reserved_work c next)

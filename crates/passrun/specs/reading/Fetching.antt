@@ -15,7 +15,8 @@ use Rattle.passrun.specs.reading.Reading.{IsRead, IsNoRecord}
 
 -- The record of an item was read below `open_count` open nodes: its frame ended where the reader was, and its row
 -- was appended to the values. p is the number in the record.
-pub record HasFetched (c : Setting) (x : Item) (p open_count : ℕ) (honest : Bool) (content : List ℕ) (old new : BackState) (old_values new_values : List Value) : Type 0 where
+pub record HasFetched (c : Setting) (x : Item) (p open_count : ℕ) (honest : Bool) (content : List ℕ) (old new : BackState)
+    (old_values new_values : List Value) : Type 0 where
   pub body : List ℕ
   pub found : WhenHonest honest (next_before version_two content old.progress.at ≡ Ok (Some body))
   pub taken : IsRead c x p body old_values new_values
@@ -33,7 +34,9 @@ IsMissing c x (Ok (Some body)) = IsNoRecord c x body
 -- The reason why no record of an item was read. R1: none ends at the offset that the reader has reached, and
 -- no limit is exceeded. P2: it would be too deep. P3: it would be one too many, and not too deep.
 abbrev pub IsUnfetched : Setting → Item → ℕ → List ℕ → BackState → RunFault → Type 0
-IsUnfetched c x open_count content old (fault.Damaged at) = (at ≡ old.progress.at) × IsMissing c x (next_before version_two content old.progress.at) × (open_count < max_depth) × (old.progress.records < max_nodes)
+IsUnfetched c x open_count content old (fault.Damaged at) =
+    (at ≡ old.progress.at) × IsMissing c x (next_before version_two content old.progress.at) × (open_count < max_depth)
+    × (old.progress.records < max_nodes)
 IsUnfetched c x open_count content old fault.TooDeep = max_depth ≤ open_count
 IsUnfetched c x open_count content old fault.TooManyNodes = (max_nodes ≤ old.progress.records) × (open_count < max_depth)
 IsUnfetched c x open_count content old fault.Device = Unit {0}

@@ -31,11 +31,13 @@ pub record IsTaken (read write pass : ℕ) (bytes rest : List ℕ) (old new : Li
   pub well : IsWell value
   pub row : new ≡ old ++ one_value write pass value
   pub spelled : bytes ≡ flat_map spelling_of (one_value read pass value) ++ rest
-  pub only : (w : Value) (others : List ℕ) → IsWell w → bytes ≡ flat_map spelling_of (one_value read pass w) ++ others → others ≡ rest
+  pub only : (w : Value) (others : List ℕ) → IsWell w → bytes ≡ flat_map spelling_of (one_value read pass w) ++ others
+      → others ≡ rest
 
 -- No value of an attribute of a pass can be taken from the bytes.
 abbrev pub IsUntaken : ℕ → ℕ → List ℕ → Type 0
-IsUntaken read pass bytes = (w : Value) (others : List ℕ) → IsWell w → bytes ≡ flat_map spelling_of (one_value read pass w) ++ others → ⊥
+IsUntaken read pass bytes = (w : Value) (others : List ℕ) → IsWell w
+    → bytes ≡ flat_map spelling_of (one_value read pass w) ++ others → ⊥
 
 -- The values of attributes with these passes were taken from the beginning of the bytes, as `IsTaken` says of each,
 -- and appended to a row.
@@ -44,11 +46,13 @@ pub record AreTaken (read write : ℕ) (passes : List ℕ) (bytes rest : List �
   pub well : (a : ℕ) → IsWell (values a)
   pub row : new ≡ old ++ values_up_to write passes values
   pub spelled : bytes ≡ flat_map spelling_of (values_up_to read passes values) ++ rest
-  pub only : (h : ℕ → Value) (others : List ℕ) → ((a : ℕ) → IsWell (h a)) → bytes ≡ flat_map spelling_of (values_up_to read passes h) ++ others → others ≡ rest
+  pub only : (h : ℕ → Value) (others : List ℕ) → ((a : ℕ) → IsWell (h a))
+      → bytes ≡ flat_map spelling_of (values_up_to read passes h) ++ others → others ≡ rest
 
 -- No values of attributes with these passes can be taken from the bytes.
 abbrev pub AreUntaken : ℕ → List ℕ → List ℕ → Type 0
-AreUntaken read passes bytes = (h : ℕ → Value) (others : List ℕ) → ((a : ℕ) → IsWell (h a)) → bytes ≡ flat_map spelling_of (values_up_to read passes h) ++ others → ⊥
+AreUntaken read passes bytes = (h : ℕ → Value) (others : List ℕ) → ((a : ℕ) → IsWell (h a))
+    → bytes ≡ flat_map spelling_of (values_up_to read passes h) ++ others → ⊥
 
 -- Each value of a table is well.
 abbrev pub AllWell : Table → Type 0
@@ -56,7 +60,8 @@ AllWell e = (j a : ℕ) → IsWell (e j a)
 
 -- The bytes are not the encoded values of attributes with these passes, those up to pass `read`.
 abbrev pub IsNoRow : ℕ → List ℕ → List ℕ → Type 0
-IsNoRow read passes bytes = (h : ℕ → Value) → ((a : ℕ) → IsWell (h a)) → bytes ≡ flat_map spelling_of (values_up_to read passes h) → ⊥
+IsNoRow read passes bytes = (h : ℕ → Value) → ((a : ℕ) → IsWell (h a)) → bytes ≡ flat_map spelling_of (values_up_to read passes h)
+    → ⊥
 
 -- A body has the number of a production of symbol s, and these bytes after it. It determines both.
 pub record IsNodeBody (g : Grammar) (s p : ℕ) (spellings body : List ℕ) : Type 0 where
@@ -83,15 +88,19 @@ pub record IsNodeRead (c : Setting) (s p : ℕ) (body : List ℕ) (old new : Lis
   pub table : Table
   pub table_well : AllWell table
   pub row : new ≡ old ++ (values_up_to c.write (c.passes s) values ++ copies c c.write (stored_items production.items) table)
-  pub same : body ≡ node_body version_two c.grammar c.passes c.read p values (copies c c.read (stored_items production.items) table)
+  pub same : body ≡ node_body version_two c.grammar c.passes c.read p values
+      (copies c c.read (stored_items production.items) table)
 
 -- A body is not a record of a node of symbol s.
 abbrev pub IsNoNode : Setting → ℕ → List ℕ → Type 0
-IsNoNode c s body = (p : ℕ) (q : Production) (h : ℕ → Value) (e : Table) → IsProduction c.grammar p q → q.left ≡ s → ((a : ℕ) → IsWell (h a)) → AllWell e → body ≡ node_body version_two c.grammar c.passes c.read p h (copies c c.read (stored_items q.items) e) → ⊥
+IsNoNode c s body = (p : ℕ) (q : Production) (h : ℕ → Value) (e : Table) → IsProduction c.grammar p q → q.left ≡ s
+    → ((a : ℕ) → IsWell (h a)) → AllWell e
+    → body ≡ node_body version_two c.grammar c.passes c.read p h (copies c c.read (stored_items q.items) e) → ⊥
 
 -- A body is not that of a node of symbol s, with any bytes after its number.
 abbrev pub IsNoNodeBody : Grammar → ℕ → List ℕ → Type 0
-IsNoNodeBody g s body = (p : ℕ) (q : Production) (spellings : List ℕ) → IsProduction g p q → q.left ≡ s → p < 2 ^ 16 → body ≡ body_from Node p spellings → ⊥
+IsNoNodeBody g s body = (p : ℕ) (q : Production) (spellings : List ℕ) → IsProduction g p q → q.left ≡ s → p < 2 ^ 16
+    → body ≡ body_from Node p spellings → ⊥
 
 -- A body is the record of a token of a class, and this is its text.
 pub record IsTextOf (d : ℕ) (body : List ℕ) (value : Value) : Type 0 where
@@ -126,7 +135,8 @@ IsNoRecord c (item.Terminal (Class d)) body = IsNoToken d body
 IsNoRecord c (item.Terminal (Literal l)) body = Unit {0}
 
 -- The values at the root of the record that was read for an item.
-abbrev pub read_values : (c : Setting) (x : Item) (p : ℕ) (body : List ℕ) (old new : List Value) → IsRead c x p body old new → ℕ → Value
+abbrev pub read_values : (c : Setting) (x : Item) (p : ℕ) (body : List ℕ) (old new : List Value) → IsRead c x p body old new → ℕ
+    → Value
 read_values c (item.Symbol s) p body old new h = h.values
 read_values c (item.Terminal (Class d)) p body old new h = λ a. Text h.1.text
 read_values c (item.Terminal (Literal l)) p body old new h = elim h [ ]
@@ -137,4 +147,6 @@ AgreeAt c x f h = values_up_to c.read (copied_passes c x) f ≡ values_up_to c.r
 
 -- The answer is whether two rows agree so. Each row begins with the values at the item that have copies.
 abbrev pub Agrees : Setting → Item → (ours theirs : List Value) → (answer : Bool) → Type 0
-Agrees c x ours theirs answer = (f h : ℕ → Value) (rest others : List Value) → ours ≡ values_up_to c.write (copied_passes c x) f ++ rest → theirs ≡ values_up_to c.write (copied_passes c x) h ++ others → IsTrue answer ↔ AgreeAt c x f h
+Agrees c x ours theirs answer = (f h : ℕ → Value) (rest others : List Value)
+    → ours ≡ values_up_to c.write (copied_passes c x) f ++ rest → theirs ≡ values_up_to c.write (copied_passes c x) h ++ others
+    → IsTrue answer ↔ AgreeAt c x f h

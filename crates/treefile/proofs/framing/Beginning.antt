@@ -1,5 +1,6 @@
 -- Bytes appended to a content, one part after another.
-use Rattle.std.proofs.Common.{◌≡◌, ℕ, ◌+◌, ◌⊎◌, inl, inr, List, [], ◌∷◌, ◌++◌, length, take, Result, Ok, Err, refl, ap, sym, ◌∙◌, append_assoc, append-nil}
+use Rattle.std.proofs.Common.{◌≡◌, ℕ, ◌+◌, ◌⊎◌, inl, inr, List, [], ◌∷◌, ◌++◌, length, take, Result, Ok, Err, refl, ap, sym, ◌∙◌}
+use Rattle.std.proofs.Common.{append_assoc, append-nil}
 use Rattle.std.specs.List.{All, flat_map}
 use Rattle.std.proofs.Math.Seq.{take-append-add, take-length}
 use Rattle.std.proofs.lemmas.Grind.{flat_map-append}
@@ -20,10 +21,18 @@ one_body body sound = All-cons (IsBody version_two) body [] sound no_body
 
 -- a prefix of the header, and frames after all of it
 header_begins : (pass : ℕ) (content : List ℕ) → AppendsPrefix (header version_two pass) [] content → BeginsFile pass content
-header_begins pass content put = record { bodies = []; sound = no_body; prefix = (put.0, put.1 ∙ ap (take put.0) (sym (append-nil (header version_two pass)))) }
+header_begins pass content put =
+    record {
+      bodies = [];
+      sound = no_body;
+      prefix = (put.0, put.1 ∙ ap (take put.0) (sym (append-nil (header version_two pass))));
+    }
 
-pub not_begun : (pass : ℕ) (old now : List ℕ) (f : DeviceFault) → (f ≡ device_fault.Failed → (now ≡ old) ⊎ AppendsPrefix (header version_two pass) [] now) → (f ≡ device_fault.NoMemory → now ≡ []) → LeavesBeginning pass old now
-not_begun pass old now device_fault.Failed failed resource = elim (failed refl) [ inl same ↦ inl same | inr prefix ↦ inr (header_begins pass now prefix) ]
+pub not_begun : (pass : ℕ) (old now : List ℕ) (f : DeviceFault)
+    → (f ≡ device_fault.Failed → (now ≡ old) ⊎ AppendsPrefix (header version_two pass) [] now)
+    → (f ≡ device_fault.NoMemory → now ≡ []) → LeavesBeginning pass old now
+not_begun pass old now device_fault.Failed failed resource =
+    elim (failed refl) [ inl same ↦ inl same | inr prefix ↦ inr (header_begins pass now prefix) ]
 not_begun pass old now device_fault.NoMemory failed resource = inr (header_begins pass now (0, resource refl))
 
 module _ (E : Type 0) where
@@ -33,11 +42,14 @@ module _ (E : Type 0) where
   none_added old (Err fault) = ([], no_body, (0, sym (append-nil old)))
 
   -- some frames were appended, and then those of a step
-  pub added : (old between now : List ℕ) (r : Result (Unit {0}) E) → AddsFrames {E = E} old between (Ok tt) → AddsFrames between now r → AddsFrames old now r
+  pub added : (old between now : List ℕ) (r : Result (Unit {0}) E) → AddsFrames {E = E} old between (Ok tt)
+      → AddsFrames between now r → AddsFrames old now r
   added old between now (Ok u) first next = (
     first.0 ++ next.0,
     All-append (IsBody version_two) first.0 next.0 first.1 next.1,
-    next.2 ∙ ap (λ (xs : List ℕ). xs ++ flat_map frame next.0) first.2 ∙ append_assoc old (flat_map frame first.0) (flat_map frame next.0) ∙ ap (λ (xs : List ℕ). old ++ xs) (sym (flat_map-append frame first.0 next.0)),
+    next.2 ∙ ap (λ (xs : List ℕ). xs ++ flat_map frame next.0) first.2
+        ∙ append_assoc old (flat_map frame first.0) (flat_map frame next.0)
+        ∙ ap (λ (xs : List ℕ). old ++ xs) (sym (flat_map-append frame first.0 next.0)),
   )
   added old between now (Err fault) first next =
       let before = flat_map frame first.0 in
@@ -45,21 +57,34 @@ module _ (E : Type 0) where
       let n = next.2.0 in (
         first.0 ++ next.0,
         All-append (IsBody version_two) first.0 next.0 first.1 next.1,
-        (length before + n, next.2.1 ∙ ap (λ (xs : List ℕ). xs ++ take n following) first.2 ∙ append_assoc old before (take n following) ∙ ap (λ (xs : List ℕ). old ++ xs) (sym (take-append-add before following n) ∙ ap (take (length before + n)) (sym (flat_map-append frame first.0 next.0)))),
+        (
+          length before + n,
+          next.2.1 ∙ ap (λ (xs : List ℕ). xs ++ take n following) first.2 ∙ append_assoc old before (take n following)
+              ∙ ap (λ (xs : List ℕ). old ++ xs)
+              (sym (take-append-add before following n)
+              ∙ ap (take (length before + n)) (sym (flat_map-append frame first.0 next.0))),
+        ),
       )
 
   -- a frame was appended, or not
   pub one_added : (old now body : List ℕ) → IsBody version_two body → now ≡ old ++ frame body → AddsFrames {E = E} old now (Ok tt)
-  one_added old now body sound is = (body ∷ [], one_body body sound, is ∙ ap (λ (xs : List ℕ). old ++ xs) (sym (append-nil (frame body))))
+  one_added old now body sound is =
+      (body ∷ [], one_body body sound, is ∙ ap (λ (xs : List ℕ). old ++ xs) (sym (append-nil (frame body))))
 
-  pub one_refused : (old now body : List ℕ) (f : DeviceFault) (fault : E) → IsBody version_two body → (f ≡ device_fault.Failed → AppendsPrefix (frame body) old now) → (f ≡ device_fault.NoMemory → now ≡ old) → AddsFrames old now (Err fault)
+  pub one_refused : (old now body : List ℕ) (f : DeviceFault) (fault : E) → IsBody version_two body
+      → (f ≡ device_fault.Failed → AppendsPrefix (frame body) old now) → (f ≡ device_fault.NoMemory → now ≡ old)
+      → AddsFrames old now (Err fault)
   one_refused old now body device_fault.Failed fault sound prefix same =
-      let put = prefix refl in
-      (body ∷ [], one_body body sound, (put.0, put.1 ∙ ap (λ (xs : List ℕ). old ++ take put.0 xs) (sym (append-nil (frame body)))))
+      let put = prefix refl in (
+        body ∷ [],
+        one_body body sound,
+        (put.0, put.1 ∙ ap (λ (xs : List ℕ). old ++ take put.0 xs) (sym (append-nil (frame body)))),
+      )
   one_refused old now body device_fault.NoMemory fault sound prefix same = ([], no_body, (0, same refl ∙ sym (append-nil old)))
 
   -- frames were appended after a header
-  pub frames_begin : (pass : ℕ) (old content : List ℕ) (r : Result (Unit {0}) E) → old ≡ header version_two pass → AddsFrames old content r → BeginsFile pass content
+  pub frames_begin : (pass : ℕ) (old content : List ℕ) (r : Result (Unit {0}) E) → old ≡ header version_two pass
+      → AddsFrames old content r → BeginsFile pass content
   frames_begin pass old content (Ok u) is put = record {
     bodies = put.0;
     sound = put.1;
@@ -72,5 +97,9 @@ module _ (E : Type 0) where
       record {
         bodies = put.0;
         sound = put.1;
-        prefix = (length head + put.2.0, put.2.1 ∙ ap (λ (xs : List ℕ). xs ++ take put.2.0 (flat_map frame put.0)) is ∙ sym (take-append-add head (flat_map frame put.0) put.2.0));
+        prefix = (
+          length head + put.2.0,
+          put.2.1 ∙ ap (λ (xs : List ℕ). xs ++ take put.2.0 (flat_map frame put.0)) is
+              ∙ sym (take-append-add head (flat_map frame put.0) put.2.0),
+        );
       }

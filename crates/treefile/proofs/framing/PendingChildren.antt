@@ -1,5 +1,6 @@
 -- The expected items, and that expected bodies are the records of trees.
-use Rattle.std.proofs.Common.{◌≡◌, ℕ, zero, suc, ◌+◌, ◌-◌, ◌≤◌, pos, List, [], ◌∷◌, ◌++◌, length, take, drop, Some, slice_get, refl, ap, sym, subst, ◌∙◌, append_assoc, arith}
+use Rattle.std.proofs.Common.{◌≡◌, ℕ, zero, suc, ◌+◌, ◌-◌, ◌≤◌, pos, List, [], ◌∷◌, ◌++◌, length, take, drop, Some, slice_get}
+use Rattle.std.proofs.Common.{refl, ap, sym, subst, ◌∙◌, append_assoc, arith}
 use Rattle.std.proofs.lemmas.List.{drop_all, take_all}
 use Rattle.ag_value.specs.declared.value.Value.{Text}
 use Rattle.ag_value.specs.declared.value.Value.TheVariants as value
@@ -13,7 +14,8 @@ use Rattle.ag_grammar.specs.grammars.Solution.{AtEachNodeOf, NoRule, SolvesAll, 
 use Rattle.ag_grammar.specs.grammars.Tree.{Forest, deepest, leaf, node, none, more}
 use Rattle.ag_grammar.proofs.grammars.EachNode.{no_rules}
 use Rattle.ag_grammar.proofs.values.Wells.{well_text}
-use Rattle.treefile.specs.framing.ExpectedRecords.{AreThere, Expects, Child, MatchesCopy, IsRecordOf, Pending, before_others, children_with_copies}
+use Rattle.treefile.specs.framing.ExpectedRecords.{AreThere, Expects, Child, MatchesCopy, IsRecordOf, Pending, before_others}
+use Rattle.treefile.specs.framing.ExpectedRecords.{children_with_copies}
 use Rattle.treefile.specs.Laws.{AllPending, ExpectedAreThere, NextPending}
 use Rattle.treefile.specs.records.Orders.{prefix, prefix_all}
 use Rattle.treefile.specs.records.Records.{bodies_of, bodies_of_all, copies_of, node_body, values_up_to}
@@ -23,14 +25,16 @@ use Rattle.treefile.proofs.records.Copies.{MatchCopies, fits_exact, left_of, sto
 use Rattle.treefile.proofs.framing.Way.{tree_expected}
 
 -- the next child after i visited ones from left to right, and before i unvisited ones from right to left
-next_left : (level i : ℕ) (xs : List Child) (x : Child) (todo : Pending) → slice_get xs i ≡ Some x → before_others LeftToRight level (drop i xs) todo ≡ (level, x) ∷ before_others LeftToRight level (drop (suc i) xs) todo
+next_left : (level i : ℕ) (xs : List Child) (x : Child) (todo : Pending) → slice_get xs i ≡ Some x
+    → before_others LeftToRight level (drop i xs) todo ≡ (level, x) ∷ before_others LeftToRight level (drop (suc i) xs) todo
 next_left level i [] x todo e = absurd (let bad : ⊥ = cc in bad)
 next_left level zero (y ∷ xs) x todo e =
     let same : y ≡ x = cc in
     ap (λ (z : Child). (level, z) ∷ before_others LeftToRight level xs todo) same
 next_left level (suc i) (y ∷ xs) x todo e = next_left level i xs x todo e
 
-next_right : (level i : ℕ) (xs : List Child) (x : Child) (todo : Pending) → slice_get xs i ≡ Some x → before_others RightToLeft level (take (suc i) xs) todo ≡ (level, x) ∷ before_others RightToLeft level (take i xs) todo
+next_right : (level i : ℕ) (xs : List Child) (x : Child) (todo : Pending) → slice_get xs i ≡ Some x
+    → before_others RightToLeft level (take (suc i) xs) todo ≡ (level, x) ∷ before_others RightToLeft level (take i xs) todo
 next_right level i [] x todo e = absurd (let bad : ⊥ = cc in bad)
 next_right level zero (y ∷ xs) x todo e =
     let same : y ≡ x = cc in
@@ -44,7 +48,8 @@ next_pending RightToLeft level i xs x todo less e =
     ap (λ n. before_others RightToLeft level (take n xs) todo) one ∙ next_right level (length xs - suc i) xs x todo e
 
 pub all_pending : AllPending
-all_pending LeftToRight level xs todo = (refl, ap (λ (ys : List Child). before_others LeftToRight level ys todo) (drop_all (length xs) xs (omega arith)))
+all_pending LeftToRight level xs todo =
+    (refl, ap (λ (ys : List Child). before_others LeftToRight level ys todo) (drop_all (length xs) xs (omega arith)))
 all_pending RightToLeft level xs todo =
     let none : length xs - length xs ≡ 0 = omega arith in
     (take_all (length xs - 0) xs (omega arith), ap (λ n. before_others RightToLeft level (take n xs) todo) none)
@@ -72,8 +77,20 @@ module _ (version : Version) (g : Grammar) (m : Passes) (k most : ℕ) where
   before_all v vs (suc i) = vs i
 
   -- the trees of a right side and then of others
-  gather : (d : Direction) (level : ℕ) (xs : List Child) (todo : Pending) (bodies : List (List ℕ)) → level ≤ suc most → AreThere version g m k d most (before_others d level xs todo) bodies → Gathered d level xs todo bodies
-  gather d level [] todo bodies low are = record { trees = none; values = no_values; others = bodies; matching = tt; texts = tt; well = tt; deep = omega arith; split = refl; there = are }
+  gather : (d : Direction) (level : ℕ) (xs : List Child) (todo : Pending) (bodies : List (List ℕ)) → level ≤ suc most
+      → AreThere version g m k d most (before_others d level xs todo) bodies → Gathered d level xs todo bodies
+  gather d level [] todo bodies low are =
+      record {
+        trees = none;
+        values = no_values;
+        others = bodies;
+        matching = tt;
+        texts = tt;
+        well = tt;
+        deep = omega arith;
+        split = refl;
+        there = are;
+      }
   gather LeftToRight level (x ∷ xs) todo bodies low are =
       let t = are.0 in
       let v = are.1 in
@@ -115,13 +132,20 @@ module _ (version : Version) (g : Grammar) (m : Passes) (k most : ℕ) where
       }
 
   -- the trees after a record are there with the record's
-  by_record : (d : Direction) (level : ℕ) (x : Child) (todo : Pending) (body : List ℕ) (bodies : List (List ℕ)) (ys : List Child) → level ≤ most → IsRecordOf version g m k x body ys → AreThere version g m k d most (before_others d (suc level) ys todo) bodies → AreThere version g m k d most ((level, x) ∷ todo) (body ∷ bodies)
+  by_record : (d : Direction) (level : ℕ) (x : Child) (todo : Pending) (body : List ℕ) (bodies : List (List ℕ)) (ys : List Child)
+      → level ≤ most → IsRecordOf version g m k x body ys
+      → AreThere version g m k d most (before_others d (suc level) ys todo) bodies
+      → AreThere version g m k d most ((level, x) ∷ todo) (body ∷ bodies)
   by_record d level (item.Terminal (Literal l), copy) todo body bodies ys low is are = elim is [ ]
   by_record d level (item.Terminal (Class c), copy) todo body bodies ys low is are = (
     leaf c is.0,
     (λ path a. Text is.0),
     bodies,
-    record { fits = (refl, is.1); texts = refl; well = λ a p e le. well_text is.0 is.1.utf8 (let short = is.1.short in omega arith) },
+    record {
+      fits = (refl, is.1);
+      texts = refl;
+      well = λ a p e le. well_text is.0 is.1.utf8 (let short = is.1.short in omega arith);
+    },
     omega arith,
     ap (λ (b : List ℕ). b ∷ bodies) is.2,
     subst (λ (zs : List Child). AreThere version g m k d most (before_others d (suc level) zs todo) bodies) is.3 are,
@@ -133,36 +157,53 @@ module _ (version : Version) (g : Grammar) (m : Passes) (k most : ℕ) where
       let e = is.2 in
       let has = version.has_copies in
       let children_exact = children_with_copies has g m k (stored_items q.items) is.3.copies in
-      let on = gather d (suc level) children_exact todo bodies (omega arith) (subst (λ (zs : List Child). AreThere version g m k d most (before_others d (suc level) zs todo) bodies) is.4 are) in
+      let on =
+      gather d (suc level) children_exact todo bodies (omega arith)
+      (subst (λ (zs : List Child). AreThere version g m k d most (before_others d (suc level) zs todo) bodies) is.4
+      are) in
       let passes : m s ≡ left_passes m (slice_get g.productions p) = sym (ap (left_passes m) is.3.production ∙ ap m is.3.left) in
       let own = values_up_to k (left_passes m (slice_get g.productions p)) e in
-      let same : node_body version g m k p e is.3.copies ≡ node_body version g m k p e (copies_of g m k on.trees on.values) = ap (body_of Node p) (stored_exact g m k has (stored_items q.items) own is.3.copies on.trees on.values is.3.are_copies on.matching) in
+      let same : node_body version g m k p e is.3.copies ≡ node_body version g m k p e (copies_of g m k on.trees on.values) =
+      ap (body_of Node p)
+      (stored_exact g m k has (stored_items q.items) own is.3.copies on.trees on.values is.3.are_copies on.matching) in
       let all = on.deep in (
         node p on.trees,
         graft e on.values,
         on.others,
         record {
-          fits = (q, is.3.production, is.3.left, fits_exact g m k has (stored_items q.items) is.3.copies on.trees on.values on.matching);
+          fits = (
+            q,
+            is.3.production,
+            is.3.left,
+            fits_exact g m k has (stored_items q.items) is.3.copies on.trees on.values on.matching,
+          );
           texts = (no_rules (slice_get g.productions p) (at (graft e on.values)), on.texts);
           well = (subst (λ ps. WellAt (λ n. n ≤ k) ps e e) passes is.3.well, on.well);
         },
         omega arith,
-        ap (λ (b : List ℕ). b ∷ bodies) (is.3.occurs ∙ same) ∙ ap (λ (zs : List (List ℕ)). node_body version g m k p e (copies_of g m k on.trees on.values) ∷ zs) on.split,
+        ap (λ (b : List ℕ). b ∷ bodies) (is.3.occurs ∙ same)
+            ∙ ap (λ (zs : List (List ℕ)). node_body version g m k p e (copies_of g m k on.trees on.values) ∷ zs) on.split,
         on.there,
         subst (λ ps. MatchesCopy copy (values_up_to k ps e)) (sym (left_of g m k s p q is.3.production is.3.left)) is.5,
       )
 
   -- expected bodies are records of trees, and such records are expected
-  from_awaited : (d : Direction) (todo : Pending) (bodies : List (List ℕ)) → Expects version g m k d most todo bodies → AreThere version g m k d most todo bodies
+  from_awaited : (d : Direction) (todo : Pending) (bodies : List (List ℕ)) → Expects version g m k d most todo bodies
+      → AreThere version g m k d most todo bodies
   from_awaited d [] [] a = refl
   from_awaited d [] (body ∷ bodies) a = elim a [ ]
   from_awaited d (x ∷ todo) [] a = elim a [ ]
-  from_awaited d (x ∷ todo) (body ∷ bodies) a = by_record d x.0 x.1 todo body bodies a.1.0 a.0 a.1.1 (from_awaited d (before_others d (suc x.0) a.1.0 todo) bodies a.1.2)
+  from_awaited d (x ∷ todo) (body ∷ bodies) a =
+      by_record d x.0 x.1 todo body bodies a.1.0 a.0 a.1.1 (from_awaited d (before_others d (suc x.0) a.1.0 todo) bodies a.1.2)
 
-  to_awaited : (d : Direction) (todo : Pending) (bodies : List (List ℕ)) → AreThere version g m k d most todo bodies → Expects version g m k d most todo bodies
+  to_awaited : (d : Direction) (todo : Pending) (bodies : List (List ℕ)) → AreThere version g m k d most todo bodies
+      → Expects version g m k d most todo bodies
   to_awaited d [] bodies e = subst (Expects version g m k d most []) (sym e) tt
   to_awaited d (x ∷ todo) bodies are =
-      subst (Expects version g m k d most (x ∷ todo)) (sym are.5) (tree_expected version g m k most d x.1.0 x.1.1 are.0 are.1 x.0 todo are.2 are.3.fits are.7 are.3.texts are.3.well are.4 (to_awaited d todo are.2 are.6))
+      subst (Expects version g m k d most (x ∷ todo)) (sym are.5)
+      (tree_expected version g m k most d x.1.0 x.1.1 are.0 are.1 x.0 todo are.2 are.3.fits are.7 are.3.texts are.3.well are.4
+      (to_awaited d todo are.2 are.6))
 
 pub awaited_are_there : ExpectedAreThere
-awaited_are_there version g m k most d todo bodies = (from_awaited version g m k most d todo bodies, to_awaited version g m k most d todo bodies)
+awaited_are_there version g m k most d todo bodies =
+    (from_awaited version g m k most d todo bodies, to_awaited version g m k most d todo bodies)

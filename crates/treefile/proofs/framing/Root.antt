@@ -22,7 +22,8 @@ pub root_is_last : RootIsLast
 root_is_last version g m k p ts v content usable fits tree is =
     let others = postfix_all (direction_of k) (bodies_of_all version g m k ts (children v)) in
     let root = node_body version g m k p (v []) (copies_of g m k ts (children v)) in
-    let body : IsBody version root = last_is (IsBody version) others root (file_fits version g m k (node p ts) v content fits tree is) in
+    let body : IsBody version root =
+    last_is (IsBody version) others root (file_fits version g m k (node p ts) v content fits tree is) in
     ap (last_body_of version) is.occurs ∙ last_of_file version k others root usable body.least body.greatest
 
 pub values_are_whole : ValuesAreWhole
@@ -32,4 +33,5 @@ values_are_whole k (q ∷ ps) e zero p all is =
     ap (λ b. slice_get (cond b (e 0 ∷ []) [] ++ values_up_to k ps (λ a. e (suc a))) 0) test
 values_are_whole k (q ∷ ps) e (suc a) p all is =
     let test : nat_le q k ≡ true = le-leb q k (all 0 q refl) in
-    ap (λ b. slice_get (cond b (e 0 ∷ []) [] ++ values_up_to k ps (λ a. e (suc a))) (suc a)) test ∙ values_are_whole k ps (λ a. e (suc a)) a p (λ i n h. all (suc i) n h) is
+    ap (λ b. slice_get (cond b (e 0 ∷ []) [] ++ values_up_to k ps (λ a. e (suc a))) (suc a)) test
+    ∙ values_are_whole k ps (λ a. e (suc a)) a p (λ i n h. all (suc i) n h) is

@@ -1,5 +1,7 @@
 -- The copies in a record: their values, their number, and that children which match their copies have them.
-use Rattle.std.proofs.Common.{◌≡◌, ℕ, zero, suc, ◌≤◌, Bool, true, false, List, [], ◌∷◌, ◌++◌, length, take, drop, Option, Some, None, slice_get, All, refl, ap, sym, subst, ◌∙◌, arith, length-append, length-drop, take-append-drop}
+use Rattle.std.proofs.Common.{◌≡◌, ℕ, zero, suc, ◌≤◌, Bool, true, false, List, [], ◌∷◌, ◌++◌, length, take, drop, Option, Some}
+use Rattle.std.proofs.Common.{None, slice_get, All, refl, ap, sym, subst, ◌∙◌, arith, length-append, length-drop}
+use Rattle.std.proofs.Common.{take-append-drop}
 use Rattle.std.proofs.lemmas.List.{drop_at, take_at}
 use Rattle.std.proofs.lemmas.List.Elements.{All-append, All-cons, All-nil}
 use Rattle.ag_value.specs.declared.value.Value.{Value, Text}
@@ -10,11 +12,13 @@ use Rattle.ag_grammar.specs.declared.grammar.Production.{Production}
 use Rattle.ag_grammar.specs.declared.grammar.Terminal.TheVariants.{Literal, Class}
 use Rattle.ag_grammar.specs.grammars.AttributeGrammar.{Grammar}
 use Rattle.ag_grammar.specs.grammars.Passes.{Passes}
-use Rattle.ag_grammar.specs.grammars.Solution.{AtEachNodeOf, IsWellOn, NoRule, Solves, SolvesAll, Valuation, WellAt, left_passes, rest}
+use Rattle.ag_grammar.specs.grammars.Solution.{AtEachNodeOf, IsWellOn, NoRule, Solves, SolvesAll, Valuation, WellAt, left_passes}
+use Rattle.ag_grammar.specs.grammars.Solution.{rest}
 use Rattle.ag_grammar.specs.grammars.Tree.{Forest, Tree, Fits, FitsAll, leaf, more, node, none}
 use Rattle.treefile.specs.framing.ExpectedRecords.{AreCopies, Child, MatchesCopy, children_with_copies}
 use Rattle.treefile.specs.records.Listed.{copied_count, copies_count, count_up_to}
-use Rattle.treefile.specs.records.Records.{copies_of, copy_of, left_synthesized, max_copied, max_copies, synthesized_count, synthesized_passes, with_copies}
+use Rattle.treefile.specs.records.Records.{copies_of, copy_of, left_synthesized, max_copied, max_copies, synthesized_count}
+use Rattle.treefile.specs.records.Records.{synthesized_passes, with_copies}
 use Rattle.treefile.proofs.records.Values.{count_of_values, values_few, values_well}
 
 -- an element of a prefix of a list is one of the list
@@ -25,28 +29,38 @@ get_take (suc n) (q ∷ ps) zero p is = is
 get_take (suc n) (q ∷ ps) (suc a) p is = get_take n ps a p is
 
 -- a synthesized attribute of a production's left side is one of its attributes
-pub synthesized_is : (g : Grammar) (m : Passes) (o : Option Production) (a p : ℕ) → slice_get (left_synthesized g m o) a ≡ Some p → slice_get (left_passes m o) a ≡ Some p
+pub synthesized_is : (g : Grammar) (m : Passes) (o : Option Production) (a p : ℕ) → slice_get (left_synthesized g m o) a ≡ Some p
+    → slice_get (left_passes m o) a ≡ Some p
 synthesized_is g m None a p is = is
 synthesized_is g m (Some q) a p is = get_take (synthesized_count (slice_get g.symbols q.left)) (m q.left) a p is
 
 module _ (g : Grammar) (m : Passes) (k : ℕ) where
   -- the copy of a node of a symbol is of that symbol's synthesized attributes
-  pub left_of : (s p : ℕ) (q : Production) → slice_get g.productions p ≡ Some q → q.left ≡ s → left_synthesized g m (slice_get g.productions p) ≡ synthesized_passes g m s
+  pub left_of : (s p : ℕ) (q : Production) → slice_get g.productions p ≡ Some q → q.left ≡ s
+      → left_synthesized g m (slice_get g.productions p) ≡ synthesized_passes g m s
   left_of s p q there left = ap (left_synthesized g m) there ∙ ap (synthesized_passes g m) left
 
   -- the lengths of copies
   copy_length : (x : Item) (t : Tree) (v : Valuation) → Fits g x t → length (copy_of g m k t v) ≡ copied_count g m k x
   copy_length (item.Symbol s) (leaf c text) v f = elim f [ ]
-  copy_length (item.Symbol s) (node p ts) v f = count_of_values k (left_synthesized g m (slice_get g.productions p)) (v []) ∙ ap (count_up_to k) (left_of s p f.0 f.1 f.2)
+  copy_length (item.Symbol s) (node p ts) v f =
+      count_of_values k (left_synthesized g m (slice_get g.productions p)) (v []) ∙ ap (count_up_to k) (left_of s p f.0 f.1 f.2)
   copy_length (item.Terminal (Class c)) (leaf d text) v f = refl
   copy_length (item.Terminal (Literal l)) (leaf d text) v f = elim f [ ]
   copy_length (item.Terminal a) (node p ts) v f = elim f [ ]
 
-  pub copies_length : (xs : List Item) (ts : Forest) (vs : ℕ → Valuation) → FitsAll g xs ts → length (copies_of g m k ts vs) ≡ copies_count g m k xs
+  pub copies_length : (xs : List Item) (ts : Forest) (vs : ℕ → Valuation) → FitsAll g xs ts
+      → length (copies_of g m k ts vs) ≡ copies_count g m k xs
   copies_length [] none vs f = refl
   copies_length [] (more t ts) vs f = elim f [ ]
   copies_length (x ∷ xs) none vs f = elim f [ ]
-  copies_length (x ∷ xs) (more t ts) vs f = omega (arith, length-append (copy_of g m k t (vs 0)) (copies_of g m k ts (rest vs)), copy_length x t (vs 0) f.0, copies_length xs ts (rest vs) f.1)
+  copies_length (x ∷ xs) (more t ts) vs f =
+      omega (
+        arith,
+        length-append (copy_of g m k t (vs 0)) (copies_of g m k ts (rest vs)),
+        copy_length x t (vs 0) f.0,
+        copies_length xs ts (rest vs) f.1,
+      )
 
   copy_few : (x : Item) (t : Tree) (v : Valuation) → Fits g x t → length (copy_of g m k t v) ≤ max_copied g m x
   copy_few (item.Symbol s) (leaf c text) v f = elim f [ ]
@@ -57,22 +71,33 @@ module _ (g : Grammar) (m : Passes) (k : ℕ) where
   copy_few (item.Terminal (Literal l)) (leaf d text) v f = elim f [ ]
   copy_few (item.Terminal a) (node p ts) v f = elim f [ ]
 
-  pub copies_few : (xs : List Item) (ts : Forest) (vs : ℕ → Valuation) → FitsAll g xs ts → length (copies_of g m k ts vs) ≤ max_copies g m xs
+  pub copies_few : (xs : List Item) (ts : Forest) (vs : ℕ → Valuation) → FitsAll g xs ts
+      → length (copies_of g m k ts vs) ≤ max_copies g m xs
   copies_few [] none vs f = omega arith
   copies_few [] (more t ts) vs f = elim f [ ]
   copies_few (x ∷ xs) none vs f = elim f [ ]
-  copies_few (x ∷ xs) (more t ts) vs f = omega (arith, length-append (copy_of g m k t (vs 0)) (copies_of g m k ts (rest vs)), copy_few x t (vs 0) f.0, copies_few xs ts (rest vs) f.1)
+  copies_few (x ∷ xs) (more t ts) vs f =
+      omega (
+        arith,
+        length-append (copy_of g m k t (vs 0)) (copies_of g m k ts (rest vs)),
+        copy_few x t (vs 0) f.0,
+        copies_few xs ts (rest vs) f.1,
+      )
 
   -- copies of well values are well
   copy_well : (t : Tree) (v : Valuation) → Solves NoRule g t v → IsWellOn (λ p. p ≤ k) g m t v → All IsWell (copy_of g m k t v)
-  copy_well (leaf c text) v texts well = All-cons IsWell (Text text) [] (subst IsWell texts (well 0 0 refl (omega arith))) (All-nil IsWell)
+  copy_well (leaf c text) v texts well =
+      All-cons IsWell (Text text) [] (subst IsWell texts (well 0 0 refl (omega arith))) (All-nil IsWell)
   copy_well (node p ts) v texts well =
       let o = slice_get g.productions p in
       values_well k (left_synthesized g m o) (v []) (λ a n is le. well.0 a n (synthesized_is g m o a n is) le)
 
-  pub copies_well : (ts : Forest) (vs : ℕ → Valuation) → SolvesAll NoRule g ts vs → AtEachNodeOf (WellAt (λ p. p ≤ k)) g m ts vs vs → All IsWell (copies_of g m k ts vs)
+  pub copies_well : (ts : Forest) (vs : ℕ → Valuation) → SolvesAll NoRule g ts vs
+      → AtEachNodeOf (WellAt (λ p. p ≤ k)) g m ts vs vs → All IsWell (copies_of g m k ts vs)
   copies_well none vs texts well = All-nil IsWell
-  copies_well (more t ts) vs texts well = All-append IsWell (copy_of g m k t (vs 0)) (copies_of g m k ts (rest vs)) (copy_well t (vs 0) texts.0 well.0) (copies_well ts (rest vs) texts.1 well.1)
+  copies_well (more t ts) vs texts well =
+      All-append IsWell (copy_of g m k t (vs 0)) (copies_of g m k ts (rest vs)) (copy_well t (vs 0) texts.0 well.0)
+      (copies_well ts (rest vs) texts.1 well.1)
 
   -- trees of children, whose values match their copies
   abbrev pub MatchCopies : List Child → Forest → (ℕ → Valuation) → Type 0
@@ -87,7 +112,8 @@ module _ (g : Grammar) (m : Passes) (k : ℕ) where
   kept true copies = copies
 
   -- the trees of children match the copies in their parent's record,
-  pub match_copies : (has : Bool) (xs : List Item) (ts : Forest) (vs : ℕ → Valuation) → FitsAll g xs ts → MatchCopies (children_with_copies has g m k xs (kept has (copies_of g m k ts vs))) ts vs
+  pub match_copies : (has : Bool) (xs : List Item) (ts : Forest) (vs : ℕ → Valuation) → FitsAll g xs ts
+      → MatchCopies (children_with_copies has g m k xs (kept has (copies_of g m k ts vs))) ts vs
   match_copies has [] none vs f = tt
   match_copies has [] (more t ts) vs f = elim f [ ]
   match_copies has (x ∷ xs) none vs f = elim f [ ]
@@ -95,15 +121,21 @@ module _ (g : Grammar) (m : Passes) (k : ℕ) where
   match_copies true (x ∷ xs) (more t ts) vs f =
       let one = copy_of g m k t (vs 0) in
       let others = copies_of g m k ts (rest vs) in
-      let long = copy_length x t (vs 0) f.0 in
-      (f.0, sym (take_at one others (copied_count g m k x) long), subst (λ cs. MatchCopies (children_with_copies true g m k xs cs) ts (rest vs)) (sym (drop_at one others (copied_count g m k x) long)) (match_copies true xs ts (rest vs) f.1))
+      let long = copy_length x t (vs 0) f.0 in (
+        f.0,
+        sym (take_at one others (copied_count g m k x) long),
+        subst (λ cs. MatchCopies (children_with_copies true g m k xs cs) ts (rest vs))
+            (sym (drop_at one others (copied_count g m k x) long)) (match_copies true xs ts (rest vs) f.1),
+      )
 
-  pub are_copies : (has : Bool) (xs : List Item) (ts : Forest) (vs : ℕ → Valuation) → FitsAll g xs ts → SolvesAll NoRule g ts vs → AtEachNodeOf (WellAt (λ p. p ≤ k)) g m ts vs vs → AreCopies has g m k xs (kept has (copies_of g m k ts vs))
+  pub are_copies : (has : Bool) (xs : List Item) (ts : Forest) (vs : ℕ → Valuation) → FitsAll g xs ts → SolvesAll NoRule g ts vs
+      → AtEachNodeOf (WellAt (λ p. p ≤ k)) g m ts vs vs → AreCopies has g m k xs (kept has (copies_of g m k ts vs))
   are_copies false xs ts vs f texts well = refl
   are_copies true xs ts vs f texts well = (copies_length xs ts vs f, copies_well ts vs texts well)
 
   -- and trees that match their copies are trees of the items, and have these copies
-  pub fits_exact : (has : Bool) (xs : List Item) (cs : List Value) (ts : Forest) (vs : ℕ → Valuation) → MatchCopies (children_with_copies has g m k xs cs) ts vs → FitsAll g xs ts
+  pub fits_exact : (has : Bool) (xs : List Item) (cs : List Value) (ts : Forest) (vs : ℕ → Valuation)
+      → MatchCopies (children_with_copies has g m k xs cs) ts vs → FitsAll g xs ts
   fits_exact has [] cs none vs a = tt
   fits_exact has [] cs (more t ts) vs a = elim a [ ]
   fits_exact false (x ∷ xs) cs none vs a = elim a [ ]
@@ -111,7 +143,8 @@ module _ (g : Grammar) (m : Passes) (k : ℕ) where
   fits_exact false (x ∷ xs) cs (more t ts) vs a = (a.0, fits_exact false xs cs ts (rest vs) a.2)
   fits_exact true (x ∷ xs) cs (more t ts) vs a = (a.0, fits_exact true xs (drop (copied_count g m k x) cs) ts (rest vs) a.2)
 
-  copies_exact : (xs : List Item) (cs : List Value) (ts : Forest) (vs : ℕ → Valuation) → length cs ≡ copies_count g m k xs → MatchCopies (children_with_copies true g m k xs cs) ts vs → cs ≡ copies_of g m k ts vs
+  copies_exact : (xs : List Item) (cs : List Value) (ts : Forest) (vs : ℕ → Valuation) → length cs ≡ copies_count g m k xs
+      → MatchCopies (children_with_copies true g m k xs cs) ts vs → cs ≡ copies_of g m k ts vs
   copies_exact [] [] none vs long a = refl
   copies_exact [] (c ∷ cs) none vs long a = absurd (omega arith)
   copies_exact [] cs (more t ts) vs long a = elim a [ ]
@@ -119,9 +152,12 @@ module _ (g : Grammar) (m : Passes) (k : ℕ) where
   copies_exact (x ∷ xs) cs (more t ts) vs long a =
       let n = copied_count g m k x in
       let others = copies_exact xs (drop n cs) ts (rest vs) (omega (arith, length-drop n cs)) a.2 in
-      sym (take-append-drop n cs) ∙ ap (λ (zs : List Value). zs ++ drop n cs) (sym a.1) ∙ ap (λ (zs : List Value). copy_of g m k t (vs 0) ++ zs) others
+      sym (take-append-drop n cs) ∙ ap (λ (zs : List Value). zs ++ drop n cs) (sym a.1)
+      ∙ ap (λ (zs : List Value). copy_of g m k t (vs 0) ++ zs) others
 
-  pub stored_exact : (has : Bool) (xs : List Item) (own cs : List Value) (ts : Forest) (vs : ℕ → Valuation) → AreCopies has g m k xs cs → MatchCopies (children_with_copies has g m k xs cs) ts vs → with_copies has own cs ≡ with_copies has own (copies_of g m k ts vs)
+  pub stored_exact : (has : Bool) (xs : List Item) (own cs : List Value) (ts : Forest) (vs : ℕ → Valuation)
+      → AreCopies has g m k xs cs → MatchCopies (children_with_copies has g m k xs cs) ts vs
+      → with_copies has own cs ≡ with_copies has own (copies_of g m k ts vs)
   stored_exact false xs own cs ts vs are a = refl
   stored_exact true xs own cs ts vs are a = ap (λ (zs : List Value). own ++ zs) (copies_exact xs cs ts vs are.0 a)
 

@@ -1,5 +1,6 @@
 -- The file of pass 0 of a tree has the records of the tree alone.
-use Rattle.std.proofs.Common.{◌≡◌, ℕ, zero, suc, ◌+◌, ◌≤◌, Bool, true, false, cond, List, [], ◌∷◌, ◌++◌, max, Option, Some, None, slice_get, refl, ap, sym, ◌∙◌, subst, arith}
+use Rattle.std.proofs.Common.{◌≡◌, ℕ, zero, suc, ◌+◌, ◌≤◌, Bool, true, false, cond, List, [], ◌∷◌, ◌++◌, max, Option, Some, None}
+use Rattle.std.proofs.Common.{slice_get, refl, ap, sym, ◌∙◌, subst, arith}
 use Rattle.std.specs.Prelude.{nat_le}
 use Rattle.std.proofs.lemmas.Bool.{leb-true}
 use Rattle.ag_value.specs.declared.value.Value.{Value}
@@ -12,14 +13,17 @@ use Rattle.ag_grammar.specs.declared.grammar.Production.{Production}
 use Rattle.ag_grammar.specs.declared.grammar.Terminal.TheVariants.{Literal, Class}
 use Rattle.ag_grammar.specs.grammars.AttributeGrammar.{Grammar, stored_items}
 use Rattle.ag_grammar.specs.grammars.Passes.{Passes, direction_of}
-use Rattle.ag_grammar.specs.grammars.Solution.{AtEachNodeOf, IsWellOn, NoRule, Solves, SolvesAll, Valuation, WellAt, children, left_passes, rest}
+use Rattle.ag_grammar.specs.grammars.Solution.{AtEachNodeOf, IsWellOn, NoRule, Solves, SolvesAll, Valuation, WellAt, children}
+use Rattle.ag_grammar.specs.grammars.Solution.{left_passes, rest}
 use Rattle.ag_grammar.specs.grammars.Tree as tree
 use Rattle.ag_grammar.specs.grammars.Tree.{Fits, FitsAll, Forest, IsTokenText, IsTreeOf, Tree, leaf, node, none, more}
 use Rattle.ag_grammar.proofs.values.Wells.{well_text}
-use Rattle.treefile.specs.records.FirstFile.{AreFromOne, IsFirstFile, first_bodies, first_bodies_all, first_file, leaf_texts, no_passes}
+use Rattle.treefile.specs.records.FirstFile.{AreFromOne, IsFirstFile, first_bodies, first_bodies_all, first_file, leaf_texts}
+use Rattle.treefile.specs.records.FirstFile.{no_passes}
 use Rattle.treefile.specs.records.Orders as orders
 use Rattle.treefile.specs.records.Orders.{BodyForest, branch, postfix}
-use Rattle.treefile.specs.records.Records.{IsFileOfTree, bodies_of, bodies_of_all, copies_of, left_synthesized, node_body, values_up_to, with_copies}
+use Rattle.treefile.specs.records.Records.{IsFileOfTree, bodies_of, bodies_of_all, copies_of, left_synthesized, node_body}
+use Rattle.treefile.specs.records.Records.{values_up_to, with_copies}
 use Rattle.treefile.specs.records.TreeFile.{Version, body_of, file}
 use Rattle.treefile.specs.declared.body.Kind.TheVariants.{Node}
 use Rattle.treefile.proofs.records.Copies.{synthesized_is}
@@ -34,7 +38,8 @@ pub no_values : (ps : List ℕ) (values : ℕ → Value) → Each (λ k. 1 ≤ k
 no_values [] values each = refl
 no_values (p ∷ ps) values each = by_test (nat_le p 0) refl (no_values ps (λ a. values (suc a)) (λ i x e. each (suc i) x e))
   where
-    by_test : (b : Bool) → nat_le p 0 ≡ b → values_up_to 0 ps (λ a. values (suc a)) ≡ [] → cond b (values 0 ∷ []) [] ++ values_up_to 0 ps (λ a. values (suc a)) ≡ []
+    by_test : (b : Bool) → nat_le p 0 ≡ b → values_up_to 0 ps (λ a. values (suc a)) ≡ []
+        → cond b (values 0 ∷ []) [] ++ values_up_to 0 ps (λ a. values (suc a)) ≡ []
     by_test true e later = let le : p ≤ 0 = leb-true p 0 e in let some : 1 ≤ p = each 0 p refl in absurd (omega arith)
     by_test false e later = later
 
@@ -53,10 +58,13 @@ module _ (version : Version) (g : Grammar) (m : Passes) (from_one : AreFromOne m
   copies (more (leaf c x) ts) vs = ap (λ z. value.Text x ∷ z) (copies ts (rest vs))
   copies (more (node p us) ts) vs =
       let q = slice_get g.productions p in
-      ap (λ z. z ++ copies_of g m 0 ts (rest vs)) (no_values (left_synthesized g m q) (vs 0 []) (λ i x e. left_from_one q i x (synthesized_is g m q i x e))) ∙ copies ts (rest vs)
+      ap (λ z. z ++ copies_of g m 0 ts (rest vs))
+      (no_values (left_synthesized g m q) (vs 0 []) (λ i x e. left_from_one q i x (synthesized_is g m q i x e)))
+      ∙ copies ts (rest vs)
 
   -- and a record has nothing else
-  pub first_body : (p : ℕ) (values : ℕ → Value) (texts : List Value) → node_body version g m 0 p values texts ≡ body_of Node p (with_copies version.has_copies [] texts)
+  pub first_body : (p : ℕ) (values : ℕ → Value) (texts : List Value)
+      → node_body version g m 0 p values texts ≡ body_of Node p (with_copies version.has_copies [] texts)
   first_body p values texts =
       let q = slice_get g.productions p in
       ap (λ z. body_of Node p (with_copies version.has_copies z texts)) (no_values (left_passes m q) values (left_from_one q))
@@ -66,13 +74,16 @@ module _ (version : Version) (g : Grammar) (m : Passes) (from_one : AreFromOne m
     bodies_are (leaf c x) v = refl
     bodies_are (node p ts) v =
         let texts = copies_of g m 0 ts (children v) in
-        let own = first_body p (v []) texts ∙ ap (λ z. body_of Node p (with_copies version.has_copies [] z)) (copies ts (children v)) in
-        ap (λ b. branch b (bodies_of_all version g m 0 ts (children v))) own ∙ ap (branch (body_of Node p (with_copies version.has_copies [] (leaf_texts ts)))) (bodies_are_all ts (children v))
+        let own =
+        first_body p (v []) texts ∙ ap (λ z. body_of Node p (with_copies version.has_copies [] z)) (copies ts (children v)) in
+        ap (λ b. branch b (bodies_of_all version g m 0 ts (children v))) own
+        ∙ ap (branch (body_of Node p (with_copies version.has_copies [] (leaf_texts ts)))) (bodies_are_all ts (children v))
 
     bodies_are_all : (ts : Forest) (vs : ℕ → Valuation) → bodies_of_all version g m 0 ts vs ≡ first_bodies_all version ts
     bodies_are_all none vs = refl
     bodies_are_all (more t ts) vs =
-        ap (λ b. orders.more b (bodies_of_all version g m 0 ts (rest vs))) (bodies_are t (vs 0)) ∙ ap (orders.more (first_bodies version t)) (bodies_are_all ts (rest vs))
+        ap (λ b. orders.more b (bodies_of_all version g m 0 ts (rest vs))) (bodies_are t (vs 0))
+        ∙ ap (orders.more (first_bodies version t)) (bodies_are_all ts (rest vs))
 
   mutual
     well : (x : Item) (t : Tree) (v : Valuation) → Fits g x t → Solves NoRule g t v → IsWellOn (λ p. p ≤ 0) g m t v
@@ -85,32 +96,39 @@ module _ (version : Version) (g : Grammar) (m : Passes) (from_one : AreFromOne m
         own (suc a) e = absurd (cc)
     well (item.Terminal a) (node p ts) v fits texts = absurd fits
     well (item.Symbol s) (node p ts) v fits texts =
-        let above : WellAt (λ q. q ≤ 0) (left_passes m (slice_get g.productions p)) (v []) (v []) = λ a q e le. (let some : 1 ≤ q = left_from_one (slice_get g.productions p) a q e in absurd (omega arith)) in
+        let above : WellAt (λ q. q ≤ 0) (left_passes m (slice_get g.productions p)) (v []) (v []) =
+        λ a q e le. (let some : 1 ≤ q = left_from_one (slice_get g.productions p) a q e in absurd (omega arith)) in
         (above, well_all (stored_items fits.0.items) ts (children v) fits.3 texts.1)
 
-    well_all : (xs : List Item) (ts : Forest) (vs : ℕ → Valuation) → FitsAll g xs ts → SolvesAll NoRule g ts vs → AtEachNodeOf (WellAt (λ p. p ≤ 0)) g m ts vs vs
+    well_all : (xs : List Item) (ts : Forest) (vs : ℕ → Valuation) → FitsAll g xs ts → SolvesAll NoRule g ts vs
+        → AtEachNodeOf (WellAt (λ p. p ≤ 0)) g m ts vs vs
     well_all xs none vs fits texts = tt
     well_all [] (more t ts) vs fits texts = absurd fits
     well_all (x ∷ xs) (more t ts) vs fits texts = (well x t (vs 0) fits.0 texts.0, well_all xs ts (rest vs) fits.1 texts.1)
 
 -- a content with the records of a tree is its only file of pass 0
-pub is_first_file : (version : Version) (g : Grammar) (t : Tree) (content : List ℕ) → IsTreeOf g t → content ≡ first_file version t → IsFirstFile version g t content
+pub is_first_file : (version : Version) (g : Grammar) (t : Tree) (content : List ℕ) → IsTreeOf g t
+    → content ≡ first_file version t → IsFirstFile version g t content
 is_first_file version g t content fits is m v from_one texts = record {
   occurs = is ∙ ap (λ b. file version 0 (postfix (direction_of 0) b)) (sym (bodies_are version g m from_one t v));
   texts = texts;
   well = well version g m from_one (item.Symbol g.start) t v fits texts;
 }
 
-pub first_file_is : (version : Version) (g : Grammar) (t : Tree) (content : List ℕ) → IsFirstFile version g t content → content ≡ first_file version t
+pub first_file_is : (version : Version) (g : Grammar) (t : Tree) (content : List ℕ) → IsFirstFile version g t content
+    → content ≡ first_file version t
 first_file_is version g t content is =
     let texts = texts_are_given g t in
     let it = is no_passes texts.0 unassigned_from_one texts.1 in
-    it.occurs ∙ ap (λ b. file version 0 (postfix (direction_of 0) b)) (bodies_are version g no_passes unassigned_from_one t texts.0)
+    it.occurs ∙ ap (λ b. file version 0 (postfix (direction_of 0) b))
+    (bodies_are version g no_passes unassigned_from_one t texts.0)
 
 -- a file of pass 0 is one for all passes from 1 on and all values
-pub first_file_of : (version : Version) (g : Grammar) (m : Passes) (t : Tree) (v : Valuation) (content : List ℕ) → AreFromOne m → IsTreeOf g t → IsFileOfTree version g m 0 t v content → IsFirstFile version g t content
+pub first_file_of : (version : Version) (g : Grammar) (m : Passes) (t : Tree) (v : Valuation) (content : List ℕ) → AreFromOne m
+    → IsTreeOf g t → IsFileOfTree version g m 0 t v content → IsFirstFile version g t content
 first_file_of version g m t v content from_one tree is =
-    is_first_file version g t content tree (is.occurs ∙ ap (λ b. file version 0 (postfix (direction_of 0) b)) (bodies_are version g m from_one t v))
+    is_first_file version g t content tree
+    (is.occurs ∙ ap (λ b. file version 0 (postfix (direction_of 0) b)) (bodies_are version g m from_one t v))
 
 -- the trees of records are as deep and as large as the tree
 module _ (version : Version) where
@@ -121,7 +139,9 @@ module _ (version : Version) where
 
     same_depths : (ts : Forest) → orders.deepest (first_bodies_all version ts) ≡ tree.deepest ts
     same_depths none = refl
-    same_depths (more t ts) = ap (λ n. max n (orders.deepest (first_bodies_all version ts))) (same_depth t) ∙ ap (max (tree.depth_of t)) (same_depths ts)
+    same_depths (more t ts) =
+        ap (λ n. max n (orders.deepest (first_bodies_all version ts))) (same_depth t)
+        ∙ ap (max (tree.depth_of t)) (same_depths ts)
 
   mutual
     pub same_count : (t : Tree) → orders.node_count (first_bodies version t) ≡ tree.node_count t
@@ -130,4 +150,6 @@ module _ (version : Version) where
 
     same_counts : (ts : Forest) → orders.node_counts (first_bodies_all version ts) ≡ tree.node_counts ts
     same_counts none = refl
-    same_counts (more t ts) = ap (λ n. n + orders.node_counts (first_bodies_all version ts)) (same_count t) ∙ ap (λ n. tree.node_count t + n) (same_counts ts)
+    same_counts (more t ts) =
+        ap (λ n. n + orders.node_counts (first_bodies_all version ts)) (same_count t)
+        ∙ ap (λ n. tree.node_count t + n) (same_counts ts)

@@ -1,5 +1,6 @@
 -- An accepted grammar under a legal assignment has few enough productions and values.
-use Rattle.std.proofs.Common.{◌≡◌, ℕ, ◌+◌, ◌*◌, ◌≤◌, List, [], ◌∷◌, length, map, Option, Some, None, slice_get, refl, arith, length-append, length-take}
+use Rattle.std.proofs.Common.{◌≡◌, ℕ, ◌+◌, ◌*◌, ◌≤◌, List, [], ◌∷◌, length, map, Option, Some, None, slice_get, refl, arith}
+use Rattle.std.proofs.Common.{length-append, length-take}
 use Rattle.std.proofs.lemmas.List.{length-map}
 use Rattle.ag_grammar.specs.declared.grammar.Item.TheVariants as item
 use Rattle.ag_grammar.specs.declared.grammar.Item.{Item}
@@ -18,16 +19,26 @@ few_kinds : (g : Grammar) (s : ℕ) → IsAccepted g → (o : Option Symbol) →
 few_kinds g s accepted None e = omega arith
 few_kinds g s accepted (Some y) e =
     let few = accepted.limits.attribute_count s y e in
-    let all : length (symbol_kinds (Some y)) ≡ length (map (λ (n : List ℕ). Synthesized) y.syn) + length (map (λ (n : List ℕ). Inherited) y.inh) = length-append (map (λ (n : List ℕ). Synthesized) y.syn) (map (λ (n : List ℕ). Inherited) y.inh) in
-    omega (arith, all, length-map y.syn (λ (n : List ℕ). Synthesized), length-map y.inh (λ (n : List ℕ). Inherited), length-append y.syn y.inh)
+    let all : length (symbol_kinds (Some y)) ≡ length (map (λ (n : List ℕ). Synthesized) y.syn) + length
+    (map (λ (n : List ℕ). Inherited) y.inh) =
+    length-append (map (λ (n : List ℕ). Synthesized) y.syn) (map (λ (n : List ℕ). Inherited) y.inh) in
+    omega (
+      arith,
+      all,
+      length-map y.syn (λ (n : List ℕ). Synthesized),
+      length-map y.inh (λ (n : List ℕ). Inherited),
+      length-append y.syn y.inh,
+    )
 
 -- and at most 16 passes under a legal assignment
 pub few_passes : (g : Grammar) (m : Passes) (s : ℕ) → IsAccepted g → IsLegal g m → length (m s) ≤ 16
-few_passes g m s accepted legal = let few = few_kinds g s accepted (slice_get g.symbols s) refl in let same = legal.whole s in omega arith
+few_passes g m s accepted legal = let few = few_kinds g s accepted (slice_get g.symbols s) refl in let same = legal.whole s in
+    omega arith
 
 -- so a copy has at most 16 values,
 few_copied : (g : Grammar) (m : Passes) (x : Item) → IsAccepted g → IsLegal g m → max_copied g m x ≤ 16
-few_copied g m (item.Symbol s) accepted legal = omega (arith, length-take (synthesized_count (slice_get g.symbols s)) (m s), few_passes g m s accepted legal)
+few_copied g m (item.Symbol s) accepted legal =
+    omega (arith, length-take (synthesized_count (slice_get g.symbols s)) (m s), few_passes g m s accepted legal)
 few_copied g m (item.Terminal (Class c)) accepted legal = omega arith
 few_copied g m (item.Terminal (Literal l)) accepted legal = omega arith
 
@@ -40,13 +51,15 @@ pub numbered : (g : Grammar) → IsAccepted g → IsNumbered g
 numbered g accepted = let few = accepted.limits.production_count in omega arith
 
 pub fits_version_one : FitsAccepted version_one
-fits_version_one g m accepted legal = (numbered g accepted, record { tokens = omega arith; nodes = λ p q is. few_passes g m q.left accepted legal })
+fits_version_one g m accepted legal =
+    (numbered g accepted, record { tokens = omega arith; nodes = λ p q is. few_passes g m q.left accepted legal })
 
 pub fits_version_two : FitsAccepted version_two
 fits_version_two g m accepted legal = (
   numbered g accepted,
   record {
     tokens = omega arith;
-    nodes = λ p q is. let stored = accepted.limits.stored_count p q is in omega (arith, few_passes g m q.left accepted legal, few_copies g m (stored_items q.items) accepted legal);
+    nodes = λ p q is. let stored = accepted.limits.stored_count p q is in
+        omega (arith, few_passes g m q.left accepted legal, few_copies g m (stored_items q.items) accepted legal);
   },
 )

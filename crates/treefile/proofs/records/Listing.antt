@@ -1,5 +1,7 @@
 -- The values of a record as a list.
-use Rattle.std.proofs.Common.{◌≡◌, ℕ, zero, suc, ◌+◌, ◌≤◌, Bool, true, false, cond, List, [], ◌∷◌, ◌++◌, length, take, drop, None, All, slice_get, refl, ap, sym, subst, ◌∙◌, append_assoc, length-append, length-drop, length-take-le, take-append-drop, arith}
+use Rattle.std.proofs.Common.{◌≡◌, ℕ, zero, suc, ◌+◌, ◌≤◌, Bool, true, false, cond, List, [], ◌∷◌, ◌++◌, length, take, drop, None}
+use Rattle.std.proofs.Common.{All, slice_get, refl, ap, sym, subst, ◌∙◌, append_assoc, length-append, length-drop, length-take-le}
+use Rattle.std.proofs.Common.{take-append-drop, arith}
 use Rattle.std.specs.Prelude.{nat_le}
 use Rattle.std.specs.List.{flat_map}
 use Rattle.std.proofs.lemmas.Bool.{le-leb}
@@ -16,7 +18,8 @@ use Rattle.ag_grammar.specs.grammars.Passes.{Passes}
 use Rattle.ag_grammar.specs.grammars.Solution.{WellAt, left_passes}
 use Rattle.treefile.specs.framing.ExpectedRecords.{AreCopies, Child, IsRecordOf, children_with_copies}
 use Rattle.treefile.specs.Laws.{BytesAreLeft, ListedRecord, ValueIsMissing}
-use Rattle.treefile.specs.records.Listed.{IsListedRecord, count_up_to, first_of_values, others_of_values, listed_value, stored_count}
+use Rattle.treefile.specs.records.Listed.{IsListedRecord, count_up_to, first_of_values, others_of_values, listed_value}
+use Rattle.treefile.specs.records.Listed.{stored_count}
 use Rattle.treefile.specs.records.Records.{values_up_to, with_copies}
 use Rattle.treefile.specs.records.TreeFile.{Version, body_of}
 use Rattle.treefile.specs.declared.body.Kind.TheVariants.{Node}
@@ -24,18 +27,23 @@ use Rattle.treefile.proofs.records.Spelled.{spelled_apart}
 use Rattle.treefile.proofs.records.Values.{count_of_values, values_well}
 
 -- a list of one value more
-placed_more : (k : ℕ) (ps : List ℕ) (vs : List Value) (n : ℕ) → length vs ≡ suc n → (length (others_of_values vs) ≡ n) × (first_of_values vs ∷ others_of_values vs ≡ vs)
+placed_more : (k : ℕ) (ps : List ℕ) (vs : List Value) (n : ℕ) → length vs ≡ suc n
+    → (length (others_of_values vs) ≡ n) × (first_of_values vs ∷ others_of_values vs ≡ vs)
 placed_more k ps [] n e = absurd (omega arith)
 placed_more k ps (v ∷ vs) n e = (omega arith, refl)
 
 -- the values up to a pass, of listed values
-values_of_placed : (k : ℕ) (ps : List ℕ) (vs : List Value) → length vs ≡ count_up_to k ps → values_up_to k ps (listed_value k ps vs) ≡ vs
+values_of_placed : (k : ℕ) (ps : List ℕ) (vs : List Value) → length vs ≡ count_up_to k ps
+    → values_up_to k ps (listed_value k ps vs) ≡ vs
 values_of_placed k [] [] e = refl
 values_of_placed k [] (v ∷ vs) e = absurd (omega arith)
 values_of_placed k (p ∷ ps) vs e = by_test (nat_le p k) e (λ ws. values_of_placed k ps ws)
   where
-    by_test : (b : Bool) → length vs ≡ cond b 1 0 + count_up_to k ps → ((ws : List Value) → length ws ≡ count_up_to k ps → values_up_to k ps (listed_value k ps ws) ≡ ws) → cond b (first_of_values vs ∷ []) [] ++ values_up_to k ps (listed_value k ps (cond b (others_of_values vs) vs)) ≡ vs
-    by_test true e later = let more = placed_more k ps vs (count_up_to k ps) (omega arith) in ap (λ (ws : List Value). first_of_values vs ∷ ws) (later (others_of_values vs) more.0) ∙ more.1
+    by_test : (b : Bool) → length vs ≡ cond b 1 0 + count_up_to k ps
+        → ((ws : List Value) → length ws ≡ count_up_to k ps → values_up_to k ps (listed_value k ps ws) ≡ ws)
+        → cond b (first_of_values vs ∷ []) [] ++ values_up_to k ps (listed_value k ps (cond b (others_of_values vs) vs)) ≡ vs
+    by_test true e later = let more = placed_more k ps vs (count_up_to k ps) (omega arith) in
+        ap (λ (ws : List Value). first_of_values vs ∷ ws) (later (others_of_values vs) more.0) ∙ more.1
     by_test false e later = later vs (omega arith)
 
 -- the parts of well values are well
@@ -48,7 +56,8 @@ first_well [] n e all = absurd (omega arith)
 first_well (v ∷ vs) n e all = All-head IsWell v vs all
 
 -- listed values that are all well are well where the pass is at most k
-placed_well : (k : ℕ) (ps : List ℕ) (vs : List Value) → length vs ≡ count_up_to k ps → All IsWell vs → WellAt (λ p. p ≤ k) ps (listed_value k ps vs) (listed_value k ps vs)
+placed_well : (k : ℕ) (ps : List ℕ) (vs : List Value) → length vs ≡ count_up_to k ps → All IsWell vs
+    → WellAt (λ p. p ≤ k) ps (listed_value k ps vs) (listed_value k ps vs)
 placed_well k [] vs e all a p is le = absurd (let bad : ⊥ = cc in bad)
 placed_well k (p ∷ ps) vs e all zero q is le =
     let same : p ≡ q = cc in
@@ -57,8 +66,11 @@ placed_well k (p ∷ ps) vs e all zero q is le =
     first_well vs (count_up_to k ps) (omega (arith, one)) all
 placed_well k (p ∷ ps) vs e all (suc a) q is le = by_test (nat_le p k) e (λ ws f g. placed_well k ps ws f g a q is le)
   where
-    by_test : (b : Bool) → length vs ≡ cond b 1 0 + count_up_to k ps → ((ws : List Value) → length ws ≡ count_up_to k ps → All IsWell ws → IsWell (listed_value k ps ws a)) → IsWell (listed_value k ps (cond b (others_of_values vs) vs) a)
-    by_test true e later = later (others_of_values vs) (placed_more k ps vs (count_up_to k ps) (omega arith)).0 (others_well vs all)
+    by_test : (b : Bool) → length vs ≡ cond b 1 0 + count_up_to k ps
+        → ((ws : List Value) → length ws ≡ count_up_to k ps → All IsWell ws → IsWell (listed_value k ps ws a))
+        → IsWell (listed_value k ps (cond b (others_of_values vs) vs) a)
+    by_test true e later =
+        later (others_of_values vs) (placed_more k ps vs (count_up_to k ps) (omega arith)).0 (others_well vs all)
     by_test false e later = later vs (omega arith) all
 
 -- a record's own values and its copies, of a list of them all
@@ -70,20 +82,27 @@ abbrev copies_in : Bool → ℕ → List Value → List Value
 copies_in false n vs = []
 copies_in true n vs = drop n vs
 
-parted : (has : Bool) (g : Grammar) (m : Passes) (k : ℕ) (q : Production) (vs : List Value) → length vs ≡ stored_count has g m k q → (length (own_of has (count_up_to k (m q.left)) vs) ≡ count_up_to k (m q.left)) × (with_copies has (own_of has (count_up_to k (m q.left)) vs) (copies_in has (count_up_to k (m q.left)) vs) ≡ vs)
+parted : (has : Bool) (g : Grammar) (m : Passes) (k : ℕ) (q : Production) (vs : List Value) → length vs ≡ stored_count has g m k q
+    → (length (own_of has (count_up_to k (m q.left)) vs) ≡ count_up_to k (m q.left))
+    × (with_copies has (own_of has (count_up_to k (m q.left)) vs) (copies_in has (count_up_to k (m q.left)) vs) ≡ vs)
 parted false g m k q vs count = (count, refl)
-parted true g m k q vs count = (length-take-le (count_up_to k (m q.left)) vs (omega arith), take-append-drop (count_up_to k (m q.left)) vs)
+parted true g m k q vs count =
+    (length-take-le (count_up_to k (m q.left)) vs (omega arith), take-append-drop (count_up_to k (m q.left)) vs)
 
 own_well : (has : Bool) (n : ℕ) (vs : List Value) → All IsWell vs → All IsWell (own_of has n vs)
 own_well false n vs all = all
 own_well true n vs all = All-take IsWell n vs all
 
-are_copies_in : (has : Bool) (g : Grammar) (m : Passes) (k : ℕ) (q : Production) (vs : List Value) → length vs ≡ stored_count has g m k q → All IsWell vs → AreCopies has g m k (stored_items q.items) (copies_in has (count_up_to k (m q.left)) vs)
+are_copies_in : (has : Bool) (g : Grammar) (m : Passes) (k : ℕ) (q : Production) (vs : List Value)
+    → length vs ≡ stored_count has g m k q → All IsWell vs
+    → AreCopies has g m k (stored_items q.items) (copies_in has (count_up_to k (m q.left)) vs)
 are_copies_in false g m k q vs count all = refl
-are_copies_in true g m k q vs count all = (omega (arith, length-drop (count_up_to k (m q.left)) vs), All-drop IsWell (count_up_to k (m q.left)) vs all)
+are_copies_in true g m k q vs count all =
+    (omega (arith, length-drop (count_up_to k (m q.left)) vs), All-drop IsWell (count_up_to k (m q.left)) vs all)
 
 -- the children with these copies
-copies_within : (has : Bool) (g : Grammar) (m : Passes) (k n : ℕ) (xs : List Item) (vs : List Value) → children_with_copies has g m k xs (copies_in has n vs) ≡ children_with_copies has g m k xs (drop n vs)
+copies_within : (has : Bool) (g : Grammar) (m : Passes) (k n : ℕ) (xs : List Item) (vs : List Value)
+    → children_with_copies has g m k xs (copies_in has n vs) ≡ children_with_copies has g m k xs (drop n vs)
 copies_within true g m k n xs vs = refl
 copies_within false g m k n [] vs = refl
 copies_within false g m k n (x ∷ xs) vs = ap (λ (ys : List Child). (x, None) ∷ ys) (copies_of_none xs)
@@ -94,7 +113,9 @@ copies_within false g m k n (x ∷ xs) vs = ap (λ (ys : List Child). (x, None) 
 
 -- a listed record is a record, and each record is listed
 module _ (version : Version) (g : Grammar) (m : Passes) (k s : ℕ) (body : List ℕ) where
-  is_record : (p : ℕ) (q : Production) (vs : List Value) → IsListedRecord version g m k s body p q vs → IsRecordOf version g m k (item.Symbol s, None) body (children_with_copies version.has_copies g m k (stored_items q.items) (drop (count_up_to k (m s)) vs))
+  is_record : (p : ℕ) (q : Production) (vs : List Value) → IsListedRecord version g m k s body p q vs
+      → IsRecordOf version g m k (item.Symbol s, None) body
+      (children_with_copies version.has_copies g m k (stored_items q.items) (drop (count_up_to k (m s)) vs))
   is_record p q vs is =
       let has = version.has_copies in
       let n = count_up_to k (m q.left) in
@@ -103,7 +124,8 @@ module _ (version : Version) (g : Grammar) (m : Passes) (k s : ℕ) (body : List
       let parts = parted has g m k q vs is.count in
       let own = own_of has n vs in
       let long : length own ≡ count_up_to k (m s) = parts.0 ∙ ap (count_up_to k) symbol in
-      let values : values_up_to k (left_passes m (slice_get g.productions p)) (listed_value k (m s) own) ≡ own = ap (λ ps. values_up_to k ps (listed_value k (m s) own)) passes ∙ values_of_placed k (m s) own long in (
+      let values : values_up_to k (left_passes m (slice_get g.productions p)) (listed_value k (m s) own) ≡ own =
+      ap (λ ps. values_up_to k ps (listed_value k (m s) own)) passes ∙ values_of_placed k (m s) own long in (
         p,
         q,
         listed_value k (m s) own,
@@ -113,13 +135,18 @@ module _ (version : Version) (g : Grammar) (m : Passes) (k s : ℕ) (body : List
           well = placed_well k (m s) own long (own_well has n vs is.well);
           copies = copies_in has n vs;
           are_copies = are_copies_in has g m k q vs is.count is.well;
-          occurs = is.occurs ∙ ap (body_of Node p) (sym parts.1 ∙ ap (λ (zs : List Value). with_copies has zs (copies_in has n vs)) (sym values));
+          occurs =
+              is.occurs ∙ ap (body_of Node p)
+              (sym parts.1 ∙ ap (λ (zs : List Value). with_copies has zs (copies_in has n vs)) (sym values));
         },
-        sym (copies_within has g m k n (stored_items q.items) vs ∙ ap (λ ps. children_with_copies has g m k (stored_items q.items) (drop (count_up_to k ps) vs)) symbol),
+        sym (copies_within has g m k n (stored_items q.items) vs
+            ∙ ap (λ ps. children_with_copies has g m k (stored_items q.items) (drop (count_up_to k ps) vs)) symbol),
         tt,
       )
 
-  is_listed : (ys : List Child) → IsRecordOf version g m k (item.Symbol s, None) body ys → (p : ℕ) × (q : Production) × (vs : List Value) × IsListedRecord version g m k s body p q vs × (ys ≡ children_with_copies version.has_copies g m k (stored_items q.items) (drop (count_up_to k (m s)) vs))
+  is_listed : (ys : List Child) → IsRecordOf version g m k (item.Symbol s, None) body ys
+      → (p : ℕ) × (q : Production) × (vs : List Value) × IsListedRecord version g m k s body p q vs
+      × (ys ≡ children_with_copies version.has_copies g m k (stored_items q.items) (drop (count_up_to k (m s)) vs))
   is_listed ys is =
       let p = is.0 in
       let q = is.1 in
@@ -127,7 +154,8 @@ module _ (version : Version) (g : Grammar) (m : Passes) (k s : ℕ) (body : List
       let has = version.has_copies in
       let own = values_up_to k (m s) e in
       let passes : left_passes m (slice_get g.productions p) ≡ m s = ap (left_passes m) is.3.production ∙ ap m is.3.left in
-      let counted : length own ≡ count_up_to k (m q.left) = count_of_values k (m s) e ∙ ap (λ z. count_up_to k (m z)) (sym is.3.left) in
+      let counted : length own ≡ count_up_to k (m q.left) =
+      count_of_values k (m s) e ∙ ap (λ z. count_up_to k (m z)) (sym is.3.left) in
       let stored = listed_parts has g m k q own is.3.copies counted is.3.are_copies (values_well k (m s) e is.3.well) in (
         p,
         q,
@@ -139,11 +167,23 @@ module _ (version : Version) (g : Grammar) (m : Passes) (k s : ℕ) (body : List
           well = stored.1;
           occurs = is.3.occurs ∙ ap (λ ps. body_of Node p (with_copies has (values_up_to k ps e) is.3.copies)) passes;
         },
-        is.4 ∙ stored.2 ∙ ap (λ z. children_with_copies has g m k (stored_items q.items) (drop (count_up_to k (m z)) (with_copies has own is.3.copies))) is.3.left,
+        is.4 ∙ stored.2
+            ∙ ap
+            (λ z. children_with_copies has g m k (stored_items q.items)
+            (drop (count_up_to k (m z)) (with_copies has own is.3.copies))) is.3.left,
       )
     where
-      listed_parts : (has : Bool) (g : Grammar) (m : Passes) (k : ℕ) (q : Production) (own cs : List Value) → length own ≡ count_up_to k (m q.left) → AreCopies has g m k (stored_items q.items) cs → All IsWell own → (length (with_copies has own cs) ≡ stored_count has g m k q) × All IsWell (with_copies has own cs) × (children_with_copies has g m k (stored_items q.items) cs ≡ children_with_copies has g m k (stored_items q.items) (drop (count_up_to k (m q.left)) (with_copies has own cs)))
-      listed_parts false g m k q own cs count are well = (count, well, ap (children_with_copies false g m k (stored_items q.items)) are ∙ copies_within false g m k (count_up_to k (m q.left)) (stored_items q.items) own)
+      listed_parts : (has : Bool) (g : Grammar) (m : Passes) (k : ℕ) (q : Production) (own cs : List Value)
+          → length own ≡ count_up_to k (m q.left) → AreCopies has g m k (stored_items q.items) cs → All IsWell own
+          → (length (with_copies has own cs) ≡ stored_count has g m k q) × All IsWell (with_copies has own cs)
+          × (children_with_copies has g m k (stored_items q.items) cs ≡ children_with_copies has g m k
+          (stored_items q.items) (drop (count_up_to k (m q.left)) (with_copies has own cs)))
+      listed_parts false g m k q own cs count are well = (
+        count,
+        well,
+        ap (children_with_copies false g m k (stored_items q.items)) are
+            ∙ copies_within false g m k (count_up_to k (m q.left)) (stored_items q.items) own,
+      )
       listed_parts true g m k q own cs count are well = (
         omega (arith, length-append own cs, are.0),
         All-append IsWell own cs well are.1,
@@ -151,14 +191,22 @@ module _ (version : Version) (g : Grammar) (m : Passes) (k s : ℕ) (body : List
       )
 
 pub listed_record : ListedRecord
-listed_record version g m k s body ys = (is_listed version g m k s body ys, λ is. subst (IsRecordOf version g m k (item.Symbol s, None) body) (sym is.4) (is_record version g m k s body is.0 is.1 is.2 is.3))
+listed_record version g m k s body ys = (
+  is_listed version g m k s body ys,
+  λ is. subst (IsRecordOf version g m k (item.Symbol s, None) body) (sym is.4)
+      (is_record version g m k s body is.0 is.1 is.2 is.3),
+)
 
 -- after values that were read from the spellings of others, the spellings of the rest follow
-read_on : (vs ws : List Value) (rest : List ℕ) → All IsWell vs → All IsWell ws → length vs ≤ length ws → flat_map spelling_of vs ++ rest ≡ flat_map spelling_of ws → (more : List Value) × (length ws ≡ length vs + length more) × All IsWell more × (rest ≡ flat_map spelling_of more)
+read_on : (vs ws : List Value) (rest : List ℕ) → All IsWell vs → All IsWell ws → length vs ≤ length ws
+    → flat_map spelling_of vs ++ rest ≡ flat_map spelling_of ws
+    → (more : List Value) × (length ws ≡ length vs + length more) × All IsWell more × (rest ≡ flat_map spelling_of more)
 read_on [] ws rest a b le e = (ws, omega arith, b, e)
 read_on (v ∷ vs) [] rest a b le e = absurd (omega arith)
 read_on (v ∷ vs) (w ∷ ws) rest a b le e =
-    let apart = spelled_apart v w (flat_map spelling_of vs ++ rest) (flat_map spelling_of ws) (All-head IsWell v vs a) (All-head IsWell w ws b) (sym (append_assoc (spelling_of v) (flat_map spelling_of vs) rest) ∙ e) in
+    let apart =
+    spelled_apart v w (flat_map spelling_of vs ++ rest) (flat_map spelling_of ws) (All-head IsWell v vs a)
+    (All-head IsWell w ws b) (sym (append_assoc (spelling_of v) (flat_map spelling_of vs) rest) ∙ e) in
     let later = read_on vs ws rest (All-tail IsWell v vs a) (All-tail IsWell w ws b) (omega arith) apart.1 in
     let count = later.1 in
     (later.0, omega arith, later.2, later.3)

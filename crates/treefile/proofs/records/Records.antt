@@ -1,6 +1,7 @@
 -- The records of a tree's file: there is one for each node, and each has as many well values as a body may
 -- have, so that the file is read back.
-use Rattle.std.proofs.Common.{◌≡◌, ℕ, suc, ◌≤◌, Bool, true, false, List, [], ◌∷◌, length, reverse, Some, slice_get, All, refl, ap, sym, subst, arith}
+use Rattle.std.proofs.Common.{◌≡◌, ℕ, suc, ◌≤◌, Bool, true, false, List, [], ◌∷◌, length, reverse, Some, slice_get, All, refl, ap}
+use Rattle.std.proofs.Common.{sym, subst, arith}
 use Rattle.std.proofs.lemmas.List.{length-append}
 use Rattle.std.proofs.lemmas.List.Elements.{All-append, All-cons, All-nil}
 use Rattle.ag_value.specs.declared.value.Value.{Value, Text}
@@ -13,7 +14,8 @@ use Rattle.ag_grammar.specs.grammars.AttributeGrammar.{Grammar, stored_items}
 use Rattle.ag_grammar.specs.declared.direction.Direction.{Direction}
 use Rattle.ag_grammar.specs.declared.direction.Direction.TheVariants.{LeftToRight, RightToLeft}
 use Rattle.ag_grammar.specs.grammars.Passes.{Passes, direction_of, other}
-use Rattle.ag_grammar.specs.grammars.Solution.{AtEachNodeOf, IsWellOn, NoRule, Solves, SolvesAll, Valuation, WellAt, children, left_passes, rest}
+use Rattle.ag_grammar.specs.grammars.Solution.{AtEachNodeOf, IsWellOn, NoRule, Solves, SolvesAll, Valuation, WellAt, children}
+use Rattle.ag_grammar.specs.grammars.Solution.{left_passes, rest}
 use Rattle.ag_grammar.specs.grammars.Tree.{Forest, Tree, Fits, FitsAll, IsTreeOf, leaf, more, node, node_count, node_counts, none}
 use Rattle.std.specs.List.{flat_map}
 use Rattle.std.specs.Int.{w16, to_be_bytes}
@@ -23,7 +25,8 @@ use Rattle.treefile.specs.framing.Backward.{ReadsBack}
 use Rattle.treefile.specs.framing.Ending.{IsBody, IsUsable}
 use Rattle.treefile.specs.records.Orders as orders
 use Rattle.treefile.specs.records.Orders.{joined, postfix, postfix_all, prefix}
-use Rattle.treefile.specs.records.Records.{FitsVersion, IsFileOfTree, bodies_of, bodies_of_all, copies_of, file_of_tree, max_stored_values, values_up_to, with_copies}
+use Rattle.treefile.specs.records.Records.{FitsVersion, IsFileOfTree, bodies_of, bodies_of_all, copies_of, file_of_tree}
+use Rattle.treefile.specs.records.Records.{max_stored_values, values_up_to, with_copies}
 use Rattle.treefile.specs.records.TreeFile.{Version, body_of}
 use Rattle.treefile.proofs.framing.Backward.{read_back}
 use Rattle.treefile.proofs.records.Copies.{copies_few, copies_well, stored_well}
@@ -31,18 +34,30 @@ use Rattle.treefile.proofs.records.Orders.{turned}
 use Rattle.treefile.proofs.records.Sizes.{body_size}
 use Rattle.treefile.proofs.records.Values.{values_few, values_well}
 
-pub is_body : (version : Version) (kind : Kind) (number : ℕ) (values : List Value) → length values ≤ version.max_values → All IsWell values → IsBody version (body_of kind number values)
+pub is_body : (version : Version) (kind : Kind) (number : ℕ) (values : List Value) → length values ≤ version.max_values
+    → All IsWell values → IsBody version (body_of kind number values)
 is_body version kind number values few well = record {
   least = omega (arith, length-append (to_be_bytes w16 number) (flat_map spelling_of values));
   greatest = body_size version kind number values few well;
 }
 
 -- a node of a production has no more values than the version allows
-stored_few : (version : Version) (has : Bool) (g : Grammar) (m : Passes) (k p : ℕ) (q : Production) (e : ℕ → Value) (ts : Forest) (vs : ℕ → Valuation) → slice_get g.productions p ≡ Some q → FitsAll g (stored_items q.items) ts → max_stored_values has g m q ≤ version.max_values → length (with_copies has (values_up_to k (left_passes m (slice_get g.productions p)) e) (copies_of g m k ts vs)) ≤ version.max_values
-stored_few version false g m k p q e ts vs there f few = omega (arith, values_few k (left_passes m (slice_get g.productions p)) e, ap (λ o. length (left_passes m o)) there)
+stored_few : (version : Version) (has : Bool) (g : Grammar) (m : Passes) (k p : ℕ) (q : Production) (e : ℕ → Value) (ts : Forest)
+    (vs : ℕ → Valuation) → slice_get g.productions p ≡ Some q → FitsAll g (stored_items q.items) ts
+    → max_stored_values has g m q ≤ version.max_values
+    → length (with_copies has (values_up_to k (left_passes m (slice_get g.productions p)) e) (copies_of g m k ts vs))
+    ≤ version.max_values
+stored_few version false g m k p q e ts vs there f few =
+    omega (arith, values_few k (left_passes m (slice_get g.productions p)) e, ap (λ o. length (left_passes m o)) there)
 stored_few version true g m k p q e ts vs there f few =
     let own = values_up_to k (left_passes m (slice_get g.productions p)) e in
-    omega (arith, length-append own (copies_of g m k ts vs), values_few k (left_passes m (slice_get g.productions p)) e, ap (λ o. length (left_passes m o)) there, copies_few g m k (stored_items q.items) ts vs f)
+    omega (
+      arith,
+      length-append own (copies_of g m k ts vs),
+      values_few k (left_passes m (slice_get g.productions p)) e,
+      ap (λ o. length (left_passes m o)) there,
+      copies_few g m k (stored_items q.items) ts vs f,
+    )
 
 -- there is one body for each node of a tree
 module _ (version : Version) (g : Grammar) (m : Passes) (k : ℕ) where
@@ -51,7 +66,8 @@ module _ (version : Version) (g : Grammar) (m : Passes) (k : ℕ) where
     bodies_count (leaf c x) v = refl
     bodies_count (node p ts) v = ap suc (bodies_counts ts (children v))
 
-    pub bodies_counts : (ts : Forest) (vs : ℕ → Valuation) → orders.node_counts (bodies_of_all version g m k ts vs) ≡ node_counts ts
+    pub bodies_counts : (ts : Forest) (vs : ℕ → Valuation)
+        → orders.node_counts (bodies_of_all version g m k ts vs) ≡ node_counts ts
     bodies_counts none vs = refl
     bodies_counts (more t ts) vs = omega (arith, bodies_count t (vs 0), bodies_counts ts (rest vs))
 
@@ -61,29 +77,47 @@ All-joined P RightToLeft xs ys f g = All-append P ys xs g f
 
 module _ (version : Version) (g : Grammar) (m : Passes) (k : ℕ) (d : Direction) (fits : FitsVersion version g m) where
   mutual
-    pub bodies_fit : (x : Item) (t : Tree) (v : Valuation) → Fits g x t → Solves NoRule g t v → IsWellOn (λ p. p ≤ k) g m t v → All (IsBody version) (postfix d (bodies_of version g m k t v))
+    pub bodies_fit : (x : Item) (t : Tree) (v : Valuation) → Fits g x t → Solves NoRule g t v → IsWellOn (λ p. p ≤ k) g m t v
+        → All (IsBody version) (postfix d (bodies_of version g m k t v))
     bodies_fit x (leaf c text) v f texts well =
         let is : IsWell (Text text) = subst IsWell texts (well 0 0 refl (omega arith)) in
-        All-cons (IsBody version) (body_of Token c (Text text ∷ [])) [] (is_body version Token c (Text text ∷ []) fits.tokens (All-cons IsWell (Text text) [] is (All-nil IsWell))) (All-nil (IsBody version))
+        All-cons (IsBody version) (body_of Token c (Text text ∷ [])) []
+        (is_body version Token c (Text text ∷ []) fits.tokens (All-cons IsWell (Text text) [] is (All-nil IsWell)))
+        (All-nil (IsBody version))
     bodies_fit (item.Terminal a) (node p ts) v f texts well = elim f [ ]
     bodies_fit (item.Symbol s) (node p ts) v f texts well =
         let ps = left_passes m (slice_get g.productions p) in
         let stored = with_copies version.has_copies (values_up_to k ps (v [])) (copies_of g m k ts (children v)) in
-        let few : length stored ≤ version.max_values = stored_few version version.has_copies g m k p f.0 (v []) ts (children v) f.1 f.3 (fits.nodes p f.0 f.1) in
-        let own = is_body version Node p stored few (stored_well version.has_copies (values_up_to k ps (v [])) (copies_of g m k ts (children v)) (values_well k ps (v []) well.0) (copies_well g m k ts (children v) texts.1 well.1)) in
-        All-append (IsBody version) (postfix_all d (bodies_of_all version g m k ts (children v))) (body_of Node p stored ∷ []) (all_fit (stored_items f.0.items) ts (children v) f.3 texts.1 well.1) (All-cons (IsBody version) (body_of Node p stored) [] own (All-nil (IsBody version)))
+        let few : length stored ≤ version.max_values =
+        stored_few version version.has_copies g m k p f.0 (v []) ts (children v) f.1 f.3 (fits.nodes p f.0 f.1) in
+        let own =
+        is_body version Node p stored few
+        (stored_well version.has_copies (values_up_to k ps (v [])) (copies_of g m k ts (children v))
+        (values_well k ps (v []) well.0) (copies_well g m k ts (children v) texts.1 well.1)) in
+        All-append (IsBody version) (postfix_all d (bodies_of_all version g m k ts (children v))) (body_of Node p stored ∷ [])
+        (all_fit (stored_items f.0.items) ts (children v) f.3 texts.1 well.1)
+        (All-cons (IsBody version) (body_of Node p stored) [] own (All-nil (IsBody version)))
 
-    all_fit : (xs : List Item) (ts : Forest) (vs : ℕ → Valuation) → FitsAll g xs ts → SolvesAll NoRule g ts vs → AtEachNodeOf (WellAt (λ p. p ≤ k)) g m ts vs vs → All (IsBody version) (postfix_all d (bodies_of_all version g m k ts vs))
+    all_fit : (xs : List Item) (ts : Forest) (vs : ℕ → Valuation) → FitsAll g xs ts → SolvesAll NoRule g ts vs
+        → AtEachNodeOf (WellAt (λ p. p ≤ k)) g m ts vs vs
+        → All (IsBody version) (postfix_all d (bodies_of_all version g m k ts vs))
     all_fit xs none vs f texts well = All-nil (IsBody version)
     all_fit [] (more t ts) vs f texts well = elim f [ ]
-    all_fit (x ∷ xs) (more t ts) vs f texts well = All-joined (IsBody version) d (postfix d (bodies_of version g m k t (vs 0))) (postfix_all d (bodies_of_all version g m k ts (rest vs))) (bodies_fit x t (vs 0) f.0 texts.0 well.0) (all_fit xs ts (rest vs) f.1 texts.1 well.1)
+    all_fit (x ∷ xs) (more t ts) vs f texts well =
+        All-joined (IsBody version) d (postfix d (bodies_of version g m k t (vs 0)))
+        (postfix_all d (bodies_of_all version g m k ts (rest vs))) (bodies_fit x t (vs 0) f.0 texts.0 well.0)
+        (all_fit xs ts (rest vs) f.1 texts.1 well.1)
 
-module _ (version : Version) (g : Grammar) (m : Passes) (k : ℕ) (t : Tree) (v : Valuation) (content : List ℕ) (fits : FitsVersion version g m) (tree : IsTreeOf g t) (is : IsFileOfTree version g m k t v content) where
+module _ (version : Version) (g : Grammar) (m : Passes) (k : ℕ) (t : Tree) (v : Valuation) (content : List ℕ)
+    (fits : FitsVersion version g m) (tree : IsTreeOf g t) (is : IsFileOfTree version g m k t v content) where
   pub file_fits : All (IsBody version) (postfix (direction_of k) (bodies_of version g m k t v))
   file_fits = bodies_fit version g m k (direction_of k) fits (item.Symbol g.start) t v tree is.texts is.well
 
-  pub file_back : IsUsable version → ReadsBack version content (length content) (prefix (other (direction_of k)) (bodies_of version g m k t v))
+  pub file_back : IsUsable version
+      → ReadsBack version content (length content) (prefix (other (direction_of k)) (bodies_of version g m k t v))
   file_back usable =
       let bodies = postfix (direction_of k) (bodies_of version g m k t v) in
-      let back : ReadsBack version (file_of_tree version g m k t v) (length (file_of_tree version g m k t v)) (reverse bodies) = read_back version k usable bodies file_fits in
-      subst (ReadsBack version content (length content)) (turned (direction_of k) (bodies_of version g m k t v)) (subst (λ (c : List ℕ). ReadsBack version c (length c) (reverse bodies)) (sym is.occurs) back)
+      let back : ReadsBack version (file_of_tree version g m k t v) (length (file_of_tree version g m k t v)) (reverse bodies) =
+      read_back version k usable bodies file_fits in
+      subst (ReadsBack version content (length content)) (turned (direction_of k) (bodies_of version g m k t v))
+      (subst (λ (c : List ℕ). ReadsBack version c (length c) (reverse bodies)) (sym is.occurs) back)

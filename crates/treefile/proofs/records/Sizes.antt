@@ -19,9 +19,11 @@ spellings_size : (values : List Value) → All IsWell values → length (flat_ma
 spellings_size [] all = omega arith
 spellings_size (value ∷ values) all =
     let first : length (spelling_of value) ≤ 1048576 = spelling_size value (all 0 value (omega arith)) in
-    let others : length (flat_map spelling_of values) ≤ length values * 1048576 = spellings_size values (All-drop IsWell 1 (value ∷ values) all) in
+    let others : length (flat_map spelling_of values) ≤ length values * 1048576 =
+    spellings_size values (All-drop IsWell 1 (value ∷ values) all) in
     omega (arith, length-append (spelling_of value) (flat_map spelling_of values))
 
 -- a kind, a number, and at most as many well values as the version allows
-pub body_size : (version : Version) (kind : Kind) (number : ℕ) (values : List Value) → length values ≤ version.max_values → All IsWell values → length (body_of kind number values) ≤ greatest_body version
+pub body_size : (version : Version) (kind : Kind) (number : ℕ) (values : List Value) → length values ≤ version.max_values
+    → All IsWell values → length (body_of kind number values) ≤ greatest_body version
 body_size version kind number values few all = omega (arith, spellings_size values all)

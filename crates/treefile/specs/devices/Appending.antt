@@ -10,7 +10,8 @@ use Rattle.treefile.specs.declared.file.Access.TheVariants.{Broken, Reading, Wri
 -- The effects of an append besides those on the content. If the bytes that the device has taken are known, they are then the old
 -- ones and the appended ones, or after NoMemory the old ones. An append fails if the file is only read. A
 -- failed append to a writable file breaks the device. A broken device fails, and stays broken.
-pub record AppendsToFile {F : Type 0} (contents : F → Option (List ℕ)) (bytes : List ℕ) (old new : FileDeviceState F) (result : Result (Unit {0}) DeviceFault) : Type 0 where
+pub record AppendsToFile {F : Type 0} (contents : F → Option (List ℕ)) (bytes : List ℕ) (old new : FileDeviceState F)
+    (result : Result (Unit {0}) DeviceFault) : Type 0 where
   pub taken : OnOk result (Appends (files.taken contents old) (files.taken contents new) bytes)
   pub refused : IsErrOf result NoMemory → Keeps (files.taken contents old) (files.taken contents new)
   pub reading : old.access ≡ Reading → IsErrOf result Failed

@@ -29,7 +29,8 @@ taken contents device = append_known (contents device.file) device.buffered
 
 -- A device over a file that was just opened at this path: no bytes are buffered, no call has failed, and the record of calls
 -- continues the given one.
-pub record IsNew {F : Type 0} (use_of_file : Access) (path : List ℕ) (before : List Event) (device : FileDeviceState F) : Type 0 where
+pub record IsNew {F : Type 0} (use_of_file : Access) (path : List ℕ) (before : List Event)
+    (device : FileDeviceState F) : Type 0 where
   pub access : device.access ≡ use_of_file
   pub buffered : device.buffered ≡ []
   pub failures : device.failures ≡ 0
@@ -46,7 +47,14 @@ pub record StaysBroken {F : Type 0} (old new : FileDeviceState F) (failed : Type
 
 -- a truncated file that took two bytes, and a third byte that is buffered
 abbrev pub third_is_buffered : FileDeviceState (List ℕ)
-third_is_buffered = record { file = 7 ∷ 8 ∷ []; events = append_event true (7 ∷ 8 ∷ []) ∷ truncate_event true ∷ open_event [] ∷ initial_event (6 ∷ []) ∷ []; access = Writing; failures = 0; buffered = 9 ∷ [] }
+third_is_buffered =
+    record {
+      file = 7 ∷ 8 ∷ [];
+      events = append_event true (7 ∷ 8 ∷ []) ∷ truncate_event true ∷ open_event [] ∷ initial_event (6 ∷ []) ∷ [];
+      access = Writing;
+      failures = 0;
+      buffered = 9 ∷ [];
+    }
 
 pub taken_of_three : taken Some third_is_buffered ≡ Some (7 ∷ 8 ∷ 9 ∷ [])
 taken_of_three = refl
@@ -63,5 +71,6 @@ pub three_honest : is_honest_of third_is_buffered ≡ true
 three_honest = refl
 
 -- a file that returns another byte than was written is not honest
-pub other_byte : is_honest_of (record third_is_buffered { events = read_event 1 true (5 ∷ []) ∷ third_is_buffered.events }) ≡ Bool.false
+pub other_byte : is_honest_of (record third_is_buffered { events = read_event 1 true (5 ∷ []) ∷ third_is_buffered.events })
+    ≡ Bool.false
 other_byte = refl

@@ -15,7 +15,8 @@ failures_of failures fuse = min (failures fuse.inner + fuse.failed) max_failures
 
 -- the effects of a call on a fuse besides its content, in the terms of the device that gets the calls
 abbrev pub FusePersists : {D : Type 0} → (D → Bool) → (D → ℕ) → Fuse D → Fuse D → Type 0 → Type 0
-FusePersists honest failures old new failed = Persists (honest old.inner) (honest new.inner) (failures_of failures old) (failures_of failures new) failed
+FusePersists honest failures old new failed =
+    Persists (honest old.inner) (honest new.inner) (failures_of failures old) (failures_of failures new) failed
 
 -- The effect of a call: the number of calls up to the failing one falls by one. The failing call fails, and
 -- the device that gets the calls is unchanged. Any other call is forwarded to that device: no failure is

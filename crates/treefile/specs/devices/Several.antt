@@ -10,17 +10,22 @@ abbrev pub Lasts : {D : Type 0} → (D → Bool) → (D → ℕ) → D → D →
 Lasts honest failures old new = Persists (honest old) (honest new) (failures old) (failures new) ⊥
 
 -- Both devices persist. If the call returns that a device failed, the failures of one of the two have risen.
-pub record BothPersist {D E : Type 0} (honest : D → Bool) (failures : D → ℕ) (old new : D) (other_honest : E → Bool) (other_failures : E → ℕ) (other_old other_new : E) (failed : Type 0) : Type 0 where
+pub record BothPersist {D E : Type 0} (honest : D → Bool) (failures : D → ℕ) (old new : D) (other_honest : E → Bool)
+    (other_failures : E → ℕ) (other_old other_new : E) (failed : Type 0) : Type 0 where
   pub first : Lasts honest failures old new
   pub second : Lasts other_honest other_failures other_old other_new
   pub cause : failed → HasRisen (failures old) (failures new) ⊎ HasRisen (other_failures other_old) (other_failures other_new)
 
 -- the same of three devices
-pub record ThreePersist {D E F : Type 0} (honest : D → Bool) (failures : D → ℕ) (old new : D) (other_honest : E → Bool) (other_failures : E → ℕ) (other_old other_new : E) (last_honest : F → Bool) (last_failures : F → ℕ) (last_old last_new : F) (failed : Type 0) : Type 0 where
+pub record ThreePersist {D E F : Type 0} (honest : D → Bool) (failures : D → ℕ) (old new : D) (other_honest : E → Bool)
+    (other_failures : E → ℕ) (other_old other_new : E) (last_honest : F → Bool) (last_failures : F → ℕ) (last_old last_new : F)
+    (failed : Type 0) : Type 0 where
   pub first : Lasts honest failures old new
   pub second : Lasts other_honest other_failures other_old other_new
   pub third : Lasts last_honest last_failures last_old last_new
-  pub cause : failed → HasRisen (failures old) (failures new) ⊎ (HasRisen (other_failures other_old) (other_failures other_new) ⊎ HasRisen (last_failures last_old) (last_failures last_new))
+  pub cause : failed → HasRisen (failures old) (failures new)
+      ⊎ (HasRisen (other_failures other_old) (other_failures other_new)
+      ⊎ HasRisen (last_failures last_old) (last_failures last_new))
 
 -- a call whose second device failed: the first had three failures before, and the second none
 pub second_failed : BothPersist {D = ℕ} {E = ℕ} (λ _. true) (λ n. n) 3 3 (λ _. true) (λ n. n) 0 1 (Unit {0})

@@ -1,5 +1,6 @@
 -- Reading a content as a tree file from its end to its header: this project's layout.
-use Rattle.std.specs.Prelude.{◌≡◌, ℕ, ◌-◌, nat_eq, List, [], ◌∷◌, length, slice_range, Option, Some, None, Result, Ok, Err, if◌then◌else◌, refl}
+use Rattle.std.specs.Prelude.{◌≡◌, ℕ, ◌-◌, nat_eq, List, [], ◌∷◌, length, slice_range, Option, Some, None, Result, Ok, Err}
+use Rattle.std.specs.Prelude.{if◌then◌else◌, refl}
 use Rattle.std.specs.Int.{w16, from_be_bytes}
 use Rattle.treefile.specs.declared.reading.FrameFault.{FrameFault}
 use Rattle.treefile.specs.declared.reading.FrameFault.TheVariants.{NotATreeFile}
@@ -31,12 +32,14 @@ next_before version content at = if nat_eq at header_bytes then Ok None else som
 -- From an offset back to the header a content has these bodies, the one that ends at the offset first.
 abbrev pub ReadsBack : Version → List ℕ → ℕ → List (List ℕ) → Type 0
 ReadsBack version content at [] = next_before version content at ≡ Ok None
-ReadsBack version content at (body ∷ bodies) = (next_before version content at ≡ Ok (Some body)) × ReadsBack version content (before_frame at body) bodies
+ReadsBack version content at (body ∷ bodies) =
+    (next_before version content at ≡ Ok (Some body)) × ReadsBack version content (before_frame at body) bodies
 
 -- From one offset back to another a content has these bodies, the one that ends at the first offset first.
 abbrev pub ReadsTo : Version → List ℕ → ℕ → List (List ℕ) → ℕ → Type 0
 ReadsTo version content at [] start = at ≡ start
-ReadsTo version content at (body ∷ bodies) start = (next_before version content at ≡ Ok (Some body)) × ReadsTo version content (before_frame at body) bodies start
+ReadsTo version content at (body ∷ bodies) start =
+    (next_before version content at ≡ Ok (Some body)) × ReadsTo version content (before_frame at body) bodies start
 
 -- a file of 22 bytes has one body, whose frame begins after the header
 pub fourteen_is_read : ReadsTo version_one file_of_fourteen 22 ((1 ∷ 0 ∷ 0 ∷ 0 ∷ 0 ∷ 0 ∷ 0 ∷ 0 ∷ 0 ∷ 0 ∷ 0 ∷ 14 ∷ []) ∷ []) 6

@@ -9,7 +9,8 @@ use Rattle.treefile.specs.records.TreeFile.{file, frame, version_two}
 -- none or all.
 abbrev pub AddsFrames : {E : Type 0} → (old new : List ℕ) → Result (Unit {0}) E → Type 0
 AddsFrames old new (Ok u) = (bodies : List (List ℕ)) × All (IsBody version_two) bodies × (new ≡ old ++ flat_map frame bodies)
-AddsFrames old new (Err fault) = (bodies : List (List ℕ)) × All (IsBody version_two) bodies × AppendsPrefix (flat_map frame bodies) old new
+AddsFrames old new (Err fault) =
+    (bodies : List (List ℕ)) × All (IsBody version_two) bodies × AppendsPrefix (flat_map frame bodies) old new
 
 -- A content is a prefix of a file of a pass: of its header and the frames of some bodies, possibly empty or
 -- whole.

@@ -1,5 +1,6 @@
 -- The end of a content, read as a tree file of a version from its end: this project's layout.
-use Rattle.std.specs.Prelude.{◌≡◌, ℕ, ◌+◌, ◌*◌, ◌-◌, ◌^◌, ◌<◌, ◌≤◌, Bool, ◌&&◌, nat_lt, nat_le, nat_eq, List, [], ◌∷◌, ◌++◌, length, slice_index, slice_range, Result, Ok, Err, if◌then◌else◌, refl}
+use Rattle.std.specs.Prelude.{◌≡◌, ℕ, ◌+◌, ◌*◌, ◌-◌, ◌^◌, ◌<◌, ◌≤◌, Bool, ◌&&◌, nat_lt, nat_le, nat_eq, List, [], ◌∷◌, ◌++◌}
+use Rattle.std.specs.Prelude.{length, slice_index, slice_range, Result, Ok, Err, if◌then◌else◌, refl}
 use Rattle.std.specs.Int.{w32, from_be_bytes}
 use Rattle.std.specs.List.{starts_with}
 use Rattle.std.proofs.Common.{lit<}
@@ -61,7 +62,8 @@ number_before content at = from_be_bytes w32 (slice_range content (at - length_b
 -- A frame with a body of this length may end at the offset: the length is within the limits, and between the
 -- header and the offset there is room for the body and its length.
 unfoldable pub fits_before : Version → ℕ → ℕ → Bool
-fits_before version at len = nat_le least_body len && nat_le len (greatest_body version) && nat_le (header_bytes + len + length_bytes) at
+fits_before version at len =
+    nat_le least_body len && nat_le len (greatest_body version) && nat_le (header_bytes + len + length_bytes) at
 
 -- The body of the frame that ends at the offset, or B2 with the offset if no frame ends there: if fewer than
 -- four bytes are between the header and it, or if the number in those four is not a length that fits.
@@ -75,7 +77,8 @@ body_before version content at =
 
 -- in a tree file, the body of the frame that ends at the end of the content
 unfoldable pub last_body_of : Version → List ℕ → Result (List ℕ) FrameFault
-last_body_of version content = if is_tree_file version content then body_before version content (length content) else Err NotATreeFile
+last_body_of version content =
+    if is_tree_file version content then body_before version content (length content) else Err NotATreeFile
 
 -- The result of a call agrees with the result of reading the content, unless the device failed or memory was
 -- refused.

@@ -1,7 +1,8 @@
 -- Reading a tree file from its end to its header: the records that are still expected, of the items whose
 -- trees were not read yet. The letters are those of `Records.antt`; d is a direction, e gives the values of a node's attributes,
 -- and x is an item or a child. All of this is this project's.
-use Rattle.std.specs.Prelude.{ℕ, suc, ◌≡◌, ◌+◌, ◌-◌, ◌<◌, ◌≤◌, ◌⊎◌, Bool, true, false, List, [], ◌∷◌, ◌++◌, All, length, take, drop, Option, Some, None, Result, Ok, Err, refl}
+use Rattle.std.specs.Prelude.{ℕ, suc, ◌≡◌, ◌+◌, ◌-◌, ◌<◌, ◌≤◌, ◌⊎◌, Bool, true, false, List, [], ◌∷◌, ◌++◌, All, length, take}
+use Rattle.std.specs.Prelude.{drop, Option, Some, None, Result, Ok, Err, refl}
 use Rattle.std.proofs.Common.{inl, inr, lit<}
 use Rattle.ag_value.specs.declared.value.Value.{Value, Text}
 use Rattle.ag_value.specs.Well.{IsWell}
@@ -19,7 +20,8 @@ use Rattle.treefile.specs.framing.Backward.{ReadsBack}
 use Rattle.treefile.specs.records.Listed.{copied_count, copies_count}
 use Rattle.treefile.specs.records.OneTree.{IsRecorded}
 use Rattle.treefile.specs.records.Orders.{prefix}
-use Rattle.treefile.specs.records.Records.{IsFileOfTree, bodies_of, copy_of, node_body, synthesized_passes, token_body, values_up_to}
+use Rattle.treefile.specs.records.Records.{IsFileOfTree, bodies_of, copy_of, node_body, synthesized_passes, token_body}
+use Rattle.treefile.specs.records.Records.{values_up_to}
 use Rattle.treefile.specs.records.TreeFile.{Version}
 use Rattle.treefile.specs.declared.reading.FrameFault.{FrameFault}
 
@@ -31,7 +33,8 @@ AreCopies true g m k xs copies = (length copies ≡ copies_count g m k xs) × Al
 
 -- A body is the record of a node of symbol s in the file of pass k: of a production of the symbol, with well
 -- values up to the pass, and with the copies of its children's.
-pub record IsNodeRecord (version : Version) (g : Grammar) (m : Passes) (k s : ℕ) (body : List ℕ) (p : ℕ) (q : Production) (e : ℕ → Value) : Type 0 where
+pub record IsNodeRecord (version : Version) (g : Grammar) (m : Passes) (k s : ℕ) (body : List ℕ) (p : ℕ) (q : Production)
+    (e : ℕ → Value) : Type 0 where
   pub production : IsProduction g p q
   pub left : q.left ≡ s
   pub well : WellAt (λ n. n ≤ k) (m s) e e
@@ -48,7 +51,8 @@ Child = Item × Option (List Value)
 abbrev pub children_with_copies : Bool → Grammar → Passes → ℕ → List Item → List Value → List Child
 children_with_copies has_copies g m k [] copies = []
 children_with_copies false g m k (x ∷ xs) copies = (x, None) ∷ children_with_copies false g m k xs copies
-children_with_copies true g m k (x ∷ xs) copies = (x, Some (take (copied_count g m k x) copies)) ∷ children_with_copies true g m k xs (drop (copied_count g m k x) copies)
+children_with_copies true g m k (x ∷ xs) copies =
+    (x, Some (take (copied_count g m k x) copies)) ∷ children_with_copies true g m k xs (drop (copied_count g m k x) copies)
 
 -- values are those of the copy, if there is one
 abbrev pub MatchesCopy : Option (List Value) → List Value → Type 0
@@ -60,8 +64,10 @@ MatchesCopy (Some copy) values = values ≡ copy
 abbrev pub IsRecordOf : Version → Grammar → Passes → ℕ → Child → List ℕ → List Child → Type 0
 IsRecordOf version g m k (item.Symbol s, copy) body ys =
     (p : ℕ) × (q : Production) × (e : ℕ → Value) × (is : IsNodeRecord version g m k s body p q e)
-    × (ys ≡ children_with_copies version.has_copies g m k (stored_items q.items) is.copies) × MatchesCopy copy (values_up_to k (synthesized_passes g m s) e)
-IsRecordOf version g m k (item.Terminal (Class c), copy) body ys = (x : List ℕ) × IsTokenText x × (body ≡ token_body c x) × (ys ≡ []) × MatchesCopy copy (Text x ∷ [])
+    × (ys ≡ children_with_copies version.has_copies g m k (stored_items q.items) is.copies)
+    × MatchesCopy copy (values_up_to k (synthesized_passes g m s) e)
+IsRecordOf version g m k (item.Terminal (Class c), copy) body ys =
+    (x : List ℕ) × IsTokenText x × (body ≡ token_body c x) × (ys ≡ []) × MatchesCopy copy (Text x ∷ [])
 IsRecordOf version g m k (item.Terminal (Literal l), copy) body ys = ⊥
 
 -- A body is not a record of a child, whatever its own children are.
@@ -89,7 +95,10 @@ abbrev pub Expects : Version → Grammar → Passes → ℕ → Direction → �
 Expects version g m k d deepest [] [] = Unit {0}
 Expects version g m k d deepest [] (body ∷ bodies) = ⊥
 Expects version g m k d deepest (x ∷ xs) [] = ⊥
-Expects version g m k d deepest (x ∷ xs) (body ∷ bodies) = (x.0 ≤ deepest) × ((ys : List Child) × IsRecordOf version g m k x.1 body ys × Expects version g m k d deepest (before_others d (suc x.0) ys xs) bodies)
+Expects version g m k d deepest (x ∷ xs) (body ∷ bodies) =
+    (x.0 ≤ deepest)
+    × ((ys : List Child) × IsRecordOf version g m k x.1 body ys
+    × Expects version g m k d deepest (before_others d (suc x.0) ys xs) bodies)
 
 -- The expected children at the end of a file: the root.
 abbrev pub pending_root : Grammar → Pending
@@ -100,8 +109,10 @@ pending_root g = (1, (item.Symbol g.start, None)) ∷ []
 -- bodies that were read is at most the tree's number of nodes.
 abbrev pub ReadSoFar : Version → Grammar → Passes → ℕ → List ℕ → (at count : ℕ) → Pending → Type 0
 ReadSoFar version g m k content at count todo =
-    (depth nodes : ℕ) (t : Tree) (v : Valuation) → IsTreeOf g t → IsWithinLimits depth nodes t → IsFileOfTree version g m k t v content →
-    (bodies : List (List ℕ)) × ReadsBack version content at bodies × Expects version g m k (other (direction_of k)) depth todo bodies × (count + length bodies ≤ nodes)
+    (depth nodes : ℕ) (t : Tree) (v : Valuation) → IsTreeOf g t → IsWithinLimits depth nodes t
+    → IsFileOfTree version g m k t v content →
+    (bodies : List (List ℕ)) × ReadsBack version content at bodies
+    × Expects version g m k (other (direction_of k)) depth todo bodies × (count + length bodies ≤ nodes)
 
 -- A content is the file of pass k of no tree of the grammar,
 abbrev pub HasNoTree : Version → Grammar → Passes → ℕ → List ℕ → Type 0
@@ -109,7 +120,8 @@ HasNoTree version g m k content = (t : Tree) (v : Valuation) → IsTreeOf g t �
 
 -- and of none within a depth and a number of nodes.
 abbrev pub HasNoTreeWithin : ℕ → ℕ → Version → Grammar → Passes → ℕ → List ℕ → Type 0
-HasNoTreeWithin depth nodes version g m k content = (t : Tree) (v : Valuation) → IsTreeOf g t → IsWithinLimits depth nodes t → IsFileOfTree version g m k t v content → ⊥
+HasNoTreeWithin depth nodes version g m k content = (t : Tree) (v : Valuation) → IsTreeOf g t → IsWithinLimits depth nodes t
+    → IsFileOfTree version g m k t v content → ⊥
 
 -- The result of reading before an offset contradicts the expected items: a damaged frame; no body, if an item
 -- is expected; a body, if no item is; or a body that is not a record of the first item.
@@ -131,7 +143,8 @@ abbrev pub AreThere : Version → Grammar → Passes → ℕ → Direction → �
 AreThere version g m k d deepest [] bodies = bodies ≡ []
 AreThere version g m k d deepest (x ∷ xs) bodies =
     (t : Tree) × (v : Valuation) × (others : List (List ℕ)) × IsRecorded g m k x.1.0 t v
-    × (x.0 + depth_of t ≤ suc deepest) × (bodies ≡ prefix d (bodies_of version g m k t v) ++ others) × AreThere version g m k d deepest xs others
+    × (x.0 + depth_of t ≤ suc deepest) × (bodies ≡ prefix d (bodies_of version g m k t v) ++ others)
+    × AreThere version g m k d deepest xs others
     × MatchesCopy x.1.1 (copy_of g m k t v)
 
 -- from right to left the last of three items comes first, and then the one before it
@@ -142,10 +155,12 @@ pub next_from_right : nth RightToLeft 3 1 ≡ 1
 next_from_right = refl
 
 -- two items of level 2 before one of level 1, in each direction
-pub before_from_left : before_others LeftToRight 2 (item.Symbol 7 ∷ item.Symbol 8 ∷ []) ((1, item.Symbol 9) ∷ []) ≡ (2, item.Symbol 7) ∷ (2, item.Symbol 8) ∷ (1, item.Symbol 9) ∷ []
+pub before_from_left : before_others LeftToRight 2 (item.Symbol 7 ∷ item.Symbol 8 ∷ []) ((1, item.Symbol 9) ∷ [])
+    ≡ (2, item.Symbol 7) ∷ (2, item.Symbol 8) ∷ (1, item.Symbol 9) ∷ []
 before_from_left = refl
 
-pub before_from_right : before_others RightToLeft 2 (item.Symbol 7 ∷ item.Symbol 8 ∷ []) ((1, item.Symbol 9) ∷ []) ≡ (2, item.Symbol 8) ∷ (2, item.Symbol 7) ∷ (1, item.Symbol 9) ∷ []
+pub before_from_right : before_others RightToLeft 2 (item.Symbol 7 ∷ item.Symbol 8 ∷ []) ((1, item.Symbol 9) ∷ [])
+    ≡ (2, item.Symbol 8) ∷ (2, item.Symbol 7) ∷ (1, item.Symbol 9) ∷ []
 before_from_right = refl
 
 -- after one visited item of two, the other one remains

@@ -6,7 +6,8 @@ use Rattle.treefile.specs.declared.device.DeviceFault.TheVariants.{Failed, NoMem
 
 -- After Ok one more frame is counted. The writer is broken if the device failed, and a broken writer always fails and
 -- leaves the device unchanged. After NoMemory nothing has changed.
-pub record PutEffect {A D : Type 0} (device_old device_new : D) (old new : Progress) (result : Result A DeviceFault) : Type 0 where
+pub record PutEffect {A D : Type 0} (device_old device_new : D) (old new : Progress)
+    (result : Result A DeviceFault) : Type 0 where
   pub counted : OnOk result (new ≡ record old { written = old.written + 1 })
   pub breaks : IsErrOf result Failed → new ≡ record old { is_broken = true }
   pub broken : old.is_broken ≡ true → IsErrOf result Failed × (device_new ≡ device_old)

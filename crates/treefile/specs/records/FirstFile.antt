@@ -24,7 +24,8 @@ no_passes s = []
 -- The content is the file of pass 0 of a tree, for all passes from 1 on and all values that give each leaf
 -- its text.
 abbrev pub IsFirstFile : Version → Grammar → Tree → List ℕ → Type 0
-IsFirstFile version g t content = (m : Passes) (v : Valuation) → AreFromOne m → Solves NoRule g t v → IsFileOfTree version g m 0 t v content
+IsFirstFile version g t content = (m : Passes) (v : Valuation) → AreFromOne m → Solves NoRule g t v
+    → IsFileOfTree version g m 0 t v content
 
 -- the content is the file of pass 0 of no tree of the grammar,
 abbrev pub HasNoFirstTree : Version → Grammar → List ℕ → Type 0
@@ -32,7 +33,8 @@ HasNoFirstTree version g content = (t : Tree) → IsTreeOf g t → IsFirstFile v
 
 -- and of none within a depth and a number of nodes
 abbrev pub HasNoFirstTreeWithin : (depth nodes : ℕ) → Version → Grammar → List ℕ → Type 0
-HasNoFirstTreeWithin depth nodes version g content = (t : Tree) → IsTreeOf g t → IsWithinLimits depth nodes t → IsFirstFile version g t content → ⊥
+HasNoFirstTreeWithin depth nodes version g content = (t : Tree) → IsTreeOf g t → IsWithinLimits depth nodes t
+    → IsFirstFile version g t content → ⊥
 
 -- the texts of the leaves among some trees, from left to right
 abbrev pub leaf_texts : Forest → List Value
@@ -45,7 +47,8 @@ leaf_texts (tree.more (tree.node p us) ts) = leaf_texts ts
 abbrev mutual
   pub first_bodies : Version → Tree → BodyTree
   first_bodies version (tree.leaf c x) = branch (token_body c x) none
-  first_bodies version (tree.node p ts) = branch (body_of Node p (with_copies version.has_copies [] (leaf_texts ts))) (first_bodies_all version ts)
+  first_bodies version (tree.node p ts) =
+      branch (body_of Node p (with_copies version.has_copies [] (leaf_texts ts))) (first_bodies_all version ts)
 
   pub first_bodies_all : Version → Forest → BodyForest
   first_bodies_all version tree.none = none

@@ -1,6 +1,7 @@
 -- The values of a record as a list; its body has their spellings, one after the other. The letters are those of `Records.antt`;
 -- ps are passes, and vs values. All of this is this project's.
-use Rattle.std.specs.Prelude.{ℕ, zero, suc, ◌≡◌, ◌+◌, ◌++◌, nat_le, Bool, true, false, List, [], ◌∷◌, length, pos, All, if◌then◌else◌, refl}
+use Rattle.std.specs.Prelude.{ℕ, zero, suc, ◌≡◌, ◌+◌, ◌++◌, nat_le, Bool, true, false, List, [], ◌∷◌, length, pos, All}
+use Rattle.std.specs.Prelude.{if◌then◌else◌, refl}
 use Rattle.std.specs.List.{flat_map}
 use Rattle.ag_value.specs.declared.value.Value.{Value, Num}
 use Rattle.ag_value.specs.Spelling.{spelling_of}
@@ -56,7 +57,8 @@ stored_count true g m k q = count_up_to k (m q.left) + copies_count g m k (store
 -- A body is the record of a node of symbol s in the file of pass k, with its values as a list: of a
 -- production of the symbol, and with as many well values as the symbol has attributes of passes up to k, and
 -- copies of its children's.
-pub record IsListedRecord (version : Version) (g : Grammar) (m : Passes) (k s : ℕ) (body : List ℕ) (p : ℕ) (q : Production) (vs : List Value) : Type 0 where
+pub record IsListedRecord (version : Version) (g : Grammar) (m : Passes) (k s : ℕ) (body : List ℕ) (p : ℕ) (q : Production)
+    (vs : List Value) : Type 0 where
   pub production : IsProduction g p q
   pub left : q.left ≡ s
   pub count : length vs ≡ stored_count version.has_copies g m k q

@@ -1,7 +1,8 @@
 -- The records of a tree's nodes, and the file of a tree after a pass. In these definitions g is a grammar, m has the passes of
 -- its attributes, k is the number of a pass, s a symbol, p the number of a production and q the production itself, c a class, t
 -- a tree, and v its values. All of this is this project's.
-use Rattle.std.specs.Prelude.{◌≡◌, ℕ, suc, ◌+◌, ◌≤◌, nat_le, Bool, true, false, List, [], ◌∷◌, ◌++◌, Option, Some, None, slice_get, length, take, if◌then◌else◌}
+use Rattle.std.specs.Prelude.{◌≡◌, ℕ, suc, ◌+◌, ◌≤◌, nat_le, Bool, true, false, List, [], ◌∷◌, ◌++◌, Option, Some, None}
+use Rattle.std.specs.Prelude.{slice_get, length, take, if◌then◌else◌}
 use Rattle.ag_value.specs.declared.value.Value.{Value, Text}
 use Rattle.ag_grammar.specs.declared.grammar.Item.TheVariants as item
 use Rattle.ag_grammar.specs.declared.grammar.Item.{Item}
@@ -20,7 +21,8 @@ use Rattle.treefile.specs.records.TreeFile.{Version, body_of, file}
 -- of the attributes with these passes, in declared order, the values of those whose pass is at most k
 abbrev pub values_up_to : ℕ → List ℕ → (ℕ → Value) → List Value
 values_up_to k [] values = []
-values_up_to k (pass ∷ passes) values = (if nat_le pass k then values 0 ∷ [] else []) ++ values_up_to k passes (λ a. values (suc a))
+values_up_to k (pass ∷ passes) values =
+    (if nat_le pass k then values 0 ∷ [] else []) ++ values_up_to k passes (λ a. values (suc a))
 
 -- the number of a symbol's synthesized attributes, which come first
 abbrev pub synthesized_count : Option Symbol → ℕ
@@ -54,7 +56,8 @@ with_copies true own copies = own ++ copies
 -- The record of a node: its production, the values of those of its symbol's attributes whose pass is at most
 -- k, and, in a version with copies, copies of its children's.
 abbrev pub node_body : Version → Grammar → Passes → ℕ → ℕ → (ℕ → Value) → List Value → List ℕ
-node_body version g m k p values copies = body_of Node p (with_copies version.has_copies (values_up_to k (left_passes m (slice_get g.productions p)) values) copies)
+node_body version g m k p values copies =
+    body_of Node p (with_copies version.has_copies (values_up_to k (left_passes m (slice_get g.productions p)) values) copies)
 
 -- The record of a token: its class and its `lex`, which is its text. It is the same in each pass.
 abbrev pub token_body : ℕ → List ℕ → List ℕ
@@ -64,11 +67,13 @@ token_body c text = body_of Token c (Text text ∷ [])
 abbrev mutual
   pub bodies_of : Version → Grammar → Passes → ℕ → Tree → Valuation → BodyTree
   bodies_of version g m k (tree.leaf c text) v = branch (token_body c text) none
-  bodies_of version g m k (tree.node p ts) v = branch (node_body version g m k p (v []) (copies_of g m k ts (children v))) (bodies_of_all version g m k ts (children v))
+  bodies_of version g m k (tree.node p ts) v =
+      branch (node_body version g m k p (v []) (copies_of g m k ts (children v))) (bodies_of_all version g m k ts (children v))
 
   pub bodies_of_all : Version → Grammar → Passes → ℕ → Forest → (ℕ → Valuation) → BodyForest
   bodies_of_all version g m k tree.none vs = none
-  bodies_of_all version g m k (tree.more t ts) vs = more (bodies_of version g m k t (vs 0)) (bodies_of_all version g m k ts (rest vs))
+  bodies_of_all version g m k (tree.more t ts) vs =
+      more (bodies_of version g m k t (vs 0)) (bodies_of_all version g m k ts (rest vs))
 
 -- The file of pass k of a tree: its header has the number k, and its frames are those of the tree's records, in the postfix
 -- list of the direction of that pass.
@@ -98,7 +103,8 @@ pub record FitsVersion (version : Version) (g : Grammar) (m : Passes) : Type 0 w
 
 -- A content is the file of pass k of a tree and its values: these give each leaf its text, and those up to
 -- pass k are well.
-pub record IsFileOfTree (version : Version) (g : Grammar) (m : Passes) (k : ℕ) (t : Tree) (v : Valuation) (content : List ℕ) : Type 0 where
+pub record IsFileOfTree (version : Version) (g : Grammar) (m : Passes) (k : ℕ) (t : Tree) (v : Valuation)
+    (content : List ℕ) : Type 0 where
   pub occurs : content ≡ file_of_tree version g m k t v
   pub texts : Solves NoRule g t v
   pub well : IsWellOn (λ p. p ≤ k) g m t v

@@ -28,7 +28,8 @@ version_one = record { magic = 65 ∷ 71 ∷ 84 ∷ 49 ∷ []; max_values = MAX_
 
 -- version 2: AGT2, and as many values more for each child
 abbrev pub version_two : Version
-version_two = record { magic = 65 ∷ 71 ∷ 84 ∷ 50 ∷ []; max_values = MAX_ATTRIBUTES + MAX_CHILDREN * MAX_ATTRIBUTES; has_copies = true }
+version_two =
+    record { magic = 65 ∷ 71 ∷ 84 ∷ 50 ∷ []; max_values = MAX_ATTRIBUTES + MAX_CHILDREN * MAX_ATTRIBUTES; has_copies = true }
 
 -- the version of each number
 abbrev pub version_of : FileVersion → Version

@@ -4,4 +4,6 @@ use Rattle.ag_eval.proofs.Arguments.{left_is_fault}
 use Rattle.ag_eval.proofs.calls.apply_to_scalars.Goals as goal
 
 pub returns-in-Fault : goal.returns-in-Fault
-returns-in-Fault c = left_is_fault c.args.operator (scalar_value c.args.left) (scalar_value c.args.right) c.in-Fault.code (ap scalar_value c.in-Fault.is)
+returns-in-Fault c =
+    left_is_fault c.args.operator (scalar_value c.args.left) (scalar_value c.args.right) c.in-Fault.code
+    (ap scalar_value c.in-Fault.is)

@@ -11,4 +11,6 @@ pub returns : goal.returns
 returns c = rw (c.new.ensures, c.into_parts-occurrences.ensures.listed) c.in_ok-tree.ensures.read
 
 pub new-requires-clause-below : goal.new-requires-clause-below
-new-requires-clause-below c = subst (λ os. is_below (length os) c.in_ok-tree.tree ≡ true) (sym c.into_parts-occurrences.ensures.listed) c.in_ok-tree.ensures.below
+new-requires-clause-below c =
+    subst (λ os. is_below (length os) c.in_ok-tree.tree ≡ true)
+    (sym c.into_parts-occurrences.ensures.listed) c.in_ok-tree.ensures.below

@@ -7,4 +7,5 @@ use Rattle.ag_fault.proofs.display.write_attributes.Given as goal
 -- the attributes so far are written
 abbrev pub invariant-loop-attribute : goal.invariant-loop-attribute
 invariant-loop-attribute g l =
-    IsPlainFormatter l.fn.f → HasWritten g.W.Write.write_str_gives l.fn.f (flat_map (attribute_text l.grammar) (take l.attribute-index l.attributes)) l.f
+    IsPlainFormatter l.fn.f → HasWritten g.W.Write.write_str_gives l.fn.f
+    (flat_map (attribute_text l.grammar) (take l.attribute-index l.attributes)) l.f

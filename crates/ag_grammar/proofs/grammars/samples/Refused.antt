@@ -1,6 +1,7 @@
 -- Sample grammars that the definitions reject.
 use Rattle.ag_grammar.proofs.grammars.OneSolution.{counterpart}
-use Rattle.std.proofs.Common.{ℕ, zero, suc, sym, ◌≡◌, inl, inr, ◌≤◌, List, [], ◌∷◌, Option, Some, slice_get, refl, ap, subst, ◌∙◌, arith}
+use Rattle.std.proofs.Common.{ℕ, zero, suc, sym, ◌≡◌, inl, inr, ◌≤◌, List, [], ◌∷◌, Option, Some, slice_get, refl, ap, subst, ◌∙◌}
+use Rattle.std.proofs.Common.{arith}
 use Rattle.ag_grammar.specs.Lists.{Each}
 use Rattle.ag_grammar.specs.declared.grammar.Item.TheVariants as item
 use Rattle.ag_grammar.specs.declared.grammar.Item.{Item}
@@ -10,7 +11,9 @@ use Rattle.ag_grammar.specs.grammars.AttributeGrammar.{Inherited, symbol_kinds, 
 use Rattle.ag_grammar.specs.grammars.Accepted.{IsNormal, IsProductive, IsReached, at_start, within}
 use Rattle.ag_grammar.specs.grammars.Tree.{Tree, Forest, node, none, more, Fits, FitsAll, IsTreeOf}
 use Rattle.ag_grammar.specs.grammars.Passes.{Passes, Direction, LeftToRight, RightToLeft, MayUse, IsBefore, direction_of, IsLegal}
-use Rattle.ag_grammar.specs.grammars.Sample.{both_ways, production_back, copy_rule, s_name, symbol_a, sample, production_r, production_a, production_t, attribute, rule_out, rule_first, rule_second, rule_s, rule_inherited, later_passes, endless, with_unreached}
+use Rattle.ag_grammar.specs.grammars.Sample.{both_ways, production_back, copy_rule, s_name, symbol_a, sample, production_r}
+use Rattle.ag_grammar.specs.grammars.Sample.{production_a, production_t, attribute, rule_out, rule_first, rule_second, rule_s}
+use Rattle.ag_grammar.specs.grammars.Sample.{rule_inherited, later_passes, endless, with_unreached}
 use Rattle.ag_grammar.proofs.grammars.Members.{both, only}
 use Rattle.ag_grammar.proofs.grammars.Children.{child, tree_ind}
 use Rattle.ag_grammar.proofs.grammars.Productive.{by_trees}
@@ -21,22 +24,29 @@ not_normal h = let e = h 2 rule_inherited refl 0 (attribute 1 1) refl in cc
 pub child_missing : IsTreeOf sample (node 0 (more (node 1 none) none)) → ⊥
 child_missing f =
     let e : f.0 ≡ production_r (rule_out ∷ rule_first ∷ rule_second ∷ []) = let h = f.1 in cc in
-    let g : FitsAll sample (item.Symbol 1 ∷ item.Symbol 1 ∷ []) (more (node 1 none) none) = subst (λ q. FitsAll sample (stored_items q.items) (more (node 1 none) none)) e f.3 in g.1
+    let g : FitsAll sample (item.Symbol 1 ∷ item.Symbol 1 ∷ []) (more (node 1 none) none) =
+    subst (λ q. FitsAll sample (stored_items q.items) (more (node 1 none) none)) e f.3 in g.1
 
 pub not_legal : IsLegal sample later_passes → ⊥
 not_legal l =
-    let u = l.allowed 0 (production_r (rule_out ∷ rule_first ∷ rule_second ∷ [])) refl rule_first (attribute 2 0) 2 (1, refl) (0, refl) refl in
+    let u =
+    l.allowed 0 (production_r (rule_out ∷ rule_first ∷ rule_second ∷ [])) refl rule_first (attribute 2 0) 2 (1, refl)
+    (0, refl) refl in
     let second : 2 ≡ u.0 = let e : ◌≡◌ {A = Option ℕ} (Some 2) (Some u.0) = u.1 in cc in
-    elim u.2 [ inl x ↦ (let e = x.0 in omega arith) | inr y ↦ elim y [ inl x ↦ (let e = x.0 in omega arith) | inr x ↦ omega arith ] ]
+    elim u.2
+    [ inl x ↦ (let e = x.0 in omega arith) | inr y ↦ elim y [ inl x ↦ (let e = x.0 in omega arith) | inr x ↦ omega arith ] ]
 
 endless_items : (p : ℕ) (q : Production) → IsProduction endless p q → q.items ≡ item.Symbol 0 ∷ []
 endless_items zero q e = cc
 endless_items (suc p) q e = cc
 
 no_tree : (t : Tree) → Fits endless (item.Symbol 0) t → ⊥
-no_tree t = tree_ind (λ t. Fits endless (item.Symbol 0) t → ⊥) (λ c x f. f) (λ p ts ih f. go ts ih (subst (λ xs. FitsAll endless (stored_items xs) ts) (endless_items p f.0 f.1) f.3)) t
+no_tree t =
+    tree_ind (λ t. Fits endless (item.Symbol 0) t → ⊥) (λ c x f. f)
+    (λ p ts ih f. go ts ih (subst (λ xs. FitsAll endless (stored_items xs) ts) (endless_items p f.0 f.1) f.3)) t
   where
-    go : (ts : Forest) → ((i : ℕ) (t : Tree) → child ts i ≡ Some t → Fits endless (item.Symbol 0) t → ⊥) → FitsAll endless (item.Symbol 0 ∷ []) ts → ⊥
+    go : (ts : Forest) → ((i : ℕ) (t : Tree) → child ts i ≡ Some t → Fits endless (item.Symbol 0) t → ⊥)
+        → FitsAll endless (item.Symbol 0 ∷ []) ts → ⊥
     go none ih f = f
     go (more t ts) ih f = ih 0 t refl f.0
 
@@ -51,9 +61,12 @@ abbrev Lacks : List Item → Type 0
 Lacks = Each other
 
 on_no_right_side : (p : ℕ) (q : Production) → IsProduction with_unreached p q → Lacks q.items
-on_no_right_side zero q e = let z : production_r (rule_out ∷ rule_first ∷ rule_second ∷ []) ≡ q = cc in subst (λ (q : Production). Lacks q.items) z (both other (item.Symbol 1) (item.Symbol 1) (λ e. cc) (λ e. cc))
-on_no_right_side (suc zero) q e = let z : production_a ≡ q = cc in subst (λ (q : Production). Lacks q.items) z (only other (item.Terminal (Literal 0)) (λ e. cc))
-on_no_right_side (suc (suc zero)) q e = let z : production_t ≡ q = cc in subst (λ (q : Production). Lacks q.items) z (only other (item.Symbol 0) (λ e. cc))
+on_no_right_side zero q e = let z : production_r (rule_out ∷ rule_first ∷ rule_second ∷ []) ≡ q = cc in
+    subst (λ (q : Production). Lacks q.items) z (both other (item.Symbol 1) (item.Symbol 1) (λ e. cc) (λ e. cc))
+on_no_right_side (suc zero) q e = let z : production_a ≡ q = cc in
+    subst (λ (q : Production). Lacks q.items) z (only other (item.Terminal (Literal 0)) (λ e. cc))
+on_no_right_side (suc (suc zero)) q e = let z : production_t ≡ q = cc in
+    subst (λ (q : Production). Lacks q.items) z (only other (item.Symbol 0) (λ e. cc))
 on_no_right_side (suc (suc (suc p))) q e = cc
 
 unreached : (s : ℕ) → IsReached with_unreached s → s ≡ 2 → ⊥
@@ -86,6 +99,10 @@ not_both RightToLeft h k = omega arith
 pub none_legal : (m : Passes) → IsLegal both_ways m → ⊥
 none_legal m legal =
     let i = counterpart (symbol_kinds (Some symbol_a)) (m 1) 1 Inherited (sym (legal.whole 1)) refl in
-    let first = legal.allowed 0 (production_r (rule_out ∷ rule_first ∷ rule_second ∷ [])) refl rule_first (attribute 2 0) i.0 (1, refl) (0, refl) i.1 in
-    let back = legal.allowed 2 production_back refl (copy_rule (attribute 2 1) 1 s_name 0) (attribute 1 0) i.0 (2, refl) (0, refl) i.1 in
-    not_both (direction_of i.0) (from_child i.0 0 1 first.0 first.2 (late_s m i.0 first.0 legal i.1 first.1)) (from_child i.0 1 0 back.0 back.2 (late_s m i.0 back.0 legal i.1 back.1))
+    let first =
+    legal.allowed 0 (production_r (rule_out ∷ rule_first ∷ rule_second ∷ [])) refl rule_first (attribute 2 0) i.0 (1, refl)
+    (0, refl) i.1 in
+    let back =
+    legal.allowed 2 production_back refl (copy_rule (attribute 2 1) 1 s_name 0) (attribute 1 0) i.0 (2, refl) (0, refl) i.1 in
+    not_both (direction_of i.0) (from_child i.0 0 1 first.0 first.2 (late_s m i.0 first.0 legal i.1 first.1))
+    (from_child i.0 1 0 back.0 back.2 (late_s m i.0 back.0 legal i.1 back.1))

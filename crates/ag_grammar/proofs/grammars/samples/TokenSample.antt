@@ -5,13 +5,18 @@ use Rattle.ag_value.specs.declared.value.Value.{Text}
 use Rattle.ag_grammar.specs.grammars.Tree.{IsTokenText, IsTreeOf}
 use Rattle.ag_grammar.specs.Lists.{Each}
 use Rattle.ag_grammar.specs.grammars.Solution.{at, Holds, Solves, AnyRule, IsTranslation}
-use Rattle.ag_grammar.specs.grammars.Sample.{attribute, named as named_at, token_sample, production_s, symbol_s, token_tree, token_values, rule_lex, iffy}
+use Rattle.ag_grammar.specs.grammars.Sample.{attribute, named as named_at, token_sample, production_s, symbol_s, token_tree}
+use Rattle.ag_grammar.specs.grammars.Sample.{token_values, rule_lex, iffy}
 use Rattle.ag_grammar.specs.Lists.{Differ}
 use Rattle.ag_grammar.specs.declared.grammar.Item.TheVariants as item
 use Rattle.ag_grammar.specs.declared.grammar.Rule.{Rule}
 use Rattle.ag_grammar.specs.declared.grammar.Terminal.TheVariants.{Literal, Class}
-use Rattle.ag_grammar.specs.grammars.AttributeGrammar.{attribute_names, lex_name, stored_items, HasKind, IsRule, RefersTo, Synthesized, used_kind, defined_kind}
-use Rattle.ag_grammar.specs.grammars.Accepted.{out_name, max_attributes, max_items, max_children, max_literal_bytes, class_count, IsSeparator, IsWithinGrammarLimits, IsInUse, IsNamedItem, IsNamedRule, IsNamed, IsComplete, IsNormal, IsProductive, by_production, nothing, a_terminal, IsReached, at_start, IsAccepted}
+use Rattle.ag_grammar.specs.grammars.AttributeGrammar.{attribute_names, lex_name, stored_items, HasKind, IsRule, RefersTo}
+use Rattle.ag_grammar.specs.grammars.AttributeGrammar.{Synthesized, used_kind, defined_kind}
+use Rattle.ag_grammar.specs.grammars.Accepted.{out_name, max_attributes, max_items, max_children, max_literal_bytes, class_count}
+use Rattle.ag_grammar.specs.grammars.Accepted.{IsSeparator, IsWithinGrammarLimits, IsInUse, IsNamedItem, IsNamedRule, IsNamed}
+use Rattle.ag_grammar.specs.grammars.Accepted.{IsComplete, IsNormal, IsProductive, by_production, nothing, a_terminal, IsReached}
+use Rattle.ag_grammar.specs.grammars.Accepted.{at_start, IsAccepted}
 use Rattle.ag_grammar.proofs.grammars.Members.{alone, both, only, related_one}
 use Rattle.ag_grammar.proofs.grammars.samples.NumberSample.{no_separator}
 use Rattle.ag_grammar.proofs.grammars.Rules.{environment, lends}
@@ -33,7 +38,8 @@ pub fits : IsTreeOf token_sample token_tree
 fits = (production_s, refl, refl, ((refl, text), tt))
 
 lex_holds : Each (λ r. Holds r (at (token_values iffy))) production_s.rules
-lex_holds = only (λ r. Holds r (at (token_values iffy))) rule_lex (λ env lent. sym (occurrence_gives 0 env ∙ lent 0 (attribute 1 0) refl))
+lex_holds =
+    only (λ r. Holds r (at (token_values iffy))) rule_lex (λ env lent. sym (occurrence_gives 0 env ∙ lent 0 (attribute 1 0) refl))
 
 pub solved : Solves AnyRule token_sample token_tree (token_values iffy)
 solved = (λ r h any. lex_holds h.0 r h.1, (refl, tt))
@@ -41,13 +47,15 @@ solved = (λ r h any. lex_holds h.0 r h.1, (refl, tt))
 pub unsolved : Solves AnyRule token_sample token_tree (token_values []) → ⊥
 unsolved s =
     let env = environment rule_lex (at (token_values [])) in
-    let e : Text [] ≡ Text iffy = s.0 rule_lex (0, refl) tt env (lends rule_lex (at (token_values []))) ∙ occurrence_gives 0 env in
+    let e : Text [] ≡ Text iffy =
+    s.0 rule_lex (0, refl) tt env (lends rule_lex (at (token_values []))) ∙ occurrence_gives 0 env in
     cc
 
 pub translation : IsTranslation token_sample (token_values iffy) (Text iffy)
 translation = (0, (symbol_s, refl, refl), refl)
 
-given : (j a : ℕ) → HasKind token_sample production_s (attribute j a) (defined_kind j) → (r : Rule) × IsRule production_s r × (r.target ≡ attribute j a)
+given : (j a : ℕ) → HasKind token_sample production_s (attribute j a) (defined_kind j)
+    → (r : Rule) × IsRule production_s r × (r.target ≡ attribute j a)
 given zero zero h = (rule_lex, (0, refl), refl)
 given zero (suc a) h = cc
 given (suc zero) zero h = cc
@@ -55,10 +63,17 @@ given (suc zero) (suc a) h = cc
 given (suc (suc j)) a h = cc
 
 complete : IsComplete token_sample production_s
-complete = record { all = λ o h. given o.place o.attr h; single = alone (λ r. r.target) rule_lex; no_other = only (λ r. HasKind token_sample production_s r.target (defined_kind r.target.place)) rule_lex refl }
+complete =
+    record {
+      all = λ o h. given o.place o.attr h;
+      single = alone (λ r. r.target) rule_lex;
+      no_other = only (λ r. HasKind token_sample production_s r.target (defined_kind r.target.place)) rule_lex refl;
+    }
 
 normal : IsNormal token_sample production_s
-normal = only (λ r. Each (λ o. HasKind token_sample production_s o (used_kind o.place)) r.args) rule_lex (only (λ o. HasKind token_sample production_s o (used_kind o.place)) (attribute 1 0) refl)
+normal =
+    only (λ r. Each (λ o. HasKind token_sample production_s o (used_kind o.place)) r.args) rule_lex
+    (only (λ o. HasKind token_sample production_s o (used_kind o.place)) (attribute 1 0) refl)
 
 first_alone : (P : ℕ → Type 0) → P 0 → (s : ℕ) → s < 1 → P s
 first_alone P h zero lt = h
@@ -70,17 +85,25 @@ named = record {
   attributes_differ = only (λ s. Differ (attribute_names s)) symbol_s (alone (λ x. x) out_name);
   literals_differ = alone (λ x. x) (105 ∷ 102 ∷ []);
   literals_used = first_alone (λ l. IsInUse token_sample (Literal l)) (0, production_s, refl, (1, refl));
-  without_separators = only (Each (λ b. IsSeparator b → ⊥)) (105 ∷ 102 ∷ []) (both (λ b. IsSeparator b → ⊥) 105 102 (no_separator 105 (omega arith)) (no_separator 102 (omega arith)));
+  without_separators =
+      only (Each (λ b. IsSeparator b → ⊥)) (105 ∷ 102 ∷ [])
+      (both (λ b. IsSeparator b → ⊥) 105 102 (no_separator 105 (omega arith)) (no_separator 102 (omega arith)));
   classes_differ = alone (λ x. x) 0;
   classes_known = only (λ c. c < class_count) 0 (omega arith);
   classes_used = only (λ c. IsInUse token_sample (Class c)) 0 (0, production_s, refl, (0, refl));
   left_sides = only (λ q. q.left < length token_sample.symbols) production_s (omega arith);
-  items_named = only (λ q. Each (IsNamedItem token_sample) q.items) production_s (both (IsNamedItem token_sample) (item.Terminal (Class 0)) (item.Terminal (Literal 0)) (0, refl) (omega arith));
-  rules_named = only (λ q. Each (IsNamedRule token_sample q) q.rules) production_s (only (IsNamedRule token_sample production_s) rule_lex (record {
-    target = (Synthesized, refl);
-    listed = occurrence_within 1 0 0 refl;
-    arguments = related_one (RefersTo token_sample production_s) (named_at 1 lex_name) (attribute 1 0) (record { place = refl; name = refl });
-  }));
+  items_named =
+      only (λ q. Each (IsNamedItem token_sample) q.items) production_s
+      (both (IsNamedItem token_sample) (item.Terminal (Class 0)) (item.Terminal (Literal 0)) (0, refl) (omega arith));
+  rules_named =
+      only (λ q. Each (IsNamedRule token_sample q) q.rules) production_s
+      (only (IsNamedRule token_sample production_s) rule_lex (record {
+        target = (Synthesized, refl);
+        listed = occurrence_within 1 0 0 refl;
+        arguments =
+            related_one (RefersTo token_sample production_s) (named_at 1 lex_name) (attribute 1 0)
+            (record { place = refl; name = refl });
+      }));
 }
 
 limits : IsWithinGrammarLimits token_sample

@@ -1,4 +1,5 @@
-use Rattle.ag_job.proofs.Worked.{cr_alone_is_none, cr_and_lf_end, longer_is_none, nothing_before, spaced_is_none, the_first_cuts, the_last_ends}
+use Rattle.ag_job.proofs.Worked.{cr_alone_is_none, cr_and_lf_end, longer_is_none, nothing_before, spaced_is_none, the_first_cuts}
+use Rattle.ag_job.proofs.Worked.{the_last_ends}
 use Rattle.ag_job.proofs.laws.worked_jobs.Goals as goal
 
 pub returns : goal.returns

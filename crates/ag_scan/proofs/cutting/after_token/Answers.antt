@@ -9,5 +9,8 @@ pub returns-clause-took : goal.returns-clause-took
 returns-clause-took c =
     let word = leading_word_of c.in-Some.word in
     let utf8 = subst IsUtf8 c.as_bytes-utf8.ensures.value c.as_bytes-utf8.ensures.utf8 in
-    let short : length word.lex ≤ max_token_bytes = omega arith in
-    (record { kind = word.kind; lex = word.lex; at = c.args.at }, taken (vocabulary c.args.literals.now c.args.classes.now) (chars c.args.text.now) word c.args.at c.in-Some.ensures utf8 short)
+    let short : length word.lex ≤ max_token_bytes = omega arith in (
+      record { kind = word.kind; lex = word.lex; at = c.args.at },
+      taken (vocabulary c.args.literals.now c.args.classes.now)
+          (chars c.args.text.now) word c.args.at c.in-Some.ensures utf8 short,
+    )

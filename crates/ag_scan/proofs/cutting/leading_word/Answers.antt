@@ -7,5 +7,8 @@ use Rattle.ag_scan.proofs.cutting.leading_word.Goals as goal
 pub returns : goal.returns
 returns c =
     let v = vocabulary c.args.literals.now c.args.classes.now in
-    let found = chosen v (chars c.args.text.now) (option_map (λ f. leading_word_of f) c.leading_literal-literal.result) (option_map (λ f. leading_word_of f) c.leading_class.result) c.leading_literal-literal.ensures (sym c.leading_class.ensures) in
+    let found =
+    chosen v (chars c.args.text.now) (option_map (λ f. leading_word_of f) c.leading_literal-literal.result)
+    (option_map (λ f. leading_word_of f) c.leading_class.result) c.leading_literal-literal.ensures
+    (sym c.leading_class.ensures) in
     lent_word v (chars c.args.text.now) c.longer_of.result (rw (← c.longer_of.ensures) at found)

@@ -7,10 +7,14 @@ pub returns-clause-not_after : goal.returns-clause-not_after
 returns-clause-not_after c =
     let entries = c.args.entries.now in
     let text = c.args.text.now in
-    up_to_point entries text c.partition_point.result (IsPartitionPoint-from_clause (stands_up text) entries c.partition_point.result c.partition_point.ensures.partitioned (parted entries text c.requires) (λ a r q k. search rules))
+    up_to_point entries text c.partition_point.result
+    (IsPartitionPoint-from_clause (stands_up text) entries c.partition_point.result c.partition_point.ensures.partitioned
+    (parted entries text c.requires) (λ a r q k. search rules))
 
 pub returns-clause-others : goal.returns-clause-others
 returns-clause-others c =
     let entries = c.args.entries.now in
     let text = c.args.text.now in
-    none_past_point entries text c.partition_point.result (IsPartitionPoint-from_clause (stands_up text) entries c.partition_point.result c.partition_point.ensures.partitioned (parted entries text c.requires) (λ a r q k. search rules))
+    none_past_point entries text c.partition_point.result
+    (IsPartitionPoint-from_clause (stands_up text) entries c.partition_point.result c.partition_point.ensures.partitioned
+    (parted entries text c.requires) (λ a r q k. search rules))

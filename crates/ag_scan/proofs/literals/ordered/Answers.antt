@@ -7,4 +7,5 @@ pub returns-clause-literals : goal.returns-clause-literals
 returns-clause-literals c = moved c.args.literals.now _ _ c.sort_by_key.ensures.permutation c.in_ok-entries.ensures.literals
 
 pub returns-clause-ordered : goal.returns-clause-ordered
-returns-clause-ordered c = sorted_is_ordered _ (c.in_ok-sort_by_key.ensures.sorted (λ w. w.text) (answers_always _ _ _ (λ f a r f' k. search rules)))
+returns-clause-ordered c =
+    sorted_is_ordered _ (c.in_ok-sort_by_key.ensures.sorted (λ w. w.text) (answers_always _ _ _ (λ f a r f' k. search rules)))

@@ -5,7 +5,9 @@ use Rattle.ag_tokens.proofs.lexer.first.Goals as goal
 
 pub returns-in-Some : goal.returns-in-Some
 returns-in-Some c =
-    let split : c.args.text.now ≡ encode_utf8 c.in-Some.c ++ c.as_str.result.now = sym c.chars-characters.ensures.rest ∙ c.in-Some.ensures.steps.0 ∙ ap (λ t. encode_utf8 c.in-Some.c ++ t) (sym c.as_str.ensures) in
+    let split : c.args.text.now ≡ encode_utf8 c.in-Some.c ++ c.as_str.result.now =
+    sym c.chars-characters.ensures.rest ∙ c.in-Some.ensures.steps.0
+    ∙ ap (λ t. encode_utf8 c.in-Some.c ++ t) (sym c.as_str.ensures) in
     (chars_past_char _ _ _ c.utf8.text split, split)
 
 pub returns-in-None : goal.returns-in-None

@@ -9,8 +9,11 @@ loop-c-init c = (c.utf8.text, begins c.args.digit c.args.text.now c.requires)
 
 pub loop-c-preserved : goal.loop-c-preserved
 loop-c-preserved c =
-    let so_far = c.loop-c.invariant.1 in
-    (search rules, goes_on _ c.loop-c.number c.loop-c.rest.now c.in-Some.c c.in-Some.following.now c.in-Some.ensures.0 c.in-Some.ensures.1.0 c.if-number-gt99999999999999999.false so_far)
+    let so_far = c.loop-c.invariant.1 in (
+      search rules,
+      goes_on _ c.loop-c.number c.loop-c.rest.now c.in-Some.c c.in-Some.following.now c.in-Some.ensures.0 c.in-Some.ensures.1.0
+          c.if-number-gt99999999999999999.false so_far,
+    )
 
 pub returns-clause-value : goal.returns-clause-value
 returns-clause-value c =

@@ -7,7 +7,8 @@ pub loop-following-smaller : goal.loop-following-smaller
 loop-following-smaller c = nearer class.Separator c.loop-following.rest.now c.in-Some.following c.in-Some.ensures
 
 pub loop-following-preserved : goal.loop-following-preserved
-loop-following-preserved c = (search rules, skipped c.loop-following.rest.now c.in-Some.following c.in-Some.ensures ∙ c.loop-following.invariant.1)
+loop-following-preserved c =
+    (search rules, skipped c.loop-following.rest.now c.in-Some.following c.in-Some.ensures ∙ c.loop-following.invariant.1)
 
 pub returns : goal.returns
 returns c = unskipped c.loop-following.rest.now c.in_default.ensures ∙ c.loop-following.invariant.1

@@ -3,7 +3,8 @@ use Rattle.std.specs.Char.{encode_utf8}
 use Rattle.std.specs.Fmt.{digits}
 use Rattle.std.specs.Str.{chars}
 use Rattle.ag_value.specs.declared.value.ErrorCode.TheVariants as code
-use Rattle.ag_value.proofs.Layers.{depth-List, depth-Num, depth-Table, depth-Text, shown-List, shown-Num, shown-Table, shown-Text, weight-Fault, weight-List, weight-Num, weight-Table, weight-Text}
+use Rattle.ag_value.proofs.Layers.{depth-List, depth-Num, depth-Table, depth-Text, shown-List, shown-Num, shown-Table, shown-Text}
+use Rattle.ag_value.proofs.Layers.{weight-Fault, weight-List, weight-Num, weight-Table, weight-Text}
 use Rattle.ag_value.proofs.laws.worked_measures.Goals as goal
 
 pub returns-clause-number_weight : goal.returns-clause-number_weight

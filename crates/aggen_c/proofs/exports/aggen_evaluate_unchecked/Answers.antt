@@ -6,6 +6,7 @@ pub returns-clause-answer : goal.returns-clause-answer
 returns-clause-answer c =
     let made = c.answer_by_handle-answer in
     let done = c.write_answer in
-    answered _ _ (λ v. v.items) (λ r. r.status) (λ r. r.fields) (λ g. IsEvaluationOf g c.args.file.now) (λ g. IsEvaluationRefusal g c.args.file.now)
+    answered _ _ (λ v. v.items) (λ r. r.status) (λ r. r.fields) (λ g. IsEvaluationOf g c.args.file.now)
+    (λ g. IsEvaluationRefusal g c.args.file.now)
     c.args.handle.now.value c.args.out.now done.new.out done.new.length done.result done.new.fields made.result
     made.ensures.bytes made.ensures.refused done.ensures.ok done.ensures.err done.ensures.kept

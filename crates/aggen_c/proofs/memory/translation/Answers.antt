@@ -5,7 +5,8 @@ use Rattle.aggen_c.proofs.memory.translation.Goals as goal
 pub returns-in-Ok-clause-text : goal.returns-in-Ok-clause-text
 returns-in-Ok-clause-text c =
     let made = c.translate in
-    translated c.args.translator.now c.args.sentence.now made.new.a made.new.b c.new-text.result.items made.new.out.items c.in-Ok.field-0
+    translated c.args.translator.now c.args.sentence.now made.new.a made.new.b c.new-text.result.items made.new.out.items
+    c.in-Ok.field-0
     c.new-text.ensures.items c.in-Ok.ensures.translates
 
 pub returns-clause-refused : goal.returns-clause-refused

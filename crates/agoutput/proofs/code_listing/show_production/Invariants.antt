@@ -5,4 +5,7 @@ use Rattle.agoutput.specs.Listings.{code_line}
 use Rattle.agoutput.proofs.code_listing.show_production.Given as goal
 
 abbrev pub invariant-loop-before : goal.invariant-loop-before
-invariant-loop-before l = string_bytes l.out ++ flat_map (code_line l.grammar l.number l.production) (enumerate_from (l.before + 1) (row_of (drop l.before l.lists))) ≡ string_bytes l.initial.out ++ flat_map (code_line l.grammar l.number l.production) (enumerate_from 1 (row_of l.lists))
+invariant-loop-before l =
+    string_bytes l.out ++ flat_map (code_line l.grammar l.number l.production)
+    (enumerate_from (l.before + 1) (row_of (drop l.before l.lists))) ≡ string_bytes l.initial.out ++ flat_map
+    (code_line l.grammar l.number l.production) (enumerate_from 1 (row_of l.lists))

@@ -12,7 +12,14 @@ pub returns : goal.returns
 returns c =
     let k = c.args.pass in
     let start = string_bytes c.args.out.now in
-    let road = YieldsList-at c.into_iter-symbol-iterator.ensures.into_iter_gives (YieldsList-from_zip (YieldsList-at c.zip-symbol-items.ensures.first (YieldsList-from_slice c.args.symbols.now cc)) (YieldsList-at c.zip-symbol-items.ensures.second (YieldsList-from_slice c.args.rows.now cc))) in
-    let all = YieldsList-end road c.loop-symbol.yielded c.loop-symbol.symbol-iterator c.loop-symbol.yielded_by c.next.result c.next.new.self c.in-None.is c.next.ensures.steps in
-    shown_all (λ (p : Symbol × Vec ℕ). symbol_text k (p.0, p.1.items)) (λ p. (p.0.now, p.1.now)) start (string_bytes c.loop-symbol.out) c.loop-symbol.yielded _ c.loop-symbol.invariant all.0
-    ∙ ap (λ (text : List ℕ). start ++ text) (through (symbol_text k) (λ (row : Vec ℕ). row.items) c.args.symbols.now c.args.rows.now)
+    let road =
+    YieldsList-at c.into_iter-symbol-iterator.ensures.into_iter_gives
+    (YieldsList-from_zip (YieldsList-at c.zip-symbol-items.ensures.first (YieldsList-from_slice c.args.symbols.now cc))
+    (YieldsList-at c.zip-symbol-items.ensures.second (YieldsList-from_slice c.args.rows.now cc))) in
+    let all =
+    YieldsList-end road c.loop-symbol.yielded c.loop-symbol.symbol-iterator c.loop-symbol.yielded_by c.next.result
+    c.next.new.self c.in-None.is c.next.ensures.steps in
+    shown_all (λ (p : Symbol × Vec ℕ). symbol_text k (p.0, p.1.items)) (λ p. (p.0.now, p.1.now)) start
+    (string_bytes c.loop-symbol.out) c.loop-symbol.yielded _ c.loop-symbol.invariant all.0
+    ∙ ap (λ (text : List ℕ). start ++ text)
+    (through (symbol_text k) (λ (row : Vec ℕ). row.items) c.args.symbols.now c.args.rows.now)

@@ -16,4 +16,5 @@ lines : sample_plan ≡ plan_text sample sample_rows 1
 lines = let one : decimal 1 ≡ 49 ∷ [] = decimal_digit 1 (omega arith) in rw one refl
 
 pub returns : goal.returns
-returns c = record { passes = 1; greatest = record { most = at_most_one; there = inr (1 ∷ [], (0, refl), (0, refl)) }; lines = lines }
+returns c =
+    record { passes = 1; greatest = record { most = at_most_one; there = inr (1 ∷ [], (0, refl), (0, refl)) }; lines = lines }

@@ -4,7 +4,8 @@ use Rattle.ag_grammar.specs.declared.direction.Direction.{Direction}
 use Rattle.ag_grammar.specs.declared.direction.Direction.TheVariants.{LeftToRight, RightToLeft}
 use Rattle.ag_grammar.specs.grammars.Passes.{other}
 use Rattle.treefile.specs.framing.Ending.{IsBody}
-use Rattle.treefile.specs.records.Orders.{BodyForest, BodyTree, MatchesArity, branch, joined, more, none, postfix, postfix_all, prefix}
+use Rattle.treefile.specs.records.Orders.{BodyForest, BodyTree, MatchesArity, branch, joined, more, none, postfix, postfix_all}
+use Rattle.treefile.specs.records.Orders.{prefix}
 use Rattle.treefile.specs.records.TreeFile.{file, version_two}
 use Rattle.treefile.proofs.framing.Backward.{reads_same}
 use Rattle.treefile.proofs.records.Orders.{one_tree, one_tree_at_end}
@@ -14,11 +15,22 @@ use Rattle.backreader.proofs.turnings.Whole.{tree_back}
 use Rattle.backreader.proofs.laws.reversing_twice_restores.Goals as goal
 
 -- one list is that of two trees, seen in two directions: of one tree, or of one and its mirror image
-twice : (arity : List ℕ → Option ℕ) (d e : Direction) (t u : BodyTree) → MatchesArity arity t → MatchesArity arity u → postfix (other d) t ≡ postfix e u → postfix (other e) u ≡ postfix d t
-twice arity LeftToRight RightToLeft t u r s same = ap (postfix LeftToRight) (sym (one_tree_at_end arity RightToLeft t u [] [] r s same).0)
-twice arity RightToLeft LeftToRight t u r s same = ap (postfix RightToLeft) (sym (one_tree_at_end arity LeftToRight t u [] [] r s same).0)
-twice arity LeftToRight LeftToRight t u r s same = ap (postfix RightToLeft) (sym (one_tree_at_end arity LeftToRight (mirror t) u [] [] (arities-mirror arity t r) s (postfix-mirror LeftToRight t ∙ same)).0) ∙ postfix-mirror RightToLeft t
-twice arity RightToLeft RightToLeft t u r s same = ap (postfix LeftToRight) (sym (one_tree_at_end arity RightToLeft (mirror t) u [] [] (arities-mirror arity t r) s (postfix-mirror RightToLeft t ∙ same)).0) ∙ postfix-mirror LeftToRight t
+twice : (arity : List ℕ → Option ℕ) (d e : Direction) (t u : BodyTree) → MatchesArity arity t → MatchesArity arity u
+    → postfix (other d) t ≡ postfix e u → postfix (other e) u ≡ postfix d t
+twice arity LeftToRight RightToLeft t u r s same =
+    ap (postfix LeftToRight) (sym (one_tree_at_end arity RightToLeft t u [] [] r s same).0)
+twice arity RightToLeft LeftToRight t u r s same =
+    ap (postfix RightToLeft) (sym (one_tree_at_end arity LeftToRight t u [] [] r s same).0)
+twice arity LeftToRight LeftToRight t u r s same =
+    ap (postfix RightToLeft)
+    (sym
+    (one_tree_at_end arity LeftToRight (mirror t) u [] [] (arities-mirror arity t r) s
+    (postfix-mirror LeftToRight t ∙ same)).0) ∙ postfix-mirror RightToLeft t
+twice arity RightToLeft RightToLeft t u r s same =
+    ap (postfix LeftToRight)
+    (sym
+    (one_tree_at_end arity RightToLeft (mirror t) u [] [] (arities-mirror arity t r) s
+    (postfix-mirror RightToLeft t ∙ same)).0) ∙ postfix-mirror LeftToRight t
 
 pub returns-clause-bodies : goal.returns-clause-bodies
 returns-clause-bodies c arity d e bodies turned again first second =
@@ -64,6 +76,11 @@ returns-clause-files c arity pass d content turned again count another first sec
       pass = pass;
       occurs = first.to refl;
     } in
-    let read : prefix (other (other d)) u ≡ prefix (other (other d)) t = reads_same version_two turned (prefix (other (other d)) u) (prefix (other (other d)) t) (length turned) (tree_back arity turned (other d) u second.from) (tree_back arity turned (other d) t is) in
-    let same : u ≡ t = (one_tree arity (other (other d)) u t [] [] second.from.arities first.from.arities (ap (λ (bodies : List (List ℕ)). bodies ++ []) read)).0 in
-    second.to refl ∙ ap (λ (v : BodyTree). file version_two first.from.pass (postfix (other (other d)) v)) same ∙ ap (λ (e : Direction). file version_two first.from.pass (postfix e t)) (other-other d) ∙ sym first.from.occurs
+    let read : prefix (other (other d)) u ≡ prefix (other (other d)) t =
+    reads_same version_two turned (prefix (other (other d)) u) (prefix (other (other d)) t) (length turned)
+    (tree_back arity turned (other d) u second.from) (tree_back arity turned (other d) t is) in
+    let same : u ≡ t =
+    (one_tree arity (other (other d)) u t [] [] second.from.arities first.from.arities
+    (ap (λ (bodies : List (List ℕ)). bodies ++ []) read)).0 in
+    second.to refl ∙ ap (λ (v : BodyTree). file version_two first.from.pass (postfix (other (other d)) v)) same
+    ∙ ap (λ (e : Direction). file version_two first.from.pass (postfix e t)) (other-other d) ∙ sym first.from.occurs

@@ -13,7 +13,10 @@ body_of production = 0 ∷ 0 ∷ production ∷ []
 
 -- the tree of the bodies of `1`
 abbrev tree_of_one : BodyTree
-tree_of_one = branch (body_of 0) (more (branch (body_of 3) (more (branch (body_of 7) none) (more (branch (body_of 4) none) none))) (more (branch (body_of 1) none) none))
+tree_of_one =
+    branch (body_of 0)
+    (more (branch (body_of 3) (more (branch (body_of 7) none) (more (branch (body_of 4) none) none)))
+    (more (branch (body_of 1) none) none))
 
 -- each of them may be in a frame
 may_occur : (production : ℕ) → IsBody version_two (body_of production)
@@ -21,7 +24,8 @@ may_occur production = record { least = lit≤ tt; greatest = lit≤ tt }
 
 all_occur : (productions : List ℕ) → All (IsBody version_two) (map body_of productions)
 all_occur [] = All-nil (IsBody version_two)
-all_occur (production ∷ productions) = All-cons (IsBody version_two) (body_of production) (map body_of productions) (may_occur production) (all_occur productions)
+all_occur (production ∷ productions) =
+    All-cons (IsBody version_two) (body_of production) (map body_of productions) (may_occur production) (all_occur productions)
 
 pub returns-clause-one : goal.returns-clause-one
 returns-clause-one c =

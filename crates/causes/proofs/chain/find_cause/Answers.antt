@@ -96,7 +96,8 @@ returns-in-Arises-clause-node g c =
     let node = c.node.result in
     let places = c.in_ok-places-in-Arises.places.items in
     let at_places : IsNumberAt chain.grammar.now chain.index.now places node =
-    subst (λ (z : List ℕ). IsNumberAt chain.grammar.now chain.index.now z node) (sym c.in_ok-places-in-Arises.ensures.places) c.node.ensures in
+    subst (λ (z : List ℕ). IsNumberAt chain.grammar.now chain.index.now z node)
+    (sym c.in_ok-places-in-Arises.ensures.places) c.node.ensures in
     let of_index : chain.index.now ≡ c.args.index.now = ap (λ (i : Bor TreeIndex). i.now) now.index ∙ before.index in
     let of_grammar : chain.grammar.now ≡ c.args.grammar.now = ap (λ (x : Bor Grammar). x.now) now.grammar ∙ before.grammar in
     subst (λ (x : Grammar). IsNumberAt x c.args.index.now places node) of_grammar

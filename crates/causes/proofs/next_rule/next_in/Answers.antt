@@ -9,20 +9,36 @@ returns-in-Some-2 c =
     let row = c.args.row.now in
     let rule = c.in-Some-get.rule.now in
     let lookup = c.in-Some-get.ensures.lookup in
-    let is = rule_there row.production.now.rules c.as_slice-rules.result.now c.from.result c.in-Some.number c.args.target rule c.as_slice-rules.ensures c.from.ensures lookup.3.0 lookup.1 c.in-Some.ensures in
-    let source = subst (AnswersSource rule (table_of row.grammar.now row.production.now row.values.now)) c.in-Some-2.is c.in_ok-argument.ensures in
-    record { number = c.in-Some.number; rule = rule; there = is.0; gives = is.1; index = source.0; takes = source.1; source = source.2 }
+    let is =
+    rule_there row.production.now.rules c.as_slice-rules.result.now c.from.result c.in-Some.number c.args.target rule
+    c.as_slice-rules.ensures c.from.ensures lookup.3.0 lookup.1 c.in-Some.ensures in
+    let source =
+    subst (AnswersSource rule (table_of row.grammar.now row.production.now row.values.now)) c.in-Some-2.is
+    c.in_ok-argument.ensures in
+    record {
+      number = c.in-Some.number;
+      rule = rule;
+      there = is.0;
+      gives = is.1;
+      index = source.0;
+      takes = source.1;
+      source = source.2;
+    }
 
 pub is_arising-requires : goal.is_arising-requires
 is_arising-requires c =
     let rule = c.in-Some-get.rule.now in
     let lookup = c.in-Some-get.ensures.lookup in
-    let is = rule_there c.args.row.now.production.now.rules c.as_slice-rules.result.now c.from.result c.in-Some.number c.args.target rule c.as_slice-rules.ensures c.from.ensures lookup.3.0 lookup.1 c.in-Some.ensures in
+    let is =
+    rule_there c.args.row.now.production.now.rules c.as_slice-rules.result.now c.from.result c.in-Some.number c.args.target
+    rule c.as_slice-rules.ensures c.from.ensures lookup.3.0 lookup.1 c.in-Some.ensures in
     record { arguments = c.requires.arguments c.in-Some.number rule is.0 }
 
 pub returns-then-branch : goal.returns-then-branch
 returns-then-branch c =
     let rule = c.in-Some-get.rule.now in
     let lookup = c.in-Some-get.ensures.lookup in
-    let is = rule_there c.args.row.now.production.now.rules c.as_slice-rules.result.now c.from.result c.in-Some.number c.args.target rule c.as_slice-rules.ensures c.from.ensures lookup.3.0 lookup.1 c.in-Some.ensures in
+    let is =
+    rule_there c.args.row.now.production.now.rules c.as_slice-rules.result.now c.from.result c.in-Some.number c.args.target
+    rule c.as_slice-rules.ensures c.from.ensures lookup.3.0 lookup.1 c.in-Some.ensures in
     record { rule = rule; there = is.0; gives = is.1; arises = sym c.in_ok-is_arising.ensures ∙ c.if-branch.true }

@@ -10,8 +10,10 @@ invariant-loop-search l = record {
   clauses : l.search.clauses.now ≡ l.fn.clauses;
   seeds : l.search.seeds.now ≡ l.fn.seeds;
   count : length l.search.marks.items ≡ length l.fn.uses;
-  search : IsSearch l.search.clauses.now l.search.seeds.now l.search.marks.items l.search.added.items l.search.visited l.search.passed.items;
-  settled : (p : ℕ) (d : Clause) → p < length l.fn.clauses → IsSettled l.search.marks.items l.search.added.items l.search.visited (get_or l.fn.clauses p d);
+  search : IsSearch l.search.clauses.now l.search.seeds.now l.search.marks.items l.search.added.items l.search.visited
+      l.search.passed.items;
+  settled : (p : ℕ) (d : Clause) → p < length l.fn.clauses
+      → IsSettled l.search.marks.items l.search.added.items l.search.visited (get_or l.fn.clauses p d);
   seeded : (t : ℕ) → Contains l.fn.seeds t → is_marked l.search.marks.items t ≡ true;
 }
 

@@ -16,7 +16,10 @@ loop-at-init c = record {
 pub loop-at-preserved : goal.loop-at-preserved
 loop-at-preserved c = record {
   count = sym (length-map _ _) ∙ c.in_ok-add_uses.ensures.adds.same ∙ length-map _ _ ∙ c.loop-at.invariant.count;
-  listed = noted_lines _ _ _ _ _ _ c.loop-at-test.true (c.as_slice.ensures ∙ ap (λ (q : Clause). q.body) c.index-clauses-at.is) c.in_ok-add_uses.ensures.adds c.loop-at.invariant.listed c.in_ok-add_uses.ensures.listed;
+  listed =
+      noted_lines _ _ _ _ _ _ c.loop-at-test.true
+      (c.as_slice.ensures ∙ ap (λ (q : Clause). q.body) c.index-clauses-at.is) c.in_ok-add_uses.ensures.adds
+      c.loop-at.invariant.listed c.in_ok-add_uses.ensures.listed;
   fits = c.in_ok-add_uses.ensures.adds.fits (length c.args.clauses.now) c.loop-at-test.true c.loop-at.invariant.fits;
 }
 

@@ -7,16 +7,21 @@ use Rattle.normalform.proofs.found.Reduced.{symbols}
 use Rattle.normalform.proofs.checking.number.Goals as goal
 
 pub number_productions-requires : goal.number_productions-requires
-number_productions-requires c = rw (c.as_slice-3.ensures, c.as_slice-4.ensures, c.in_ok-literals.ensures, c.as_slice-2.ensures) (small c.args.raw c.requires.right)
+number_productions-requires c =
+    rw (c.as_slice-3.ensures, c.as_slice-4.ensures, c.in_ok-literals.ensures, c.as_slice-2.ensures)
+    (small c.args.raw c.requires.right)
 
 pub new-requires-clause-accepted : goal.new-requires-clause-accepted
 new-requires-clause-accepted c =
     let raw = c.args.raw in
     let syms : c.as_slice-3.result.now ≡ raw.symbols = c.as_slice-3.ensures in
-    let lits : c.as_slice-4.result.now ≡ literals_of raw.productions = c.as_slice-4.ensures ∙ c.in_ok-literals.ensures ∙ ap literals_of c.as_slice-2.ensures in
+    let lits : c.as_slice-4.result.now ≡ literals_of raw.productions =
+    c.as_slice-4.ensures ∙ c.in_ok-literals.ensures ∙ ap literals_of c.as_slice-2.ensures in
     made raw c.requires.readable c.requires.right _ _ _ _ _
     c.in_ok-symbols.ensures
-    (c.in_ok-start.ensures.numbered ∙ ap (λ ss. map (production_of (map symbol_of ss) c.as_slice-4.result.now) raw.productions) syms ∙ ap (λ ls. map (production_of (symbols raw) ls) raw.productions) lits)
+    (c.in_ok-start.ensures.numbered
+    ∙ ap (λ ss. map (production_of (map symbol_of ss) c.as_slice-4.result.now) raw.productions) syms
+    ∙ ap (λ ls. map (production_of (symbols raw) ls) raw.productions) lits)
     c.in_ok-start.ensures.listed
     (c.in_ok-literals.ensures ∙ ap literals_of c.as_slice-2.ensures)
     (c.in_ok-classes.ensures ∙ ap classes_of c.as_slice.ensures)

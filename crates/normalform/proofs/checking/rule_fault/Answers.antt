@@ -9,7 +9,9 @@ returns-in-Some c =
     let ss = c.args.declared.now in
     let qs = c.args.productions.now in
     let here : Some c.in-Some.fault ≡ first_wrong (missing_checks ss qs) = sym c.in-Some.is ∙ c.in_ok-fault.ensures in
-    first_of ((missing_checks ss qs ++ doubled_rules ss qs) ++ not_defined_here ss qs) (not_normal ss qs) _ (first_of (missing_checks ss qs ++ doubled_rules ss qs) (not_defined_here ss qs) _ (first_of (missing_checks ss qs) (doubled_rules ss qs) _ here))
+    first_of ((missing_checks ss qs ++ doubled_rules ss qs) ++ not_defined_here ss qs) (not_normal ss qs) _
+    (first_of (missing_checks ss qs ++ doubled_rules ss qs) (not_defined_here ss qs) _
+    (first_of (missing_checks ss qs) (doubled_rules ss qs) _ here))
 
 pub returns-in-Some-2 : goal.returns-in-Some-2
 returns-in-Some-2 c =
@@ -17,7 +19,9 @@ returns-in-Some-2 c =
     let qs = c.args.productions.now in
     let past : None ≡ first_wrong (missing_checks ss qs) = sym c.in_default.is ∙ c.in_ok-fault.ensures in
     let here : Some c.in-Some-2.fault ≡ first_wrong (doubled_rules ss qs) = sym c.in-Some-2.is ∙ c.in_ok-fault-2.ensures in
-    first_of ((missing_checks ss qs ++ doubled_rules ss qs) ++ not_defined_here ss qs) (not_normal ss qs) _ (first_of (missing_checks ss qs ++ doubled_rules ss qs) (not_defined_here ss qs) _ (here ∙ rest_of (missing_checks ss qs) (doubled_rules ss qs) past))
+    first_of ((missing_checks ss qs ++ doubled_rules ss qs) ++ not_defined_here ss qs) (not_normal ss qs) _
+    (first_of (missing_checks ss qs ++ doubled_rules ss qs) (not_defined_here ss qs) _
+    (here ∙ rest_of (missing_checks ss qs) (doubled_rules ss qs) past))
 
 pub returns-in-Some-3 : goal.returns-in-Some-3
 returns-in-Some-3 c =
@@ -26,7 +30,9 @@ returns-in-Some-3 c =
     let past : None ≡ first_wrong (missing_checks ss qs) = sym c.in_default.is ∙ c.in_ok-fault.ensures in
     let then : None ≡ first_wrong (doubled_rules ss qs) = sym c.in_default-2.is ∙ c.in_ok-fault-2.ensures in
     let here : Some c.in-Some-3.fault ≡ first_wrong (not_defined_here ss qs) = sym c.in-Some-3.is ∙ c.in_ok-fault-3.ensures in
-    first_of ((missing_checks ss qs ++ doubled_rules ss qs) ++ not_defined_here ss qs) (not_normal ss qs) _ (here ∙ rest_of (missing_checks ss qs ++ doubled_rules ss qs) (not_defined_here ss qs) (then ∙ rest_of (missing_checks ss qs) (doubled_rules ss qs) past))
+    first_of ((missing_checks ss qs ++ doubled_rules ss qs) ++ not_defined_here ss qs) (not_normal ss qs) _
+    (here ∙ rest_of (missing_checks ss qs ++ doubled_rules ss qs) (not_defined_here ss qs)
+    (then ∙ rest_of (missing_checks ss qs) (doubled_rules ss qs) past))
 
 pub returns : goal.returns
 returns c =
@@ -36,5 +42,7 @@ returns c =
     let then : None ≡ first_wrong (doubled_rules ss qs) = sym c.in_default-2.is ∙ c.in_ok-fault-2.ensures in
     let last : None ≡ first_wrong (not_defined_here ss qs) = sym c.in_default-3.is ∙ c.in_ok-fault-3.ensures in
     let all : first_wrong (not_normal ss qs) ≡ first_wrong (rule_kinds ss qs) =
-    rest_of ((missing_checks ss qs ++ doubled_rules ss qs) ++ not_defined_here ss qs) (not_normal ss qs) (last ∙ rest_of (missing_checks ss qs ++ doubled_rules ss qs) (not_defined_here ss qs) (then ∙ rest_of (missing_checks ss qs) (doubled_rules ss qs) past)) in
+    rest_of ((missing_checks ss qs ++ doubled_rules ss qs) ++ not_defined_here ss qs) (not_normal ss qs)
+    (last ∙ rest_of (missing_checks ss qs ++ doubled_rules ss qs) (not_defined_here ss qs)
+    (then ∙ rest_of (missing_checks ss qs) (doubled_rules ss qs) past)) in
     rw (← all) c.first_not_normal.ensures

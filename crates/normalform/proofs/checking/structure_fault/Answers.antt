@@ -7,4 +7,6 @@ pub unreachable-requires-clause-productive : goal.unreachable-requires-clause-pr
 unreachable-requires-clause-productive c = c.in_ok-number.ensures.none c.in_default.is
 
 pub returns-in-Some-3 : goal.returns-in-Some-3
-returns-in-Some-3 c = in_rules c.requires.names (c.in_ok-number.ensures.none c.in_default.is) (c.in_ok-number-2.ensures.none c.in_default-2.is) (sym c.in_ok-fault.ensures ∙ c.in-Some-3.is)
+returns-in-Some-3 c =
+    in_rules c.requires.names (c.in_ok-number.ensures.none c.in_default.is) (c.in_ok-number-2.ensures.none c.in_default-2.is)
+    (sym c.in_ok-fault.ensures ∙ c.in-Some-3.is)

@@ -8,8 +8,11 @@ pub returns-in-Some-clause-room : goal.returns-in-Some-clause-room
 returns-in-Some-clause-room c =
     let h = c.in-Some.ensures.lookup in
     let s = c.in-Some.symbol.now in
-    let there : slice_get c.symbols.result.now c.args.symbol ≡ Some s = slice_get-get_or c.symbols.result.now c.args.symbol s h.3.0 ∙ ap Some (sym (h.3.1 s)) in
-    let few = c.symbols.ensures.accepted.limits.attribute_count c.args.symbol s (subst (λ (xs : List Symbol). slice_get xs c.args.symbol ≡ Some s) c.symbols.ensures.lent there) in
+    let there : slice_get c.symbols.result.now c.args.symbol ≡ Some s =
+    slice_get-get_or c.symbols.result.now c.args.symbol s h.3.0 ∙ ap Some (sym (h.3.1 s)) in
+    let few =
+    c.symbols.ensures.accepted.limits.attribute_count c.args.symbol s
+    (subst (λ (xs : List Symbol). slice_get xs c.args.symbol ≡ Some s) c.symbols.ensures.lent there) in
     omega (arith, few, length-append s.syn s.inh, ap length c.as_slice.ensures)
 
 pub returns-in-None-clause-count : goal.returns-in-None-clause-count

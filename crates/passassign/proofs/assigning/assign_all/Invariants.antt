@@ -14,9 +14,11 @@ invariant-loop-open_now l = record {
   count : l.open_now ≡ open_count l.progress.states.items;
   next : l.progress.next + 2 * l.open_now ≤ max_passes + 1;
   made : (g : Grammar) → IsAcceptedWith l.symbols l.productions g → IsProgress g l.dependencies.all.items l.progress;
-  last : (g : Grammar) → IsAcceptedWith l.symbols l.productions g → (l.progress.next ≡ 1) ⊎ IsLastInUse l.progress.next (table_passes l.progress.states.items);
+  last : (g : Grammar) → IsAcceptedWith l.symbols l.productions g
+      → (l.progress.next ≡ 1) ⊎ IsLastInUse l.progress.next (table_passes l.progress.states.items);
   wanted : l.kept.is_wanted ≡ l.wants_strikes;
-  kept : (g : Grammar) → IsAcceptedWith l.symbols l.productions g → l.kept.is_wanted ≡ true → AreStrikesSoFar g l.progress.next (table_passes l.progress.states.items) l.kept.lists.items;
+  kept : (g : Grammar) → IsAcceptedWith l.symbols l.productions g → l.kept.is_wanted ≡ true
+      → AreStrikesSoFar g l.progress.next (table_passes l.progress.states.items) l.kept.lists.items;
 }
 
 abbrev pub decreases-loop-open_now : goal.decreases-loop-open_now

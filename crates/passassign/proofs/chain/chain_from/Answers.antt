@@ -16,13 +16,23 @@ loop-before-preserved c =
     let y = strike_at xs j in
     let items : c.push-in-Some.new.self.items ≡ links ++ y ∷ [] = c.in_ok-push-2.ensures.items in
     let first : slice_get xs c.args.at ≡ Some (strike_at xs c.args.at) = slice_get-get_or xs c.args.at none c.requires in
-    let within : j < length xs = let lt = c.in-Some.ensures.found.0 in let most = c.loop-before.invariant.within in omega (arith, lt, most) in
+    let within : j < length xs = let lt = c.in-Some.ensures.found.0 in let most = c.loop-before.invariant.within in
+    omega (arith, lt, most) in
     record {
       within = within;
-      first = ap (λ l. slice_get l 0) items ∙ get_push_front links y (strike_at xs c.args.at) 0 (c.loop-before.invariant.first ∙ first) ∙ sym first;
-      among = among_more xs links c.push-in-Some.new.self.items y items (j, slice_get-get_or xs j none within) c.loop-before.invariant.among;
-      linked = λ ys h. subst (λ l. AreLinked g d (l ++ ys)) (sym items) (subst (AreLinked g d) (sym (append_assoc links (y ∷ []) ys)) (c.loop-before.invariant.linked (y ∷ ys) (c.in-Some.ensures.found.1, h)));
+      first =
+          ap (λ l. slice_get l 0) items ∙ get_push_front links y (strike_at xs c.args.at) 0
+          (c.loop-before.invariant.first ∙ first) ∙ sym first;
+      among =
+          among_more xs links c.push-in-Some.new.self.items y items
+          (j, slice_get-get_or xs j none within) c.loop-before.invariant.among;
+      linked =
+          λ ys h. subst (λ l. AreLinked g d (l ++ ys)) (sym items)
+          (subst (AreLinked g d) (sym (append_assoc links (y ∷ []) ys))
+          (c.loop-before.invariant.linked (y ∷ ys) (c.in-Some.ensures.found.1, h)));
     }
 
 pub returns-clause-linked : goal.returns-clause-linked
-returns-clause-linked c = λ order. subst (AreLinked c.args.grammar.now c.args.direction) (append-nil c.loop-before.links.items) (c.loop-before.invariant.linked [] (c.in_default.ensures.none refl order, tt))
+returns-clause-linked c =
+    λ order. subst (AreLinked c.args.grammar.now c.args.direction) (append-nil c.loop-before.links.items)
+    (c.loop-before.invariant.linked [] (c.in_default.ensures.none refl order, tt))

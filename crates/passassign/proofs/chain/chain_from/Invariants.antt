@@ -9,7 +9,8 @@ invariant-loop-before l = record {
   within : l.end < length l.strikes;
   first : slice_get l.links.items 0 ≡ slice_get l.strikes l.at;
   among : (i : ℕ) (x : Strike) → slice_get l.links.items i ≡ Some x → Has l.strikes x;
-  linked : (ys : List Strike) → AreLinked l.grammar l.direction (strike_at l.strikes l.end ∷ ys) → AreLinked l.grammar l.direction (l.links.items ++ ys);
+  linked : (ys : List Strike) → AreLinked l.grammar l.direction (strike_at l.strikes l.end ∷ ys)
+      → AreLinked l.grammar l.direction (l.links.items ++ ys);
 }
 
 abbrev pub decreases-loop-before : goal.decreases-loop-before

@@ -6,8 +6,10 @@ use Rattle.passassign.proofs.dependency.all_dependencies.Goals as goal
 
 pub loop-index-preserved : goal.loop-index-preserved
 loop-index-preserved c =
-    adds_more IsByProduction c.args.productions.now c.loop-index.index c.index-productions-index.result [] c.loop-index.found.items c.append_production.new.found.items
-    (slice_get_read c.args.productions.now _ c.loop-index.index c.index-productions-index.result refl c.loop-index-test.true c.index-productions-index.is) c.loop-index.invariant
+    adds_more IsByProduction c.args.productions.now c.loop-index.index c.index-productions-index.result
+    [] c.loop-index.found.items c.append_production.new.found.items
+    (slice_get_read c.args.productions.now _ c.loop-index.index c.index-productions-index.result refl c.loop-index-test.true
+    c.index-productions-index.is) c.loop-index.invariant
     c.in_ok-append_production.ensures
 
 pub overflow_cast-index : goal.overflow_cast-index
@@ -23,10 +25,15 @@ append_production-requires c = record {
     c.requires.accepted.0,
     c.loop-index.index,
     c.requires.accepted.1,
-    subst (λ productions. slice_get productions c.loop-index.index ≡ Some c.index-productions-index.result) (sym c.requires.accepted.2)
-        (slice_get_read c.args.productions.now _ c.loop-index.index c.index-productions-index.result refl c.loop-index-test.true c.index-productions-index.is),
+    subst (λ productions. slice_get productions c.loop-index.index ≡ Some c.index-productions-index.result)
+        (sym c.requires.accepted.2)
+        (slice_get_read c.args.productions.now _ c.loop-index.index c.index-productions-index.result refl c.loop-index-test.true
+        c.index-productions-index.is),
   );
 }
 
 pub returns : goal.returns
-returns c = adds_only (IsDependency c.args.productions.now) c.loop-index.found.items (adds_all IsByProduction c.args.productions.now c.loop-index.index [] c.loop-index.found.items c.loop-index-test.false c.loop-index.invariant)
+returns c =
+    adds_only (IsDependency c.args.productions.now) c.loop-index.found.items
+    (adds_all IsByProduction c.args.productions.now c.loop-index.index
+    [] c.loop-index.found.items c.loop-index-test.false c.loop-index.invariant)

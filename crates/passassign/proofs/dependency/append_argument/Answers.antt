@@ -7,17 +7,28 @@ use Rattle.passassign.specs.declared.stuck.Strike.{Strike}
 use Rattle.passassign.proofs.strikes.Adding.{adds_none, adds_push, adds_same}
 use Rattle.passassign.proofs.dependency.append_argument.Goals as goal
 
-by_slot : (places : List Item) (head : Strike) (j i : ℕ) (o : Target) (k : ℕ) → table_slot (symbol_of (slice_get places o.place)) o.attr ≡ Some k → (u : Dependency) → (u ≡ dependency_of head j i k o.place) ↔ IsByArgument places head j i o u
+by_slot : (places : List Item) (head : Strike) (j i : ℕ) (o : Target) (k : ℕ)
+    → table_slot (symbol_of (slice_get places o.place)) o.attr ≡ Some k → (u : Dependency)
+    → (u ≡ dependency_of head j i k o.place) ↔ IsByArgument places head j i o u
 by_slot places head j i o k is u = (
   (λ e. (k, is, e)),
-  (λ h. let e : Some h.0 ≡ Some k = sym h.1 ∙ is in let f : h.0 ≡ k = cc in subst (λ k. u ≡ dependency_of head j i k o.place) f h.2),
+  (λ h. let e : Some h.0 ≡ Some k = sym h.1 ∙ is in let f : h.0 ≡ k = cc in
+      subst (λ k. u ≡ dependency_of head j i k o.place) f h.2),
 )
 
 pub returns-in_ok-push-in-Some : goal.returns-in_ok-push-in-Some
 returns-in_ok-push-in-Some c =
-    adds_same _ (IsByArgument c.args.places.now c.args.head c.args.place c.args.arg c.args.argument) c.args.found.now.items c.push.new.self.items
-    (by_slot c.args.places.now c.args.head c.args.place c.args.arg c.args.argument c.in-Some.slot (sym c.slot_at.ensures ∙ c.in-Some.is))
-    (subst (Adds (λ u. u ≡ dependency_of c.args.head c.args.place c.args.arg c.in-Some.slot c.args.argument.place) c.args.found.now.items) (sym c.in_ok-push-in-Some.ensures.items) (adds_push c.args.found.now.items (dependency_of c.args.head c.args.place c.args.arg c.in-Some.slot c.args.argument.place)))
+    adds_same _ (IsByArgument c.args.places.now c.args.head c.args.place c.args.arg c.args.argument) c.args.found.now.items
+    c.push.new.self.items
+    (by_slot c.args.places.now c.args.head c.args.place c.args.arg c.args.argument c.in-Some.slot
+    (sym c.slot_at.ensures ∙ c.in-Some.is))
+    (subst
+    (Adds (λ u. u ≡ dependency_of c.args.head c.args.place c.args.arg c.in-Some.slot c.args.argument.place)
+    c.args.found.now.items) (sym c.in_ok-push-in-Some.ensures.items)
+    (adds_push c.args.found.now.items
+    (dependency_of c.args.head c.args.place c.args.arg c.in-Some.slot c.args.argument.place)))
 
 pub returns-in-None : goal.returns-in-None
-returns-in-None c = adds_none (IsByArgument c.args.places.now c.args.head c.args.place c.args.arg c.args.argument) c.args.found.now.items (λ u h. let e : None ≡ Some h.0 = sym c.in-None.is ∙ c.slot_at.ensures ∙ h.1 in let bad : ⊥ = cc in bad)
+returns-in-None c =
+    adds_none (IsByArgument c.args.places.now c.args.head c.args.place c.args.arg c.args.argument) c.args.found.now.items
+    (λ u h. let e : None ≡ Some h.0 = sym c.in-None.is ∙ c.slot_at.ensures ∙ h.1 in let bad : ⊥ = cc in bad)

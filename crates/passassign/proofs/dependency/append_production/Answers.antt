@@ -7,5 +7,9 @@ append_rules-requires c = record { accepted = (c.args.production.now, c.requires
 
 pub returns : goal.returns
 returns c =
-    subst (λ places. Adds (OfEach (IsByRule places c.args.number) c.args.production.now.rules) c.args.found.now.items c.append_rules.new.found.items) (c.as_slice.ensures.value ∙ c.in_ok-places.ensures)
-    (subst (λ rules. Adds (OfEach (IsByRule c.as_slice.result.now c.args.number) rules) c.args.found.now.items c.append_rules.new.found.items) c.as_slice-2.ensures c.in_ok-append_rules.ensures)
+    subst
+    (λ places. Adds (OfEach (IsByRule places c.args.number) c.args.production.now.rules) c.args.found.now.items
+    c.append_rules.new.found.items) (c.as_slice.ensures.value ∙ c.in_ok-places.ensures)
+    (subst
+    (λ rules. Adds (OfEach (IsByRule c.as_slice.result.now c.args.number) rules) c.args.found.now.items
+    c.append_rules.new.found.items) c.as_slice-2.ensures c.in_ok-append_rules.ensures)

@@ -7,8 +7,10 @@ use Rattle.passassign.proofs.dependency.append_rules.Goals as goal
 
 pub loop-index-preserved : goal.loop-index-preserved
 loop-index-preserved c =
-    adds_more (IsByRule c.args.places.now c.args.production) c.args.rules.now c.loop-index.index c.index-rules-index.result c.args.found.now.items c.loop-index.found.items c.append_rule.new.found.items
-    (slice_get_read c.args.rules.now _ c.loop-index.index c.index-rules-index.result refl c.loop-index-test.true c.index-rules-index.is) c.loop-index.invariant
+    adds_more (IsByRule c.args.places.now c.args.production) c.args.rules.now c.loop-index.index c.index-rules-index.result
+    c.args.found.now.items c.loop-index.found.items c.append_rule.new.found.items
+    (slice_get_read c.args.rules.now _ c.loop-index.index c.index-rules-index.result refl c.loop-index-test.true
+    c.index-rules-index.is) c.loop-index.invariant
     c.in_ok-append_rule.ensures
 
 pub overflow_cast-index : goal.overflow_cast-index
@@ -27,10 +29,13 @@ append_rule-requires c = record {
     (
       c.loop-index.index,
       subst (λ rules. slice_get rules c.loop-index.index ≡ Some c.index-rules-index.result) (sym c.requires.accepted.2)
-          (slice_get_read c.args.rules.now _ c.loop-index.index c.index-rules-index.result refl c.loop-index-test.true c.index-rules-index.is),
+          (slice_get_read c.args.rules.now _ c.loop-index.index c.index-rules-index.result refl c.loop-index-test.true
+          c.index-rules-index.is),
     ),
   );
 }
 
 pub returns : goal.returns
-returns c = adds_all (IsByRule c.args.places.now c.args.production) c.args.rules.now c.loop-index.index c.args.found.now.items c.loop-index.found.items c.loop-index-test.false c.loop-index.invariant
+returns c =
+    adds_all (IsByRule c.args.places.now c.args.production) c.args.rules.now c.loop-index.index c.args.found.now.items
+    c.loop-index.found.items c.loop-index-test.false c.loop-index.invariant

@@ -4,7 +4,9 @@ use Rattle.passassign.proofs.slots.OpenOnes.{open_more, open_within}
 use Rattle.passassign.proofs.table.open_attributes.Goals as goal
 
 pub loop-index-preserved : goal.loop-index-preserved
-loop-index-preserved c = open_more c.args.states.now c.loop-index.index _ c.loop-index.found.items c.append_open.new.found.items refl c.in_ok-append_open.ensures.puts c.in_ok-append_open.ensures.other c.loop-index.invariant
+loop-index-preserved c =
+    open_more c.args.states.now c.loop-index.index _ c.loop-index.found.items c.append_open.new.found.items refl
+    c.in_ok-append_open.ensures.puts c.in_ok-append_open.ensures.other c.loop-index.invariant
 
 pub returns-clause-all : goal.returns-clause-all
 returns-clause-all c = λ s a. (

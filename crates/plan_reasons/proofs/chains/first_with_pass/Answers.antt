@@ -10,7 +10,9 @@ use Rattle.plan_reasons.proofs.chains.first_with_pass.Goals as goal
 
 pub loop-strike-preserved : goal.loop-strike-preserved
 loop-strike-preserved c =
-    front_more (λ k (x : Strike). slice_get (passes_of c.args.assignment.now x.symbol) x.attr ≡ Some c.args.pass → ⊥) c.args.strikes.now c.loop-strike.strike-index none c.loop-strike-test.true c.loop-strike.invariant (is_no c.if-has_pass.ensures)
+    front_more (λ k (x : Strike). slice_get (passes_of c.args.assignment.now x.symbol) x.attr ≡ Some c.args.pass → ⊥)
+    c.args.strikes.now c.loop-strike.strike-index none c.loop-strike-test.true c.loop-strike.invariant
+    (is_no c.if-has_pass.ensures)
 
 pub returns-then-has_pass-clause-found : goal.returns-then-has_pass-clause-found
 returns-then-has_pass-clause-found c =
@@ -21,5 +23,7 @@ returns-then-has_pass-clause-found c =
 pub returns-clause-none : goal.returns-clause-none
 returns-clause-none c = λ same s a hit e.
     let w = strikes_has c.args.strikes.now s a hit in
-    front_all (λ k (x : Strike). slice_get (passes_of c.args.assignment.now x.symbol) x.attr ≡ Some c.args.pass → ⊥) c.args.strikes.now c.loop-strike.strike-index c.loop-strike-test.false c.loop-strike.invariant w.1.0 w.0 w.1.1
-    (subst (λ b. slice_get (passes_of c.args.assignment.now w.0.symbol) b ≡ Some c.args.pass) (sym w.3) (subst (λ t. slice_get (passes_of c.args.assignment.now t) a ≡ Some c.args.pass) (sym w.2) e))
+    front_all (λ k (x : Strike). slice_get (passes_of c.args.assignment.now x.symbol) x.attr ≡ Some c.args.pass → ⊥)
+    c.args.strikes.now c.loop-strike.strike-index c.loop-strike-test.false c.loop-strike.invariant w.1.0 w.0 w.1.1
+    (subst (λ b. slice_get (passes_of c.args.assignment.now w.0.symbol) b ≡ Some c.args.pass) (sym w.3)
+    (subst (λ t. slice_get (passes_of c.args.assignment.now t) a ≡ Some c.args.pass) (sym w.2) e))

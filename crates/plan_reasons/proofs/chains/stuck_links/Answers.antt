@@ -15,4 +15,5 @@ returns c =
     let xs = c.as_slice.result.now in
     IfOk-weaker c.links_of.result _ _
     (λ links related is member. chain_links g d (Members set) s a xs links.items
-    (subst (IsChainOf g d (Members set) s a) (sym c.as_slice.ensures.value) (c.in_ok-chain.ensures.chain is member)) related) c.links_of.ensures
+    (subst (IsChainOf g d (Members set) s a) (sym c.as_slice.ensures.value) (c.in_ok-chain.ensures.chain is member)) related)
+    c.links_of.ensures

@@ -5,4 +5,6 @@ use Rattle.planchecker.proofs.Loops.{is_yes}
 use Rattle.plan_reasons.proofs.hints.append_unused.Goals as goal
 
 pub returns : goal.returns
-returns c = had_or_new (λ (x : ℕ × ℕ). IsUnused c.args.grammar.now x.0 x.1) c.args.unused.now.items c.push.new.self.items c.args.attribute c.in_ok-push.ensures.items (is_yes c.if-not-is_unused.ensures)
+returns c =
+    had_or_new (λ (x : ℕ × ℕ). IsUnused c.args.grammar.now x.0 x.1) c.args.unused.now.items c.push.new.self.items c.args.attribute
+    c.in_ok-push.ensures.items (is_yes c.if-not-is_unused.ensures)

@@ -6,15 +6,21 @@ use Rattle.plan_reasons.proofs.uses.is_unused_in.Goals as goal
 
 pub loop-rule-preserved : goal.loop-rule-preserved
 loop-rule-preserved c =
-    front_more (λ i u. IsUnusedBy c.args.production.now c.args.attribute.0 c.args.attribute.1 u) c.args.production.now.rules c.loop-rule.rule-index c.rule-item.result
-    (read_at c.args.production.now.rules c.as_slice-rule-items.result.now c.loop-rule.rule-index c.rule-item.result c.as_slice-rule-items.ensures c.loop-rule-test.true c.rule-item.is) c.loop-rule.invariant (is_yes c.if-not-is_unused_by.ensures)
+    front_more (λ i u. IsUnusedBy c.args.production.now c.args.attribute.0 c.args.attribute.1 u) c.args.production.now.rules
+    c.loop-rule.rule-index c.rule-item.result
+    (read_at c.args.production.now.rules c.as_slice-rule-items.result.now c.loop-rule.rule-index c.rule-item.result
+    c.as_slice-rule-items.ensures c.loop-rule-test.true c.rule-item.is) c.loop-rule.invariant
+    (is_yes c.if-not-is_unused_by.ensures)
 
 pub returns-then-not-is_unused_by : goal.returns-then-not-is_unused_by
 returns-then-not-is_unused_by c =
     says_no (λ h. is_no c.if-not-is_unused_by.ensures (h c.loop-rule.rule-index c.rule-item.result
-    (read_at c.args.production.now.rules c.as_slice-rule-items.result.now c.loop-rule.rule-index c.rule-item.result c.as_slice-rule-items.ensures c.loop-rule-test.true c.rule-item.is)))
+    (read_at c.args.production.now.rules c.as_slice-rule-items.result.now c.loop-rule.rule-index c.rule-item.result
+    c.as_slice-rule-items.ensures c.loop-rule-test.true c.rule-item.is)))
 
 pub returns : goal.returns
 returns c =
-    says_yes (front_whole (λ i u. IsUnusedBy c.args.production.now c.args.attribute.0 c.args.attribute.1 u) c.args.production.now.rules c.loop-rule.rule-index
+    says_yes
+    (front_whole (λ i u. IsUnusedBy c.args.production.now c.args.attribute.0 c.args.attribute.1 u) c.args.production.now.rules
+    c.loop-rule.rule-index
     (subst (λ xs. length xs ≤ c.loop-rule.rule-index) c.as_slice-rule-items.ensures c.loop-rule-test.false) c.loop-rule.invariant)

@@ -12,11 +12,25 @@ loop-splice-preserved c =
     let own = c.args.own.now in
     let next = g.own - c.args.base in
     let rest = drop (l.splice-index + 1) c.args.splices.now in
-    let e : drop l.splice-index c.args.splices.now ≡ g ∷ rest = drop_more c.args.splices.now l.splice-index g c.loop-splice-test.true ∙ ap (λ (x : Splice). x ∷ rest) (sym c.splice-item.is) in
-    let h = subst (λ (xs : List Splice). AreSplices (c.args.base + l.from) l.invariant.splices.0 (c.args.base + length own) l.invariant.splices.1 xs) e l.invariant.splices.2 in
+    let e : drop l.splice-index c.args.splices.now ≡ g ∷ rest =
+    drop_more c.args.splices.now l.splice-index g c.loop-splice-test.true
+    ∙ ap (λ (x : Splice). x ∷ rest) (sym c.splice-item.is) in
+    let h =
+    subst
+    (λ (xs : List Splice). AreSplices (c.args.base + l.from) l.invariant.splices.0
+    (c.args.base + length own) l.invariant.splices.1 xs) e l.invariant.splices.2 in
     let there : c.args.base + next ≡ g.own = omega (arith, h.0) in
     record {
-      same = ap (λ (xs : List ℕ). xs ++ spliced (c.args.base + next) (drop next own) rest) (c.in_ok-append_to.ensures.ok ∙ ap (λ (xs : List ℕ). xs ++ g.bytes) c.in_ok-extend_from_slice.ensures.items)
-          ∙ (one_copied c.args.base l.from next own l.out.items g rest h.0 refl ∙ (ap (λ (gs : List Splice). l.out.items ++ spliced (c.args.base + l.from) (drop l.from own) gs) (sym e) ∙ l.invariant.same));
-      splices = (g.at + length g.bytes, l.invariant.splices.1, subst (λ (i : ℕ). AreSplices i (g.at + length g.bytes) (c.args.base + length own) l.invariant.splices.1 rest) (sym there) h.3);
+      same =
+          ap (λ (xs : List ℕ). xs ++ spliced (c.args.base + next) (drop next own) rest)
+          (c.in_ok-append_to.ensures.ok ∙ ap (λ (xs : List ℕ). xs ++ g.bytes) c.in_ok-extend_from_slice.ensures.items)
+          ∙ (one_copied c.args.base l.from next own l.out.items g rest h.0 refl
+          ∙ (ap (λ (gs : List Splice). l.out.items ++ spliced (c.args.base + l.from) (drop l.from own) gs) (sym e)
+          ∙ l.invariant.same));
+      splices = (
+        g.at + length g.bytes,
+        l.invariant.splices.1,
+        subst (λ (i : ℕ). AreSplices i (g.at + length g.bytes) (c.args.base + length own) l.invariant.splices.1 rest)
+            (sym there) h.3,
+      );
     }

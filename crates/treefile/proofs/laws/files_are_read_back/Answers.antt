@@ -5,7 +5,8 @@ use Rattle.treefile.specs.records.TreeFile.{frame}
 use Rattle.treefile.proofs.laws.files_are_read_back.Goals as goal
 
 pub returns-clause-begins : goal.returns-clause-begins
-returns-clause-begins c version pass bodies usable small = (begins version pass (flat_map frame bodies) usable, pass_of_file version pass (flat_map frame bodies) usable small)
+returns-clause-begins c version pass bodies usable small =
+    (begins version pass (flat_map frame bodies) usable, pass_of_file version pass (flat_map frame bodies) usable small)
 
 pub returns-clause-bodies : goal.returns-clause-bodies
 returns-clause-bodies c version pass bodies usable all = read_back version pass usable bodies all

@@ -15,8 +15,10 @@ returns-clause-body c =
     let begins : length c.in_ok-_before._before ≡ c.args.at - 4 - len = cc (from_2, c.in_ok-_before.ensures.size) in
     let room : header_bytes + len + length_bytes ≤ c.args.at = search rules in
     let fits : fits_before version_two c.args.at len ≡ true = search rules in
-    cut_out version_two c.args.bytes.now c.in_ok-frame.frame c.in_ok-frame._after c.in_ok-rest.rest c.in_ok-rest.last c.in_ok-_before._before c.in_ok-_before.body c.args.at len
-    content c.in_ok-frame.ensures.size c.in_ok-rest.ensures.parts c.in_ok-rest.ensures.size number c.in_ok-_before.ensures.parts begins room fits
+    cut_out version_two c.args.bytes.now c.in_ok-frame.frame c.in_ok-frame._after c.in_ok-rest.rest c.in_ok-rest.last
+    c.in_ok-_before._before c.in_ok-_before.body c.args.at len
+    content c.in_ok-frame.ensures.size c.in_ok-rest.ensures.parts c.in_ok-rest.ensures.size number c.in_ok-_before.ensures.parts
+    begins room fits
 
 pub returns-clause-bytes : goal.returns-clause-bytes
 returns-clause-bytes c = dropped_bytes (c.args.at - 4 - length c.in_ok-_before.body) c.args.bytes.now c.len-count.ensures.bytes

@@ -1,4 +1,6 @@
-use Rattle.treefile.proofs.WorkedReading.{children_come, header_alone, iffy_is_record, none_within_levels, none_within_nodes, one_awaited, one_is_deep, one_is_there, other_pass, q_alone, q_is_none, root_comes, t_is_record}
+use Rattle.treefile.proofs.WorkedReading.{children_come, header_alone, iffy_is_record, none_within_levels, none_within_nodes}
+use Rattle.treefile.proofs.WorkedReading.{one_awaited, one_is_deep, one_is_there, other_pass, q_alone, q_is_none, root_comes}
+use Rattle.treefile.proofs.WorkedReading.{t_is_record}
 use Rattle.treefile.proofs.tree_laws.worked_reading.Goals as goal
 
 pub returns : goal.returns

@@ -1,4 +1,5 @@
-use Rattle.treefile.proofs.WorkedRecords.{binary_numbered, iffy_recorded, iffy_unrecorded, nine_begins, number_alone, number_read, number_spelled, one_alone, one_recorded, root_of_one, sample_pass, sample_run, t_listed}
+use Rattle.treefile.proofs.WorkedRecords.{binary_numbered, iffy_recorded, iffy_unrecorded, nine_begins, number_alone, number_read}
+use Rattle.treefile.proofs.WorkedRecords.{number_spelled, one_alone, one_recorded, root_of_one, sample_pass, sample_run, t_listed}
 use Rattle.treefile.proofs.tree_laws.worked_records.Goals as goal
 
 pub returns : goal.returns

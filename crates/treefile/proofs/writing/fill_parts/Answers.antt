@@ -6,4 +6,6 @@ use Rattle.treefile.proofs.writing.fill_parts.Goals as goal
 
 -- the record of a few well values is a body
 pub close_parts-requires : goal.close_parts-requires
-close_parts-requires c = subst (IsBody version_two) (sym c.in_ok-fill_parts_of_body.ensures) (is_body version_two c.args.kind c.args.number c.args.values.now c.requires.few c.requires.well)
+close_parts-requires c =
+    subst (IsBody version_two) (sym c.in_ok-fill_parts_of_body.ensures)
+    (is_body version_two c.args.kind c.args.number c.args.values.now c.requires.few c.requires.well)

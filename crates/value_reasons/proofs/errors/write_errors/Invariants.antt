@@ -4,5 +4,6 @@ use Rattle.value_reasons.proofs.errors.write_errors.Given as goal
 abbrev pub invariant-loop-node : goal.invariant-loop-node
 invariant-loop-node g l = record {
   content : LeavesContent (g.D.Device.is_honest l.device) (g.D.Device.content l.fn.device) (g.D.Device.content l.device);
-  persists : Persists (g.D.Device.is_honest l.fn.device) (g.D.Device.is_honest l.device) (g.D.Device.failures l.fn.device) (g.D.Device.failures l.device) ⊥;
+  persists : Persists (g.D.Device.is_honest l.fn.device) (g.D.Device.is_honest l.device) (g.D.Device.failures l.fn.device)
+      (g.D.Device.failures l.device) ⊥;
 }

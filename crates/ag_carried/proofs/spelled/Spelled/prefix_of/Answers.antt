@@ -10,5 +10,6 @@ returns-then-eq-clause-only c value rest well e =
     let prefix : take (length c.as_slice-bytes.result.now) c.args.input.now ≡ spelling_of c.args.self.now = search rules in
     let own : IsWell c.args.self.now = search rules in
     let len : length c.as_slice-bytes.result.now ≡ length (spelling_of c.args.self.now) = search rules in
-    let is : c.args.self.now ≡ value = prefix_determines c.args.input.now (length c.as_slice-bytes.result.now) c.args.self.now value rest own well prefix e in
+    let is : c.args.self.now ≡ value =
+    prefix_determines c.args.input.now (length c.as_slice-bytes.result.now) c.args.self.now value rest own well prefix e in
     (is, len ∙ ap (λ (v : Value). length (spelling_of v)) is)

@@ -10,6 +10,7 @@ returns c =
     let other : IsWell c.args.other.now = search rules in
     let a : c.as_slice.result.now ≡ spelling_of c.args.self.now = search rules in
     let b : c.as_slice-2.result.now ≡ spelling_of c.args.other.now = search rules in (
-      λ t. let e : c.as_slice.result.now ≡ c.as_slice-2.result.now = search rules in equal_encodings c.args.self.now c.args.other.now one other (sym a ∙ e ∙ b),
+      λ t. let e : c.as_slice.result.now ≡ c.as_slice-2.result.now = search rules in
+          equal_encodings c.args.self.now c.args.other.now one other (sym a ∙ e ∙ b),
       λ e. let s : c.as_slice.result.now ≡ c.as_slice-2.result.now = a ∙ ap spelling_of e ∙ sym b in search rules,
     )

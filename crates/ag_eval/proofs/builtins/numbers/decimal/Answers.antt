@@ -4,4 +4,6 @@ use Rattle.ag_grammar.proofs.values.Wells.{well_decimal}
 use Rattle.ag_eval.proofs.builtins.numbers.decimal.Goals as goal
 
 pub returns-clause-well : goal.returns-clause-well
-returns-clause-well c = well_decimal _ c.in-Num.number (c.from_string-text.ensures ∙ c.in_ok-to_string.ensures.ok) (subst IsUtf8 c.as_str-utf8.ensures c.as_str-utf8.utf8)
+returns-clause-well c =
+    well_decimal _ c.in-Num.number (c.from_string-text.ensures ∙ c.in_ok-to_string.ensures.ok)
+    (subst IsUtf8 c.as_str-utf8.ensures c.as_str-utf8.utf8)

@@ -8,5 +8,7 @@ pub returns-clause-index : goal.returns-clause-index
 returns-clause-index c =
     let key = c.args.key.now in
     let pairs = c.args.pairs.now in
-    let point = IsPartitionPoint-from_clause (λ p. is_before p.0 key) pairs c.partition_point.result c.partition_point.ensures.partitioned (partitioned key pairs c.requires) (λ a r q k. search rules) in
+    let point =
+    IsPartitionPoint-from_clause (λ p. is_before p.0 key) pairs c.partition_point.result c.partition_point.ensures.partitioned
+    (partitioned key pairs c.requires) (λ a r q k. search rules) in
     index_is key pairs c.partition_point.result c.requires c.partition_point.ensures.bound point

@@ -20,12 +20,19 @@ fit-requires c =
     let i = c.index_of-index.result in
     let x : Value = c.args.item in
     let index_is : IsIndex key pairs i = subst (λ ps. IsIndex key ps i) c.as_slice.ensures c.index_of-index.ensures.index in
-    let none : has_key key (slice_get pairs i) ≡ false = ap (λ ps. has_key key (slice_get ps i)) (sym c.as_slice-2.ensures) ∙ sym c.has_at.ensures ∙ c.if-has_at.false in
+    let none : has_key key (slice_get pairs i) ≡ false =
+    ap (λ ps. has_key key (slice_get ps i)) (sym c.as_slice-2.ensures) ∙ sym c.has_at.ensures ∙ c.if-has_at.false in
     let well : IsWell x = subst IsWell c.into_value-2.ensures.value c.into_value-2.ensures.well in
-    let growth_result : c.in_ok-pairs.pairs ≡ insert pairs i (key, x) = c.in_ok-pairs.ensures ∙ ap (λ v. insert pairs i (key, v)) c.into_value-2.ensures.value in
-    let fits = fits-inserted pairs c.in_ok-pairs.pairs i key x (c.args.weight + 4 + length key + c.weight.result) c.max-depth.result growth_result c.requires.table well c.requires.short (omega arith) (omega arith) in
+    let growth_result : c.in_ok-pairs.pairs ≡ insert pairs i (key, x) =
+    c.in_ok-pairs.ensures ∙ ap (λ v. insert pairs i (key, v)) c.into_value-2.ensures.value in
+    let fits =
+    fits-inserted pairs c.in_ok-pairs.pairs i key x
+    (c.args.weight + 4 + length key + c.weight.result) c.max-depth.result growth_result c.requires.table well
+    c.requires.short (omega arith) (omega arith) in
     record {
-      item = ap (λ ps. is_item (value.Table ps)) (growth_result ∙ sym (inserts key x pairs i index_is none)) ∙ item_with key x pairs c.requires.table (is_utf8-from_IsUtf8 key c.utf8.key) (item_of x well c.requires.no_fault);
+      item =
+          ap (λ ps. is_item (value.Table ps)) (growth_result ∙ sym (inserts key x pairs i index_is none))
+          ∙ item_with key x pairs c.requires.table (is_utf8-from_IsUtf8 key c.utf8.key) (item_of x well c.requires.no_fault);
       weighed = fits.0;
       depth_exact = fits.1;
     }

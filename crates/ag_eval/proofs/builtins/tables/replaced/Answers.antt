@@ -13,5 +13,7 @@ weighed-requires c =
     (λ p at. c.from_vec.ensures ∙ rw c.into_vec-pairs.ensures at c.set_value.ensures p at) c.requires.table c.requires.item
 
 pub returns : goal.returns
-returns c = λ key place here. c.weighed.ensures ∙ ap (λ ps. fit (value.Table ps)) (replaced_is c.args.pairs c.from_vec.result c.args.index c.args.item c.requires.within
+returns c =
+    λ key place here. c.weighed.ensures
+    ∙ ap (λ ps. fit (value.Table ps)) (replaced_is c.args.pairs c.from_vec.result c.args.index c.args.item c.requires.within
     (λ p at. c.from_vec.ensures ∙ rw c.into_vec-pairs.ensures at c.set_value.ensures p at) key place here)

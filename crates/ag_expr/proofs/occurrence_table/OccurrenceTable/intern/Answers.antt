@@ -3,14 +3,22 @@ use Rattle.ag_expr.proofs.language.Numbered.{listed_where, unlisted_where, numbe
 use Rattle.ag_expr.proofs.occurrence_table.OccurrenceTable.intern.Goals as goal
 
 pub returns-in-Some-clause-lists : goal.returns-in-Some-clause-lists
-returns-in-Some-clause-lists c = rw (listed_where c.args.self.now c.args.place c.args.attr.now c.in-Some.number (sym c.in-Some.ensures)) refl
+returns-in-Some-clause-lists c =
+    rw (listed_where c.args.self.now c.args.place c.args.attr.now c.in-Some.number (sym c.in-Some.ensures)) refl
 
 pub invariant_of-self-2 : goal.invariant_of-self-2
 invariant_of-self-2 c =
-    let none = rw (← c.self.view_is) at (unlisted_where c.args.self.now c.args.place c.args.attr.now (sym c.in_default.ensures)) in
+    let none =
+    rw (← c.self.view_is) at (unlisted_where c.args.self.now c.args.place c.args.attr.now (sym c.in_default.ensures)) in
     let name = c.from_string-copied.ensures ∙ c.in_ok-from_str.ensures.ok in (
-      follows_pushed c.self.inside.indexes c.insert.new.self c.self.inside.listed.items c.reserve.new.self.items c.push_reserved.new.self.items (c.args.place, c.args.attr) c.len-number.result c.args.at c.from_string-copied.result none c.self.invariant.0 c.in_ok-reserve.ensures.items c.len-number.ensures.value c.in_ok-insert.ensures.updates c.push_reserved.ensures.items name,
-      pushed_apart c.self.inside.listed.items c.reserve.new.self.items c.push_reserved.new.self.items c.args.place c.args.at c.args.attr.now c.from_string-copied.result none c.self.invariant.1 c.in_ok-reserve.ensures.items c.push_reserved.ensures.items name,
+      follows_pushed c.self.inside.indexes c.insert.new.self c.self.inside.listed.items c.reserve.new.self.items
+          c.push_reserved.new.self.items
+          (c.args.place, c.args.attr) c.len-number.result c.args.at c.from_string-copied.result none c.self.invariant.0
+          c.in_ok-reserve.ensures.items c.len-number.ensures.value c.in_ok-insert.ensures.updates
+          c.push_reserved.ensures.items name,
+      pushed_apart c.self.inside.listed.items c.reserve.new.self.items c.push_reserved.new.self.items c.args.place c.args.at
+          c.args.attr.now c.from_string-copied.result none c.self.invariant.1 c.in_ok-reserve.ensures.items
+          c.push_reserved.ensures.items name,
     )
 
 pub returns-clause-lists : goal.returns-clause-lists
@@ -23,4 +31,6 @@ pub returns-clause-number : goal.returns-clause-number
 returns-clause-number c =
     let none = rw (← c.self.view_is) at (sym c.in_default.ensures) in
     let name = c.from_string-copied.ensures ∙ c.in_ok-from_str.ensures.ok in
-    number_pushed c.self.inside.listed.items c.reserve.new.self.items c.push_reserved.new.self.items c.args.place c.len-number.result c.args.at c.args.attr.now c.from_string-copied.result none c.in_ok-reserve.ensures.items c.len-number.ensures.value c.push_reserved.ensures.items name
+    number_pushed c.self.inside.listed.items c.reserve.new.self.items c.push_reserved.new.self.items c.args.place
+    c.len-number.result c.args.at c.args.attr.now c.from_string-copied.result none c.in_ok-reserve.ensures.items
+    c.len-number.ensures.value c.push_reserved.ensures.items name

@@ -70,8 +70,12 @@ decreases-call l = 40 * l.levels + 4
 
 abbrev pub invariant-others-loop-precedence : goal.invariant-others-loop-precedence
 invariant-others-loop-precedence l = record {
-  so_far : Looping (takes_one l.fn.precedence) (is_operator_of l.fn.precedence) (λ all names. other_from l.fn.precedence (ranked_from (atom_from (expr_in all l.fn.levels) names all) (closer l.fn.precedence)))
-      (λ all names. further_from (takes_one l.fn.precedence) (is_operator_of l.fn.precedence) (other_from l.fn.precedence (ranked_from (atom_from (expr_in all l.fn.levels) names all) (closer l.fn.precedence))) []) l.fn.self l.self l.others.items;
+  so_far : Looping (takes_one l.fn.precedence) (is_operator_of l.fn.precedence)
+      (λ all names. other_from l.fn.precedence
+      (ranked_from (atom_from (expr_in all l.fn.levels) names all) (closer l.fn.precedence)))
+      (λ all names. further_from (takes_one l.fn.precedence) (is_operator_of l.fn.precedence)
+      (other_from l.fn.precedence (ranked_from (atom_from (expr_in all l.fn.levels) names all) (closer l.fn.precedence)))
+      []) l.fn.self l.self l.others.items;
   same : l.levels ≡ l.fn.levels;
   ranked : l.precedence ≡ l.fn.precedence;
 }
@@ -81,7 +85,8 @@ decreases-others-loop-precedence l = length (input l.self).left
 
 abbrev pub invariant-items-loop-self : goal.invariant-items-loop-self
 invariant-items-loop-self l = record {
-  so_far : Looping false (is_sign (mark punctuation.Comma)) (λ all. next_from (expr_in all l.fn.levels)) (λ all names. items_from (expr_in all l.fn.levels) names l.fn.first) l.fn.self l.self l.items.items;
+  so_far : Looping false (is_sign (mark punctuation.Comma)) (λ all. next_from (expr_in all l.fn.levels))
+      (λ all names. items_from (expr_in all l.fn.levels) names l.fn.first) l.fn.self l.self l.items.items;
   same : l.levels ≡ l.fn.levels;
 }
 

@@ -23,12 +23,15 @@ invariant_of-self c =
     let at = rw c.in-Some.is at c.self.invariant in
     let utf8 = subst IsUtf8 c.as_bytes-utf8.ensures.value c.as_bytes-utf8.ensures.utf8 in
     let seen = c.next_word-at in
-    goes_on v c.self.inside.text.now c.self.invariant.has c.self.inside.taken (leading_word_of c.in-Some.next) c.self.inside.at c.in-Some.next.rest.now at refl utf8 (option_map (λ f. leading_word_of f) seen.result.0) seen.result.1
+    goes_on v c.self.inside.text.now c.self.invariant.has c.self.inside.taken
+    (leading_word_of c.in-Some.next) c.self.inside.at c.in-Some.next.rest.now at refl utf8
+    (option_map (λ f. leading_word_of f) seen.result.0) seen.result.1
     seen.ensures.next (λ none. seen.ensures.end (none_there seen.result.0 none))
 
 pub returns-in_default : goal.returns-in_default
 returns-in_default c =
     let at = rw c.in_default.is at c.self.invariant in
     let past = (none_next _ _ _ _ at).1 in
-    let short : length c.args.self.now.list ≤ c.args.self.now.taken = subst (λ (h : TokenReader). length h.list ≤ h.taken) c.self.view_is past in
+    let short : length c.args.self.now.list ≤ c.args.self.now.taken =
+    subst (λ (h : TokenReader). length h.list ≤ h.taken) c.self.view_is past in
     absurd (omega (arith, c.requires))

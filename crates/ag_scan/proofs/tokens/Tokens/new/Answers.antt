@@ -7,4 +7,6 @@ use Rattle.ag_scan.proofs.tokens.Tokens.new.Goals as goal
 pub invariant_of-result : goal.invariant_of-result
 invariant_of-result c =
     let seen = c.next_word-at in
-    begins (vocabulary c.args.literals.now c.args.classes.now) c.args.text.now c.requires (option_map (λ f. leading_word_of f) seen.result.0) seen.result.1 seen.ensures.next (λ none. seen.ensures.end (none_there seen.result.0 none))
+    begins (vocabulary c.args.literals.now c.args.classes.now) c.args.text.now c.requires
+    (option_map (λ f. leading_word_of f) seen.result.0) seen.result.1 seen.ensures.next
+    (λ none. seen.ensures.end (none_there seen.result.0 none))

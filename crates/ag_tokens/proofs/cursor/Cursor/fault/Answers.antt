@@ -12,4 +12,5 @@ returns-in-Ok c =
 pub returns-in-Err : goal.returns-in-Err
 returns-in-Err c =
     let given = rw c.in-Err.is at c.self.invariant.lexed in
-    rw (← c.self.view_is) (c.fault_before.ensures _ ∙ sym (ap (λ (i : Input). fault_of i.ending i.left) (front_is _ _ (Err c.in-Err.fault) given)))
+    rw (← c.self.view_is) (c.fault_before.ensures _
+    ∙ sym (ap (λ (i : Input). fault_of i.ending i.left) (front_is _ _ (Err c.in-Err.fault) given)))

@@ -15,7 +15,10 @@ abbrev pub decreases-pairs_of : goal.decreases-pairs_of
 decreases-pairs_of l = 3 * l.levels + 2
 
 abbrev pub invariant-items_of-loop : goal.invariant-items_of-loop
-invariant-items_of-loop l = all_at (item_at l.levels) (l.count - l.counter) l.items.items l.rest ≡ all_at (item_at l.levels) l.count [] l.bytes
+invariant-items_of-loop l =
+    all_at (item_at l.levels) (l.count - l.counter) l.items.items l.rest ≡ all_at (item_at l.levels) l.count [] l.bytes
 
 abbrev pub invariant-pairs_of-loop : goal.invariant-pairs_of-loop
-invariant-pairs_of-loop l = all_at (pair_at (item_at l.levels)) (l.count - l.counter) l.pairs.items l.rest ≡ all_at (pair_at (item_at l.levels)) l.count [] l.bytes
+invariant-pairs_of-loop l =
+    all_at (pair_at (item_at l.levels)) (l.count - l.counter) l.pairs.items l.rest ≡ all_at (pair_at (item_at l.levels)) l.count
+    [] l.bytes

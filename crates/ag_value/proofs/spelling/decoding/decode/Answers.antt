@@ -16,13 +16,16 @@ pub returns-clause-well : goal.returns-clause-well
 returns-clause-well c =
     let fits = c.if-len-gt-MAX_WEIGHT.false in
     let short : length c.args.input.now - length c.in_ok-value.rest.now ≤ max_weight = omega (arith, fits) in
-    read_is_well c.args.input.now (c.in_ok-value.value, c.in_ok-value.rest.now) (λ i. omega (arith, c.type_inv.input i)) c.in_ok-value.ensures short
+    read_is_well c.args.input.now (c.in_ok-value.value, c.in_ok-value.rest.now)
+    (λ i. omega (arith, c.type_inv.input i)) c.in_ok-value.ensures short
 
 pub returns-then-len-gt-MAX_WEIGHT-clause-read : goal.returns-then-len-gt-MAX_WEIGHT-clause-read
 returns-then-len-gt-MAX_WEIGHT-clause-read c = λ value rest well spelled.
     let more = c.if-len-gt-MAX_WEIGHT.true in
     let long : max_weight < length c.args.input.now - length c.in_ok-value.rest.now = omega (arith, more) in
-    absurd (too_long c.args.input.now (c.in_ok-value.value, c.in_ok-value.rest.now) c.in_ok-value.ensures long value rest well spelled)
+    absurd
+    (too_long c.args.input.now (c.in_ok-value.value, c.in_ok-value.rest.now) c.in_ok-value.ensures long value rest well
+    spelled)
 
 pub returns-clause-spelled : goal.returns-clause-spelled
 returns-clause-spelled c =
@@ -35,4 +38,6 @@ returns-in_err-value-clause-read c = λ value rest well spelled.
     rw (p.1, p.2) (only_memory c.args.input.now c.in_err-value.field-0.0 c.in_err-value.ensures value rest well spelled)
 
 pub returns-clause-read : goal.returns-clause-read
-returns-clause-read c = λ value rest well spelled. read_whole c.args.input.now (c.in_ok-value.value, c.in_ok-value.rest.now) c.in_ok-value.ensures value rest well spelled
+returns-clause-read c =
+    λ value rest well spelled. read_whole c.args.input.now
+    (c.in_ok-value.value, c.in_ok-value.rest.now) c.in_ok-value.ensures value rest well spelled

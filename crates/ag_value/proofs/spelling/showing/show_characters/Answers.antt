@@ -8,5 +8,8 @@ use Rattle.ag_value.proofs.spelling.showing.show_characters.Goals as goal
 -- at the end of the text all its characters were shown
 pub returns : goal.returns
 returns c =
-    let all = YieldsList-end (YieldsList-from_chars c.args.text.now c.utf8.text cc) c.loop-character.yielded _ c.loop-character.yielded_by _ _ c.in-None.is c.next.ensures.steps in
-    c.loop-character.invariant ∙ ap (λ (cs : List ℕ). string_bytes c.args.out.now ++ flat_map escaped cs) (sym (map-id c.loop-character.yielded) ∙ all.0)
+    let all =
+    YieldsList-end (YieldsList-from_chars c.args.text.now c.utf8.text cc) c.loop-character.yielded _
+    c.loop-character.yielded_by _ _ c.in-None.is c.next.ensures.steps in
+    c.loop-character.invariant ∙ ap (λ (cs : List ℕ). string_bytes c.args.out.now ++ flat_map escaped cs)
+    (sym (map-id c.loop-character.yielded) ∙ all.0)

@@ -13,8 +13,12 @@ use Rattle.aggen.proofs.translations.job.run_job.Goals as goal
 pub returns-in_err-translator-clause-refused : goal.returns-in_err-translator-clause-refused
 returns-in_err-translator-clause-refused g c =
     let p = err_from_is_err_and c.from_residual-in_err-translator.result c.from_residual-in_err-translator.ensures.1 in
-    rw (p.1, p.2) (no_translator (g.R.Read.remaining c.args.reader) c.in_ok-job.job.0 c.in_ok-job.job.1 (g.D.Device.is_honest c.args.a.now) (g.D.Device.is_honest c.args.b.now) (g.W.Write.contents c.args.out.now) (g.W.Write.contents c.args.out.now) c.in_ok-job.ensures.job c.in_err-translator.field-0.0
-    (subst (λ (text : List ℕ). IsBuildFault text c.in_err-translator.field-0.0) c.grammar.ensures c.in_err-translator.ensures.refused))
+    rw (p.1, p.2)
+    (no_translator (g.R.Read.remaining c.args.reader) c.in_ok-job.job.0 c.in_ok-job.job.1 (g.D.Device.is_honest c.args.a.now)
+    (g.D.Device.is_honest c.args.b.now) (g.W.Write.contents c.args.out.now)
+    (g.W.Write.contents c.args.out.now) c.in_ok-job.ensures.job c.in_err-translator.field-0.0
+    (subst (λ (text : List ℕ). IsBuildFault text c.in_err-translator.field-0.0) c.grammar.ensures
+    c.in_err-translator.ensures.refused))
 
 pub returns-clause-refused : goal.returns-clause-refused
 returns-clause-refused g c =
@@ -22,9 +26,13 @@ returns-clause-refused g c =
     let hb = g.D.Device.is_honest c.translate.new.b in
     let old = g.W.Write.contents c.args.out.now in
     let new = g.W.Write.contents c.translate.new.out in
-    no_translation (g.R.Read.remaining c.args.reader) c.in_ok-job.job.0 c.in_ok-job.job.1 ha hb old new c.in_ok-job.ensures.job c.in_ok-translator.translator
-    (subst (λ (text : List ℕ). IsGrammarOf text c.in_ok-translator.translator) c.grammar.ensures c.in_ok-translator.ensures.grammar) c.translate.result
-    (subst (λ (sentence : List ℕ). IfErr c.translate.result (λ e. IsTranslationFault c.in_ok-translator.translator sentence ha hb old new e)) c.sentence.ensures c.translate.ensures.refused)
+    no_translation (g.R.Read.remaining c.args.reader) c.in_ok-job.job.0 c.in_ok-job.job.1 ha hb old new c.in_ok-job.ensures.job
+    c.in_ok-translator.translator
+    (subst (λ (text : List ℕ). IsGrammarOf text c.in_ok-translator.translator) c.grammar.ensures
+    c.in_ok-translator.ensures.grammar) c.translate.result
+    (subst (λ (sentence : List ℕ).
+    IfErr c.translate.result (λ e. IsTranslationFault c.in_ok-translator.translator sentence ha hb old new e))
+    c.sentence.ensures c.translate.ensures.refused)
 
 -- ---- the contents of the devices: before the sentence is translated, the old ones
 
@@ -66,6 +74,10 @@ returns-clause-files g c =
     let hb = g.D.Device.is_honest c.translate.new.b in
     let a = g.D.Device.content c.translate.new.a in
     let b = g.D.Device.content c.translate.new.b in
-    files_of_job (g.R.Read.remaining c.args.reader) c.in_ok-job.job.0 c.in_ok-job.job.1 ha hb a b c.in_ok-translator.translator c.in_ok-job.ensures.job
-    (subst (λ (text : List ℕ). IsGrammarOf text c.in_ok-translator.translator) c.grammar.ensures c.in_ok-translator.ensures.grammar) c.translate.result
-    (subst (λ (sentence : List ℕ). IfErr c.translate.result (λ e. IsAfterPasses e → LeavesLastFiles c.in_ok-translator.translator sentence ha hb a b)) c.sentence.ensures c.translate.ensures.files)
+    files_of_job (g.R.Read.remaining c.args.reader) c.in_ok-job.job.0 c.in_ok-job.job.1 ha hb a b c.in_ok-translator.translator
+    c.in_ok-job.ensures.job
+    (subst (λ (text : List ℕ). IsGrammarOf text c.in_ok-translator.translator) c.grammar.ensures
+    c.in_ok-translator.ensures.grammar) c.translate.result
+    (subst (λ (sentence : List ℕ).
+    IfErr c.translate.result (λ e. IsAfterPasses e → LeavesLastFiles c.in_ok-translator.translator sentence ha hb a b))
+    c.sentence.ensures c.translate.ensures.files)

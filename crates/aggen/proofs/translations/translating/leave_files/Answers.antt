@@ -15,24 +15,63 @@ pub returns-in_err-last-clause-refused : goal.returns-in_err-last-clause-refused
 returns-in_err-last-clause-refused g c =
     let p = err_from_is_err_and c.from_residual-in_err-last.result c.from_residual-in_err-last.ensures.1 in
     let tree = c.in_ok-nodes.ensures.tree in
-    rw (p.1, p.2) (never_refused c.args.translator.now c.args.sentence.now c.args.plan.now.0 c.args.plan.now.1 c.grammar.ensures.accepted c.requires.least.plan tree.0 (g.D.Device.content c.parse_tree.new.device) c.in_err-last.field-0.0 (g.D.Device.is_honest c.run_all.new.a) (g.D.Device.is_honest c.run_all.new.b) tree.1.tree.tree (c.in_ok-nodes.ensures.limits tree.0 tree.1) (λ h. c.in_ok-nodes.ensures.file tree.0 tree.1 (c.in_err-last.ensures.devices.first.honest h))
-    (λ x y. subst (λ (z : Grammar). IsRunFault (setting_of z c.args.plan.now 1) (g.D.Device.content c.parse_tree.new.device) c.in_err-last.field-0.0) c.grammar.ensures.grammar (c.in_err-last.ensures.refused x y)))
+    rw (p.1, p.2)
+    (never_refused c.args.translator.now c.args.sentence.now c.args.plan.now.0 c.args.plan.now.1 c.grammar.ensures.accepted
+    c.requires.least.plan tree.0 (g.D.Device.content c.parse_tree.new.device) c.in_err-last.field-0.0
+    (g.D.Device.is_honest c.run_all.new.a) (g.D.Device.is_honest c.run_all.new.b) tree.1.tree.tree
+    (c.in_ok-nodes.ensures.limits tree.0 tree.1)
+    (λ h. c.in_ok-nodes.ensures.file tree.0 tree.1 (c.in_err-last.ensures.devices.first.honest h))
+    (λ x y.
+    subst
+    (λ (z : Grammar). IsRunFault (setting_of z c.args.plan.now 1)
+    (g.D.Device.content c.parse_tree.new.device) c.in_err-last.field-0.0) c.grammar.ensures.grammar
+    (c.in_err-last.ensures.refused x y)))
 
 -- all passes ran over the one tree of the sentence
 pub returns-clause-left : goal.returns-clause-left
 returns-clause-left g c =
     let tree = c.in_ok-nodes.ensures.tree in
-    let greatest : IsGreatest c.passes.result c.args.plan.now.0 = subst (IsGreatest c.passes.result) c.assignment.ensures c.passes.ensures in
+    let greatest : IsGreatest c.passes.result c.args.plan.now.0 =
+    subst (IsGreatest c.passes.result) c.assignment.ensures c.passes.ensures in
     let begun = c.new-meter.ensures in
     let counted = c.count.ensures in
     let evals : c.run_all.new.meter - c.new-meter.result ≡ c.count.result = omega arith in
     record {
       tree = tree.0;
-      one = one_tree c.args.translator.now c.args.sentence.now tree.0 tree.1 c.in_ok-nodes.ensures.one (c.in_ok-nodes.ensures.limits tree.0 tree.1);
+      one =
+          one_tree c.args.translator.now c.args.sentence.now tree.0 tree.1 c.in_ok-nodes.ensures.one
+          (c.in_ok-nodes.ensures.limits tree.0 tree.1);
       greatest = greatest;
       left = λ x y.
-          let ran : HasRunAll c.args.translator.now (passes_of c.args.plan.now.0) 0 c.passes.result (g.D.Device.content c.parse_tree.new.device) c.in_ok-last.last (g.D.Device.content c.run_all.new.a) (g.D.Device.content c.run_all.new.b) (c.run_all.new.meter - c.new-meter.result) c.in_ok-last.passed = subst (λ (z : Grammar). HasRunAll z (passes_of c.args.plan.now.0) 0 c.passes.result (g.D.Device.content c.parse_tree.new.device) c.in_ok-last.last (g.D.Device.content c.run_all.new.a) (g.D.Device.content c.run_all.new.b) (c.run_all.new.meter - c.new-meter.result) c.in_ok-last.passed) c.grammar.ensures.grammar (c.in_ok-last.ensures.passed c.passes.result greatest x y) in
-          are_left c.args.translator.now c.args.sentence.now c.args.plan.now.0 c.args.plan.now.1 c.grammar.ensures.accepted c.requires.least.plan tree.0 (g.D.Device.content c.parse_tree.new.device) (g.D.Device.content c.run_all.new.a) (g.D.Device.content c.run_all.new.b) (record { nodes = c.in_ok-nodes.nodes; passes = c.passes.result; evals = c.count.result; read = c.in_ok-last.passed.read; written = c.in_ok-last.passed.written; last = c.in_ok-last.last }) c.in_ok-last.passed greatest tree.1.tree.tree (c.in_ok-nodes.ensures.file tree.0 tree.1 (c.in_ok-last.ensures.devices.first.honest x)) (subst (λ n. HasRunAll c.args.translator.now (passes_of c.args.plan.now.0) 0 c.passes.result (g.D.Device.content c.parse_tree.new.device) c.in_ok-last.last (g.D.Device.content c.run_all.new.a) (g.D.Device.content c.run_all.new.b) n c.in_ok-last.passed) evals ran) (c.in_ok-nodes.ensures.count tree.0 tree.1) refl refl;
+          let ran : HasRunAll c.args.translator.now (passes_of c.args.plan.now.0) 0 c.passes.result
+          (g.D.Device.content c.parse_tree.new.device) c.in_ok-last.last (g.D.Device.content c.run_all.new.a)
+          (g.D.Device.content c.run_all.new.b) (c.run_all.new.meter - c.new-meter.result) c.in_ok-last.passed =
+          subst
+          (λ (z : Grammar). HasRunAll z (passes_of c.args.plan.now.0) 0 c.passes.result
+          (g.D.Device.content c.parse_tree.new.device) c.in_ok-last.last (g.D.Device.content c.run_all.new.a)
+          (g.D.Device.content c.run_all.new.b)
+          (c.run_all.new.meter - c.new-meter.result) c.in_ok-last.passed) c.grammar.ensures.grammar
+          (c.in_ok-last.ensures.passed c.passes.result greatest x y) in
+          are_left c.args.translator.now c.args.sentence.now c.args.plan.now.0 c.args.plan.now.1 c.grammar.ensures.accepted
+          c.requires.least.plan tree.0 (g.D.Device.content c.parse_tree.new.device) (g.D.Device.content c.run_all.new.a)
+          (g.D.Device.content c.run_all.new.b)
+          (record {
+            nodes = c.in_ok-nodes.nodes;
+            passes = c.passes.result;
+            evals = c.count.result;
+            read = c.in_ok-last.passed.read;
+            written = c.in_ok-last.passed.written;
+            last =
+                c.in_ok-last.last;
+          }) c.in_ok-last.passed greatest tree.1.tree.tree
+          (c.in_ok-nodes.ensures.file tree.0 tree.1 (c.in_ok-last.ensures.devices.first.honest x))
+          (subst
+          (λ n. HasRunAll c.args.translator.now
+          (passes_of c.args.plan.now.0) 0 c.passes.result
+          (g.D.Device.content c.parse_tree.new.device) c.in_ok-last.last
+          (g.D.Device.content c.run_all.new.a)
+          (g.D.Device.content c.run_all.new.b) n c.in_ok-last.passed) evals
+          ran) (c.in_ok-nodes.ensures.count tree.0 tree.1) refl refl;
     }
 
 -- the content of each device
@@ -49,7 +88,8 @@ returns-in_err-nodes-clause-parsed g c =
 
 pub returns-in_err-last-clause-a_left : goal.returns-in_err-last-clause-a_left
 returns-in_err-last-clause-a_left g c = λ h.
-    left_again (g.D.Device.content c.args.a.now) (g.D.Device.content c.parse_tree.new.device) (g.D.Device.content c.run_all.new.a) (0, inr (c.in_ok-nodes.ensures.begins (c.in_err-last.ensures.devices.first.honest h))) (c.in_err-last.ensures.a_left h)
+    left_again (g.D.Device.content c.args.a.now) (g.D.Device.content c.parse_tree.new.device) (g.D.Device.content c.run_all.new.a)
+    (0, inr (c.in_ok-nodes.ensures.begins (c.in_err-last.ensures.devices.first.honest h))) (c.in_err-last.ensures.a_left h)
 
 pub returns-in_err-last-clause-b_left : goal.returns-in_err-last-clause-b_left
 returns-in_err-last-clause-b_left g c = c.in_err-last.ensures.b_left
@@ -61,7 +101,8 @@ returns-in_err-last-clause-parsed g c =
 
 pub returns-clause-a_left : goal.returns-clause-a_left
 returns-clause-a_left g c = λ h.
-    left_again (g.D.Device.content c.args.a.now) (g.D.Device.content c.parse_tree.new.device) (g.D.Device.content c.run_all.new.a) (0, inr (c.in_ok-nodes.ensures.begins (c.in_ok-last.ensures.devices.first.honest h))) (c.in_ok-last.ensures.a_left h)
+    left_again (g.D.Device.content c.args.a.now) (g.D.Device.content c.parse_tree.new.device) (g.D.Device.content c.run_all.new.a)
+    (0, inr (c.in_ok-nodes.ensures.begins (c.in_ok-last.ensures.devices.first.honest h))) (c.in_ok-last.ensures.a_left h)
 
 pub returns-clause-b_left : goal.returns-clause-b_left
 returns-clause-b_left g c = c.in_ok-last.ensures.b_left

@@ -8,13 +8,16 @@ use Rattle.aggen.proofs.translator.Translator.parse_tree.Goals as goal
 
 -- a sentence has at most one tree, for any result
 pub returns-in_err-tokens-clause-one : goal.returns-in_err-tokens-clause-one
-returns-in_err-tokens-clause-one g c = rw (sym c.self.view_is) (one_of _ c.self.invariant.0 _ c.self.invariant.1 c.args.sentence.now)
+returns-in_err-tokens-clause-one g c =
+    rw (sym c.self.view_is) (one_of _ c.self.invariant.0 _ c.self.invariant.1 c.args.sentence.now)
 
 pub returns-in_err-writer-clause-one : goal.returns-in_err-writer-clause-one
-returns-in_err-writer-clause-one g c = rw (sym c.self.view_is) (one_of _ c.self.invariant.0 _ c.self.invariant.1 c.args.sentence.now)
+returns-in_err-writer-clause-one g c =
+    rw (sym c.self.view_is) (one_of _ c.self.invariant.0 _ c.self.invariant.1 c.args.sentence.now)
 
 pub returns-in_err-count-clause-one : goal.returns-in_err-count-clause-one
-returns-in_err-count-clause-one g c = rw (sym c.self.view_is) (one_of _ c.self.invariant.0 _ c.self.invariant.1 c.args.sentence.now)
+returns-in_err-count-clause-one g c =
+    rw (sym c.self.view_is) (one_of _ c.self.invariant.0 _ c.self.invariant.1 c.args.sentence.now)
 
 pub returns-clause-one : goal.returns-clause-one
 returns-clause-one g c = rw (sym c.self.view_is) (one_of _ c.self.invariant.0 _ c.self.invariant.1 c.args.sentence.now)
@@ -50,13 +53,18 @@ returns-in_err-count-clause-refused g c =
     let p = err_from_is_err_and c.from_residual-in_err-count.result c.from_residual-in_err-count.ensures.1 in
     let cut = c.in_ok-tokens.ensures.tokens in
     let e = c.in_err-count.ensures in
-    rw (p.1, p.2, sym c.self.view_is) (parse_exact _ c.self.invariant.0 c.args.sentence.now _ cut (Err c.in_err-count.field-0.0) c.in_err-count.field-0.0 refl e.unexpected e.none e.deep e.large)
+    rw (p.1, p.2, sym c.self.view_is)
+    (parse_exact _ c.self.invariant.0 c.args.sentence.now _ cut
+    (Err c.in_err-count.field-0.0) c.in_err-count.field-0.0 refl e.unexpected e.none e.deep e.large)
 
 -- the content of the device after a fault
 pub returns-in_err-writer-clause-left : goal.returns-in_err-writer-clause-left
 returns-in_err-writer-clause-left g c =
     let p = err_from_is_err_and c.from_residual-in_err-writer.result c.from_residual-in_err-writer.ensures.1 in
-    rw p.1 (λ h. not_begun 0 (g.D.Device.content c.args.device.now) (g.D.Device.content c.begin.new.device) c.in_err-writer.field-0.0 (λ failed. c.in_err-writer.ensures.device (ap Err failed) h) (λ resource. c.in_err-writer.ensures.memory (ap Err resource) h))
+    rw p.1
+    (λ h. not_begun 0 (g.D.Device.content c.args.device.now) (g.D.Device.content c.begin.new.device) c.in_err-writer.field-0.0
+    (λ failed. c.in_err-writer.ensures.device (ap Err failed) h)
+    (λ resource. c.in_err-writer.ensures.memory (ap Err resource) h))
 
 pub returns-in_err-count-clause-left : goal.returns-in_err-count-clause-left
 returns-in_err-count-clause-left g c =
@@ -82,4 +90,5 @@ returns-in_err-count-clause-parsed g c =
 pub returns-clause-begins : goal.returns-clause-begins
 returns-clause-begins g c = λ h.
     let tree = c.in_ok-count.ensures.tree in
-    first_begins c.self.inside.grammar tree.0 (g.D.Device.content c.parse.new.device) c.self.invariant.0 tree.1.tree (c.in_ok-count.ensures.file tree.0 tree.1 h)
+    first_begins c.self.inside.grammar tree.0 (g.D.Device.content c.parse.new.device) c.self.invariant.0 tree.1.tree
+    (c.in_ok-count.ensures.file tree.0 tree.1 h)

@@ -20,13 +20,27 @@ returns-in_err-expr-clause-occurs c = λ at occurs.
 
 -- the text has the occurrence that was found
 pub returns-in-Some-clause-refused : goal.returns-in-Some-clause-refused
-returns-in-Some-clause-refused c = λ x is has. no_value c.args.text.now c.in-Some.at is (record { expr = c.in_ok-expr.expr; reads = c.in_ok-expr.ensures.reads; offset = sym c.first_occurrence.ensures ∙ c.in-Some.is }) has
+returns-in-Some-clause-refused c =
+    λ x is has. no_value c.args.text.now c.in-Some.at is
+    (record {
+      expr = c.in_ok-expr.expr;
+      reads = c.in_ok-expr.ensures.reads;
+      offset = sym c.first_occurrence.ensures ∙ c.in-Some.is;
+    }) has
 
 pub returns-in-Some-clause-offsets : goal.returns-in-Some-clause-offsets
-returns-in-Some-clause-offsets c = inr (record { expr = c.in_ok-expr.expr; reads = c.in_ok-expr.ensures.reads; offset = sym c.first_occurrence.ensures ∙ c.in-Some.is })
+returns-in-Some-clause-offsets c =
+    inr
+    (record {
+      expr = c.in_ok-expr.expr;
+      reads = c.in_ok-expr.ensures.reads;
+      offset = sym c.first_occurrence.ensures ∙ c.in-Some.is;
+    })
 
 pub returns-in-Some-clause-occurs : goal.returns-in-Some-clause-occurs
-returns-in-Some-clause-occurs c = λ at occurs. let e = same_offset c.args.text.now c.in_ok-expr.expr at c.in_ok-expr.ensures.reads occurs in cc
+returns-in-Some-clause-occurs c = λ at occurs. let e =
+    same_offset c.args.text.now c.in_ok-expr.expr at c.in_ok-expr.ensures.reads occurs in cc
 
 pub returns-in-None-clause-occurs : goal.returns-in-None-clause-occurs
-returns-in-None-clause-occurs c = λ at occurs. let e = same_offset c.args.text.now c.in_ok-expr.expr at c.in_ok-expr.ensures.reads occurs in absurd cc
+returns-in-None-clause-occurs c = λ at occurs. let e =
+    same_offset c.args.text.now c.in_ok-expr.expr at c.in_ok-expr.ensures.reads occurs in absurd cc

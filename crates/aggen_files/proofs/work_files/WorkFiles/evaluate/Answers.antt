@@ -25,7 +25,8 @@ returns-in_err-write_bytes-clause-refused g c =
     (is_honest_of made.new.a) (is_honest_of made.new.b) (is_honest_of done.new.self.a) (is_honest_of done.new.self.b)
     done.ensures.devices.first.honest done.ensures.devices.second.honest c.new-text.result.items
     (content_of made.new.a) (content_of made.new.b) made.new.out.items c.as_slice.result.now _ _ made.result c.in_ok-report.report
-    c.new-text.ensures.items c.as_slice.ensures.value made.ensures.evaluates c.in_ok-report.ensures.ok c.in_err-write_bytes.ensures.err)
+    c.new-text.ensures.items c.as_slice.ensures.value made.ensures.evaluates c.in_ok-report.ensures.ok
+    c.in_err-write_bytes.ensures.err)
 
 -- the theorem
 pub returns-clause-evaluates : goal.returns-clause-evaluates
@@ -37,4 +38,5 @@ returns-clause-evaluates g c =
     done.ensures.devices.first.honest done.ensures.devices.second.honest c.new-text.result.items
     (content_of made.new.a) (content_of made.new.b) (stored_of done.new.self.a) (stored_of done.new.self.b) made.new.out.items
     c.as_slice.result.now _ _ made.result c.in_ok-report.report c.new-text.ensures.items c.as_slice.ensures.value
-    c.in_ok-finish.ensures.a c.in_ok-finish.ensures.b made.ensures.evaluates c.in_ok-report.ensures.ok c.in_ok-write_bytes.ensures.ok
+    c.in_ok-finish.ensures.a c.in_ok-finish.ensures.b made.ensures.evaluates c.in_ok-report.ensures.ok
+    c.in_ok-write_bytes.ensures.ok

@@ -25,7 +25,8 @@ returns-in_err-write_bytes-clause-refused g c =
     (is_honest_of made.new.a) (is_honest_of made.new.b) (is_honest_of done.new.self.a) (is_honest_of done.new.self.b)
     done.ensures.devices.first.honest done.ensures.devices.second.honest c.new-text.result.items
     (content_of made.new.a) (content_of made.new.b) made.new.out.items c.as_slice.result.now _ _ made.result c.in_ok-report.report
-    c.new-text.ensures.items c.as_slice.ensures.value made.ensures.translates c.in_ok-report.ensures.ok c.in_err-write_bytes.ensures.err)
+    c.new-text.ensures.items c.as_slice.ensures.value made.ensures.translates c.in_ok-report.ensures.ok
+    c.in_err-write_bytes.ensures.err)
 
 pub returns-in_err-write_bytes-clause-files : goal.returns-in_err-write_bytes-clause-files
 returns-in_err-write_bytes-clause-files g c =
@@ -35,7 +36,8 @@ returns-in_err-write_bytes-clause-files g c =
     rw (p.1, p.2) (λ _. files_result c.args.translator.now c.args.sentence.now
     (is_honest_of made.new.a) (is_honest_of made.new.b) (is_honest_of done.new.self.a) (is_honest_of done.new.self.b)
     done.ensures.devices.first.honest done.ensures.devices.second.honest c.new-text.result.items
-    (content_of made.new.a) (content_of made.new.b) (stored_of done.new.self.a) (stored_of done.new.self.b) made.new.out.items made.result
+    (content_of made.new.a) (content_of made.new.b) (stored_of done.new.self.a)
+    (stored_of done.new.self.b) made.new.out.items made.result
     c.in_ok-report.report c.new-text.ensures.items c.in_ok-finish.ensures.a c.in_ok-finish.ensures.b made.ensures.translates
     c.in_ok-report.ensures.ok)
 
@@ -49,4 +51,5 @@ returns-clause-translates g c =
     done.ensures.devices.first.honest done.ensures.devices.second.honest c.new-text.result.items
     (content_of made.new.a) (content_of made.new.b) (stored_of done.new.self.a) (stored_of done.new.self.b) made.new.out.items
     c.as_slice.result.now _ _ made.result c.in_ok-report.report c.new-text.ensures.items c.as_slice.ensures.value
-    c.in_ok-finish.ensures.a c.in_ok-finish.ensures.b made.ensures.translates c.in_ok-report.ensures.ok c.in_ok-write_bytes.ensures.ok
+    c.in_ok-finish.ensures.a c.in_ok-finish.ensures.b made.ensures.translates c.in_ok-report.ensures.ok
+    c.in_ok-write_bytes.ensures.ok

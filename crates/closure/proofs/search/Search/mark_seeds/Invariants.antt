@@ -10,6 +10,7 @@ invariant-loop-index l = record {
   seeds : l.self.seeds.now ≡ l.initial.self.seeds.now;
   search : IsSearch l.self.clauses.now l.self.seeds.now l.self.marks.items l.self.added.items l.self.visited l.self.passed.items;
   visited : l.self.visited ≡ l.initial.self.visited;
-  grows : Grows l.initial.self.visited l.initial.self.marks.items l.initial.self.added.items l.self.marks.items l.self.added.items;
+  grows : Grows l.initial.self.visited l.initial.self.marks.items l.initial.self.added.items l.self.marks.items
+      l.self.added.items;
   marked : (t : ℕ) → Contains (take l.index l.initial.self.seeds.now) t → is_marked l.self.marks.items t ≡ true;
 }

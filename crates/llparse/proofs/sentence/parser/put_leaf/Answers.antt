@@ -16,7 +16,10 @@ returns-in_err-put-clause-adds g c h =
     let p = err_from_is_err_and c.from_residual-in_err-put.result c.from_residual-in_err-put.ensures.1 in
     let x = c.in_ok-from_str.field-0 in
     let same : x ≡ c.args.lex.now = cc c.in_ok-from_str.ensures in
-    rw p.1 (one_refused ParseFault (g.D.Device.content c.args.device.now) (g.D.Device.content c.put.new.device) (token_body c.args.class x) c.in_err-put.field-0.0 p.0 (of_leaf c.args.class x (text_well x (subst IsTokenText (sym same) c.requires.text)))
+    rw p.1
+    (one_refused ParseFault (g.D.Device.content c.args.device.now) (g.D.Device.content c.put.new.device)
+    (token_body c.args.class x) c.in_err-put.field-0.0 p.0
+    (of_leaf c.args.class x (text_well x (subst IsTokenText (sym same) c.requires.text)))
     (λ failed. c.in_err-put.ensures.device (ap Err failed) h)
     (λ resource. c.in_err-put.ensures.memory (ap Err resource) h))
 
@@ -26,10 +29,12 @@ returns-in_err-map_err-clause-adds g c h =
     let x = c.in_ok-from_str.field-0 in
     let same : x ≡ c.args.lex.now = cc c.in_ok-from_str.ensures in
     rw p.1 (stopped (g.D.Device.content c.args.device.now) (g.D.Device.content c.put.new.device) p.0
-    (one_added ParseFault (g.D.Device.content c.args.device.now) (g.D.Device.content c.put.new.device) (token_body c.args.class x) (of_leaf c.args.class x (text_well x (subst IsTokenText (sym same) c.requires.text))) (c.in_ok-put.ensures.frame h)))
+    (one_added ParseFault (g.D.Device.content c.args.device.now) (g.D.Device.content c.put.new.device) (token_body c.args.class x)
+    (of_leaf c.args.class x (text_well x (subst IsTokenText (sym same) c.requires.text))) (c.in_ok-put.ensures.frame h)))
 
 pub returns-clause-adds : goal.returns-clause-adds
 returns-clause-adds g c h =
     let x = c.in_ok-from_str.field-0 in
     let same : x ≡ c.args.lex.now = cc c.in_ok-from_str.ensures in
-    one_added ParseFault (g.D.Device.content c.args.device.now) (g.D.Device.content c.put.new.device) (token_body c.args.class x) (of_leaf c.args.class x (text_well x (subst IsTokenText (sym same) c.requires.text))) (c.in_ok-put.ensures.frame h)
+    one_added ParseFault (g.D.Device.content c.args.device.now) (g.D.Device.content c.put.new.device) (token_body c.args.class x)
+    (of_leaf c.args.class x (text_well x (subst IsTokenText (sym same) c.requires.text))) (c.in_ok-put.ensures.frame h)

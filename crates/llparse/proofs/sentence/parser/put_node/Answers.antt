@@ -14,22 +14,30 @@ use Rattle.llparse.proofs.sentence.parser.put_node.Goals as goal
 pub returns-in_err-put-clause-adds : goal.returns-in_err-put-clause-adds
 returns-in_err-put-clause-adds g c h =
     let put = c.in_err-put.ensures in
-    rw (err_from_is_err_and c.from_residual.result c.from_residual.ensures.1).1 (one_refused ParseFault (g.D.Device.content c.args.device.now) (g.D.Device.content c.put.new.device) (body_of Node c.args.production []) c.in_err-put.field-0.0 (parse_fault_of c.in_err-put.field-0.0)
-    (is_body version_two Node c.args.production [] (omega arith) (All-nil IsWell)) (λ failed. put.device (ap Err failed) h) (λ resource. put.memory (ap Err resource) h))
+    rw (err_from_is_err_and c.from_residual.result c.from_residual.ensures.1).1
+    (one_refused ParseFault (g.D.Device.content c.args.device.now) (g.D.Device.content c.put.new.device)
+    (body_of Node c.args.production []) c.in_err-put.field-0.0 (parse_fault_of c.in_err-put.field-0.0)
+    (is_body version_two Node c.args.production [] (omega arith) (All-nil IsWell)) (λ failed. put.device (ap Err failed) h)
+    (λ resource. put.memory (ap Err resource) h))
 
 pub returns-then-is_empty-clause-adds : goal.returns-then-is_empty-clause-adds
 returns-then-is_empty-clause-adds g c h =
-    one_added ParseFault (g.D.Device.content c.args.device.now) (g.D.Device.content c.put.new.device) (body_of Node c.args.production [])
+    one_added ParseFault (g.D.Device.content c.args.device.now) (g.D.Device.content c.put.new.device)
+    (body_of Node c.args.production [])
     (is_body version_two Node c.args.production [] (omega arith) (All-nil IsWell)) (c.in_ok-put.ensures.frame h)
 
 -- with texts
 pub returns-in_err-put-2-clause-adds : goal.returns-in_err-put-2-clause-adds
 returns-in_err-put-2-clause-adds g c h =
     let put = c.in_err-put-2.ensures in
-    rw (err_from_is_err_and c.from_residual-in_err-put-2.result c.from_residual-in_err-put-2.ensures.1).1 (one_refused ParseFault (g.D.Device.content c.args.device.now) (g.D.Device.content c.put-2.new.device) (body_of Node c.args.production c.args.texts.now) c.in_err-put-2.field-0.0 (parse_fault_of c.in_err-put-2.field-0.0)
-    (is_body version_two Node c.args.production c.args.texts.now c.requires.few c.requires.well) (λ failed. put.device (ap Err failed) h) (λ resource. put.memory (ap Err resource) h))
+    rw (err_from_is_err_and c.from_residual-in_err-put-2.result c.from_residual-in_err-put-2.ensures.1).1
+    (one_refused ParseFault (g.D.Device.content c.args.device.now) (g.D.Device.content c.put-2.new.device)
+    (body_of Node c.args.production c.args.texts.now) c.in_err-put-2.field-0.0 (parse_fault_of c.in_err-put-2.field-0.0)
+    (is_body version_two Node c.args.production c.args.texts.now c.requires.few c.requires.well)
+    (λ failed. put.device (ap Err failed) h) (λ resource. put.memory (ap Err resource) h))
 
 pub returns-clause-adds : goal.returns-clause-adds
 returns-clause-adds g c h =
-    one_added ParseFault (g.D.Device.content c.args.device.now) (g.D.Device.content c.put-2.new.device) (body_of Node c.args.production c.args.texts.now)
+    one_added ParseFault (g.D.Device.content c.args.device.now) (g.D.Device.content c.put-2.new.device)
+    (body_of Node c.args.production c.args.texts.now)
     (is_body version_two Node c.args.production c.args.texts.now c.requires.few c.requires.well) (c.in_ok-put-2.ensures.frame h)

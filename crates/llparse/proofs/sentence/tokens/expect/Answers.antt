@@ -11,15 +11,20 @@ returns-in_default-clause-other c = none_is c.args.tokens.now.list c.args.tokens
 
 pub returns-then-not-same-clause-other : goal.returns-then-not-same-clause-other
 returns-then-not-same-clause-other c =
-    other_next c.args.tokens.now.list c.args.tokens.now.taken (token_of c.in-Some.token) c.args.kind (sym c.in-Some.ensures) (λ same. false≢true (sym c.if-not-same.true ∙ c.same.ensures.1 same))
+    other_next c.args.tokens.now.list c.args.tokens.now.taken (token_of c.in-Some.token) c.args.kind (sym c.in-Some.ensures)
+    (λ same. false≢true (sym c.if-not-same.true ∙ c.same.ensures.1 same))
 
 pub returns-clause-taken : goal.returns-clause-taken
 returns-clause-taken c =
     next_is c.args.tokens.now.list c.args.tokens.now.taken (token_of c.in-Some.token) (sym c.in-Some.ensures)
-    ∙ ap (λ x. (x, c.in-Some.token.lex.now) ∷ drop (c.args.tokens.now.taken + 1) (words_of c.args.tokens.now.list)) (c.same.ensures.0 c.if-not-same.false)
+    ∙ ap (λ x. (x, c.in-Some.token.lex.now) ∷ drop (c.args.tokens.now.taken + 1) (words_of c.args.tokens.now.list))
+    (c.same.ensures.0 c.if-not-same.false)
 
 pub returns-clause-within : goal.returns-clause-within
-returns-clause-within c = is_left c.args.tokens.now.list c.args.tokens.now.taken (token_of c.in-Some.token) (sym c.in-Some.ensures)
+returns-clause-within c =
+    is_left c.args.tokens.now.list c.args.tokens.now.taken (token_of c.in-Some.token) (sym c.in-Some.ensures)
 
 pub returns-clause-fits : goal.returns-clause-fits
-returns-clause-fits c = λ v all. subst (λ x. IsTokenOf v x c.in-Some.token.lex.now) (c.same.ensures.0 c.if-not-same.false) (all c.args.tokens.now.taken (token_of c.in-Some.token) (sym c.in-Some.ensures))
+returns-clause-fits c =
+    λ v all. subst (λ x. IsTokenOf v x c.in-Some.token.lex.now) (c.same.ensures.0 c.if-not-same.false)
+    (all c.args.tokens.now.taken (token_of c.in-Some.token) (sym c.in-Some.ensures))

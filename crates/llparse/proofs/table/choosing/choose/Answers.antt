@@ -9,9 +9,14 @@ loop-at-preserved c =
     let step : c.loop-at.at ≡ (c.loop-at.at - 1) + 1 = omega (arith, c.loop-at-test.true) in
     let inside : c.loop-at.at - 1 < length c.args.productions.now = omega (arith, c.loop-at-test.true, c.loop-at.auto.at) in
     let q = get_or c.args.productions.now (c.loop-at.at - 1) r in
-    let is : slice_get c.args.productions.now (c.loop-at.at - 1) ≡ Some q = slice_get-get_or c.args.productions.now (c.loop-at.at - 1) r inside in
-    let old = subst (λ z. AreEarliestFrom c.args.productions.now c.args.marks.now z c.loop-at.column.choices.items) step c.loop-at.invariant.earliest in
-    let least = subst (λ z. IsLeastFrom c.args.productions.now c.args.marks.now z c.loop-at.column.conflict) step c.loop-at.invariant.least in
+    let is : slice_get c.args.productions.now (c.loop-at.at - 1) ≡ Some q =
+    slice_get-get_or c.args.productions.now (c.loop-at.at - 1) r inside in
+    let old =
+    subst (λ z. AreEarliestFrom c.args.productions.now c.args.marks.now z c.loop-at.column.choices.items) step
+    c.loop-at.invariant.earliest in
+    let least =
+    subst (λ z. IsLeastFrom c.args.productions.now c.args.marks.now z c.loop-at.column.conflict) step
+    c.loop-at.invariant.least in
     record {
       len = c.choose_if.ensures.len ∙ c.loop-at.invariant.len;
       earliest = c.choose_if.ensures.earliest c.args.productions.now c.args.marks.now q is refl refl old;
@@ -21,7 +26,8 @@ loop-at-preserved c =
 pub returns-clause-earliest : goal.returns-clause-earliest
 returns-clause-earliest c =
     let none : c.loop-at.at ≡ 0 = omega (arith, c.loop-at-test.false) in
-    subst (λ z. AreEarliestFrom c.args.productions.now c.args.marks.now z c.loop-at.column.choices.items) none c.loop-at.invariant.earliest
+    subst (λ z. AreEarliestFrom c.args.productions.now c.args.marks.now z c.loop-at.column.choices.items) none
+    c.loop-at.invariant.earliest
 
 pub returns-clause-least : goal.returns-clause-least
 returns-clause-least c =

@@ -9,4 +9,8 @@ use Rattle.llparse.proofs.table.first.first_marks.Goals as goal
 pub returns : goal.returns
 returns c = λ y named.
     let w = c.requires.edges in
-    iff_on (rw (ap (λ (k : Clauses). k.clauses) w.1, c.of-sizes.ensures.symbols, c.index.ensures, c.of-sizes.ensures.literals) at c.in_ok-marks.ensures.marks _) (first_iff c.args.grammar.now c.of-sizes.ensures.accepted (is_marked c.args.nullable.now) w.0 c.requires.nullable w.2 c.args.ahead c.requires.known y named)
+    iff_on
+    (rw (ap (λ (k : Clauses). k.clauses) w.1, c.of-sizes.ensures.symbols, c.index.ensures, c.of-sizes.ensures.literals) at
+    c.in_ok-marks.ensures.marks _)
+    (first_iff c.args.grammar.now c.of-sizes.ensures.accepted
+    (is_marked c.args.nullable.now) w.0 c.requires.nullable w.2 c.args.ahead c.requires.known y named)

@@ -14,8 +14,15 @@ loop-at-preserved c =
     let inside : c.loop-at.at - 1 < length c.args.items.now = omega (arith, c.loop-at-test.true, c.loop-at.auto.at) in
     let step : c.loop-at.at ≡ (c.loop-at.at - 1) + 1 = omega (arith, c.loop-at-test.true) in
     record {
-      next = rw (c.can_start-next.ensures, c.is_marked.ensures, c.node-node.ensures, c.is_nullable_item.ensures) (next_more b (is_nullable_item n) false c.args.items.now (c.loop-at.at - 1) c.loop-at.at _ c.loop-at.next inside step c.loop-at.invariant.next);
-      seeds = adds_rest (can_start_in b (is_nullable_item n) false) (λ (x : Item) (t : ℕ). t ≡ node_of c.args.sizes.symbols c.args.sizes.literals x) c.args.items.now (c.loop-at.at - 1) c.loop-at.at _ c.loop-at.next _ _ _ inside step c.loop-at.invariant.next c.loop-at.invariant.seeds (rw c.node-node.ensures at c.in_ok-add_seed_if.ensures);
+      next =
+          rw (c.can_start-next.ensures, c.is_marked.ensures, c.node-node.ensures, c.is_nullable_item.ensures)
+          (next_more b (is_nullable_item n) false c.args.items.now
+          (c.loop-at.at - 1) c.loop-at.at _ c.loop-at.next inside step c.loop-at.invariant.next);
+      seeds =
+          adds_rest (can_start_in b (is_nullable_item n) false)
+          (λ (x : Item) (t : ℕ). t ≡ node_of c.args.sizes.symbols c.args.sizes.literals x) c.args.items.now
+          (c.loop-at.at - 1) c.loop-at.at _ c.loop-at.next _ _ _ inside step c.loop-at.invariant.next
+          c.loop-at.invariant.seeds (rw c.node-node.ensures at c.in_ok-add_seed_if.ensures);
     }
 
 pub returns : goal.returns

@@ -9,11 +9,20 @@ use Rattle.llparse.proofs.table.follow.follow_seeds.Goals as goal
 pub loop-at-preserved : goal.loop-at-preserved
 loop-at-preserved c =
     let r = c.index-productions-at.result in
-    let inside : c.loop-at.at < length c.args.grammar.now.productions = omega (arith, ap length c.productions-productions.ensures.lent, c.loop-at-test.true) in
-    let is : r ≡ get_or c.args.grammar.now.productions c.loop-at.at r = c.index-productions-at.is ∙ ap (λ (qs : List Production). get_or qs c.loop-at.at r) c.productions-productions.ensures.lent in
-    next_noted c.args.grammar.now c.productions-productions.ensures.accepted (is_marked c.args.nullable.now) (is_marked c.args.in_first.now) c.loop-at.at r _ _ c.as_slice.result.now _ _ _ inside c.of-sizes.ensures.symbols c.of-sizes.ensures.literals (c.as_slice.ensures ∙ ap (λ (q : Production). q.items) is) c.loop-at.invariant c.in_ok-add_seeds.ensures
+    let inside : c.loop-at.at < length c.args.grammar.now.productions =
+    omega (arith, ap length c.productions-productions.ensures.lent, c.loop-at-test.true) in
+    let is : r ≡ get_or c.args.grammar.now.productions c.loop-at.at r =
+    c.index-productions-at.is ∙ ap
+    (λ (qs : List Production). get_or qs c.loop-at.at r) c.productions-productions.ensures.lent in
+    next_noted c.args.grammar.now c.productions-productions.ensures.accepted (is_marked c.args.nullable.now)
+    (is_marked c.args.in_first.now) c.loop-at.at r _ _ c.as_slice.result.now _ _ _ inside c.of-sizes.ensures.symbols
+    c.of-sizes.ensures.literals (c.as_slice.ensures ∙ ap (λ (q : Production). q.items) is) c.loop-at.invariant
+    c.in_ok-add_seeds.ensures
 
 pub returns : goal.returns
 returns c =
-    let most : length c.args.grammar.now.productions ≤ c.loop-at.at = omega (arith, ap length c.productions-productions.ensures.lent, c.loop-at-test.false) in
-    noted_iff (IsFollowSeed c.args.grammar.now (is_marked c.args.nullable.now) (is_marked c.args.in_first.now)) c.args.grammar.now.productions c.loop-at.at (Contains c.new-seeds.result.items) _ most (λ t h. contains_none t (rw c.new-seeds.ensures.items at h)) c.loop-at.invariant
+    let most : length c.args.grammar.now.productions ≤ c.loop-at.at =
+    omega (arith, ap length c.productions-productions.ensures.lent, c.loop-at-test.false) in
+    noted_iff (IsFollowSeed c.args.grammar.now (is_marked c.args.nullable.now) (is_marked c.args.in_first.now))
+    c.args.grammar.now.productions c.loop-at.at (Contains c.new-seeds.result.items) _ most
+    (λ t h. contains_none t (rw c.new-seeds.ensures.items at h)) c.loop-at.invariant

@@ -4,4 +4,5 @@ use Rattle.llparse.specs.table.Nullable.{clause_of}
 use Rattle.llparse.proofs.table.nullable.clauses_of.Given as goal
 
 abbrev pub invariant-loop-production : goal.invariant-loop-production
-invariant-loop-production l = l.clauses.items ≡ map (clause_of l.sizes.symbols l.sizes.literals) (take l.production-index l.production-items)
+invariant-loop-production l =
+    l.clauses.items ≡ map (clause_of l.sizes.symbols l.sizes.literals) (take l.production-index l.production-items)

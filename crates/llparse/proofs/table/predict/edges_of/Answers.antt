@@ -15,21 +15,35 @@ loop-at-preserved c =
     let n = is_marked c.args.nullable.now in
     let r = c.index-productions-at.result in
     let accepted = c.productions-productions.ensures.accepted in
-    let inside : c.loop-at.at < length g.productions = omega (arith, ap length c.productions-productions.ensures.lent, c.loop-at-test.true) in
-    let is : r ≡ get_or g.productions c.loop-at.at r = c.index-productions-at.is ∙ ap (λ (qs : List Production). get_or qs c.loop-at.at r) c.productions-productions.ensures.lent in
+    let inside : c.loop-at.at < length g.productions =
+    omega (arith, ap length c.productions-productions.ensures.lent, c.loop-at-test.true) in
+    let is : r ≡ get_or g.productions c.loop-at.at r =
+    c.index-productions-at.is ∙ ap
+    (λ (qs : List Production). get_or qs c.loop-at.at r) c.productions-productions.ensures.lent in
     let left = ap (λ (q : Production). q.left) is in
     let items = c.as_slice-items.ensures ∙ ap (λ (q : Production). q.items) is in
     record {
-      first = edges_more g accepted n c.loop-at.at r _ _ _ c.as_slice-items.result.now c.starting_items_len-count.result _ _ _ inside c.of-sizes.ensures.symbols c.of-sizes.ensures.literals left items c.starting_items_len-count.ensures.items c.loop-at.invariant.first c.in_ok-add_first_edges.ensures;
-      follow = last_more g accepted n c.loop-at.at r _ _ _ c.as_slice-items.result.now _ _ _ inside c.of-sizes.ensures.symbols c.of-sizes.ensures.literals left items c.loop-at.invariant.follow c.in_ok-add_follow_edges.ensures;
+      first =
+          edges_more g accepted n c.loop-at.at r _ _ _ c.as_slice-items.result.now c.starting_items_len-count.result _ _ _ inside
+          c.of-sizes.ensures.symbols c.of-sizes.ensures.literals left items c.starting_items_len-count.ensures.items
+          c.loop-at.invariant.first c.in_ok-add_first_edges.ensures;
+      follow =
+          last_more g accepted n c.loop-at.at r _ _ _ c.as_slice-items.result.now _ _ _ inside c.of-sizes.ensures.symbols
+          c.of-sizes.ensures.literals left items c.loop-at.invariant.follow c.in_ok-add_follow_edges.ensures;
     }
 
 pub returns-clause-first : goal.returns-clause-first
 returns-clause-first c =
-    let most : length c.args.grammar.now.productions ≤ c.loop-at.at = omega (arith, ap length c.productions-productions.ensures.lent, c.loop-at-test.false) in
-    noted_iff (IsFirstEdge c.args.grammar.now (is_marked c.args.nullable.now)) c.args.grammar.now.productions c.loop-at.at (Contains c.new-first.result.items) _ most (λ e h. contains_none e (rw c.new-first.ensures.items at h)) c.loop-at.invariant.first
+    let most : length c.args.grammar.now.productions ≤ c.loop-at.at =
+    omega (arith, ap length c.productions-productions.ensures.lent, c.loop-at-test.false) in
+    noted_iff (IsFirstEdge c.args.grammar.now (is_marked c.args.nullable.now)) c.args.grammar.now.productions c.loop-at.at
+    (Contains c.new-first.result.items) _ most
+    (λ e h. contains_none e (rw c.new-first.ensures.items at h)) c.loop-at.invariant.first
 
 pub returns-clause-follow : goal.returns-clause-follow
 returns-clause-follow c =
-    let most : length c.args.grammar.now.productions ≤ c.loop-at.at = omega (arith, ap length c.productions-productions.ensures.lent, c.loop-at-test.false) in
-    noted_iff (IsFollowEdge c.args.grammar.now (is_marked c.args.nullable.now)) c.args.grammar.now.productions c.loop-at.at (Contains c.new-follow.result.items) _ most (λ e h. contains_none e (rw c.new-follow.ensures.items at h)) c.loop-at.invariant.follow
+    let most : length c.args.grammar.now.productions ≤ c.loop-at.at =
+    omega (arith, ap length c.productions-productions.ensures.lent, c.loop-at-test.false) in
+    noted_iff (IsFollowEdge c.args.grammar.now (is_marked c.args.nullable.now)) c.args.grammar.now.productions c.loop-at.at
+    (Contains c.new-follow.result.items) _ most
+    (λ e h. contains_none e (rw c.new-follow.ensures.items at h)) c.loop-at.invariant.follow

@@ -5,4 +5,5 @@ use Rattle.normalform.specs.numbers.Numbers.{symbol_names}
 use Rattle.normalform.proofs.faults.clause.body_of.Given as goal
 
 abbrev pub invariant-loop-item : goal.invariant-loop-item
-invariant-loop-item l = l.body.items ++ body_of (symbol_names l.declared) (drop l.item-index l.items) ≡ body_of (symbol_names l.declared) l.items
+invariant-loop-item l =
+    l.body.items ++ body_of (symbol_names l.declared) (drop l.item-index l.items) ≡ body_of (symbol_names l.declared) l.items

@@ -5,4 +5,5 @@ use Rattle.normalform.specs.faults.Faults.{few_children}
 use Rattle.normalform.proofs.faults.limits.all_have_few_children.Given as goal
 
 abbrev pub invariant-loop-production : goal.invariant-loop-production
-invariant-loop-production l = list_all (few_children l.declared) (drop l.production-index l.productions) ≡ list_all (few_children l.declared) l.productions
+invariant-loop-production l =
+    list_all (few_children l.declared) (drop l.production-index l.productions) ≡ list_all (few_children l.declared) l.productions

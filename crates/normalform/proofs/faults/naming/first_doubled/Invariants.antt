@@ -4,4 +4,6 @@ use Rattle.normalform.specs.faults.Faults.{first_wrong, doubled_checks, checks_a
 use Rattle.normalform.proofs.faults.naming.first_doubled.Given as goal
 
 abbrev pub invariant-loop-symbol : goal.invariant-loop-symbol
-invariant-loop-symbol l = first_wrong (checks_along symbol_checks with_symbol l.seen (drop l.symbol-index l.symbols)) ≡ first_wrong (doubled_checks l.symbols)
+invariant-loop-symbol l =
+    first_wrong (checks_along symbol_checks with_symbol l.seen (drop l.symbol-index l.symbols)) ≡ first_wrong
+    (doubled_checks l.symbols)

@@ -5,4 +5,6 @@ use Rattle.normalform.specs.numbers.Numbers.{symbol_names}
 use Rattle.normalform.proofs.faults.naming.unknown_in_items.Given as goal
 
 abbrev pub invariant-loop-item : goal.invariant-loop-item
-invariant-loop-item l = first_wrong (flat_map (item_checks (symbol_names l.declared)) (drop l.item-index l.items)) ≡ first_wrong (flat_map (item_checks (symbol_names l.declared)) l.items)
+invariant-loop-item l =
+    first_wrong (flat_map (item_checks (symbol_names l.declared)) (drop l.item-index l.items)) ≡ first_wrong
+    (flat_map (item_checks (symbol_names l.declared)) l.items)

@@ -12,7 +12,8 @@ returns-in-Some-unknown_in_items c =
     let here : List Check = name_check (symbol_names ss) q.left ∷ [] in
     let items : List Check = flat_map (item_checks (symbol_names ss)) q.items in
     let rules : List Check = flat_map (rule_checks ss (placed ss q)) q.rules in
-    first_of items rules c.in-Some-unknown_in_items.fault (rw (← c.as_slice.ensures) c.in-Some-unknown_in_items.ensures) ∙ rest_of here (items ++ rules) c.in_default.ensures
+    first_of items rules c.in-Some-unknown_in_items.fault (rw (← c.as_slice.ensures) c.in-Some-unknown_in_items.ensures)
+    ∙ rest_of here (items ++ rules) c.in_default.ensures
 
 pub returns : goal.returns
 returns c =
@@ -21,4 +22,6 @@ returns c =
     let here : List Check = name_check (symbol_names ss) q.left ∷ [] in
     let items : List Check = flat_map (item_checks (symbol_names ss)) q.items in
     let rules : List Check = flat_map (rule_checks ss (placed ss q)) q.rules in
-    subst (λ f. IfOk c.first_in_production.result (λ r. r ≡ f)) (rest_of items rules (rw (← c.as_slice.ensures) c.in_default-unknown_in_items.ensures) ∙ rest_of here (items ++ rules) c.in_default.ensures) c.first_in_production.ensures
+    subst (λ f. IfOk c.first_in_production.result (λ r. r ≡ f))
+    (rest_of items rules (rw (← c.as_slice.ensures) c.in_default-unknown_in_items.ensures)
+    ∙ rest_of here (items ++ rules) c.in_default.ensures) c.first_in_production.ensures

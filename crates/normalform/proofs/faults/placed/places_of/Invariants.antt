@@ -5,4 +5,6 @@ use Rattle.normalform.specs.faults.PlacedItem.{item_placed}
 use Rattle.normalform.proofs.faults.placed.places_of.Given as goal
 
 abbrev pub invariant-loop-item : goal.invariant-loop-item
-invariant-loop-item l = map item_placed l.items.items ++ stored_of (symbol_names l.declared) (drop l.item-index l.item-items) ≡ placed l.declared l.production
+invariant-loop-item l =
+    map item_placed l.items.items ++ stored_of (symbol_names l.declared) (drop l.item-index l.item-items)
+    ≡ placed l.declared l.production

@@ -5,4 +5,6 @@ use Rattle.normalform.specs.faults.Faults.{first_wrong}
 use Rattle.normalform.proofs.faults.reference_checks.first_in_productions.Given as goal
 
 abbrev pub invariant-loop-production : goal.invariant-loop-production
-invariant-loop-production l = first_wrong (checks_of l.rule_check l.declared (drop l.production-index l.productions)) ≡ first_wrong (checks_of l.rule_check l.declared l.productions)
+invariant-loop-production l =
+    first_wrong (checks_of l.rule_check l.declared (drop l.production-index l.productions)) ≡ first_wrong
+    (checks_of l.rule_check l.declared l.productions)

@@ -5,4 +5,9 @@ use Rattle.normalform.specs.faults.Faults.{first_wrong, checks_along, with_rule,
 use Rattle.normalform.proofs.faults.rules.doubled_among.Given as goal
 
 abbrev pub invariant-loop-rule : goal.invariant-loop-rule
-invariant-loop-rule l = first_wrong (checks_along (new_target l.declared (map item_placed l.items)) (with_rule l.declared (map item_placed l.items)) l.targets (drop l.rule-index l.rules)) ≡ first_wrong (checks_along (new_target l.declared (map item_placed l.items)) (with_rule l.declared (map item_placed l.items)) [] l.rules)
+invariant-loop-rule l =
+    first_wrong
+    (checks_along (new_target l.declared (map item_placed l.items)) (with_rule l.declared (map item_placed l.items)) l.targets
+    (drop l.rule-index l.rules)) ≡ first_wrong
+    (checks_along (new_target l.declared (map item_placed l.items)) (with_rule l.declared (map item_placed l.items))
+    [] l.rules)

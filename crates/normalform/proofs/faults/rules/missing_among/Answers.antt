@@ -7,7 +7,16 @@ use Rattle.normalform.proofs.found.Wrong.{along_here, along_past, mapped, within
 use Rattle.normalform.proofs.faults.rules.missing_among.Goals as goal
 
 pub returns-in-Some : goal.returns-in-Some
-returns-in-Some c = along_here (missing_at c.args.declared.now c.args.targets.now c.args.production) next_index c.loop-place.place (map item_placed c.args.items.now) _ _ _ _ (within item_placed c.args.items.now c.loop-place.place c.loop-place-test.true) (mapped item_placed c.args.items.now c.loop-place.place (placed.Symbol 0) c.loop-place-test.true) c.in-Some.ensures c.loop-place.invariant
+returns-in-Some c =
+    along_here (missing_at c.args.declared.now c.args.targets.now c.args.production) next_index c.loop-place.place
+    (map item_placed c.args.items.now) _ _ _ _ (within item_placed c.args.items.now c.loop-place.place c.loop-place-test.true)
+    (mapped item_placed c.args.items.now c.loop-place.place (placed.Symbol 0) c.loop-place-test.true) c.in-Some.ensures
+    c.loop-place.invariant
 
 pub loop-place-preserved : goal.loop-place-preserved
-loop-place-preserved c = along_past (missing_at c.args.declared.now c.args.targets.now c.args.production) next_index c.loop-place.place (c.loop-place.place + 1) (map item_placed c.args.items.now) _ _ _ (within item_placed c.args.items.now c.loop-place.place c.loop-place-test.true) (mapped item_placed c.args.items.now c.loop-place.place (placed.Symbol 0) c.loop-place-test.true) c.in_default.ensures refl c.loop-place.invariant
+loop-place-preserved c =
+    along_past (missing_at c.args.declared.now c.args.targets.now c.args.production) next_index c.loop-place.place
+    (c.loop-place.place + 1) (map item_placed c.args.items.now) _ _ _
+    (within item_placed c.args.items.now c.loop-place.place c.loop-place-test.true)
+    (mapped item_placed c.args.items.now c.loop-place.place (placed.Symbol 0) c.loop-place-test.true)
+    c.in_default.ensures refl c.loop-place.invariant

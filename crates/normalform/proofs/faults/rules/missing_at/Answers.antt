@@ -7,5 +7,7 @@ use Rattle.normalform.proofs.faults.rules.missing_at.Goals as goal
 pub loop-attr-preserved : goal.loop-attr-preserved
 loop-attr-preserved c = record {
   ordered = omega arith;
-  wrong = range_past (missing_check c.args.targets.now c.args.production c.args.place) c.loop-attr.attr c.defined_here-first.result.1 _ c.loop-attr-test.true (sym c.has.ensures ∙ c.if-not-has.false) c.loop-attr.invariant.wrong;
+  wrong =
+      range_past (missing_check c.args.targets.now c.args.production c.args.place) c.loop-attr.attr c.defined_here-first.result.1
+      _ c.loop-attr-test.true (sym c.has.ensures ∙ c.if-not-has.false) c.loop-attr.invariant.wrong;
 }

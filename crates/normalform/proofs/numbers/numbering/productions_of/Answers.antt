@@ -8,8 +8,13 @@ use Rattle.normalform.proofs.numbers.numbering.productions_of.Goals as goal
 
 pub loop-production-preserved : goal.loop-production-preserved
 loop-production-preserved c =
-    let more = map_push (spec.production_of c.args.declared.now c.args.literals.now) c.loop-production.yielded c.in-Some.production in
+    let more =
+    map_push (spec.production_of c.args.declared.now c.args.literals.now) c.loop-production.yielded c.in-Some.production in
     record {
-      numbered = c.in_ok-push.ensures.items ∙ cc (more, c.loop-production.invariant.numbered, c.in_ok-production_of.ensures.numbered);
-      listed = rw c.in_ok-push.ensures.items (All-push AreListedIn c.loop-production.numbered.items c.in_ok-production_of.field-0 c.loop-production.invariant.listed c.in_ok-production_of.ensures.listed);
+      numbered =
+          c.in_ok-push.ensures.items ∙ cc (more, c.loop-production.invariant.numbered, c.in_ok-production_of.ensures.numbered);
+      listed =
+          rw c.in_ok-push.ensures.items
+          (All-push AreListedIn c.loop-production.numbered.items c.in_ok-production_of.field-0
+          c.loop-production.invariant.listed c.in_ok-production_of.ensures.listed);
     }

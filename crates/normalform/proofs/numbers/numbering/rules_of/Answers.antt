@@ -9,8 +9,12 @@ use Rattle.normalform.proofs.numbers.numbering.rules_of.Goals as goal
 
 pub loop-rule-preserved : goal.loop-rule-preserved
 loop-rule-preserved c =
-    let more = map_push (spec.rule_of c.args.declared.now (map item_placed c.args.items.now)) c.loop-rule.yielded c.in-Some.rule in
+    let more =
+    map_push (spec.rule_of c.args.declared.now (map item_placed c.args.items.now)) c.loop-rule.yielded c.in-Some.rule in
     record {
       numbered = c.in_ok-push.ensures.items ∙ cc (more, c.loop-rule.invariant.numbered, c.in_ok-rule_of.ensures.numbered);
-      listed = rw c.in_ok-push.ensures.items (All-push IsListed c.loop-rule.numbered.items c.in_ok-rule_of.field-0 c.loop-rule.invariant.listed c.in_ok-rule_of.ensures.listed);
+      listed =
+          rw c.in_ok-push.ensures.items
+          (All-push IsListed c.loop-rule.numbered.items c.in_ok-rule_of.field-0 c.loop-rule.invariant.listed
+          c.in_ok-rule_of.ensures.listed);
     }

@@ -5,4 +5,6 @@ use Rattle.normalform.proofs.numbered.Small.{attribute_small}
 use Rattle.normalform.proofs.numbers.numbering.target_of.Goals as goal
 
 pub to_u16-requires : goal.to_u16-requires
-to_u16-requires c = rw (c.attribute.ensures) (attribute_small c.args.declared.now (map item_placed c.args.items.now) c.args.occurrence.now c.requires.attributes)
+to_u16-requires c =
+    rw (c.attribute.ensures)
+    (attribute_small c.args.declared.now (map item_placed c.args.items.now) c.args.occurrence.now c.requires.attributes)

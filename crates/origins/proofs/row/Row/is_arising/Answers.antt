@@ -10,8 +10,11 @@ pub returns-in_default-error_of : goal.returns-in_default-error_of
 unfolding arises
 returns-in_default-error_of c =
     let expr = c.args.rule.now.expr.0 in
-    let env = environment c.args.rule.now (table_of c.args.self.now.grammar.now c.args.self.now.production.now c.args.self.now.values.now) in
-    let nothing : fault_of (value_of expr env) ≡ None = ap fault_of (sym c.in_ok-value.ensures) ∙ sym c.error_of.ensures ∙ c.in_default-error_of.is in
+    let env =
+    environment c.args.rule.now
+    (table_of c.args.self.now.grammar.now c.args.self.now.production.now c.args.self.now.values.now) in
+    let nothing : fault_of (value_of expr env) ≡ None =
+    ap fault_of (sym c.in_ok-value.ensures) ∙ sym c.error_of.ensures ∙ c.in_default-error_of.is in
     sym (ap (λ z. is_same_error z (fault_of (value_of expr (λ k. exchanged (env k))))) nothing)
 
 pub returns : goal.returns
@@ -19,4 +22,9 @@ unfolding arises
 returns c = search rules
 
 pub returns-in-Occurrence : goal.returns-in-Occurrence
-returns-in-Occurrence c = sym (occurrence_is_quiet c.args.rule.now.expr.0 c.in-Occurrence.field-0 (environment c.args.rule.now (table_of c.args.self.now.grammar.now c.args.self.now.production.now c.args.self.now.values.now)) (sym c.tree.ensures.value ∙ c.in-Occurrence.is))
+returns-in-Occurrence c =
+    sym
+    (occurrence_is_quiet c.args.rule.now.expr.0 c.in-Occurrence.field-0
+    (environment c.args.rule.now
+    (table_of c.args.self.now.grammar.now c.args.self.now.production.now c.args.self.now.values.now))
+    (sym c.tree.ensures.value ∙ c.in-Occurrence.is))

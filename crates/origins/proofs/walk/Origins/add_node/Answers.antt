@@ -9,4 +9,5 @@ returns-in-Some-clause-first c =
     let path = way c.args.direction (reverse c.args.nodes.now) in
     let same : c.in_ok-path.path ≡ path = c.in_ok-path.ensures ∙ sym (way_of c.args.direction c.args.nodes.now) in
     let is_first = c.in-Some.ensures.first in
-    is_first ∙ ap (λ (z : List ℕ). Some (earlier c.args.self.now.first z)) same ∙ sym (first_of_some c.args.self.now.first c.args.count path (omega arith))
+    is_first ∙ ap (λ (z : List ℕ). Some (earlier c.args.self.now.first z)) same
+    ∙ sym (first_of_some c.args.self.now.first c.args.count path (omega arith))

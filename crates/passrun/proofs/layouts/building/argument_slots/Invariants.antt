@@ -4,4 +4,6 @@ use Rattle.passrun.specs.layouts.BuiltLayouts.{argument_slot_by}
 use Rattle.passrun.proofs.layouts.building.argument_slots.Given as goal
 
 abbrev pub invariant-loop-argument : goal.invariant-loop-argument
-invariant-loop-argument l = l.slots.items ++ map (argument_slot_by (passes_of l.plan.0) l.k l.places) (drop l.argument-index l.arguments) ≡ map (argument_slot_by (passes_of l.plan.0) l.k l.places) l.arguments
+invariant-loop-argument l =
+    l.slots.items ++ map (argument_slot_by (passes_of l.plan.0) l.k l.places) (drop l.argument-index l.arguments) ≡ map
+    (argument_slot_by (passes_of l.plan.0) l.k l.places) l.arguments

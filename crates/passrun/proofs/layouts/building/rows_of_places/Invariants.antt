@@ -7,7 +7,9 @@ use Rattle.passrun.proofs.layouts.building.rows_of_places.Given as goal
 
 abbrev pub invariant-loop-item : goal.invariant-loop-item
 invariant-loop-item l = record {
-  rows : l.rows.items ++ rows_after (setting_of l.grammar l.plan l.k) l.start (drop l.item-index (stored_items l.production.items)) ≡ place_rows (setting_of l.grammar l.plan l.k) l.production;
-  width : l.start + copied_all (setting_of l.grammar l.plan l.k) (drop l.item-index (stored_items l.production.items)) ≡ stored_width (setting_of l.grammar l.plan l.k) l.production;
+  rows : l.rows.items ++ rows_after (setting_of l.grammar l.plan l.k) l.start
+      (drop l.item-index (stored_items l.production.items)) ≡ place_rows (setting_of l.grammar l.plan l.k) l.production;
+  width : l.start + copied_all (setting_of l.grammar l.plan l.k) (drop l.item-index (stored_items l.production.items))
+      ≡ stored_width (setting_of l.grammar l.plan l.k) l.production;
   low : l.start ≤ 16 * (l.item-index + 1);
 }

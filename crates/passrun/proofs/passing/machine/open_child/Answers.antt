@@ -8,17 +8,26 @@ use Rattle.passrun.proofs.passing.machine.open_child.Goals as goal
 
 pub width-width-requires-clause-there : goal.width-width-requires-clause-there
 width-width-requires-clause-there c =
-    let h = child_of (setting c.args.context.now) c.requires.context.sound c.args.node (reverse c.args.waiting.now.items) c.args.values.now c.args.place c.requires.next c.requires.passing in
+    let h =
+    child_of (setting c.args.context.now) c.requires.context.sound c.args.node
+    (reverse c.args.waiting.now.items) c.args.values.now c.args.place c.requires.next c.requires.passing in
     slice_get_within c.args.context.now.grammar.now.productions c.args.node.child h.production h.there
 
 pub overflow_sub-values : goal.overflow_sub-values
 overflow_sub-values c =
-    let h = child_of (setting c.args.context.now) c.requires.context.sound c.args.node (reverse c.args.waiting.now.items) c.args.values.now c.args.place c.requires.next c.requires.passing in
+    let h =
+    child_of (setting c.args.context.now) c.requires.context.sound c.args.node
+    (reverse c.args.waiting.now.items) c.args.values.now c.args.place c.requires.next c.requires.passing in
     let w = c.width-width.ensures h.production h.there in
     let z = h.width in
     omega arith
 
 pub returns-clause-goes : goal.returns-clause-goes
 returns-clause-goes c =
-    subst (λ (child : OpenNode). ContinuesAs (setting c.args.context.now) (c.args.node ∷ reverse c.args.waiting.now.items) c.args.values.now (child ∷ reverse c.push.new.self.items) c.args.values.now) (sym c.begun.ensures)
-    (goes (setting c.args.context.now) c.requires.context.sound c.args.node c.args.waiting.now.items c.push.new.self.items c.args.values.now c.args.place c.width-width.result c.requires.next c.width-width.ensures (c.in_ok-push.ensures.items ∙ ap (λ (x : OpenNode). c.args.waiting.now.items ++ x ∷ []) c.left_at.ensures))
+    subst
+    (λ (child : OpenNode). ContinuesAs (setting c.args.context.now)
+    (c.args.node ∷ reverse c.args.waiting.now.items) c.args.values.now
+    (child ∷ reverse c.push.new.self.items) c.args.values.now) (sym c.begun.ensures)
+    (goes (setting c.args.context.now) c.requires.context.sound c.args.node c.args.waiting.now.items c.push.new.self.items
+    c.args.values.now c.args.place c.width-width.result c.requires.next c.width-width.ensures
+    (c.in_ok-push.ensures.items ∙ ap (λ (x : OpenNode). c.args.waiting.now.items ++ x ∷ []) c.left_at.ensures))

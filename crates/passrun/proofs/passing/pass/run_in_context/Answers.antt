@@ -10,7 +10,10 @@ use Rattle.passrun.proofs.passing.pass.run_in_context.Goals as goal
 
 pub returns-clause-meter : goal.returns-clause-meter
 returns-clause-meter g c =
-    let few = meter_few (setting c.args.context.now) c.requires.context.sound (g.D.Device.is_honest c.run.new.from) (g.D.Device.content c.run.new.from) (g.E.Device.is_honest c.run.new.to) (g.E.Device.content c.run.new.to) c.run.new.meter c.run.new.machine c.in_ok-run.ensures.runs in
+    let few =
+    meter_few (setting c.args.context.now) c.requires.context.sound (g.D.Device.is_honest c.run.new.from)
+    (g.D.Device.content c.run.new.from) (g.E.Device.is_honest c.run.new.to)
+    (g.E.Device.content c.run.new.to) c.run.new.meter c.run.new.machine c.in_ok-run.ensures.runs in
     let now = c.in_ok-run.ensures.begun in
     let begun = c.in_ok-machine.ensures.begun in
     let low = few.0 in
@@ -21,7 +24,12 @@ pub returns-in_err-run-clause-left : goal.returns-in_err-run-clause-left
 returns-in_err-run-clause-left g c =
     let begun = c.in_ok-machine.ensures in
     let p = err_from_is_err_and c.from_residual-in_err-run.result c.from_residual-in_err-run.ensures.1 in
-    rw p.1 (λ h. inr (frames_begin RunFault c.args.context.now.pass (g.E.Device.content c.begin.new.to) (g.E.Device.content c.run.new.to) (Err p.0) (begun.header (c.in_err-run.ensures.devices.second.honest h)) (c.in_err-run.ensures.left h)))
+    rw p.1
+    (λ h.
+    inr
+    (frames_begin RunFault c.args.context.now.pass (g.E.Device.content c.begin.new.to)
+    (g.E.Device.content c.run.new.to) (Err p.0) (begun.header (c.in_err-run.ensures.devices.second.honest h))
+    (c.in_err-run.ensures.left h)))
 
 pub returns-clause-begins : goal.returns-clause-begins
 returns-clause-begins g c =
@@ -33,7 +41,8 @@ returns-clause-begins g c =
     on_ok_more (AddsFrames (g.E.Device.is_honest c.finish.new.to) between now) _ c.finish.result
     (λ put h.
     let is = c.finish.ensures.devices.second.honest h in
-    frames_begin RunFault c.args.context.now.pass from now (Ok tt) (begun.header (ran.devices.second.honest is)) (added RunFault from between now (Ok tt) (ran.added is) (put h)))
+    frames_begin RunFault c.args.context.now.pass from now (Ok tt) (begun.header (ran.devices.second.honest is))
+    (added RunFault from between now (Ok tt) (ran.added is) (put h)))
     c.finish.ensures.added
 
 pub returns-clause-left : goal.returns-clause-left
@@ -46,5 +55,7 @@ returns-clause-left g c =
     on_err _ (LeavesFrames (g.E.Device.is_honest c.finish.new.to) between now) c.finish.result
     (λ f left h.
     let is = c.finish.ensures.devices.second.honest h in
-    inr (frames_begin RunFault c.args.context.now.pass from now (Err f) (begun.header (ran.devices.second.honest is)) (added RunFault from between now (Err f) (ran.added is) (left h))))
+    inr
+    (frames_begin RunFault c.args.context.now.pass from now (Err f) (begun.header (ran.devices.second.honest is))
+    (added RunFault from between now (Err f) (ran.added is) (left h))))
     c.finish.ensures.left

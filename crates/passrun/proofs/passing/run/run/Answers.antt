@@ -9,7 +9,10 @@ pub returns-in_err-next-clause-left : goal.returns-in_err-next-clause-left
 returns-in_err-next-clause-left g c =
     let p = err_from_is_err_and c.from_residual.result c.from_residual.ensures.1 in
     let old = c.loop-next.invariant in
-    rw p.1 (λ h. added RunFault (g.E.Device.content c.args.to.now) (g.E.Device.content c.loop-next.to) (g.E.Device.content c.step.new.to) (Err p.0) (old.added (c.in_err-next.ensures.devices.second.honest h)) (c.in_err-next.ensures.left h))
+    rw p.1
+    (λ h. added RunFault (g.E.Device.content c.args.to.now) (g.E.Device.content c.loop-next.to)
+    (g.E.Device.content c.step.new.to) (Err p.0) (old.added (c.in_err-next.ensures.devices.second.honest h))
+    (c.in_err-next.ensures.left h))
 
 pub loop-next-preserved : goal.loop-next-preserved
 loop-next-preserved g c =
@@ -19,7 +22,9 @@ loop-next-preserved g c =
     let rises = next.rises in
     record {
       runs = next.runs;
-      added = λ h. added RunFault (g.E.Device.content c.args.to.now) (g.E.Device.content c.loop-next.to) (g.E.Device.content c.step.new.to) (Ok tt) (old.added (next.devices.second.honest h)) (next.added h);
+      added =
+          λ h. added RunFault (g.E.Device.content c.args.to.now) (g.E.Device.content c.loop-next.to)
+          (g.E.Device.content c.step.new.to) (Ok tt) (old.added (next.devices.second.honest h)) (next.added h);
       meter = omega arith;
       begun = next.begun ∙ old.begun;
       content = λ h. next.content h ∙ old.content (next.devices.first.honest h);

@@ -13,9 +13,14 @@ loop-pass-preserved c =
     let all : get_or ps i 0 ∷ others ≡ drop i ps = passes_from ps i 0 c.loop-pass-test.true in
     let one = rw c.in-Some.is at c.in_ok-after.ensures.taken in
     record {
-      taken = λ new more. c.loop-pass.invariant.taken new (subst (λ (qs : List ℕ). AreTaken read c.args.k qs c.loop-pass.rest [] c.loop-pass.values.items new) all
-          (more_taken read c.args.k (get_or ps i 0) others c.loop-pass.rest c.in-Some.after [] c.loop-pass.values.items c.take_value.new.values.items new one more));
-      prefix = occur_on c.args.values.now.items c.loop-pass.values.items c.take_value.new.values.items c.loop-pass.invariant.prefix c.take_value.ensures.prefix;
+      taken =
+          λ new more. c.loop-pass.invariant.taken new
+          (subst (λ (qs : List ℕ). AreTaken read c.args.k qs c.loop-pass.rest [] c.loop-pass.values.items new) all
+          (more_taken read c.args.k (get_or ps i 0) others c.loop-pass.rest c.in-Some.after
+          [] c.loop-pass.values.items c.take_value.new.values.items new one more));
+      prefix =
+          occur_on c.args.values.now.items c.loop-pass.values.items c.take_value.new.values.items c.loop-pass.invariant.prefix
+          c.take_value.ensures.prefix;
     }
 
 pub returns-clause-taken : goal.returns-clause-taken

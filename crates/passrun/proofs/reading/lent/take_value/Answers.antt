@@ -3,7 +3,9 @@ use Rattle.passrun.proofs.Recorded.{taken_later, taken_value}
 use Rattle.passrun.proofs.reading.lent.take_value.Goals as goal
 
 pub returns-then-pass-k-clause-taken : goal.returns-then-pass-k-clause-taken
-returns-then-pass-k-clause-taken c = taken_later c.args.k c.args.pass c.args.body c.args.values.now.items c.args.values.now.items c.requires (omega (arith, c.if-pass-k.true)) refl
+returns-then-pass-k-clause-taken c =
+    taken_later c.args.k c.args.pass c.args.body c.args.values.now.items c.args.values.now.items c.requires
+    (omega (arith, c.if-pass-k.true)) refl
 
 pub returns-clause-taken : goal.returns-clause-taken
 returns-clause-taken c =

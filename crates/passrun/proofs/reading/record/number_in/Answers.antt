@@ -21,12 +21,15 @@ returns-clause-spelled c =
     let small : (i : ℕ) → get_or prefix i 0 < 256 = search rules in
     let spelled : to_be_bytes w64 n ≡ prefix = be_bytes_8 prefix n c.split_at.ensures.front_len small is in
     let unsigned : cast_unsigned w64 (cast_signed w64 n) ≡ n = of_z-to_z w64 n c.from_be_bytes-number.type_inv in
-    let number : cast_signed w64 (cast_unsigned w64 c.cast_signed.result) ≡ cast_signed w64 n = ap (λ z. cast_signed w64 (cast_unsigned w64 z)) c.cast_signed.ensures ∙ ap (cast_signed w64) unsigned in
-    whole ∙ ap (λ xs. 0 ∷ (xs ++ rest)) (sym spelled ∙ ap (to_be_bytes w64) (sym unsigned)) ∙ ap (λ xs. xs ++ rest) (sym (spelling-Num (cast_signed w64 n))) ∙ ap (λ z. spelling_of (Num z) ++ rest) (sym number)
+    let number : cast_signed w64 (cast_unsigned w64 c.cast_signed.result) ≡ cast_signed w64 n =
+    ap (λ z. cast_signed w64 (cast_unsigned w64 z)) c.cast_signed.ensures ∙ ap (cast_signed w64) unsigned in
+    whole ∙ ap (λ xs. 0 ∷ (xs ++ rest)) (sym spelled ∙ ap (to_be_bytes w64) (sym unsigned))
+    ∙ ap (λ xs. xs ++ rest) (sym (spelling-Num (cast_signed w64 n))) ∙ ap (λ z. spelling_of (Num z) ++ rest) (sym number)
 
 pub returns-clause-well : goal.returns-clause-well
 returns-clause-well c =
     let n = c.from_be_bytes-number.result in
     let unsigned : cast_unsigned w64 (cast_signed w64 n) ≡ n = of_z-to_z w64 n c.from_be_bytes-number.type_inv in
-    let number : cast_signed w64 (cast_unsigned w64 c.cast_signed.result) ≡ cast_signed w64 n = ap (λ z. cast_signed w64 (cast_unsigned w64 z)) c.cast_signed.ensures ∙ ap (cast_signed w64) unsigned in
+    let number : cast_signed w64 (cast_unsigned w64 c.cast_signed.result) ≡ cast_signed w64 n =
+    ap (λ z. cast_signed w64 (cast_unsigned w64 z)) c.cast_signed.ensures ∙ ap (cast_signed w64) unsigned in
     subst (λ z. IsWell (Num z)) (c.cast_signed.ensures ∙ sym number) (number_well c.cast_signed.result c.cast_signed.type_inv)

@@ -8,7 +8,9 @@ use Rattle.passrun.proofs.Recorded.{no_node, no_node_read, node_read, production
 use Rattle.passrun.proofs.reading.record.read_node.Goals as goal
 
 pub returns-in_default-clause-none : goal.returns-in_default-clause-none
-returns-in_default-clause-none c = λ damaged. no_node (setting_of c.args.grammar.now c.args.plan.now c.args.k) c.args.symbol c.args.body.now c.node_in.ensures.few (c.node_in.ensures.none c.in_default.is)
+returns-in_default-clause-none c =
+    λ damaged. no_node (setting_of c.args.grammar.now c.args.plan.now c.args.k) c.args.symbol c.args.body.now
+    c.node_in.ensures.few (c.node_in.ensures.none c.in_default.is)
 
 pub bounds-productions-number : goal.bounds-productions-number
 bounds-productions-number c =
@@ -22,14 +24,25 @@ returns-in_err-take_row-clause-none c =
     let p = err_from_is_err_and c.from_residual.result c.from_residual.ensures.1 in
     let b = c.in-Some.ensures.some in
     let context = setting_of c.args.grammar.now c.args.plan.now c.args.k in
-    let one = production_is c.args.grammar.now.productions c.productions.result.now c.in-Some.number b.production c.index-productions-number.result _ c.productions.ensures.lent c.index-productions-number.is b.there in
-    rw (p.1, p.2) (λ is. no_node_read context c.args.symbol c.in-Some.number c.args.body.now c.in-Some.spellings.now c.in-Some.ensures.few b
-    (subst (λ (ps : List ℕ). IsNoRow (c.args.k - 1) ps c.in-Some.spellings.now) (c.as_slice.ensures ∙ c.in-Ok.ensures c.args.k ∙ ap (row_passes context) one) (c.in_err-take_row.ensures.none (same_err _ _ is))))
+    let one =
+    production_is c.args.grammar.now.productions c.productions.result.now c.in-Some.number b.production
+    c.index-productions-number.result _ c.productions.ensures.lent c.index-productions-number.is b.there in
+    rw (p.1, p.2)
+    (λ is. no_node_read context c.args.symbol c.in-Some.number c.args.body.now c.in-Some.spellings.now c.in-Some.ensures.few b
+    (subst (λ (ps : List ℕ). IsNoRow (c.args.k - 1) ps c.in-Some.spellings.now)
+    (c.as_slice.ensures ∙ c.in-Ok.ensures c.args.k ∙ ap (row_passes context) one)
+    (c.in_err-take_row.ensures.none (same_err _ _ is))))
 
 pub returns-clause-read : goal.returns-clause-read
 returns-clause-read c =
     let b = c.in-Some.ensures.some in
     let context = setting_of c.args.grammar.now c.args.plan.now c.args.k in
-    let one = production_is c.args.grammar.now.productions c.productions.result.now c.in-Some.number b.production c.index-productions-number.result _ c.productions.ensures.lent c.index-productions-number.is b.there in
-    node_read context c.args.symbol c.in-Some.number c.args.body.now c.in-Some.spellings.now c.args.values.now.items c.take_row.new.values.items b
-    (subst (λ (ps : List ℕ). AreTaken (c.args.k - 1) c.args.k ps c.in-Some.spellings.now [] c.args.values.now.items c.take_row.new.values.items) (c.as_slice.ensures ∙ c.in-Ok.ensures c.args.k ∙ ap (row_passes context) one) c.in_ok-take_row.ensures.taken)
+    let one =
+    production_is c.args.grammar.now.productions c.productions.result.now c.in-Some.number b.production
+    c.index-productions-number.result _ c.productions.ensures.lent c.index-productions-number.is b.there in
+    node_read context c.args.symbol c.in-Some.number c.args.body.now c.in-Some.spellings.now c.args.values.now.items
+    c.take_row.new.values.items b
+    (subst
+    (λ (ps : List ℕ). AreTaken (c.args.k - 1) c.args.k ps c.in-Some.spellings.now
+    [] c.args.values.now.items c.take_row.new.values.items)
+    (c.as_slice.ensures ∙ c.in-Ok.ensures c.args.k ∙ ap (row_passes context) one) c.in_ok-take_row.ensures.taken)

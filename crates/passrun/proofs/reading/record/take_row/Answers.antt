@@ -13,20 +13,31 @@ loop-index-preserved c =
     let all : get_or ps i 0 ∷ others ≡ drop i ps = passes_from ps i 0 c.loop-index-test.true in
     let one = c.in-Some.ensures.taken in
     record {
-      taken = λ new more. c.loop-index.invariant.taken new (subst (λ (qs : List ℕ). AreTaken read c.args.k qs c.loop-index.rest.now [] c.loop-index.values.items new) all
-          (more_taken read c.args.k (get_or ps i 0) others c.loop-index.rest.now c.in-Some.after.now [] c.loop-index.values.items c.take_number.new.values.items new one more));
+      taken =
+          λ new more. c.loop-index.invariant.taken new
+          (subst (λ (qs : List ℕ). AreTaken read c.args.k qs c.loop-index.rest.now [] c.loop-index.values.items new) all
+          (more_taken read c.args.k (get_or ps i 0) others c.loop-index.rest.now c.in-Some.after.now
+          [] c.loop-index.values.items c.take_number.new.values.items new one more));
       none = λ none. c.loop-index.invariant.none (subst (λ (qs : List ℕ). IsNoRow read qs c.loop-index.rest.now) all
-          (others_no_row read c.args.k (get_or ps i 0) others c.loop-index.rest.now c.in-Some.after.now c.loop-index.values.items c.take_number.new.values.items one none));
-      prefix = occur_on c.args.values.now.items c.loop-index.values.items c.take_number.new.values.items c.loop-index.invariant.prefix c.take_number.ensures.prefix;
-      room = let before = c.loop-index.invariant.room in let len = c.take_number.ensures.len in let same = c.take_number.ensures.capacity in omega arith;
+          (others_no_row read c.args.k (get_or ps i 0) others c.loop-index.rest.now c.in-Some.after.now c.loop-index.values.items
+          c.take_number.new.values.items one none));
+      prefix =
+          occur_on c.args.values.now.items c.loop-index.values.items c.take_number.new.values.items c.loop-index.invariant.prefix
+          c.take_number.ensures.prefix;
+      room = let before = c.loop-index.invariant.room in let len = c.take_number.ensures.len in
+          let same = c.take_number.ensures.capacity in omega arith;
     }
 
 pub returns-clause-none : goal.returns-clause-none
 returns-clause-none c = λ damaged.
     let rest = c.loop-index.rest.now in
     let vs = c.loop-index.values.items in
-    let some = no_row_left (c.args.k - 1) c.args.k [] rest rest vs vs (none_taken (c.args.k - 1) c.args.k rest vs vs refl) (c.check_end.ensures.left damaged) in
-    c.loop-index.invariant.none (subst (λ (qs : List ℕ). IsNoRow (c.args.k - 1) qs rest) (sym (no_passes_from c.args.passes.now c.loop-index.index c.loop-index-test.false)) some)
+    let some =
+    no_row_left (c.args.k - 1) c.args.k [] rest rest vs vs (none_taken (c.args.k - 1) c.args.k rest vs vs refl)
+    (c.check_end.ensures.left damaged) in
+    c.loop-index.invariant.none
+    (subst (λ (qs : List ℕ). IsNoRow (c.args.k - 1) qs rest)
+    (sym (no_passes_from c.args.passes.now c.loop-index.index c.loop-index-test.false)) some)
 
 pub returns-clause-taken : goal.returns-clause-taken
 returns-clause-taken c =

@@ -13,19 +13,29 @@ loop-pass-preserved c =
     let all : get_or ps i 0 ∷ others ≡ drop i ps = passes_from ps i 0 c.loop-pass-test.true in
     let one = c.in_ok-rest.ensures.taken in
     record {
-      taken = λ new more. c.loop-pass.invariant.taken new (subst (λ (qs : List ℕ). AreTaken read c.args.k qs c.loop-pass.rest.now [] c.loop-pass.values.items new) all
-          (more_taken read c.args.k (get_or ps i 0) others c.loop-pass.rest.now c.in_ok-rest.rest.now [] c.loop-pass.values.items c.take_value.new.values.items new one more));
+      taken =
+          λ new more. c.loop-pass.invariant.taken new
+          (subst (λ (qs : List ℕ). AreTaken read c.args.k qs c.loop-pass.rest.now [] c.loop-pass.values.items new) all
+          (more_taken read c.args.k (get_or ps i 0) others c.loop-pass.rest.now c.in_ok-rest.rest.now
+          [] c.loop-pass.values.items c.take_value.new.values.items new one more));
       none = λ none. c.loop-pass.invariant.none (subst (λ (qs : List ℕ). IsNoRow read qs c.loop-pass.rest.now) all
-          (others_no_row read c.args.k (get_or ps i 0) others c.loop-pass.rest.now c.in_ok-rest.rest.now c.loop-pass.values.items c.take_value.new.values.items one none));
-      prefix = occur_on c.args.values.now.items c.loop-pass.values.items c.take_value.new.values.items c.loop-pass.invariant.prefix c.take_value.ensures.prefix;
+          (others_no_row read c.args.k (get_or ps i 0) others c.loop-pass.rest.now c.in_ok-rest.rest.now c.loop-pass.values.items
+          c.take_value.new.values.items one none));
+      prefix =
+          occur_on c.args.values.now.items c.loop-pass.values.items c.take_value.new.values.items c.loop-pass.invariant.prefix
+          c.take_value.ensures.prefix;
     }
 
 pub returns-clause-none : goal.returns-clause-none
 returns-clause-none c = λ damaged.
     let rest = c.loop-pass.rest.now in
     let vs = c.loop-pass.values.items in
-    let some = no_row_left (c.args.k - 1) c.args.k [] rest rest vs vs (none_taken (c.args.k - 1) c.args.k rest vs vs refl) (c.check_end.ensures.left damaged) in
-    c.loop-pass.invariant.none (subst (λ (qs : List ℕ). IsNoRow (c.args.k - 1) qs rest) (sym (no_passes_from c.args.passes.now c.loop-pass.pass-index c.loop-pass-test.false)) some)
+    let some =
+    no_row_left (c.args.k - 1) c.args.k [] rest rest vs vs (none_taken (c.args.k - 1) c.args.k rest vs vs refl)
+    (c.check_end.ensures.left damaged) in
+    c.loop-pass.invariant.none
+    (subst (λ (qs : List ℕ). IsNoRow (c.args.k - 1) qs rest)
+    (sym (no_passes_from c.args.passes.now c.loop-pass.pass-index c.loop-pass-test.false)) some)
 
 pub returns-clause-taken : goal.returns-clause-taken
 returns-clause-taken c =

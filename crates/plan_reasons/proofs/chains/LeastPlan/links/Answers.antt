@@ -17,4 +17,5 @@ returns c =
     let xs = c.as_slice.result.now in
     IfOk-weaker c.links_of.result _ _
     (λ links related are from later. chain_links g (direction_of k) (HasPassFrom (passes_of rows) k) s a xs links.items
-    (subst (IsChainOf g (direction_of k) (HasPassFrom (passes_of rows) k) s a) (sym c.as_slice.ensures.value) (c.in_ok-chain.ensures.chain rows are from later)) related) c.links_of.ensures
+    (subst (IsChainOf g (direction_of k) (HasPassFrom (passes_of rows) k) s a) (sym c.as_slice.ensures.value)
+    (c.in_ok-chain.ensures.chain rows are from later)) related) c.links_of.ensures

@@ -11,9 +11,11 @@ overflow_add-self c =
     let splices = c.self.inside.splices.items in
     let more = c.other.inside.own.items in
     let others = c.other.inside.splices.items in
-    let e : 0 + length (spliced 0 own splices) ≡ c.self.inside.len = spliced_length 0 0 (length own) c.self.inside.len own splices c.self.invariant.0 (zero-add (length own)) in
+    let e : 0 + length (spliced 0 own splices) ≡ c.self.inside.len =
+    spliced_length 0 0 (length own) c.self.inside.len own splices c.self.invariant.0 (zero-add (length own)) in
     let same : length (spliced 0 own splices) ≡ length c.args.self.now = ap length c.self.view_is in
-    let f : 0 + length (spliced 0 more others) ≡ c.other.inside.len = spliced_length 0 0 (length more) c.other.inside.len more others c.other.invariant.0 (zero-add (length more)) in
+    let f : 0 + length (spliced 0 more others) ≡ c.other.inside.len =
+    spliced_length 0 0 (length more) c.other.inside.len more others c.other.invariant.0 (zero-add (length more)) in
     let same' : length (spliced 0 more others) ≡ length c.args.other.now = ap length c.other.view_is in
     omega (arith, c.requires)
 
@@ -28,13 +30,18 @@ invariant_of-self-2 c =
     let moved : c.in_ok-moved.moved.items ≡ map (shift (length own) c.self.inside.len) others = search rules in
     let pushed : c.append.new.self.items ≡ splices ++ map (shift (length own) c.self.inside.len) others = search rules in
     let n : length c.extend_from_slice.new.self.items ≡ length own + length more = ap length bytes ∙ length-append own more in
-    let e : spliced 0 (own ++ more) (splices ++ map (shift (length own) c.self.inside.len) others) ≡ spliced 0 own splices ++ spliced 0 more others =
+    let e : spliced 0 (own ++ more) (splices ++ map (shift (length own) c.self.inside.len) others) ≡ spliced 0 own splices
+    ++ spliced 0 more others =
     all_appended 0 0 (length own) c.self.inside.len own more splices others c.self.invariant.0 (zero-add (length own)) in
-    let same : spliced 0 c.extend_from_slice.new.self.items c.append.new.self.items ≡ spliced 0 own splices ++ spliced 0 more others = cc (e, bytes, pushed) in (
+    let same : spliced 0 c.extend_from_slice.new.self.items c.append.new.self.items ≡ spliced 0 own splices
+    ++ spliced 0 more others = cc (e, bytes, pushed) in (
       subst (λ (k : ℕ). AreSplices 0 0 k (c.self.inside.len + c.other.inside.len) c.append.new.self.items) (sym n)
-          (subst (λ (gs : List Splice). AreSplices 0 0 (length own + length more) (c.self.inside.len + c.other.inside.len) gs) (sym pushed)
-          (splices_joined 0 0 (length own) c.self.inside.len (length more) c.other.inside.len splices others c.self.invariant.0 c.other.invariant.0)),
-      subst IsBytes (sym same) (both_bytes (spliced 0 own splices) (spliced 0 more others) c.self.invariant.1 c.other.invariant.1),
+          (subst (λ (gs : List Splice). AreSplices 0 0 (length own + length more) (c.self.inside.len + c.other.inside.len) gs)
+          (sym pushed)
+          (splices_joined 0 0 (length own) c.self.inside.len
+          (length more) c.other.inside.len splices others c.self.invariant.0 c.other.invariant.0)),
+      subst IsBytes (sym same)
+          (both_bytes (spliced 0 own splices) (spliced 0 more others) c.self.invariant.1 c.other.invariant.1),
     )
 
 pub returns-clause-ok : goal.returns-clause-ok
@@ -46,6 +53,7 @@ returns-clause-ok c =
     let bytes : c.extend_from_slice.new.self.items ≡ own ++ more = search rules in
     let moved : c.in_ok-moved.moved.items ≡ map (shift (length own) c.self.inside.len) others = search rules in
     let pushed : c.append.new.self.items ≡ splices ++ map (shift (length own) c.self.inside.len) others = search rules in
-    let e : spliced 0 (own ++ more) (splices ++ map (shift (length own) c.self.inside.len) others) ≡ spliced 0 own splices ++ spliced 0 more others =
+    let e : spliced 0 (own ++ more) (splices ++ map (shift (length own) c.self.inside.len) others) ≡ spliced 0 own splices
+    ++ spliced 0 more others =
     all_appended 0 0 (length own) c.self.inside.len own more splices others c.self.invariant.0 (zero-add (length own)) in
     cc (e, bytes, pushed, c.self.view_is, c.other.view_is)

@@ -4,7 +4,8 @@ use Rattle.ag_grammar.specs.grammars.Passes.{nth, other}
 use Rattle.tree_index.specs.Nodes.{HasNoChild, HasNoLater, back_from}
 use Rattle.tree_index.proofs.Kids.{child_is}
 use Rattle.tree_index.proofs.NoChild.{few_children, if_none_then, no_child, no_place}
-use Rattle.tree_index.proofs.index.TreeIndex.child.Goals.{then-place-eq0-via-then-place-eq0, then-place-eq0-via-else-place-eq0+then-count-place}
+use Rattle.tree_index.proofs.index.TreeIndex.child.Goals.{then-place-eq0-via-then-place-eq0}
+use Rattle.tree_index.proofs.index.TreeIndex.child.Goals.{then-place-eq0-via-else-place-eq0+then-count-place}
 use Rattle.tree_index.proofs.index.TreeIndex.child.Goals as goal
 
 pub returns-clause-child : goal.returns-clause-child

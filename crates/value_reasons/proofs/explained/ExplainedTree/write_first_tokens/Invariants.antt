@@ -4,5 +4,6 @@ use Rattle.value_reasons.proofs.explained.ExplainedTree.write_first_tokens.Given
 abbrev pub invariant-loop-turn : goal.invariant-loop-turn
 invariant-loop-turn g l = record {
   content : LeavesContent (g.D.Device.is_honest l.device) (g.D.Device.content l.fn.device) (g.D.Device.content l.device);
-  persists : Persists (g.D.Device.is_honest l.fn.device) (g.D.Device.is_honest l.device) (g.D.Device.failures l.fn.device) (g.D.Device.failures l.device) ⊥;
+  persists : Persists (g.D.Device.is_honest l.fn.device) (g.D.Device.is_honest l.device) (g.D.Device.failures l.fn.device)
+      (g.D.Device.failures l.device) ⊥;
 }

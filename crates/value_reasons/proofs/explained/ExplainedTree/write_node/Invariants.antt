@@ -4,5 +4,6 @@ use Rattle.value_reasons.proofs.explained.ExplainedTree.write_node.Given as goal
 abbrev pub invariant-loop-attr : goal.invariant-loop-attr
 invariant-loop-attr g l = record {
   content : LeavesContent (g.D.Device.is_honest l.device) (g.D.Device.content l.fn.device) (g.D.Device.content l.device);
-  persists : Persists (g.D.Device.is_honest l.fn.device) (g.D.Device.is_honest l.device) (g.D.Device.failures l.fn.device) (g.D.Device.failures l.device) ⊥;
+  persists : Persists (g.D.Device.is_honest l.fn.device) (g.D.Device.is_honest l.device) (g.D.Device.failures l.fn.device)
+      (g.D.Device.failures l.device) ⊥;
 }

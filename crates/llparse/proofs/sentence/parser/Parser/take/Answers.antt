@@ -22,8 +22,12 @@ use Rattle.llparse.proofs.sentence.parser.Parser.take.Goals.{in-Class+in_ok-has_
 pub returns-in_err-lex-clause-refuses : goal.returns-in_err-lex-clause-refuses
 returns-in_err-lex-clause-refuses g c = λ node.
     let p = err_from_is_err_and c.from_residual.result c.from_residual.ensures.1 in
-    rw (p.1, p.2) (λ gr honest prefix bytes has b. stuck gr c.args.self.now.tokens.list honest prefix c.args.self.now.tokens.taken c.in_err-lex.field-0.0 c.in_err-lex.ensures.offset
-    (no_terminal (task_of gr c.args.self.now.tokens.list honest prefix) has.0 c.args.terminal (node ∷ reverse c.args.self.now.waiting.items) c.args.self.now.tokens.taken c.args.self.now.count (output_of c.args.self.now bytes) c.in_err-lex.ensures.other b))
+    rw (p.1, p.2) (λ gr honest prefix bytes has b.
+    stuck gr c.args.self.now.tokens.list honest prefix c.args.self.now.tokens.taken c.in_err-lex.field-0.0
+    c.in_err-lex.ensures.offset
+    (no_terminal (task_of gr c.args.self.now.tokens.list honest prefix) has.0 c.args.terminal
+    (node ∷ reverse c.args.self.now.waiting.items) c.args.self.now.tokens.taken c.args.self.now.count
+    (output_of c.args.self.now bytes) c.in_err-lex.ensures.other b))
 
 pub returns-in_err-lex-clause-adds : goal.returns-in_err-lex-clause-adds
 returns-in_err-lex-clause-adds g c h = none_added ParseFault (g.D.Device.content c.args.device.now) c.from_residual.result
@@ -31,10 +35,13 @@ returns-in_err-lex-clause-adds g c h = none_added ParseFault (g.D.Device.content
 pub returns-in_err-has_room-clause-refuses : goal.returns-in_err-has_room-clause-refuses
 returns-in_err-has_room-clause-refuses g c = λ node.
     let p = err_from_is_err_and c.from_residual-in_err-has_room.result c.from_residual-in_err-has_room.ensures.1 in
-    rw (p.1, p.2, c.in-Class.is) (λ gr honest prefix bytes has b. full_leaf gr c.args.self.now.tokens.list honest prefix has.0 node c.args.self.now c.in-Class.class bytes c.in_err-has_room.field-0.0 c.in_err-has_room.ensures.full b)
+    rw (p.1, p.2, c.in-Class.is) (λ gr honest prefix bytes has b.
+    full_leaf gr c.args.self.now.tokens.list honest prefix has.0 node c.args.self.now c.in-Class.class bytes
+    c.in_err-has_room.field-0.0 c.in_err-has_room.ensures.full b)
 
 pub returns-in_err-has_room-clause-adds : goal.returns-in_err-has_room-clause-adds
-returns-in_err-has_room-clause-adds g c h = none_added ParseFault (g.D.Device.content c.args.device.now) c.from_residual-in_err-has_room.result
+returns-in_err-has_room-clause-adds g c h =
+    none_added ParseFault (g.D.Device.content c.args.device.now) c.from_residual-in_err-has_room.result
 
 pub put_leaf-requires-clause-text : goal.put_leaf-requires-clause-text
 put_leaf-requires-clause-text g c =
@@ -58,18 +65,25 @@ returns-clause-takes g c = λ node honest below gr prefix has b.
           let levels : length fs < max_depth = omega (arith, length-reverse c.args.self.now.waiting.items, room.0) in
           let made : Output = record { bytes = g.D.Device.content w.put_leaf.new.device; texts = w.put_leaf.new.texts.items } in
           let passed = c.advance.ensures ∙ ap (λ (p : Parser). reader_at p.tokens.list (p.tokens.taken + 1)) w.self-is in
-          let word = subst (λ (t : Terminal). drop taken (words_of c.args.self.now.tokens.list) ≡ (t, lex) ∷ rest) is c.in_ok-lex.ensures.taken in
+          let word =
+          subst (λ (t : Terminal). drop taken (words_of c.args.self.now.tokens.list) ≡ (t, lex) ∷ rest) is
+          c.in_ok-lex.ensures.taken in
           rw (w.self-is, w.device-is)
           (subst (λ (h : TokenReader). Between task fs h.taken (count + 1) made) (sym passed)
-          (class task w.in-Class.class lex fs taken count now made rest word (subst (λ (t : Terminal). IsTokenOf (vocabulary_of gr) t lex) is fits).1
-          (λ h. w.in_ok-put_leaf.ensures.frame ((rw w.device-is at below) h)) w.in_ok-put_leaf.ensures.kept room.1 levels (subst (λ (t : Terminal). AtItem task (item.Terminal t) fs taken count now) is b)))
+          (class task w.in-Class.class lex fs taken count now made rest word
+          (subst (λ (t : Terminal). IsTokenOf (vocabulary_of gr) t lex) is fits).1
+          (λ h. w.in_ok-put_leaf.ensures.frame ((rw w.device-is at below) h)) w.in_ok-put_leaf.ensures.kept room.1 levels
+          (subst (λ (t : Terminal). AtItem task (item.Terminal t) fs taken count now) is b)))
       | in_default w ↦
           let is = w.in_default.is in
           let passed = c.advance.ensures ∙ ap (λ (p : Parser). reader_at p.tokens.list (p.tokens.taken + 1)) w.self-is in
           let text = text_is gr w.in_default.field-0 lex (subst (λ (t : Terminal). IsTokenOf (vocabulary_of gr) t lex) is fits) in
-          let word = subst (λ (t : Terminal). drop taken (words_of c.args.self.now.tokens.list) ≡ (t, lex) ∷ rest) is c.in_ok-lex.ensures.taken in
+          let word =
+          subst (λ (t : Terminal). drop taken (words_of c.args.self.now.tokens.list) ≡ (t, lex) ∷ rest) is
+          c.in_ok-lex.ensures.taken in
           rw (w.self-is, w.device-is)
           (subst (λ (h : TokenReader). Between task fs h.taken count now) (sym passed)
-          (literal task w.in_default.field-0 fs taken count now rest (word ∙ ap (λ x. (Literal w.in_default.field-0, x) ∷ rest) text)
+          (literal task w.in_default.field-0 fs taken count now rest
+          (word ∙ ap (λ x. (Literal w.in_default.field-0, x) ∷ rest) text)
           (subst (λ (t : Terminal). AtItem task (item.Terminal t) fs taken count now) is b)))
     ]

@@ -11,24 +11,40 @@ use Rattle.passrun.proofs.course.Working.{got_less}
 use Rattle.passrun.proofs.passing.machine.Machine.get.Goals as goal
 
 pub unreachable-requires : goal.unreachable-requires
-unreachable-requires g c = no_item (setting c.args.context.now) c.requires.context.sound (g.D.Device.is_honest c.args.from.now) (g.D.Device.content c.args.from.now) c.args.self.now c.args.node c.args.place c.place.result c.requires.runs c.requires.next c.place.ensures c.in_default.is
+unreachable-requires g c =
+    no_item (setting c.args.context.now) c.requires.context.sound (g.D.Device.is_honest c.args.from.now)
+    (g.D.Device.content c.args.from.now) c.args.self.now c.args.node c.args.place c.place.result c.requires.runs
+    c.requires.next c.place.ensures c.in_default.is
 
 pub returns-in_err-number-clause-refused : goal.returns-in_err-number-clause-refused
 returns-in_err-number-clause-refused g c =
     let p = err_from_is_err_and c.from_residual.result c.from_residual.ensures.1 in
     let context = setting c.args.context.now in
-    let count : c.len-open_count.result + 1 ≡ length c.args.self.now.waiting.items + 1 = omega (arith, c.args.self.now.waiting.ok.0) in
-    rw (p.1, p.2) (get_refused context c.requires.context.sound (g.D.Device.is_honest c.fetch.new.from) (g.D.Device.content c.args.from.now) c.args.self.now c.args.node c.args.place (c.len-open_count.result + 1) c.in-Some.row c.in_err-number.field-0.0 (from_supposed context (g.D.Device.is_honest c.args.from.now) (g.D.Device.is_honest c.fetch.new.from) (g.D.Device.content c.args.from.now) c.args.self.now (Some c.args.node) c.in_err-number.ensures.persists.honest c.requires.runs) c.requires.next c.in-Some.ensures count c.in_err-number.ensures.refused)
+    let count : c.len-open_count.result + 1 ≡ length c.args.self.now.waiting.items + 1 =
+    omega (arith, c.args.self.now.waiting.ok.0) in
+    rw (p.1, p.2)
+    (get_refused context c.requires.context.sound (g.D.Device.is_honest c.fetch.new.from)
+    (g.D.Device.content c.args.from.now) c.args.self.now c.args.node c.args.place
+    (c.len-open_count.result + 1) c.in-Some.row c.in_err-number.field-0.0
+    (from_supposed context (g.D.Device.is_honest c.args.from.now) (g.D.Device.is_honest c.fetch.new.from)
+    (g.D.Device.content c.args.from.now) c.args.self.now
+    (Some c.args.node) c.in_err-number.ensures.persists.honest c.requires.runs) c.requires.next
+    c.in-Some.ensures count c.in_err-number.ensures.refused)
 
 pub matches_copy-requires-clause-known : goal.matches_copy-requires-clause-known
 matches_copy-requires-clause-known g c =
-    (got_place (setting c.args.context.now) c.requires.context.sound (g.D.Device.is_honest c.args.from.now) (g.D.Device.content c.args.from.now) c.args.self.now c.args.node c.args.place c.in-Some.row c.requires.runs c.requires.next c.in-Some.ensures).known
+    (got_place (setting c.args.context.now) c.requires.context.sound (g.D.Device.is_honest c.args.from.now)
+    (g.D.Device.content c.args.from.now) c.args.self.now c.args.node c.args.place c.in-Some.row c.requires.runs
+    c.requires.next c.in-Some.ensures).known
 
 pub matches_copy-requires-clause-copied : goal.matches_copy-requires-clause-copied
 matches_copy-requires-clause-copied g c =
     let context = setting c.args.context.now in
     let m = c.args.self.now in
-    let i = got_place context c.requires.context.sound (g.D.Device.is_honest c.args.from.now) (g.D.Device.content c.args.from.now) m c.args.node c.args.place c.in-Some.row c.requires.runs c.requires.next c.in-Some.ensures in
+    let i =
+    got_place context c.requires.context.sound (g.D.Device.is_honest c.args.from.now)
+    (g.D.Device.content c.args.from.now) m c.args.node c.args.place c.in-Some.row c.requires.runs c.requires.next
+    c.in-Some.ensures in
     let h = c.in_ok-number.ensures.fetched in
     let more = read_row context c.in-Some.row.item c.in_ok-number.number h.body m.values.items c.fetch.new.values.items h.taken in
     let l = ap length more.1 ∙ length-append m.values.items more.0 in
@@ -57,8 +73,16 @@ returns-then-not-matches_copy-clause-refused g c = λ honest.
     let vs = c.as_slice.result.now in
     let copied = c.args.node.base + row.start in
     let start : c.len-start.result ≡ length m.values.items = omega (arith, m.values.ok.0) in
-    subst (IsDamaged (source context) content) (sym c.end-end.ensures) (get_differs context c.requires.context.sound (g.D.Device.is_honest c.fetch.new.from) content m c.args.node c.args.place c.in_ok-number.number (c.len-open_count.result + 1) row c.fetch.new.back read (drop copied vs) (drop c.len-start.result vs) copied c.len-start.result c.matches_copy.result
-    (from_supposed context (g.D.Device.is_honest c.args.from.now) (g.D.Device.is_honest c.fetch.new.from) content m (Some c.args.node) c.in_ok-number.ensures.persists.honest c.requires.runs) c.requires.next c.in-Some.ensures (omega (arith, m.waiting.ok.0)) c.in_ok-number.ensures.fetched c.matches_copy.ensures (λ yes. let z = sym c.if-not-matches_copy.true ∙ yes in cc) (ap (drop copied) c.as_slice.ensures.value) (ap (drop c.len-start.result) c.as_slice.ensures.value) refl start honest)
+    subst (IsDamaged (source context) content) (sym c.end-end.ensures)
+    (get_differs context c.requires.context.sound
+    (g.D.Device.is_honest c.fetch.new.from) content m c.args.node c.args.place c.in_ok-number.number
+    (c.len-open_count.result + 1) row c.fetch.new.back read (drop copied vs)
+    (drop c.len-start.result vs) copied c.len-start.result c.matches_copy.result
+    (from_supposed context (g.D.Device.is_honest c.args.from.now) (g.D.Device.is_honest c.fetch.new.from) content m
+    (Some c.args.node) c.in_ok-number.ensures.persists.honest c.requires.runs) c.requires.next c.in-Some.ensures
+    (omega (arith, m.waiting.ok.0)) c.in_ok-number.ensures.fetched c.matches_copy.ensures
+    (λ yes. let z = sym c.if-not-matches_copy.true ∙ yes in cc) (ap (drop copied) c.as_slice.ensures.value)
+    (ap (drop c.len-start.result) c.as_slice.ensures.value) refl start honest)
 
 pub returns-clause-runs : goal.returns-clause-runs
 returns-clause-runs g c =
@@ -71,15 +95,28 @@ returns-clause-runs g c =
     let copied = c.args.node.base + row.start in
     let start : c.len-start.result ≡ length m.values.items = omega (arith, m.values.ok.0) in
     let more = read_row context row.item c.in_ok-number.number h.body m.values.items read h.taken in
-    let old : take c.len-start.result read ≡ m.values.items = ap (take c.len-start.result) more.1 ∙ take_at m.values.items more.0 c.len-start.result (sym start) in
-    leads_from context (g.D.Device.is_honest c.args.from.now) (g.D.Device.is_honest c.fetch.new.from) (g.D.Device.content c.args.from.now) (g.D.Device.content c.fetch.new.from) m _ (Some c.args.node) _ c.in_ok-number.ensures.persists.honest
-    (got_leads context c.requires.context.sound m c.fetch.new.back c.truncate_row.new.values (g.D.Device.is_honest c.fetch.new.from) (g.D.Device.is_honest c.fetch.new.from) (g.D.Device.content c.args.from.now) (g.D.Device.content c.fetch.new.from) c.args.node c.after_step.result c.args.place c.in_ok-number.number (c.len-open_count.result + 1) row read
+    let old : take c.len-start.result read ≡ m.values.items =
+    ap (take c.len-start.result) more.1 ∙ take_at m.values.items more.0 c.len-start.result (sym start) in
+    leads_from context (g.D.Device.is_honest c.args.from.now) (g.D.Device.is_honest c.fetch.new.from)
+    (g.D.Device.content c.args.from.now) (g.D.Device.content c.fetch.new.from) m _
+    (Some c.args.node) _ c.in_ok-number.ensures.persists.honest
+    (got_leads context c.requires.context.sound m c.fetch.new.back c.truncate_row.new.values
+    (g.D.Device.is_honest c.fetch.new.from) (g.D.Device.is_honest c.fetch.new.from) (g.D.Device.content c.args.from.now)
+    (g.D.Device.content c.fetch.new.from) c.args.node c.after_step.result c.args.place c.in_ok-number.number
+    (c.len-open_count.result + 1) row read
     c.requires.next c.in-Some.ensures h (omega (arith, m.waiting.ok.0))
-    (λ q there begins. has_agreed context q c.args.node c.args.place row.item c.in_ok-number.number h.body m.values.items read (drop copied vs) (drop c.len-start.result vs) copied c.len-start.result c.matches_copy.result h.taken c.matches_copy.ensures c.if-not-matches_copy.false
-    (ap (drop copied) c.as_slice.ensures.value) (ap (drop c.len-start.result) c.as_slice.ensures.value) (ap (λ n. c.args.node.base + n) begins) start)
-    (c.truncate_row.ensures ∙ ap (λ vs. kept_values row.item vs read) old) refl c.in_ok-number.ensures.content c.after_step.ensures)
+    (λ q there begins. has_agreed context q c.args.node c.args.place row.item c.in_ok-number.number h.body m.values.items read
+    (drop copied vs) (drop c.len-start.result vs) copied c.len-start.result c.matches_copy.result h.taken
+    c.matches_copy.ensures c.if-not-matches_copy.false
+    (ap (drop copied) c.as_slice.ensures.value) (ap (drop c.len-start.result) c.as_slice.ensures.value)
+    (ap (λ n. c.args.node.base + n) begins) start)
+    (c.truncate_row.ensures ∙ ap (λ vs. kept_values row.item vs read) old) refl c.in_ok-number.ensures.content
+    c.after_step.ensures)
 
 pub returns-clause-less : goal.returns-clause-less
 returns-clause-less g c =
-    got_less (setting c.args.context.now) c.requires.context.sound c.args.self.now c.fetch.new.back c.truncate_row.new.values c.fetch.new.values.items (g.D.Device.is_honest c.fetch.new.from) (g.D.Device.content c.args.from.now) c.args.node c.after_step.result c.args.place c.in_ok-number.number (c.len-open_count.result + 1) c.in-Some.row.item
+    got_less (setting c.args.context.now) c.requires.context.sound c.args.self.now c.fetch.new.back c.truncate_row.new.values
+    c.fetch.new.values.items (g.D.Device.is_honest c.fetch.new.from)
+    (g.D.Device.content c.args.from.now) c.args.node c.after_step.result c.args.place c.in_ok-number.number
+    (c.len-open_count.result + 1) c.in-Some.row.item
     c.requires.next c.in_ok-number.ensures.fetched c.after_step.ensures

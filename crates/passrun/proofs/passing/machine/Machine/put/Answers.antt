@@ -9,37 +9,58 @@ use Rattle.std.proofs.Common.{Some}
 use Rattle.passrun.proofs.passing.machine.Machine.put.Goals as goal
 
 pub unreachable-requires : goal.unreachable-requires
-unreachable-requires g c = no_row (setting c.args.context.now) c.requires.context.sound c.args.self.now c.args.node c.args.place c.place.result c.requires.runs c.requires.next c.place.ensures c.in_default.is
+unreachable-requires g c =
+    no_row (setting c.args.context.now) c.requires.context.sound c.args.self.now c.args.node c.args.place c.place.result
+    c.requires.runs c.requires.next c.place.ensures c.in_default.is
 
 pub returns-in_default-item-clause-runs : goal.returns-in_default-item-clause-runs
 returns-in_default-item-clause-runs g c =
     let s = symbol_there c.in-Some.row.item c.in_default-item.not-Terminal in
-    left_leads (setting c.args.context.now) c.requires.context.sound c.args.self.now (g.E.Device.is_honest c.args.to.now) (g.E.Device.content c.args.to.now) c.args.node c.after_step.result c.args.place s.0 c.in-Some.row c.requires.runs c.requires.next c.in-Some.ensures s.1 c.after_step.ensures
+    left_leads (setting c.args.context.now) c.requires.context.sound c.args.self.now (g.E.Device.is_honest c.args.to.now)
+    (g.E.Device.content c.args.to.now) c.args.node c.after_step.result c.args.place s.0 c.in-Some.row c.requires.runs
+    c.requires.next c.in-Some.ensures s.1 c.after_step.ensures
 
 pub returns-in_default-item-clause-less : goal.returns-in_default-item-clause-less
-returns-in_default-item-clause-less g c = put_less (setting c.args.context.now) c.requires.context.sound c.args.self.now c.args.self.now.writer c.args.node c.after_step.result c.args.place c.requires.runs c.requires.next c.after_step.ensures
+returns-in_default-item-clause-less g c =
+    put_less (setting c.args.context.now) c.requires.context.sound c.args.self.now c.args.self.now.writer c.args.node
+    c.after_step.result c.args.place c.requires.runs c.requires.next c.after_step.ensures
 
 pub single_value-values-requires : goal.single_value-values-requires
 single_value-values-requires g c =
-    let within = text_within (setting c.args.context.now) c.requires.context.sound c.args.self.now c.args.node c.args.place c.in-Some.row c.in-Terminal.field-0 c.requires.runs c.requires.next c.in-Some.ensures c.in-Terminal.is in
+    let within =
+    text_within (setting c.args.context.now) c.requires.context.sound c.args.self.now c.args.node c.args.place c.in-Some.row
+    c.in-Terminal.field-0 c.requires.runs c.requires.next c.in-Some.ensures c.in-Terminal.is in
     let n = ap length c.as_slice.ensures.value in
     omega arith
 
 pub put_record-requires-clause-well : goal.put_record-requires-clause-well
 put_record-requires-clause-well g c =
-    let w = (whole_of (setting c.args.context.now) c.requires.context.sound c.args.self.now (Some c.args.node) c.requires.runs).1 in
+    let w =
+    (whole_of (setting c.args.context.now) c.requires.context.sound c.args.self.now (Some c.args.node) c.requires.runs).1 in
     let text = c.args.node.base + c.in-Some.row.start in
-    All-same IsWell c.single_value-values.result.now (take 1 (drop text c.args.self.now.values.items)) (c.single_value-values.ensures ∙ ap (λ vs. take 1 (drop text vs)) c.as_slice.ensures.value) (All-take IsWell 1 (drop text c.args.self.now.values.items) (All-drop IsWell text c.args.self.now.values.items w))
+    All-same IsWell c.single_value-values.result.now (take 1 (drop text c.args.self.now.values.items))
+    (c.single_value-values.ensures ∙ ap (λ vs. take 1 (drop text vs)) c.as_slice.ensures.value)
+    (All-take IsWell 1 (drop text c.args.self.now.values.items) (All-drop IsWell text c.args.self.now.values.items w))
 
 pub put_record-requires-clause-room : goal.put_record-requires-clause-room
-put_record-requires-clause-room g c = put_room (setting c.args.context.now) c.requires.context.sound c.args.self.now c.args.node c.requires.runs
+put_record-requires-clause-room g c =
+    put_room (setting c.args.context.now) c.requires.context.sound c.args.self.now c.args.node c.requires.runs
 
 pub returns-clause-runs : goal.returns-clause-runs
 returns-clause-runs g c =
     let text = c.args.node.base + c.in-Some.row.start in
-    leads_to (setting c.args.context.now) (g.E.Device.is_honest c.args.to.now) (g.E.Device.is_honest c.put_record.new.to) (g.E.Device.content c.args.to.now) (g.E.Device.content c.put_record.new.to) c.args.self.now _ (Some c.args.node) _ c.in_ok-put_record.ensures.persists.honest
-    (put_leads (setting c.args.context.now) c.requires.context.sound c.args.self.now c.put_record.new.writer (g.E.Device.is_honest c.put_record.new.to) (g.E.Device.is_honest c.put_record.new.to) (g.E.Device.content c.args.to.now) (g.E.Device.content c.put_record.new.to) c.args.node c.after_step-2.result c.args.place c.in-Some.row c.in-Terminal.field-0 c.single_value-values.result.now
-    c.requires.runs c.requires.next c.in-Some.ensures c.in-Terminal.is (c.single_value-values.ensures ∙ ap (λ vs. take 1 (drop text vs)) c.as_slice.ensures.value) c.in_ok-put_record.ensures.put refl c.after_step-2.ensures)
+    leads_to (setting c.args.context.now) (g.E.Device.is_honest c.args.to.now) (g.E.Device.is_honest c.put_record.new.to)
+    (g.E.Device.content c.args.to.now) (g.E.Device.content c.put_record.new.to) c.args.self.now _
+    (Some c.args.node) _ c.in_ok-put_record.ensures.persists.honest
+    (put_leads (setting c.args.context.now) c.requires.context.sound c.args.self.now c.put_record.new.writer
+    (g.E.Device.is_honest c.put_record.new.to) (g.E.Device.is_honest c.put_record.new.to) (g.E.Device.content c.args.to.now)
+    (g.E.Device.content c.put_record.new.to) c.args.node c.after_step-2.result c.args.place c.in-Some.row
+    c.in-Terminal.field-0 c.single_value-values.result.now
+    c.requires.runs c.requires.next c.in-Some.ensures c.in-Terminal.is
+    (c.single_value-values.ensures ∙ ap (λ vs. take 1 (drop text vs)) c.as_slice.ensures.value) c.in_ok-put_record.ensures.put
+    refl c.after_step-2.ensures)
 
 pub returns-clause-less : goal.returns-clause-less
-returns-clause-less g c = put_less (setting c.args.context.now) c.requires.context.sound c.args.self.now c.put_record.new.writer c.args.node c.after_step-2.result c.args.place c.requires.runs c.requires.next c.after_step-2.ensures
+returns-clause-less g c =
+    put_less (setting c.args.context.now) c.requires.context.sound c.args.self.now c.put_record.new.writer c.args.node
+    c.after_step-2.result c.args.place c.requires.runs c.requires.next c.after_step-2.ensures

@@ -9,33 +9,56 @@ use Rattle.passrun.proofs.passing.machine.Machine.run_rule.Goals as goal
 
 pub bounds-as_slice-rule : goal.bounds-as_slice-rule
 bounds-as_slice-rule c =
-    rule_less (setting c.args.context.now) c.requires.context.sound c.args.self.now c.args.node c.args.meter.now c.args.rule c.productions.result.now c.index-productions-node.result c.as_slice.result.now c.productions.ensures.lent c.index-productions-node.is c.as_slice.ensures c.requires.runs c.requires.next
+    rule_less (setting c.args.context.now) c.requires.context.sound c.args.self.now c.args.node c.args.meter.now c.args.rule
+    c.productions.result.now c.index-productions-node.result c.as_slice.result.now c.productions.ensures.lent
+    c.index-productions-node.is c.as_slice.ensures c.requires.runs c.requires.next
 
 pub bounds-as_slice-rule-2 : goal.bounds-as_slice-rule-2
 bounds-as_slice-rule-2 c =
     let context = setting c.args.context.now in
-    let h = giver context c.requires.context.sound c.args.self.now c.args.node c.args.meter.now c.args.rule c.productions.result.now c.index-productions-node.result c.as_slice.result.now c.index-as_slice-rule.result c.productions.ensures.lent c.index-productions-node.is c.as_slice.ensures c.index-as_slice-rule.is c.requires.runs c.requires.next in
-    slots_less context c.args.node.production c.args.rule c.index-productions-node.result c.index-as_slice-rule.result c.args.layout.now c.as_slice-2.result.now (c.requires.layout c.index-productions-node.result h.there) h.numbered c.as_slice-2.ensures
+    let h =
+    giver context c.requires.context.sound c.args.self.now c.args.node c.args.meter.now c.args.rule c.productions.result.now
+    c.index-productions-node.result c.as_slice.result.now c.index-as_slice-rule.result c.productions.ensures.lent
+    c.index-productions-node.is c.as_slice.ensures c.index-as_slice-rule.is c.requires.runs c.requires.next in
+    slots_less context c.args.node.production c.args.rule c.index-productions-node.result c.index-as_slice-rule.result
+    c.args.layout.now c.as_slice-2.result.now
+    (c.requires.layout c.index-productions-node.result h.there) h.numbered c.as_slice-2.ensures
 
 pub put_rule_value-requires-clause-slots : goal.put_rule_value-requires-clause-slots
 put_rule_value-requires-clause-slots c =
     let context = setting c.args.context.now in
-    let h = giver context c.requires.context.sound c.args.self.now c.args.node c.args.meter.now c.args.rule c.productions.result.now c.index-productions-node.result c.as_slice.result.now c.index-as_slice-rule.result c.productions.ensures.lent c.index-productions-node.is c.as_slice.ensures c.index-as_slice-rule.is c.requires.runs c.requires.next in
-    let are = slots_found context c.args.node.production c.args.rule c.index-productions-node.result c.index-as_slice-rule.result c.args.layout.now c.as_slice-2.result.now c.index-as_slice-rule-2.result (c.requires.layout c.index-productions-node.result h.there) h.numbered c.as_slice-2.ensures c.index-as_slice-rule-2.is in
+    let h =
+    giver context c.requires.context.sound c.args.self.now c.args.node c.args.meter.now c.args.rule c.productions.result.now
+    c.index-productions-node.result c.as_slice.result.now c.index-as_slice-rule.result c.productions.ensures.lent
+    c.index-productions-node.is c.as_slice.ensures c.index-as_slice-rule.is c.requires.runs c.requires.next in
+    let are =
+    slots_found context c.args.node.production c.args.rule c.index-productions-node.result c.index-as_slice-rule.result
+    c.args.layout.now c.as_slice-2.result.now c.index-as_slice-rule-2.result
+    (c.requires.layout c.index-productions-node.result h.there) h.numbered c.as_slice-2.ensures
+    c.index-as_slice-rule-2.is in
     sym are.args.equally_long ∙ sym h.occurrences
 
 pub put_rule_value-requires-clause-well : goal.put_rule_value-requires-clause-well
 put_rule_value-requires-clause-well c =
-    well_of (setting c.args.context.now) c.requires.context.sound c.args.self.now (Some c.args.node) c.args.meter.now c.requires.runs
+    well_of (setting c.args.context.now) c.requires.context.sound c.args.self.now
+    (Some c.args.node) c.args.meter.now c.requires.runs
 
 pub put_rule_value-requires-clause-not_full : goal.put_rule_value-requires-clause-not_full
-put_rule_value-requires-clause-not_full c = meter_of (setting c.args.context.now) c.requires.context.sound c.args.self.now c.args.node c.args.meter.now c.requires.runs
+put_rule_value-requires-clause-not_full c =
+    meter_of (setting c.args.context.now) c.requires.context.sound c.args.self.now c.args.node c.args.meter.now c.requires.runs
 
 pub put_rule_value-requires-clause-target : goal.put_rule_value-requires-clause-target
 put_rule_value-requires-clause-target c =
     let context = setting c.args.context.now in
-    let h = giver context c.requires.context.sound c.args.self.now c.args.node c.args.meter.now c.args.rule c.productions.result.now c.index-productions-node.result c.as_slice.result.now c.index-as_slice-rule.result c.productions.ensures.lent c.index-productions-node.is c.as_slice.ensures c.index-as_slice-rule.is c.requires.runs c.requires.next in
-    let are = slots_found context c.args.node.production c.args.rule c.index-productions-node.result c.index-as_slice-rule.result c.args.layout.now c.as_slice-2.result.now c.index-as_slice-rule-2.result (c.requires.layout c.index-productions-node.result h.there) h.numbered c.as_slice-2.ensures c.index-as_slice-rule-2.is in
+    let h =
+    giver context c.requires.context.sound c.args.self.now c.args.node c.args.meter.now c.args.rule c.productions.result.now
+    c.index-productions-node.result c.as_slice.result.now c.index-as_slice-rule.result c.productions.ensures.lent
+    c.index-productions-node.is c.as_slice.ensures c.index-as_slice-rule.is c.requires.runs c.requires.next in
+    let are =
+    slots_found context c.args.node.production c.args.rule c.index-productions-node.result c.index-as_slice-rule.result
+    c.args.layout.now c.as_slice-2.result.now c.index-as_slice-rule-2.result
+    (c.requires.layout c.index-productions-node.result h.there) h.numbered c.as_slice-2.ensures
+    c.index-as_slice-rule-2.is in
     let target = are.target in
     let within = h.within in
     omega (arith, c.args.self.now.values.ok.0)
@@ -45,11 +68,25 @@ returns-clause-runs c =
     let context = setting c.args.context.now in
     let m = c.args.self.now in
     let base = c.args.node.base in
-    let h = giver context c.requires.context.sound c.args.self.now c.args.node c.args.meter.now c.args.rule c.productions.result.now c.index-productions-node.result c.as_slice.result.now c.index-as_slice-rule.result c.productions.ensures.lent c.index-productions-node.is c.as_slice.ensures c.index-as_slice-rule.is c.requires.runs c.requires.next in
+    let h =
+    giver context c.requires.context.sound c.args.self.now c.args.node c.args.meter.now c.args.rule c.productions.result.now
+    c.index-productions-node.result c.as_slice.result.now c.index-as_slice-rule.result c.productions.ensures.lent
+    c.index-productions-node.is c.as_slice.ensures c.index-as_slice-rule.is c.requires.runs c.requires.next in
     let slots = c.index-as_slice-rule-2.result in
-    let are = slots_found context c.args.node.production c.args.rule c.index-productions-node.result c.index-as_slice-rule.result c.args.layout.now c.as_slice-2.result.now c.index-as_slice-rule-2.result (c.requires.layout c.index-productions-node.result h.there) h.numbered c.as_slice-2.ensures c.index-as_slice-rule-2.is in
-    let v = value_of c.index-as_slice-rule.result.expr.0 (λ k. get_or (drop base m.values.items) (slice_index slots.args k) (Num (pos 0))) in
-    rule_leads context c.requires.context.sound m c.put_rule_value.new.values c.args.node c.after_step.result c.args.meter.now c.put_rule_value.new.meter c.args.rule c.index-productions-node.result c.index-as_slice-rule.result slots (Num (pos 0)) v c.requires.next h.there h.numbered are refl c.in_ok-put_rule_value.ensures.well c.in_ok-put_rule_value.ensures.value c.in_ok-put_rule_value.ensures.counted c.after_step.ensures
+    let are =
+    slots_found context c.args.node.production c.args.rule c.index-productions-node.result c.index-as_slice-rule.result
+    c.args.layout.now c.as_slice-2.result.now c.index-as_slice-rule-2.result
+    (c.requires.layout c.index-productions-node.result h.there) h.numbered c.as_slice-2.ensures
+    c.index-as_slice-rule-2.is in
+    let v =
+    value_of c.index-as_slice-rule.result.expr.0
+    (λ k. get_or (drop base m.values.items) (slice_index slots.args k) (Num (pos 0))) in
+    rule_leads context c.requires.context.sound m c.put_rule_value.new.values c.args.node c.after_step.result c.args.meter.now
+    c.put_rule_value.new.meter c.args.rule c.index-productions-node.result c.index-as_slice-rule.result slots
+    (Num (pos 0)) v c.requires.next h.there h.numbered are refl c.in_ok-put_rule_value.ensures.well
+    c.in_ok-put_rule_value.ensures.value c.in_ok-put_rule_value.ensures.counted c.after_step.ensures
 
 pub returns-clause-less : goal.returns-clause-less
-returns-clause-less c = given_less (setting c.args.context.now) c.requires.context.sound c.args.self.now c.put_rule_value.new.values c.args.node c.after_step.result c.args.rule c.requires.next c.after_step.ensures
+returns-clause-less c =
+    given_less (setting c.args.context.now) c.requires.context.sound c.args.self.now c.put_rule_value.new.values c.args.node
+    c.after_step.result c.args.rule c.requires.next c.after_step.ensures

@@ -8,7 +8,8 @@ use Rattle.passrun.proofs.passing.machine.Machine.step.Goals as goal
 use Rattle.passrun.proofs.passing.machine.Machine.step.Goals.{in-Def+in_ok-ended-in-Def, in-End}
 
 pub run_rule-requires-in-Def-clause-next : goal.run_rule-requires-in-Def-clause-next
-run_rule-requires-in-Def-clause-next g c = (0, c.in-Def.attr, instr.Def c.in-Def.attr c.in-Def.rule, inr (refl, refl), c.in-Def.ensures.there)
+run_rule-requires-in-Def-clause-next g c =
+    (0, c.in-Def.attr, instr.Def c.in-Def.attr c.in-Def.rule, inr (refl, refl), c.in-Def.ensures.there)
 
 pub returns-in-Put-clause-runs : goal.returns-in-Put-clause-runs
 returns-in-Put-clause-runs g c = c.in_ok-put-in-Put.ensures.runs _ _ _ c.requires.runs
@@ -19,7 +20,8 @@ returns-in-Set-clause-runs g c = c.in_ok-run_rule-in-Set.ensures.runs _ _ _ _ c.
 pub finish_if_ended-requires-clause-runs : goal.finish_if_ended-requires-clause-runs
 finish_if_ended-requires-clause-runs g c =
     elim c.match-instruction.branch [
-      | in-Def+in_ok-ended-in-Def w ↦ rw (w.self-is, w.ended-is) (_, _, _, w.in_ok-ended-in-Def.ensures.runs _ _ _ _ c.requires.runs)
+      | in-Def+in_ok-ended-in-Def w ↦ rw (w.self-is, w.ended-is)
+          (_, _, _, w.in_ok-ended-in-Def.ensures.runs _ _ _ _ c.requires.runs)
       | in-End w ↦ rw (w.self-is, w.ended-is) (_, _, _, c.requires.runs)
     ]
 
@@ -30,7 +32,9 @@ returns-in_err-after_step-in-Get-clause-left g c =
 
 pub returns-in_err-enter_if_next-in-Get-clause-left : goal.returns-in_err-enter_if_next-in-Get-clause-left
 returns-in_err-enter_if_next-in-Get-clause-left g c =
-    let p = err_from_is_err_and c.from_residual-in_err-enter_if_next-in-Get.result c.from_residual-in_err-enter_if_next-in-Get.ensures.1 in
+    let p =
+    err_from_is_err_and c.from_residual-in_err-enter_if_next-in-Get.result
+    c.from_residual-in_err-enter_if_next-in-Get.ensures.1 in
     rw p.1 (λ h. none_added RunFault (g.E.Device.content c.args.to.now) (Err p.0))
 
 pub returns-in_err-run_rule-in-Set-clause-left : goal.returns-in_err-run_rule-in-Set-clause-left
@@ -45,5 +49,6 @@ returns-in_err-ended-in-Def-clause-left g c =
 
 pub returns-in_err-enter_child-in-Go-clause-left : goal.returns-in_err-enter_child-in-Go-clause-left
 returns-in_err-enter_child-in-Go-clause-left g c =
-    let p = err_from_is_err_and c.from_residual-in_err-enter_child-in-Go.result c.from_residual-in_err-enter_child-in-Go.ensures.1 in
+    let p =
+    err_from_is_err_and c.from_residual-in_err-enter_child-in-Go.result c.from_residual-in_err-enter_child-in-Go.ensures.1 in
     rw p.1 (λ h. none_added RunFault (g.E.Device.content c.args.to.now) (Err p.0))
