@@ -1,7 +1,7 @@
 //! A file that records the calls made on it. Each method of `NotedFile` uses the file of the operating
-//! system once, and then adds one entry with the result to the record; `read_at` moves the file's
-//! position and reads. No clause can say that the file was used as recorded: a reviewer has to compare
-//! the two in each body.
+//! system once, and then adds one entry with the result to the record, but an `open` that fails
+//! makes no record. `read_at` moves the file's position and reads. No clause can say that the file was
+//! used as recorded: a reviewer has to compare the two in each body.
 ghost use Rattle.std.specs.Prelude.{◌≡◌, ◌∷◌, true, false, is_ok, length, IfOk, MatchResult, OnOk};
 ghost use Rattle.std.specs.Io.KnownBytes.{Appends};
 ghost use Rattle.noted_file.specs.Calls.{append_event, length_event, open_event, read_event};
