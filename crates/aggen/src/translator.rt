@@ -128,7 +128,7 @@ impl Translator {
     }
 
     /// Clears the device, and writes the file of pass 0 of the sentence's one tree to it. Returns
-    /// the number of its stored nodes.
+    /// the number of its nodes.
     ///
     /// Fails with S1 to S4 if the sentence has no tokens, before the device is used; with P1 if it
     /// has tokens and no tree; with P2 or P3 if each tree of its tokens is beyond the limits; and with D1 if the
@@ -242,7 +242,7 @@ impl Translator {
     ///
     /// Fails with R1 if the content of `tree` is the file of pass 0 of no tree of the grammar; with
     /// P2 if it is that of none of at most `MAX_DEPTH` levels, and with P3 if it is that of none
-    /// of at most `MAX_NODES` stored nodes. Fails with O1 NoText if the translation is not a
+    /// of at most `MAX_NODES` nodes. Fails with O1 NoText if the translation is not a
     /// text, with O2 Write if a write failed or took no byte, and with D1 Device if a call of a
     /// device failed. B1, B2, or R1, P2 or P3 of a later pass's file are possible only on a device
     /// that does not return the bytes that were written. After every fault except O2 the writer is
@@ -297,11 +297,11 @@ impl Translator {
     /// Converts an old tree file: reads the file of version 1 and pass 0 of a tree of the grammar
     /// from `old`, and writes to `to` the file of version 2 and pass 0 of the same tree, the one
     /// that `parse_tree` writes for a sentence with this tree. `mid` then has the same records from
-    /// right to left, and `old` is only read. Returns the number of stored nodes.
+    /// right to left, and `old` is only read. Returns the number of nodes.
     ///
     /// Fails with R1 if the content of `old` is the file of version 1 and pass 0 of no tree of the
     /// grammar; with P2 if it is that of no tree of at most `MAX_REVERSED_DEPTH` levels (256), and
-    /// with P3 if it is that of none of at most `MAX_REVERSED_NODES` stored nodes (65,536);
+    /// with P3 if it is that of none of at most `MAX_REVERSED_NODES` nodes (65,536);
     /// and with D1 if a call of a device failed. R1 or P2 with an offset in `mid` are possible only
     /// if `mid` does not return the bytes that were written. After a fault `mid` and `to` have
     /// their old contents, or a prefix of a file.

@@ -46,12 +46,12 @@ abbrev pub IsInFirstOf : Grammar → List Item → Ahead → Type 0
 IsInFirstOf g xs (ahead.Terminal a) = InFirstOf g xs a
 IsInFirstOf g xs ahead.End = ⊥
 
--- A production predicts a look-ahead that is in FIRST of its right side, and, if its right side is nullable,
--- one that is in FOLLOW of its left side.
+-- A production is predicted by a look-ahead: the look-ahead is in FIRST of its right side, or its right side is
+-- nullable and the look-ahead is in FOLLOW of its left side.
 abbrev pub Predicts : Grammar → Production → Ahead → Type 0
 Predicts g q x = IsInFirstOf g q.items x ⊎ (AreNullable g q.items × InFollow g q.left x)
 
--- Two productions of one symbol, by their numbers and the lesser one first, predict the same look-ahead.
+-- Two productions of one symbol, by their numbers and the lesser one first, are predicted by the same look-ahead.
 pub record IsConflict (g : Grammar) (first second : ℕ) (x : Ahead) : Type 0 where
   pub one : Production
   pub other : Production

@@ -70,8 +70,8 @@ impl fmt::Display for FoundText<'_> {
     }
 }
 
-/// Returns whether a character has no shape of its own, or turns the direction of those beside it: a byte
-/// order mark, and the other characters of Unicode's category Cf that belong to no script.
+/// Returns whether a character is in a list of those that have no shape of their own, or turn the direction of
+/// those beside them: a byte order mark, and some other characters of Unicode's category Cf, but not all.
 fn is_unseen(character: char) -> bool {
     matches!(
         character,

@@ -30,8 +30,8 @@ pub fn class_name(number: u16) -> &'static str {
     }
 }
 
-/// Writes a list of look-aheads, at most the first twelve, and the number of the rest: `0`, `1` or the end of the
-/// text.
+/// Writes a list of look-aheads, such as "`0`, `1` or the end of the text". If there are more than twelve, writes
+/// the first twelve and the number of the others, such as "one of 5 more".
 pub fn write_aheads(
     out: &mut String,
     grammar: &Grammar,
@@ -63,7 +63,7 @@ pub fn terminal_count(grammar: &Grammar) -> usize {
         .saturating_add(grammar.classes().len())
 }
 
-/// Writes the terminals of a grammar, at most the first twelve, and the number of the rest.
+/// Writes the terminals of a grammar, at most the first twelve, and the number of the others.
 pub fn write_terminals(out: &mut String, grammar: &Grammar) -> Result<(), AllocError> {
     let count = terminal_count(grammar);
     let mut remaining = count;

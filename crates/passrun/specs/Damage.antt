@@ -16,7 +16,7 @@ use Rattle.passrun.specs.declared.run_fault.RunFault.{RunFault}
 use Rattle.passrun.specs.declared.run_fault.RunFault.TheVariants as fault
 
 -- How a file is read: its version, and the pass that wrote it for a tree of a grammar; and the limits of the
--- tree's levels and of its stored nodes.
+-- tree's levels and of its nodes.
 pub record Source : Type 0 where
   pub version : Version
   pub grammar : Grammar
@@ -112,7 +112,7 @@ pub record IsTooDeep (s : Source) (content : List ℕ) : Type 0 where
   pub none : (nodes : ℕ) → HasNoTreeWithin s.depth nodes s.version s.grammar s.passes s.pass content
   pub shown : ExceedsDepth s content
 
--- P3: the content is the file of no tree within the limit of stored nodes, at any depth, and reading exceeds
+-- P3: the content is the file of no tree within the limit of nodes, at any depth, and reading exceeds
 -- that limit.
 pub record HasTooManyNodes (s : Source) (content : List ℕ) : Type 0 where
   pub none : (depth : ℕ) → HasNoTreeWithin depth s.nodes s.version s.grammar s.passes s.pass content

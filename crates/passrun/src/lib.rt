@@ -6,6 +6,7 @@
 //!
 //! Words of this crate, in pass k:
 //!
+//! - *Node*: what has a record, so a node of a symbol or a token of a class. Literals have none.
 //! - *Place*: 0 for the left side of a production, and 1, 2, .. for the children, which are the
 //!   symbols and classes of its right side (a literal has no record).
 //! - *Known*: the values that the file of pass k - 1 has, so those of attributes of passes before
@@ -14,8 +15,9 @@
 //!   then the *copies* of its children: the values of their synthesized attributes, or a token's
 //!   text.
 //! - *Slot*: the index of a value, counted from the beginning of a row.
-//! - *Layout* of a production: its instructions in pass k, and where the values of its rules are.
-//!   `ProductionRow` and `PlaceRow` are rows of this table, not rows of values.
+//! - *Layout* of a production: its instructions in pass k, and where the values of its rules are. It
+//!   is a `ProductionRow`, with a `PlaceRow` for each place; the type `Layout` has those of all
+//!   productions, and the hints. These rows are not rows of values.
 //! - *Open* node: one whose record was read, and whose instructions are not finished. The innermost
 //!   one is the current node; the others wait for one of their children.
 //! - *Level*: 1 for the root, and one more for each child.

@@ -107,14 +107,14 @@ fn one_more(sum: Passed, passed: Passed) -> Passed
 /// reads that and writes to `a`, and so on. Evaluates each rule of these passes once at each node
 /// of its production. The meter counts these evaluations, and may be at most 2^62 before the call.
 ///
-/// Returns the device that has the file of the last pass, with the number of stored nodes of the
+/// Returns the device that has the file of the last pass, with the number of nodes of the
 /// tree, and the numbers of records read and written in all passes together. If `first` is one more
 /// than the greatest pass, runs, reads and writes nothing, and returns `Last::A` with three zeros.
 ///
 /// Stops at the first pass that fails, and returns its fault, as `run_pass` does. Fails with R1
 /// (`Damaged`) and an offset if the file on `a` is not one that pass `first` - 1 writes for a tree
 /// of the grammar. Fails with P2 (`TooDeep`) if it encodes no tree of at most `MAX_DEPTH` levels,
-/// and with P3 (`TooManyNodes`) if it encodes no tree of at most `MAX_NODES` stored nodes. Fails
+/// and with P3 (`TooManyNodes`) if it encodes no tree of at most `MAX_NODES` nodes. Fails
 /// with D1 (`Device`) if a call of one of the devices failed, and with `NoMemory` if memory cannot
 /// be allocated.
 ///
@@ -170,6 +170,7 @@ pub fn run_all<D: Device>(
     ensures devices { BothPersist D.is_honest D.failures a.old a.new
         D.is_honest D.failures b.old b.new (IsErrOf result RunFault.Device) }
 {
+    // its contract says that the grammar is accepted
     let _start = grammar.start();
     let passes = last_pass(plan);
     let mut last = Last::A;

@@ -20,7 +20,7 @@ pub enum RunFault {
     /// P2: the file encodes no tree of at most `MAX_DEPTH` levels (`MAX_REVERSED_DEPTH` for
     /// `upgrade`): the next record would be one level deeper.
     TooDeep,
-    /// P3: the file encodes no tree of at most `MAX_NODES` stored nodes (`MAX_REVERSED_NODES` for
+    /// P3: the file encodes no tree of at most `MAX_NODES` nodes (`MAX_REVERSED_NODES` for
     /// `upgrade`): the next record would be one too many.
     TooManyNodes,
     /// D1: a call of one of the devices failed.

@@ -243,14 +243,14 @@ fn stored_among(items: &[Item]) -> u32
 /// Converts a tree file of version 1. Reads the file of pass 0 of a tree of the grammar backward
 /// from the first device, and writes to the third one the file of version 2 and pass 0 of the same
 /// tree: the file that `parse` writes for a sentence with this tree. Writes the same records from
-/// right to left to the second device in between. Returns the number of stored nodes. The call
+/// right to left to the second device in between. Returns the number of nodes. The call
 /// recurses over at most `MAX_REVERSED_LEVELS` (256) levels. The first device always keeps its
 /// content. After a success the old content of the other two is lost.
 ///
 /// Fails with R1 (`Damaged`) if the content is not the file of version 1 and pass 0 of a tree of
 /// the grammar; the offset is as for `run_pass`. Fails with P2 (`TooDeep`) if it encodes no tree of
 /// at most `MAX_REVERSED_LEVELS` (256) levels, and with P3 (`TooManyNodes`) if it encodes no tree
-/// of at most `MAX_REVERSED_RECORDS` (65,536) stored nodes. Fails with D1 (`Device`) if a call of a
+/// of at most `MAX_REVERSED_RECORDS` (65,536) nodes. Fails with D1 (`Device`) if a call of a
 /// device failed, and with `NoMemory` if memory cannot be allocated. Fails with R1 and an offset in
 /// the content of the second device, or with P2, if that does not return the bytes written to it;
 /// an honest device does. After a failure the second and the third device have their old content,

@@ -27,8 +27,13 @@ const WIDTH: usize = 60;
 /// arise. The grammar is read first, then the sentence, if there is one, then the whole tree file; only then is
 /// anything printed.
 ///
-/// Fails if an input can't be read or is refused, if a record of the tree file is damaged, if the tree does not
-/// have the node, if the node does not have one of the attributes, if the output fails (O2), and if memory is refused.
+/// Fails:
+/// - if an input can't be read or is refused, if the tree file is damaged, and if its tree exceeds a limit;
+/// - if a text is not a path, and if the tree does not have the node;
+/// - if the sentence does not have the line and column, and if its tokens are not the tree's;
+/// - if the node does not have one of the attributes;
+/// - with `--errors`, if the tree file is not of the last pass;
+/// - if the output fails (O2), and if memory is refused.
 pub fn explain_tree<R: Files + Input + Print>(
     rt: &R,
     alloc: Global,
@@ -57,7 +62,7 @@ pub fn explain_tree<R: Files + Input + Print>(
     }
 }
 
-/// Returns the bytes of the sentence in which a node is named by its place; none if it is named otherwise.
+/// Returns the bytes of the sentence in which a node is named by line and column; none if it is named otherwise.
 fn read_sentence<R: Files + Input>(
     rt: &R,
     alloc: Global,
@@ -69,8 +74,8 @@ fn read_sentence<R: Files + Input>(
     }
 }
 
-/// Returns the places of the path that names the node; none if the node is named otherwise, or not at all. Fails
-/// if the text is not a path.
+/// Returns the path that names the node, as child numbers; none if the node is named otherwise, or not at all.
+/// Fails if the text is not a path.
 fn places_of_path(alloc: Global, node: NodeWords<'_>) -> Result<Vec<u16>, FaultReport> {
     match node {
         NodeWords::Path(path) => places_of(alloc, Some(path)),
@@ -83,7 +88,7 @@ fn places_of_path(alloc: Global, node: NodeWords<'_>) -> Result<Vec<u16>, FaultR
 struct ExplanationRun<'a> {
     translator: &'a Translator,
     source: Source<'a>,
-    /// The bytes of the sentence; none if no place in it names the node.
+    /// The bytes of the sentence; none if no line and column of it name the node.
     sentence: &'a [u8],
     path: &'a str,
     /// Whether the tree file was chosen in a folder, so that its path has to be printed.
@@ -127,7 +132,7 @@ impl ExplanationRun<'_> {
         }
     }
 
-    /// Returns the places that lead from the root to the node at a place in the sentence. Fails as
+    /// Returns the path, as child numbers, from the root to the node at a line and column of the sentence. Fails as
     /// `TreeSentence::node_at` does.
     fn places_at<D: Device>(
         self,
@@ -149,8 +154,8 @@ impl ExplanationRun<'_> {
         tree.node_at(alloc, position, device)
     }
 
-    /// Fails if a node does not have the attributes that the words name, or if the words ask for the rules in which
-    /// errors arise and the file is not of the last pass.
+    /// Fails if a node does not have the attributes that the words of the command line name. Fails too if these words
+    /// ask for the rules in which errors arise and the file is not of the last pass.
     fn check(
         self,
         alloc: Global,

@@ -5,6 +5,7 @@ use ag_grammar::{Grammar, Item};
 use ag_value::NoMemory;
 use aggen::{Fault, Translator};
 use message_texts::display::PlainText;
+use message_texts::trees::damage::{NEST_LESS, SPLIT};
 use messages::FaultReport;
 use passrun::RunFault;
 use std::alloc::{AllocError, Global};
@@ -36,13 +37,20 @@ pub fn report_of_tree(alloc: Global, fault: ShowFault, path: &str) -> FaultRepor
         ShowFault::Write => Fault::Write,
         ShowFault::NoMemory => Fault::NoMemory,
     };
-    let is_damaged = matches!(fault, Fault::Run(_));
+    let help = help_of(&fault);
     let mut report = FaultReport::of_file(alloc, fault, path);
-    if is_damaged {
-        let written = report.parts.help.push_str(AGAIN);
-        return report.or_bare(written);
+    let written = report.parts.help.push_str(help);
+    report.or_bare(written)
+}
+
+/// Returns what to do about a fault of a tree file; nothing if the tree in it is not the cause.
+fn help_of(fault: &Fault) -> &'static str {
+    match fault {
+        Fault::Run(RunFault::Damaged(_)) => AGAIN,
+        Fault::Run(RunFault::TooDeep) => NEST_LESS,
+        Fault::Run(RunFault::TooManyNodes) => SPLIT,
+        _ => "",
     }
-    report
 }
 
 /// Returns the report of refused memory.
@@ -50,8 +58,8 @@ pub fn no_memory(alloc: Global) -> FaultReport {
     FaultReport::new(alloc, Fault::NoMemory)
 }
 
-/// Returns the places of a path; those of the root, which are none, if `path` is `None`. Fails if the text is not a
-/// path.
+/// Returns a path as child numbers from the root; none, as of the root, if `path` is `None`. Fails if the text is not
+/// a path.
 pub fn places_of(alloc: Global, path: Option<&str>) -> Result<Vec<u16>, FaultReport> {
     let Some(text) = path else {
         return Ok(Vec::new(alloc));
@@ -128,7 +136,7 @@ pub fn no_attribute(alloc: Global, format: &FileFormat<'_>, item: Item, name: &s
     report.or_bare(written)
 }
 
-/// Writes that an item does not have an attribute, and the names that it has.
+/// Writes that an item does not have an attribute, and the names that it has, or that it has none.
 fn describe_attributes(
     out: &mut String,
     format: &FileFormat<'_>,
@@ -144,6 +152,9 @@ fn describe_attributes(
         "{owner} has no attribute `{}`, it has",
         PlainText(name)
     )?;
+    if format.attribute_name(item, 0).is_none() {
+        return out.push_str(" none");
+    }
     for attr in 0..MAX_ATTRIBUTES as u16 {
         if let Some(name) = format.attribute_name(item, attr) {
             write!(out, " {}", PlainText(name))?;

@@ -1,4 +1,4 @@
-//! The node of a tree at a place of its sentence.
+//! The node of a tree at a line and column of its sentence.
 
 use crate::indexed::{no_memory, report_of_tree};
 use ag_grammar::Terminal;
@@ -8,6 +8,7 @@ use ag_value::{NoMemory, Value};
 use aggen::{Fault, Translator};
 use message_texts::Location;
 use message_texts::display::PlainText;
+use message_texts::terminals::class_name;
 use messages::{FaultReport, Position, Source};
 use program_io::report_of_sentence;
 use std::alloc::{AllocError, Global};
@@ -39,8 +40,8 @@ struct TokenText {
 }
 
 impl TreeSentence<'_> {
-    /// Returns the places from the root to the innermost node whose tokens include the one at a position;
-    /// between two tokens, to the innermost node that has both; before the first and after the last one, to
+    /// Returns the path, as child numbers from the root, to the innermost node whose tokens include the one at a
+    /// position; between two tokens, to the innermost node that has both; before the first and after the last one, to
     /// the root.
     ///
     /// Fails if the sentence can't be cut into tokens, if it does not have the position, if its tokens are not the
@@ -80,7 +81,8 @@ impl TreeSentence<'_> {
         }
     }
 
-    /// Returns the places from the root to the innermost node that has all tokens of a range.
+    /// Returns the path, as child numbers from the root, to the innermost node that has all tokens of a range. Returns
+    /// that of the root if `range` is `None`.
     fn find_node(self, alloc: Global, range: Option<TokenRange>) -> Result<Vec<u16>, NoMemory> {
         let Some(range) = range else {
             return Ok(Vec::new(alloc));
@@ -213,23 +215,52 @@ fn with_help(mut report: FaultReport) -> FaultReport {
     report.or_bare(written)
 }
 
-/// Writes which token the sentence has, and which one the tree has.
+/// Writes which token the sentence has, and which one the tree has. Names their kinds if both have the same text.
 fn write_other_token(
     out: &mut String,
     of_sentence: Option<Token<'_>>,
     of_tree: &Option<TokenText>,
 ) -> Result<(), AllocError> {
+    let is_named = has_same_text(of_sentence, of_tree);
     match of_tree {
-        Some(token) => write!(
-            out,
-            "expected `{}`, the next token of the tree",
-            PlainText(token.text.as_str())
-        )?,
+        Some(token) => {
+            out.push_str("expected ")?;
+            write_token(out, token.kind, token.text.as_str(), is_named)?;
+            out.push_str(", the next token of the tree")?;
+        }
         None => out.push_str("expected the end, as in the tree")?,
     }
     match of_sentence {
-        Some(token) => write!(out, ", found `{}`", PlainText(token.lex)),
+        Some(token) => {
+            out.push_str(", found ")?;
+            write_token(out, token.kind, token.lex, is_named)
+        }
         None => out.push_str(", found the end of the sentence"),
+    }
+}
+
+/// Writes a token as it is written in a sentence, a TEXT with its quotes, and after its kind if `is_named`.
+fn write_token(
+    out: &mut String,
+    kind: Terminal,
+    text: &str,
+    is_named: bool,
+) -> Result<(), AllocError> {
+    if is_named {
+        write_kind(out, kind)?;
+    }
+    let text = PlainText(text);
+    match kind {
+        Terminal::Class(TEXT) => write!(out, "`\"{text}\"`"),
+        _ => write!(out, "`{text}`"),
+    }
+}
+
+/// Writes the kind of a token, before its text.
+fn write_kind(out: &mut String, kind: Terminal) -> Result<(), AllocError> {
+    match kind {
+        Terminal::Class(number) => write!(out, "the {} ", class_name(number)),
+        Terminal::Literal(_) => out.push_str("the literal "),
     }
 }
 
@@ -332,6 +363,14 @@ fn skip_token(tokens: &mut Tokens<'_>) {
 fn is_same(of_sentence: Option<Token<'_>>, of_tree: &Option<TokenText>) -> bool {
     match (of_sentence, of_tree) {
         (Some(token), Some(other)) => token.kind == other.kind && token.lex == other.text.as_str(),
+        _ => false,
+    }
+}
+
+/// Returns whether a token of the sentence has the text of that of the tree. A TEXT has it without its quotes.
+fn has_same_text(of_sentence: Option<Token<'_>>, of_tree: &Option<TokenText>) -> bool {
+    match (of_sentence, of_tree) {
+        (Some(token), Some(other)) => token.lex == other.text.as_str(),
         _ => false,
     }
 }

@@ -17,8 +17,11 @@ use treefile::{Device, FileDevice};
 /// Prints the nodes of a tree file. The grammar is read first, then the whole tree file; only then is
 /// anything printed.
 ///
-/// Fails if an input can't be read or is refused, if a record of the tree file is damaged, if the tree does not
-/// have the node, if the grammar does not have one of the attributes, if the output fails (O2), and if memory is refused.
+/// Fails:
+/// - if an input can't be read or is refused, if the tree file is damaged, and if its tree exceeds a limit;
+/// - if a text is not a path, and if the tree does not have the node;
+/// - if the grammar does not have one of the attributes;
+/// - if the output fails (O2), and if memory is refused.
 pub fn show_tree<R: Files + Input + Print>(
     rt: &R,
     alloc: Global,

@@ -5,7 +5,7 @@ use passrun::Last;
 /// The statistics of a translation.
 #[derive(Clone, Copy, Debug, PartialEq, Eq)]
 pub struct Report {
-    /// The number of stored nodes of the tree, which are those with records, from 1 to `MAX_NODES`.
+    /// The number of nodes of the tree, which are those with records, from 1 to `MAX_NODES`.
     pub nodes: u32,
     /// The number of passes that ran: those of the plan, at least 1.
     pub passes: u16,

@@ -17,7 +17,7 @@ pub record AreSets (g : Grammar) (sets : Sets) : Type 0 where
   pub first_exact : IsOver g (AreFirstEdges g sets.nullable.items) sets.first
   pub follow_exact : IsOver g (AreFollowEdges g sets.nullable.items) sets.follow
 
--- the marks are those of the productions that predict a look-ahead
+-- the marks are those of the productions that a look-ahead predicts
 abbrev pub ArePredicted : Grammar → Ahead → List Bool → Type 0
 ArePredicted g x marks = (p : ℕ) (q : Production) → IsProduction g p q → is_marked marks p ≡ true ↔ Predicts g q x
 

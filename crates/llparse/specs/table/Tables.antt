@@ -10,7 +10,7 @@ use Rattle.llparse.specs.table.Nodes.{index_of}
 use Rattle.llparse.specs.declared.ahead.Ahead.{Ahead}
 use Rattle.llparse.specs.declared.ahead.Ahead.TheVariants as ahead
 
--- production k of symbol s predicts a look-ahead
+-- a look-ahead predicts production k of symbol s
 abbrev pub IsChoice : Grammar → ℕ → Ahead → ℕ → Type 0
 IsChoice g s x k = (q : Production) × IsProduction g k q × (q.left ≡ s) × Predicts g q x
 

@@ -69,7 +69,7 @@ impl Column {
     }
 }
 
-/// Returns the choices of the look-ahead that the marked productions predict, for this number of
+/// Returns the choices of the look-ahead that predicts the marked productions, for this number of
 /// symbols. Fails with `NoMemory` if memory is refused.
 pub(crate) fn choose(
     alloc: Global,

@@ -8,7 +8,7 @@ use ag_value::NoMemory;
 /// The reasons why a grammar has no tables.
 #[derive(Clone, Copy, Debug, PartialEq, Eq)]
 pub enum TableFault {
-    /// L1: two productions of a symbol, given by their numbers, predict the same look-ahead.
+    /// L1: two productions of a symbol, given by their numbers, are predicted by the same look-ahead.
     Conflict {
         symbol: u16,
         first: u16,

@@ -13,7 +13,7 @@ use ag_grammar::Grammar;
 use ag_value::NoMemory;
 use std::alloc::Global;
 
-/// Two productions that conflict, and the look-ahead that both predict.
+/// Two productions that conflict, and the look-ahead that predicts both.
 #[derive(Clone, Copy, Debug, PartialEq, Eq)]
 pub(crate) struct Conflict {
     pub(crate) first: u16,

@@ -43,8 +43,8 @@ fn entry(choices: &[Option<u16>], symbol: usize) -> Option<u16>
 }
 
 impl Tables {
-    /// Returns the production of a symbol at a look-ahead, in constant time, or `None` if no
-    /// production of the symbol predicts it. Takes no memory.
+    /// Returns the production of a symbol at a look-ahead, in constant time, or `None` if it
+    /// predicts no production of the symbol. Takes no memory.
     #[inline(always)]
     pub fn choice(&self, symbol: u16, ahead: Ahead) -> Option<u16>
         ensures { result ≡ choice_of self.now symbol ahead }

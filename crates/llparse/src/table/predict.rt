@@ -1,4 +1,4 @@
-//! The productions that predict a look-ahead.
+//! The productions that a look-ahead predicts.
 ghost use Rattle.std.specs.Prelude.{◌≡◌, length, IfOk};
 ghost use Rattle.llparse.specs.table.CanStart.{can_start_by, AreFollowEdges};
 ghost use Rattle.llparse.specs.table.Edges.{AreFirstEdges, IsKnownAhead};
@@ -89,7 +89,7 @@ impl Sets {
         })
     }
 
-    /// Returns the marks of the productions that predict a look-ahead, by their numbers. Fails with
+    /// Returns the marks of the productions that a look-ahead predicts, by their numbers. Fails with
     /// `NoMemory` if memory is refused.
     pub(crate) fn predicted(
         &self,

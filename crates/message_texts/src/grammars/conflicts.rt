@@ -8,7 +8,7 @@ use ag_grammar::{Grammar, RawGrammar, RawItem, RawProduction};
 use llparse::{Ahead, TableFault};
 use std::alloc::AllocError;
 
-/// Two productions as they are written, and the look-ahead that both predict.
+/// Two productions as they are written, and the look-ahead that predicts both.
 #[derive(Clone, Copy)]
 struct Conflict<'a> {
     first: &'a RawProduction,

@@ -38,6 +38,12 @@ const AGAIN_OR_UPGRADE: &str =
 const NO_UPGRADE: &str =
     "a file that begins with `AGT2` needs no upgrade, make any other again by `aggen parse` with this grammar";
 
+/// What to do about a file whose tree has too many levels.
+pub const NEST_LESS: &str = "nest the sentence less";
+
+/// What to do about a file whose tree has too many nodes.
+pub const SPLIT: &str = "split the sentence";
+
 /// What has no tree within the limits.
 const FILE: &str = "the file";
 
@@ -177,7 +183,7 @@ impl TreeFormat<'_> {
             FileVersion::One => MAX_REVERSED_DEPTH,
             FileVersion::Two => MAX_DEPTH,
         };
-        parts.add_tree_limit(most, "levels", FILE, "nest the sentence less")
+        parts.add_tree_limit(most, "levels", FILE, NEST_LESS)
     }
 
     /// Describes P3 of a tree file, and what to do.
@@ -186,10 +192,11 @@ impl TreeFormat<'_> {
             FileVersion::One => MAX_REVERSED_NODES,
             FileVersion::Two => MAX_NODES,
         };
-        parts.add_tree_limit(most as usize, "nodes", FILE, "split the sentence")
+        parts.add_tree_limit(most as usize, "nodes", FILE, SPLIT)
     }
 
-    /// Returns whether some node of a symbol has tokens below it, so that its record has their texts.
+    /// Returns whether some production of a symbol has a token of a class. The records of its nodes have the texts
+    /// of these tokens.
     fn has_tokens(&self, symbol: u16) -> bool {
         self.grammar.productions().iter().any(|production| production.left == symbol
             && has_token(production.items.as_slice()))
@@ -208,7 +215,7 @@ impl TreeFormat<'_> {
     }
 }
 
-/// Returns whether a token is among the items of a right side.
+/// Returns whether a token of a class is among the items of a right side.
 fn has_token(items: &[Item]) -> bool {
     items
         .iter()

@@ -12,7 +12,7 @@ use treefile::{Device, FileVersion, LENGTH_BYTES, fits_before};
 pub struct Frame {
     /// The offset in bytes at which the frame begins.
     pub begin: u64,
-    /// The kind in the body: 0 for a node, 1 for a token; a damaged file can have others.
+    /// The kind in the body: 0 for a symbol's node, 1 for a token of a class; a damaged file can have others.
     pub kind: u8,
     /// The number in the body: of the node's production, or of the token's class.
     pub number: u16,

@@ -52,7 +52,7 @@ pending c q Ended i child e of_child level others = others
 
 -- R1: the content is the file of no tree, and the damage shows at the offset. P2: it is the file of no tree
 -- within the limit of levels, and reading exceeds that limit before it meets any damage. P3: the same for the
--- limit of stored nodes. D1 and NoMemory say nothing about the content.
+-- limit of nodes. D1 and NoMemory say nothing about the content.
 abbrev pub IsRunFault : Setting → List ℕ → RunFault → Type 0
 IsRunFault c content (fault.Damaged at) = IsDamaged (source c) content at
 IsRunFault c content fault.TooDeep = IsTooDeep (source c) content

@@ -57,7 +57,7 @@ pub record IsUpgraded (g : Grammar) (content between : List ℕ) (honest : Bool)
 
 -- R1: the content is the file of version 1 and pass 0 of no tree, and the damage shows at the offset. P2: it
 -- is the file of no tree within the limit of levels, with any number of nodes, and reading exceeds that limit
--- before it meets any damage. P3: the same for the limit of stored nodes, with any number of levels. D1 and
+-- before it meets any damage. P3: the same for the limit of nodes, with any number of levels. D1 and
 -- NoMemory say nothing about the content.
 abbrev pub IsUpgradeFault : Grammar → List ℕ → RunFault → Type 0
 IsUpgradeFault g content (fault.Damaged at) = HasNoFirstTree version_one g content × ShowsAt (old_file g) content at

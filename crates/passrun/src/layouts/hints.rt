@@ -124,7 +124,8 @@ impl Hints {
         }
     }
 
-    /// Returns the hints for each production of a grammar in pass k, by the rows of its nodes.
+    /// Returns the hints for each production of a grammar in pass k, by the layouts of the
+    /// productions. Fails with `NoMemory` if memory cannot be allocated.
     pub(crate) fn new(
         alloc: Global,
         grammar: &Grammar,

@@ -34,7 +34,7 @@ const PASS_OFFSET: u64 = 4;
 /// The counts of one pass, or of several passes over one tree.
 #[derive(Clone, Copy, Debug, PartialEq, Eq)]
 pub struct Passed {
-    /// The number of stored nodes of the tree, from 1 to `MAX_NODES`; 0 if no pass ran.
+    /// The number of nodes of the tree, from 1 to `MAX_NODES`; 0 if no pass ran.
     pub nodes: u32,
     /// The number of records read: one for each stored node in each pass.
     pub read: u64,

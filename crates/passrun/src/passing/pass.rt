@@ -79,7 +79,7 @@ pub(crate) fn run_in_context<D: Device, E: Device>(
 /// of another pass. Otherwise it is the end of the frame that shows the damage, or the offset at
 /// which a frame should end. Fails with P2 (`TooDeep`) if the file encodes no tree of at most
 /// `MAX_DEPTH` levels, before a record one level deeper is read. Fails with P3 (`TooManyNodes`) if
-/// it encodes no tree of at most `MAX_NODES` stored nodes, before one record more is read. Fails
+/// it encodes no tree of at most `MAX_NODES` nodes, before one record more is read. Fails
 /// with D1 (`Device`) if a call of one of the devices failed, and with `NoMemory` if memory cannot
 /// be allocated.
 ///
