@@ -17,7 +17,8 @@
 //! return that occurrence. Only rules of passes before k count: their values are in the file.
 //!
 //! No contract mentions hints. `Carried::read_beside` compares the candidate with the bytes that
-//! are read: a wrong hint costs a comparison and changes nothing. A number is read without one.
+//! are read: a wrong hint costs a comparison and changes nothing. Numbers and errors are read
+//! without one.
 
 use crate::layouts::building::{Layout, PlaceRow, ProductionRow, RuleSlots};
 use crate::layouts::rows::{passes_at, row_length};
@@ -233,50 +234,27 @@ pub(crate) struct ChildLocation {
 }
 
 /// The row that a record is read into: that of a node of a production, whose record is read at the
-/// location `parent`.
+/// location `parent`. It begins at index `start` of all stored values, and the row of the parent
+/// comes directly before.
 #[derive(Clone, Copy)]
 pub(crate) struct RowLocation<'a> {
-    pub(crate) hints: &'a Hints,
+    pub(crate) hints: &'a &'a Hints,
     pub(crate) production: u16,
     pub(crate) parent: ChildLocation,
+    pub(crate) start: usize,
 }
 
-impl<'a> RowLocation<'a> {
-    /// Returns the context of the row. `unread` has the passes of its values that are still to be
-    /// read. `stored` is the number of all stored values, including those of the row that were
-    /// read.
-    pub(crate) fn row_context(self, stored: usize, unread: &[u16], k: u16) -> RowContext<'a> {
-        let own = self.hints.own(self.production);
-        let parent_width = self.hints.own(self.parent.production).len();
-        let left = unread.iter().filter(|pass| **pass <= k).count();
-        let start = stored.saturating_add(left).saturating_sub(own.len());
-        RowContext {
-            start,
-            own,
-            parent_start: start.saturating_sub(parent_width),
-            parent: self.hints.child(self.parent),
-        }
-    }
-}
-
-/// The context of a row that is being read. Starts are indices among all stored values; the row of
-/// the parent comes directly before.
-#[derive(Clone, Copy)]
-pub(crate) struct RowContext<'a> {
-    start: usize,
-    own: &'a [Option<usize>],
-    parent_start: usize,
-    parent: &'a [Option<usize>],
-}
-
-impl RowContext<'_> {
+impl RowLocation<'_> {
     /// Returns the stored value that the next value of the row may be equal to, if there is a hint.
+    /// The stored values end with those of the row that were read.
     pub(crate) fn candidate<'v>(&self, values: &'v [Carried]) -> Option<&'v Carried> {
         let slot = values.len().checked_sub(self.start)?;
-        if let Some(Some(hint)) = self.parent.get(slot) {
-            return values.get(self.parent_start.checked_add(*hint)?);
+        if let Some(Some(hint)) = self.hints.child(self.parent).get(slot) {
+            let parent_width = self.hints.own(self.parent.production).len();
+            let parent_start = self.start.checked_sub(parent_width)?;
+            return values.get(parent_start.checked_add(*hint)?);
         }
-        let hint = (*self.own.get(slot)?)?;
+        let hint = (*self.hints.own(self.production).get(slot)?)?;
         values.get(self.start.checked_add(hint)?)
     }
 }

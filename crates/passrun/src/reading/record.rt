@@ -13,7 +13,7 @@ ghost use Rattle.passrun.specs.Faults.{record_fault_of};
 ghost use Rattle.planchecker.specs.courses.Settings.{setting_of};
 
 use crate::layouts::context::PassContext;
-use crate::layouts::hints::{ChildLocation, Hints, RowContext, RowLocation};
+use crate::layouts::hints::{ChildLocation, Hints, RowLocation};
 use crate::layouts::rows::row_passes;
 use ag_carried::Carried;
 use ag_grammar::limits::MAX_TOKEN_BYTES;
@@ -118,6 +118,11 @@ fn take_number<'b>(
     Some(bytes)
 }
 
+/// Returns whether some bytes begin as the encoding of an error does. An error is never shared.
+fn is_error(bytes: &[u8]) -> bool {
+    matches!(bytes, [4, ..])
+}
+
 /// Takes the value of an attribute of an earlier pass from the bytes. Returns the rest of the
 /// bytes. Fails with `Damaged` if they do not begin with a value, and with `NoMemory` if memory
 /// cannot be allocated.
@@ -127,7 +132,7 @@ fn read_value<'b>(
     k: u16,
     bytes: &'b [u8],
     values: &mut Vec<Carried>,
-    row_context: &RowContext<'_>,
+    row: &RowLocation<'_>,
 ) -> Result<&'b [u8], RecordFault>
     requires known { pass < k }
     ensures taken { IfOk result (λ rest. IsTaken (k - 1) k pass bytes.now rest.now
@@ -135,7 +140,11 @@ fn read_value<'b>(
     ensures untaken { IsErrOf result RecordFault.Damaged → IsUntaken (k - 1) pass bytes.now }
     ensures prefix { PrependsTo values.old.items values.new.items }
 {
-    let candidate = row_context.candidate(values.as_slice());
+    let candidate = if is_error(bytes) {
+        None
+    } else {
+        row.candidate(values.as_slice())
+    };
     let (value, length) = read_beside(alloc, candidate, bytes)?;
     let Ok(()) = values.push(value) else {
         return Err(RecordFault::NoMemory);
@@ -152,7 +161,7 @@ fn take_value<'b>(
     k: u16,
     bytes: &'b [u8],
     values: &mut Vec<Carried>,
-    row_context: &RowContext<'_>,
+    row: &RowLocation<'_>,
 ) -> Result<&'b [u8], RecordFault>
     requires { 1 ≤ k }
     ensures taken { IfOk result (λ rest. IsTaken (k - 1) k pass bytes.now rest.now
@@ -165,7 +174,7 @@ fn take_value<'b>(
     };
     match take_number(pass, k, bytes, values) {
         Some(rest) => Ok(rest),
-        None => read_value(alloc, pass, k, bytes, values, row_context),
+        None => read_value(alloc, pass, k, bytes, values, row),
     }
 }
 
@@ -198,10 +207,9 @@ fn take_values(
     ensures none { IsErrOf result RecordFault.Damaged → IsNoRow (k - 1) passes.now bytes.now }
     ensures prefix { PrependsTo values.old.items values.new.items }
 {
-    let row_context = row.row_context(values.len(), passes, k);
     let mut rest = bytes;
     for pass in passes {
-        rest = take_value(alloc, *pass, k, rest, values, &row_context)?;
+        rest = take_value(alloc, *pass, k, rest, values, &row)?;
     }
     check_end(rest)
 }
@@ -290,9 +298,10 @@ pub fn read_node(
     };
     let hints = Hints::none(alloc);
     let row = RowLocation {
-        hints: &hints,
+        hints: &&hints,
         production: number,
         parent: ChildLocation::default(),
+        start: values.len(),
     };
     take_row(alloc, passes.as_slice(), k, spellings, values, row)?;
     Ok(number)
@@ -319,9 +328,10 @@ fn read_node_by_layout(
     };
     let layout = context.row(number);
     let row = RowLocation {
-        hints: context.hints,
+        hints: &context.hints,
         production: number,
         parent: location,
+        start: values.len(),
     };
     take_row(
         alloc,
