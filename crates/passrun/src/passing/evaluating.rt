@@ -61,11 +61,11 @@ pub(crate) fn put_rule_value(
         (λ k. get_or (drop base values.old.items) (slice_index slots.now.args k) (Num (pos 0))))) }
     ensures counted { meter.new ≡ meter.old + 1 }
 {
-    let target = base + slots.target as usize;
     if let Some(number) = eval_number(&rule.expr, meter) {
-        put_scalar(values, target, Scalar::Number(number));
+        put_scalar(values, base + slots.target as usize, Scalar::Number(number));
         return Ok(());
     }
+    let target = base + slots.target as usize;
     let row = following(values.as_slice(), base);
     if let Some(scalar) = evaluate_scalar(alloc, &rule.expr, slots.args.as_slice(), row, meter) {
         put_scalar(values, target, scalar);
