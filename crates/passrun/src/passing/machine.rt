@@ -253,11 +253,9 @@ impl Machine {
     pub(crate) fn enter_if_next(
         &mut self,
         context: &PassContext<'_>,
-        layout: &ProductionRow,
         node: OpenNode,
     ) -> Result<OpenNode, NoMemory>
         requires context { CanRun context.now }
-        requires layout { IsRowAt (setting context.now) node.production layout.now }
         requires runs { RunsSomehow (setting context.now) self.old (Some node) }
         ensures runs { IfOk result (λ next. Leads (setting context.now)
             self.old self.new (Some node) (Some next)) }
@@ -266,6 +264,7 @@ impl Machine {
             ≤ measure (setting context.now) self.old (Some node)) }
         ensures begun { self.new.begun ≡ self.old.begun }
     {
+        let layout = context.row(node.production);
         let Instr::Go(place) = context.instruction(layout, node) else {
             return Ok(node);
         };
@@ -347,12 +346,10 @@ impl Machine {
     pub(crate) fn finish_if_ended<E: Device>(
         &mut self,
         context: &PassContext<'_>,
-        layout: &ProductionRow,
         node: OpenNode,
         to: &mut E,
     ) -> Result<Option<OpenNode>, RunFault>
         requires context { CanRun context.now }
-        requires layout { IsRowAt (setting context.now) node.production layout.now }
         requires runs { RunsTo (setting context.now) (E.is_honest to.old) (E.content to.old)
             self.old (Some node) }
         ensures runs { IfOk result (λ next. LeadsTo (setting context.now)
@@ -374,6 +371,7 @@ impl Machine {
         ensures persists { Persists (E.is_honest to.old) (E.is_honest to.new)
             (E.failures to.old) (E.failures to.new) (IsErrOf result RunFault.Device) }
     {
+        let layout = context.row(node.production);
         let Instr::End = context.instruction(layout, node) else {
             return Ok(Some(node));
         };
@@ -424,7 +422,7 @@ impl Machine {
         let ended = match context.instruction(layout, node) {
             Instr::Get(place) => {
                 let after_step = self.get(alloc, context, layout, node, place, from)?;
-                return Ok(Some(self.enter_if_next(context, layout, after_step)?));
+                return Ok(Some(self.enter_if_next(context, after_step)?));
             }
             Instr::Set {
                 place: _,
@@ -438,6 +436,6 @@ impl Machine {
             Instr::Put(place) => return Ok(Some(self.put(context, layout, node, place, to)?)),
             Instr::End => node,
         };
-        self.finish_if_ended(context, layout, ended, to)
+        self.finish_if_ended(context, ended, to)
     }
 }
