@@ -238,6 +238,8 @@ pub(crate) struct ChildLocation {
 /// comes directly before.
 #[derive(Clone, Copy)]
 pub(crate) struct RowLocation<'a> {
+    /// The hints. This is a reference to a reference, so that it costs a load only where a hint is
+    /// looked up.
     pub(crate) hints: &'a &'a Hints,
     pub(crate) production: u16,
     pub(crate) parent: ChildLocation,
