@@ -4,5 +4,6 @@ pub mod courses
 pub mod Lists
 pub mod Loops
 pub mod Marked
+pub mod Rows
 pub mod Strikes
 pub mod Taken

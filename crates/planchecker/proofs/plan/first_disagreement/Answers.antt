@@ -1,61 +1,41 @@
-use Rattle.std.proofs.Common.{◌<◌, ◌≤◌, length, subst}
-use Rattle.passassign.specs.Rows.{passes_of}
-use Rattle.passcode.specs.Rows.{lists_of}
 use Rattle.passcode.proofs.Lawful.{planned}
 use Rattle.passcode.proofs.Slices.{read_at}
-use Rattle.planchecker.specs.Agreeing.{ListsAgree, IsFirstList}
-use Rattle.planchecker.proofs.Checked.{few_lists, first_production_of, lists_is, row_within}
-use Rattle.planchecker.proofs.Loops.{front_more, front_whole}
+use Rattle.planchecker.proofs.Checked.{lists_at}
+use Rattle.planchecker.proofs.Loops.{first_not, front_more, front_whole}
 use Rattle.planchecker.proofs.plan.first_disagreement.Goals as goal
 
 pub first_wrong_list-requires-clause-planned : goal.first_wrong_list-requires-clause-planned
 first_wrong_list-requires-clause-planned c =
-    planned c.args.grammar.now (passes_of c.args.assignment.now) c.productions-production-items.ensures.accepted c.requires.legal
-    c.loop-index.index c.production-item.result
-    (read_at c.args.grammar.now.productions c.productions-production-items.result.now c.loop-index.index c.production-item.result
-    c.productions-production-items.ensures.lent c.loop-index-test.true c.production-item.is)
+    let all = c.productions-production-items.ensures in
+    planned _ _ all.accepted c.requires.legal _ _ (read_at _ _ _ _ all.lent c.loop-index-test.true c.production-item.is)
 
 pub first_wrong_list-requires-clause-few : goal.first_wrong_list-requires-clause-few
 first_wrong_list-requires-clause-few c =
-    let within = row_within c.args.grammar.now c.args.assignment.now c.args.code.now c.rows-rows.result.now c.loop-index.index
-    c.requires.shape c.rows-rows.ensures
-    (subst (λ xs. c.loop-index.index < length xs) c.productions-production-items.ensures.lent c.loop-index-test.true) in
-    few_lists c.args.grammar.now c.args.assignment.now c.args.code.now c.loop-index.index c.as_slice.result.now c.requires.shape
-    (lists_is c.rows-rows.result.now c.args.code.now c.loop-index.index c.index-rows-index.result c.as_slice.result.now
-    c.rows-rows.ensures within c.index-rows-index.is c.as_slice.ensures.value)
+    (lists_at _ _ _ _ _ _ _ _ c.requires.shape c.rows-rows.ensures c.productions-production-items.ensures.lent
+    c.loop-index-test.true c.index-rows-index.is c.as_slice.ensures.value).1
 
 pub returns-in-Some : goal.returns-in-Some
 returns-in-Some c =
-    let within = row_within c.args.grammar.now c.args.assignment.now c.args.code.now c.rows-rows.result.now c.loop-index.index
-    c.requires.shape c.rows-rows.ensures
-    (subst (λ xs. c.loop-index.index < length xs) c.productions-production-items.ensures.lent c.loop-index-test.true) in
-    let lists = lists_is c.rows-rows.result.now c.args.code.now c.loop-index.index c.index-rows-index.result c.as_slice.result.now
-    c.rows-rows.ensures within c.index-rows-index.is c.as_slice.ensures.value in
-    first_production_of (passes_of c.args.assignment.now) c.args.grammar.now.productions c.args.code.now c.loop-index.index
-    c.production-item.result c.in-Some.pass c.in-Some.at
-    (read_at c.args.grammar.now.productions c.productions-production-items.result.now c.loop-index.index c.production-item.result
-    c.productions-production-items.ensures.lent c.loop-index-test.true c.production-item.is)
-    c.loop-index.invariant
-    (subst (λ xs. IsFirstList (passes_of c.args.assignment.now) c.production-item.result xs c.in-Some.pass c.in-Some.at) lists
-    c.in-Some.ensures)
+    let lent = c.productions-production-items.ensures.lent in
+    let at = read_at _ _ _ c.production-item.result lent c.loop-index-test.true c.production-item.is in
+    let lists = lists_at _ _ _ _ _ _ _ _ c.requires.shape c.rows-rows.ensures lent c.loop-index-test.true c.index-rows-index.is
+    c.as_slice.ensures.value in
+    let list = rw lists.0 at c.in-Some.ensures in
+    record {
+      production = _;
+      occurs = at;
+      first = first_not _ _ _ _ at c.loop-index.invariant (λ h. list.first.not_so (h _ list.first.member list.first.occurs));
+      list = list;
+    }
 
 pub loop-index-preserved : goal.loop-index-preserved
 loop-index-preserved c =
-    let within = row_within c.args.grammar.now c.args.assignment.now c.args.code.now c.rows-rows.result.now c.loop-index.index
-    c.requires.shape c.rows-rows.ensures
-    (subst (λ xs. c.loop-index.index < length xs) c.productions-production-items.ensures.lent c.loop-index-test.true) in
-    let lists = lists_is c.rows-rows.result.now c.args.code.now c.loop-index.index c.index-rows-index.result c.as_slice.result.now
-    c.rows-rows.ensures within c.index-rows-index.is c.as_slice.ensures.value in
-    front_more (λ i q. ListsAgree (passes_of c.args.assignment.now) q (lists_of c.args.code.now i))
-    c.args.grammar.now.productions c.loop-index.index c.production-item.result
-    (read_at c.args.grammar.now.productions c.productions-production-items.result.now c.loop-index.index c.production-item.result
-    c.productions-production-items.ensures.lent c.loop-index-test.true c.production-item.is)
-    c.loop-index.invariant
-    (subst (ListsAgree (passes_of c.args.assignment.now) c.production-item.result) lists c.in_default.ensures)
+    let lent = c.productions-production-items.ensures.lent in
+    let lists = lists_at _ _ _ _ _ _ _ _ c.requires.shape c.rows-rows.ensures lent c.loop-index-test.true c.index-rows-index.is
+    c.as_slice.ensures.value in
+    front_more _ _ _ _ (read_at _ _ _ _ lent c.loop-index-test.true c.production-item.is) c.loop-index.invariant
+    (rw lists.0 at c.in_default.ensures)
 
 pub returns : goal.returns
 returns c =
-    front_whole (λ i q. ListsAgree (passes_of c.args.assignment.now) q (lists_of c.args.code.now i))
-    c.args.grammar.now.productions c.loop-index.index
-    (subst (λ xs. length xs ≤ c.loop-index.index) c.productions-production-items.ensures.lent c.loop-index-test.false)
-    c.loop-index.invariant
+    front_whole _ _ _ (rw c.productions-production-items.ensures.lent at c.loop-index-test.false) c.loop-index.invariant

@@ -1,7 +1,6 @@
 use Rattle.std.proofs.Common.{inl, inr, arith}
 use Rattle.std.proofs.lemmas.Option.{slice_get-get_or}
 use Rattle.passcode.specs.Course.{start}
-use Rattle.planchecker.specs.Following.{RunsRule}
 use Rattle.planchecker.proofs.Completing.{prefix_is_run, leading_run}
 use Rattle.planchecker.proofs.Loops.{front_more, is_no, is_yes, says_no, says_yes}
 use Rattle.planchecker.proofs.following.NodeState.was_run.Goals as goal
@@ -9,17 +8,17 @@ use Rattle.planchecker.proofs.following.NodeState.was_run.Goals as goal
 pub returns-then-runs_rule : goal.returns-then-runs_rule
 returns-then-runs_rule c =
     let n = c.args.self.now in
-    says_yes (prefix_is_run n.context.production.now c.args.number n.list.now start n.index c.loop-index.index _
-    c.loop-index-test.true
-    (slice_get-get_or n.list.now c.loop-index.index _
-    (let w = c.requires.within in let less = c.loop-index-test.true in omega arith)) (is_yes c.if-runs_rule.ensures))
+    let w = c.requires.within in
+    let less = c.loop-index-test.true in
+    let at = slice_get-get_or n.list.now c.loop-index.index _ (omega arith) in
+    says_yes (prefix_is_run n.context.production.now c.args.number n.list.now start n.index
+    (inr (c.loop-index.index, _, less, at, is_yes c.if-runs_rule.ensures)))
 
 pub loop-index-preserved : goal.loop-index-preserved
 loop-index-preserved c =
-    let n = c.args.self.now in
-    front_more (λ i x. RunsRule x c.args.number → ⊥) n.list.now c.loop-index.index _
-    (slice_get-get_or n.list.now c.loop-index.index _
-    (let w = c.requires.within in let less = c.loop-index-test.true in omega arith)) c.loop-index.invariant
+    let w = c.requires.within in
+    let less = c.loop-index-test.true in
+    front_more _ _ _ _ (slice_get-get_or c.args.self.now.list.now c.loop-index.index _ (omega arith)) c.loop-index.invariant
     (is_no c.if-runs_rule.ensures)
 
 pub returns : goal.returns

@@ -1,0 +1,15 @@
+-- The rows of an assignment that is tested.
+use Rattle.std.proofs.Common.{ℕ, ◌≡◌, ◌≤◌, List, [], Some, slice_get, length, refl}
+use Rattle.std.proofs.lemmas.List.{get_or_past}
+use Rattle.std.proofs.lemmas.Option.{slice_get_past}
+use Rattle.ag_grammar.specs.declared.grammar.Symbol.{Symbol}
+use Rattle.ag_grammar.specs.grammars.AttributeGrammar.{symbol_kinds}
+use Rattle.passassign.specs.Rows.{passes_of}
+use Rattle.planchecker.specs.Shapes.{IsRow}
+
+pub rows_past : (symbols : List Symbol) (rows : List (List ℕ)) (s : ℕ) → length symbols ≤ s → length rows ≤ s
+    → IsRow (length (symbol_kinds (slice_get symbols s))) (passes_of rows s)
+rows_past symbols rows s a b = rw (slice_get_past symbols s a) (rw (get_or_past rows s [] b) (record {
+  len = refl;
+  in_range = λ i k e. absurd (let is : slice_get {X = ℕ} [] i ≡ Some k = e in let bad : ⊥ = cc in bad);
+}))
