@@ -1,13 +1,12 @@
 -- The meaning for a plan of the tests of all its parts.
-use Rattle.std.proofs.Common.{ℕ, ◌≡◌, ◌+◌, ◌-◌, ◌<◌, ◌≤◌, ◌⊎◌, List, [], Some, slice_get, get_or, length, map, option_map, inl, inr}
-use Rattle.std.proofs.Common.{ap, ◌∙◌, sym, subst, refl, arith}
+use Rattle.std.proofs.Common.{ℕ, ◌≡◌, ◌+◌, ◌-◌, ◌<◌, ◌≤◌, List, [], Some, slice_get, get_or, length, map, option_map, inl, inr}
+use Rattle.std.proofs.Common.{ap, ◌∙◌, sym, refl, arith}
 use Rattle.std.proofs.lemmas.List.{length-map}
 use Rattle.std.proofs.lemmas.Option.{get_or_from_slice_get, same_Some, slice_get-get_or, slice_get-map, slice_get_read}
 use Rattle.std.specs.Global.{Vec}
-use Rattle.ag_grammar.specs.Lists.{Has}
 use Rattle.ag_grammar.specs.declared.grammar.Production.{Production}
 use Rattle.ag_grammar.specs.grammars.AttributeGrammar.{Grammar}
-use Rattle.ag_grammar.specs.grammars.Passes.{Passes, IsLegal}
+use Rattle.ag_grammar.specs.grammars.Passes.{IsLegal}
 use Rattle.ag_grammar.specs.grammars.Accepted.{max_passes}
 use Rattle.passassign.specs.Rows.{passes_of, IsGreatest}
 use Rattle.passcode.specs.declared.instr.Instr.{Instr}

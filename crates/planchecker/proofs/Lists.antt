@@ -1,5 +1,5 @@
 -- A production's lists, as they are read.
-use Rattle.std.proofs.Common.{ℕ, ◌≡◌, ◌+◌, ◌-◌, ◌<◌, List, Some, slice_get, get_or, length, inl, inr, ap, ◌∙◌, sym, arith}
+use Rattle.std.proofs.Common.{ℕ, ◌≡◌, ◌+◌, ◌-◌, List, Some, slice_get, inl, inr, arith}
 use Rattle.ag_grammar.specs.declared.grammar.Production.{Production}
 use Rattle.ag_grammar.specs.grammars.Passes.{Passes}
 use Rattle.passcode.specs.declared.instr.Instr.{Instr}

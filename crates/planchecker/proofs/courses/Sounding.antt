@@ -1,5 +1,5 @@
 -- A pass of a plan meets the conditions.
-use Rattle.std.proofs.Common.{◌-◌, [], length, arith}
+use Rattle.std.proofs.Common.{◌-◌, [], arith}
 use Rattle.std.proofs.lemmas.Option.{slice_get_within, slice_get-get_or}
 use Rattle.passassign.specs.Rows.{passes_of}
 use Rattle.passcode.specs.Rows.{lists_of}

@@ -1,4 +1,4 @@
-use Rattle.std.proofs.Common.{◌≡◌, inl, inr, List, [], Some, ap, ◌∙◌, sym, length, slice_get, subst, arith, ℕ}
+use Rattle.std.proofs.Common.{◌≡◌, inl, inr, [], Some, ◌∙◌, sym, length, slice_get, subst, arith, ℕ}
 use Rattle.std.proofs.lemmas.Bool.{cases_lt}
 use Rattle.std.proofs.lemmas.List.{get_or_past}
 use Rattle.std.proofs.lemmas.Option.{slice_get-get_or}
