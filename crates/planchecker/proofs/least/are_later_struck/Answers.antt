@@ -11,8 +11,8 @@ use Rattle.planchecker.proofs.least.are_later_struck.Goals as goal
 pub loop-symbol-preserved : goal.loop-symbol-preserved
 loop-symbol-preserved c =
     front_more _ _ _ _
-    (items_at c.args.rows.now _ _ _ c.loop-symbol-test.true c.index-rows-symbol.is c.as_slice.ensures.value) c.loop-symbol.invariant
-    (is_yes c.if-not-is_row_struck.ensures)
+    (items_at c.args.rows.now _ _ _ c.loop-symbol-test.true c.index-rows-symbol.is c.as_slice.ensures.value)
+    c.loop-symbol.invariant (is_yes c.if-not-is_row_struck.ensures)
 
 pub returns : goal.returns
 returns c =

@@ -7,7 +7,8 @@ use Rattle.planchecker.proofs.following.NodeState.may_compute.Goals as goal
 
 pub returns : goal.returns
 returns c =
-    let is = read_at _ _ _ c.index-rules-number.result c.as_slice-rules.ensures c.if-number-rules.false c.index-rules-number.is in (
+    let i = c.index-rules-number in
+    let is = read_at _ _ _ i.result c.as_slice-rules.ensures c.if-number-rules.false i.is in (
       (λ t. record {
         rule = _;
         numbered = is;
