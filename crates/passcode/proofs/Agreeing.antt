@@ -35,10 +35,10 @@ has_symbol m q o k one has = go (item_at q o.place) refl
 
     lex : (a : ℕ) → slice_get (0 ∷ []) a ≡ Some k → ⊥
     lex zero e = let z : 0 ≡ k = cc in omega arith
-    lex (suc a) e = let bad : ⊥ = cc in bad
+    lex (suc a) e = cc
 
     nothing : (a : ℕ) → slice_get {X = ℕ} [] a ≡ Some k → ⊥
-    nothing a e = let bad : ⊥ = cc in bad
+    nothing a e = cc
 
     go : (x : Option Item) → item_at q o.place ≡ x → (s : ℕ) × (item_at q o.place ≡ Some (item.Symbol s))
     go None e = absurd (nothing o.attr (there None e))
@@ -87,12 +87,12 @@ module _ (m : Passes) (q : Production) (k : ℕ) (xs : List Instr) (one : 1 ≤ 
       ended = ap (λ (s : State). s.phase) (state_next m q k start xs n instr.End e)
 
       more : (x : Instr) → slice_get xs (suc n) ≡ Some x → ⊥
-      more (instr.Get j) f = let p = (may (suc n) (instr.Get j) f).phase_is in let e = ended in let bad : ⊥ = cc in bad
-      more (instr.Set j a r) f = let p = (may (suc n) (instr.Set j a r) f).0.phase_is in let e = ended in let bad : ⊥ = cc in bad
-      more (instr.Go j) f = let p = (may (suc n) (instr.Go j) f).0.phase_is in let e = ended in let bad : ⊥ = cc in bad
-      more (instr.Put j) f = let p = (may (suc n) (instr.Put j) f).phase_is in let e = ended in let bad : ⊥ = cc in bad
+      more (instr.Get j) f = let p = (may (suc n) (instr.Get j) f).phase_is in let e = ended in cc
+      more (instr.Set j a r) f = let p = (may (suc n) (instr.Set j a r) f).0.phase_is in let e = ended in cc
+      more (instr.Go j) f = let p = (may (suc n) (instr.Go j) f).0.phase_is in let e = ended in cc
+      more (instr.Put j) f = let p = (may (suc n) (instr.Put j) f).phase_is in let e = ended in cc
       more (instr.Def a r) f = (may (suc n) (instr.Def a r) f).0 ended
-      more instr.End f = let p = (may (suc n) instr.End f).0 in let e = ended in let bad : ⊥ = cc in bad
+      more instr.End f = let p = (may (suc n) instr.End f).0 in let e = ended in cc
 
   done_at : MayRun m q k (state_at q start xs end.0) instr.End
   done_at = may end.0 instr.End end.2
@@ -120,7 +120,7 @@ module _ (m : Passes) (q : Production) (k : ℕ) (xs : List Instr) (one : 1 ≤ 
   child n j e =
       let turn = (may n (instr.Go j) e).0 in
       let got = kept m q k xs (length xs) may_to (λ s. s.phase ≡ Got → IsChild q (place_of q k s.turn)) (got_child m q k) 0 n
-      (omega arith) (let w = slice_get_within xs n (instr.Go j) e in omega arith) (λ e. absurd (let bad : ⊥ = cc in bad)) in
+      (omega arith) (let w = slice_get_within xs n (instr.Go j) e in omega arith) (λ e. absurd cc) in
       subst (IsChild q) (sym turn.place) (got turn.phase_is)
 
   run_within : (n t : ℕ) → n ≤ length xs → t < run_in (state_at q start xs n) → t < arity q

@@ -56,7 +56,7 @@ set_parts j a r o s = go o.place o.attr
   where
     go : (p b : ℕ) → instr.Set j a r ≡ set_or_def p b s → ◌≡◌ {A = Target} (record { place = p; attr = b })
         (record { place = j; attr = a }) × (r ≡ s)
-    go zero b e = absurd (let bad : ⊥ = cc in bad)
+    go zero b e = absurd cc
     go (suc p) b e = (cc, cc)
 
 def_parts : (a r : ℕ) (o : Target) (s : ℕ) → instr.Def a r ≡ set_or_def o.place o.attr s → (o ≡ record { place = 0; attr = a })
@@ -66,13 +66,13 @@ def_parts a r o s = go o.place o.attr
     go : (p b : ℕ) → instr.Def a r ≡ set_or_def p b s → ◌≡◌ {A = Target} (record { place = p; attr = b })
         (record { place = 0; attr = a }) × (r ≡ s)
     go zero b e = (cc, cc)
-    go (suc p) b e = absurd (let bad : ⊥ = cc in bad)
+    go (suc p) b e = absurd cc
 
 set_place : (j a r : ℕ) (o : Target) (s : ℕ) → instr.Set j a r ≡ set_or_def o.place o.attr s → 1 ≤ j
 set_place j a r o s = go o.place
   where
     go : (p : ℕ) → instr.Set j a r ≡ set_or_def p o.attr s → 1 ≤ j
-    go zero e = absurd (let bad : ⊥ = cc in bad)
+    go zero e = absurd cc
     go (suc p) e = let same : j ≡ suc p = cc in omega arith
 
 set_of : (u : Rule) (r j : ℕ) → 1 ≤ j → u.target.place ≡ j → instruction_of u r ≡ instr.Set j u.target.attr r
@@ -80,8 +80,8 @@ set_of u r zero least e = absurd (omega arith)
 set_of u r (suc j) least e = ap (λ p. set_or_def p u.target.attr r) e
 
 not_end : (j a r : ℕ) → set_or_def j a r ≡ instr.End → ⊥
-not_end zero a r e = let bad : ⊥ = cc in bad
-not_end (suc j) a r e = let bad : ⊥ = cc in bad
+not_end zero a r e = cc
+not_end (suc j) a r e = cc
 
 turn_read : (p : Phase) (t : ℕ) → t ≤ read_count p t
 turn_read Between t = omega arith
@@ -314,7 +314,7 @@ module _ (m : Passes) (q : Production) (k : ℕ) (xs : List Instr) (one : 1 ≤ 
             let least = low in
             let same : turn.0 ≡ now.turn = omega arith in
             let here = kept m q k xs n may (λ s. s.phase ≡ Got → IsChild q (place_of q k s.turn)) (got_child m q k) 0 n
-            (omega arith) (omega arith) (λ e. absurd (let bad : ⊥ = cc in bad)) e in
+            (omega arith) (omega arith) (λ e. absurd cc) e in
             let child = subst (IsChild q) (ap (place_of q k) (sym same) ∙ sym turn.2) here in
             let run = was_run n (instr.Put j) is may turn.0 j turn.1 turn.2 child (λ i e. list.visits.put_after_go j i n e is) in
             let none = run_is now Got e in
@@ -340,7 +340,7 @@ module _ (m : Passes) (q : Production) (k : ℕ) (xs : List Instr) (one : 1 ≤ 
         all_put : arity q ≤ now.turn
         all_put = elim (cases_lt now.turn (arity q)) [
           | inl less ↦ absurd (let put = was_put n instr.End is may now.turn (place_of q k now.turn) less refl
-              (prefix (instr.Put (place_of q k now.turn)) (λ e. let bad : ⊥ = cc in bad)) in omega arith)
+              (prefix (instr.Put (place_of q k now.turn)) (λ e. cc)) in omega arith)
           | inr le ↦ le
         ]
 

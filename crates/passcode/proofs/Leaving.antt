@@ -40,7 +40,7 @@ same_target o w e = both (nat_eq o.place w.place) refl e
   where
     both : (b : Bool) → nat_eq o.place w.place ≡ b → cond b (nat_eq o.attr w.attr) false ≡ true → o ≡ w
     both true p h = one_target o w (eqb-true o.place w.place p) (eqb-true o.attr w.attr h)
-    both false p h = absurd (let bad : ⊥ = cc in bad)
+    both false p h = absurd cc
 
 is_same_refl : (o : Target) → is_same o o ≡ true
 is_same_refl o = ap (λ b. cond b (nat_eq o.attr o.attr) false) (eq-eqb o.place o.place refl) ∙ eq-eqb o.attr o.attr refl
@@ -48,7 +48,7 @@ is_same_refl o = ap (λ b. cond b (nat_eq o.attr o.attr) false) (eq-eqb o.place 
 -- the rule that was found computes the attribute, and where none was found none does
 rule_found : (us : List Rule) (o : Target) (r : ℕ) → position (λ u. is_same u.target o) us ≡ Some r → (u : Rule)
     × (slice_get us r ≡ Some u) × (u.target ≡ o)
-rule_found [] o r e = absurd (let bad : ⊥ = cc in bad)
+rule_found [] o r e = absurd cc
 rule_found (v ∷ us) o r e =
     let found = position-Some (λ u. is_same u.target o) (v ∷ us) r v e in
     (get_or (v ∷ us) r v, slice_get-get_or (v ∷ us) r v found.0, same_target (get_or (v ∷ us) r v).target o found.1)
@@ -57,7 +57,7 @@ none_found : (us : List Rule) (o : Target) → position (λ u. is_same u.target 
     → slice_get us r ≡ Some u → u.target ≡ o → ⊥
 none_found us o e r u at same = elim (cases_lt (position_or_len (λ u. is_same u.target o) us) (length us)) [
   | inl less ↦ (let some = ap (λ b. cond b (Some (position_or_len (λ u. is_same u.target o) us)) None)
-      (lt-ltb (position_or_len (λ u. is_same u.target o) us) (length us) less) in let bad : ⊥ = cc in bad)
+      (lt-ltb (position_or_len (λ u. is_same u.target o) us) (length us) less) in cc)
   | inr past ↦ (
       let within = slice_get_within us r u at in
       let fails = fails_before_first (λ u. is_same u.target o) us r u (omega arith) in
@@ -70,7 +70,7 @@ none_found us o e r u at same = elim (cases_lt (position_or_len (λ u. is_same u
 
 -- whether a number is in a list
 has_number : (done : List ℕ) (r : ℕ) → list_any (nat_eq r) done ≡ true → Has done r
-has_number [] r e = absurd (let bad : ⊥ = cc in bad)
+has_number [] r e = absurd cc
 has_number (x ∷ done) r e = elim (cases_eq r x) [
   | inl same ↦ (0, ap Some (sym same))
   | inr other ↦ (let z = ap (λ b. b || list_any (nat_eq r) done) (ne_eqb r x other) in let h = has_number done r (sym z ∙ e) in
@@ -78,7 +78,7 @@ has_number (x ∷ done) r e = elim (cases_eq r x) [
 ]
 
 lacks_number : (done : List ℕ) (r : ℕ) → list_any (nat_eq r) done ≡ false → Has done r → ⊥
-lacks_number [] r e h = let at : slice_get {X = ℕ} [] h.0 ≡ Some r = h.1 in let bad : ⊥ = cc in bad
+lacks_number [] r e h = let at : slice_get {X = ℕ} [] h.0 ≡ Some r = h.1 in cc
 lacks_number (x ∷ done) r e (zero, at) =
     let same : r ≡ x = cc in
     let z = ap (λ b. b || list_any (nat_eq r) done) (eq-eqb r x same) in
@@ -90,7 +90,7 @@ lacks_number (x ∷ done) r e (suc i, at) = elim (cases_eq r x) [
 ]
 
 is_the_pass : (k : ℕ) (o : Option ℕ) → (is_pass k o ≡ true → o ≡ Some k) × (is_pass k o ≡ false → o ≡ Some k → ⊥)
-is_the_pass k None = ((λ e. absurd (let bad : ⊥ = cc in bad)), λ e f. let bad : ⊥ = cc in bad)
+is_the_pass k None = ((λ e. absurd cc), λ e f. cc)
 is_the_pass k (Some p) = (
   (λ e. ap Some (eqb-true p k e)),
   λ e f. (let same : p ≡ k = cc in let t = eq-eqb p k same in let bad : true ≡ false = sym t ∙ e in cc),
@@ -180,7 +180,7 @@ module _ (m : Passes) (q : Production) (k : ℕ) (one : 1 ≤ k) (single : Diffe
   may_run t zero a r s (inl (phase, turn, within, is)) run_rule = absurd (omega arith)
   may_run t (suc j) a r s (inl (phase, turn, within, is)) run_rule =
       (record { phase_is = phase; within = omega arith; place = is ∙ ap (place_of q k) (sym turn) }, run_rule)
-  may_run t zero a r s (inr (phase, turn, all, is)) run_rule = ((λ e. let bad : ⊥ = cc in bad), run_rule)
+  may_run t zero a r s (inr (phase, turn, all, is)) run_rule = ((λ e. cc), run_rule)
   may_run t (suc j) a r s (inr (phase, turn, all, is)) run_rule = absurd (omega arith)
 
   -- the turn of the place of an argument of the pass
@@ -438,13 +438,13 @@ module _ (m : Passes) (q : Production) (k : ℕ) (one : 1 ≤ k) (single : Diffe
       turn_now = record { phase_is = phase; within = omega arith; place = ap (place_of q k) (sym turn) }
 
       no_child : (x : Terminal) → item_at q (place_of q k t) ≡ Some (item.Terminal x) → IsChild q (place_of q k t) → ⊥
-      no_child x e child = let both = sym e ∙ child.1.1 in let bad : ⊥ = cc in bad
+      no_child x e child = let both = sym e ∙ child.1.1 in cc
 
       at_item : ((s' : State) → IsBetween (suc t) s' → Runs m q k s' (visits m q k old (t + 1) n ++ own_part m q k old))
           → (o : Option Item) → item_at q (place_of q k t) ≡ o
           → Runs m q k s (visit m q k old (place_of q k t) o ++ (visits m q k old (t + 1) n ++ own_part m q k old))
       at_item next None e =
-          absurd (let x = is_stored_child q k t (omega arith) in let both = sym e ∙ x.1.1 in let bad : ⊥ = cc in bad)
+          absurd (let x = is_stored_child q k t (omega arith) in let both = sym e ∙ x.1.1 in cc)
       at_item next (Some (item.Symbol x)) e = (
         turn_now,
         child_runs t (after q s (instr.Get (place_of q k t))) (visits m q k old (t + 1) n ++ own_part m q k old) (omega arith)

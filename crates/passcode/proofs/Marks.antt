@@ -42,14 +42,14 @@ run_after (Some (item.Symbol s)) t = (omega arith, omega arith)
 run_after (Some (item.Terminal x)) t = (omega arith, omega arith)
 
 not_ended : (o : Option Item) → after_get o ≡ Ended → ⊥
-not_ended None e = let bad : ⊥ = cc in bad
-not_ended (Some (item.Symbol s)) e = let bad : ⊥ = cc in bad
-not_ended (Some (item.Terminal x)) e = let bad : ⊥ = cc in bad
+not_ended None e = cc
+not_ended (Some (item.Symbol s)) e = cc
+not_ended (Some (item.Terminal x)) e = cc
 
 got_symbol : (o : Option Item) → after_get o ≡ Got → (s : ℕ) × (o ≡ Some (item.Symbol s))
-got_symbol None e = absurd (let bad : ⊥ = cc in bad)
+got_symbol None e = absurd cc
 got_symbol (Some (item.Symbol s)) e = (s, refl)
-got_symbol (Some (item.Terminal x)) e = absurd (let bad : ⊥ = cc in bad)
+got_symbol (Some (item.Terminal x)) e = absurd cc
 
 module _ (m : Passes) (q : Production) (k : ℕ) where
   -- A counter: it begins at 0, and rises from the turn's number by the instruction x of the turn's place, or at a place of
@@ -129,13 +129,13 @@ module _ (m : Passes) (q : Production) (k : ℕ) where
         run_is s Between may.phase_is,
         refl,
         λ child. absurd
-            (let both = sym e ∙ ap (item_at q) may.place ∙ child.1.1 in let bad : ⊥ = cc in bad),
+            (let both = sym e ∙ ap (item_at q) may.place ∙ child.1.1 in cc),
       )
       by_item s j may None e = inr (
         run_is s Between may.phase_is,
         refl,
         λ child. absurd
-            (let both = sym e ∙ ap (item_at q) may.place ∙ child.1.1 in let bad : ⊥ = cc in bad),
+            (let both = sym e ∙ ap (item_at q) may.place ∙ child.1.1 in cc),
       )
 
       steps : (s : State) (y : Instr) → MayRun m q k s y → (run_in (after q s y) ≡ run_in s)
@@ -163,27 +163,27 @@ module _ (m : Passes) (q : Production) (k : ℕ) where
   -- the end
   pub end_mark : IsMark m q k (λ s. s.phase ≡ Ended) instr.End
   end_mark = record {
-    none = λ e. (let bad : ⊥ = cc in bad);
+    none = λ e. (cc);
     stays = stays;
     made = λ s may. refl;
     before =
-        λ s may e. (let f = may.0 in let bad : ⊥ = cc in bad);
+        λ s may e. (let f = may.0 in cc);
     only = only;
   }
     where
       stays : IsKept m q k (λ s. s.phase ≡ Ended)
-      stays s (instr.Get j) may e = let f = may.phase_is in absurd (let bad : ⊥ = cc in bad)
+      stays s (instr.Get j) may e = let f = may.phase_is in absurd cc
       stays s (instr.Set j a r) may e = e
-      stays s (instr.Go j) may e = let f = may.0.phase_is in absurd (let bad : ⊥ = cc in bad)
-      stays s (instr.Put j) may e = let f = may.phase_is in absurd (let bad : ⊥ = cc in bad)
+      stays s (instr.Go j) may e = let f = may.0.phase_is in absurd cc
+      stays s (instr.Put j) may e = let f = may.phase_is in absurd cc
       stays s (instr.Def a r) may e = e
       stays s instr.End may e = refl
 
       only : (s : State) (y : Instr) → MayRun m q k s y → (after q s y).phase ≡ Ended → (s.phase ≡ Ended) ⊎ (y ≡ instr.End)
       only s (instr.Get j) may e = absurd (not_ended (item_at q j) e)
       only s (instr.Set j a r) may e = inl e
-      only s (instr.Go j) may e = absurd (let bad : ⊥ = cc in bad)
-      only s (instr.Put j) may e = absurd (let bad : ⊥ = cc in bad)
+      only s (instr.Go j) may e = absurd cc
+      only s (instr.Put j) may e = absurd cc
       only s (instr.Def a r) may e = inl e
       only s instr.End may e = inr refl
 
@@ -192,10 +192,10 @@ module _ (m : Passes) (q : Production) (k : ℕ) where
   got_child s (instr.Get j) may was e = let x = got_symbol (item_at q j) e in
       subst (IsChild q) may.place (x.0, (let p = may.place in omega arith, x.1))
   got_child s (instr.Set j a r) may was e = was e
-  got_child s (instr.Go j) may was e = absurd (let bad : ⊥ = cc in bad)
-  got_child s (instr.Put j) may was e = absurd (let bad : ⊥ = cc in bad)
+  got_child s (instr.Go j) may was e = absurd cc
+  got_child s (instr.Put j) may was e = absurd cc
   got_child s (instr.Def a r) may was e = was e
-  got_child s instr.End may was e = absurd (let bad : ⊥ = cc in bad)
+  got_child s instr.End may was e = absurd cc
 
   -- no more children are read than there are
   pub read_within : IsKept m q k (λ s. read_in s ≤ arity q)
@@ -225,7 +225,7 @@ module _ (m : Passes) (q : Production) (k : ℕ) where
     }
       where
         none : Has start.done r → ⊥
-        none h = let e : slice_get {X = ℕ} [] h.0 ≡ Some r = h.1 in let bad : ⊥ = cc in bad
+        none h = let e : slice_get {X = ℕ} [] h.0 ≡ Some r = h.1 in cc
 
         more : (s : State) (n : ℕ) → Has s.done r → Has (n ∷ s.done) r
         more s n h = (suc h.0, h.1)

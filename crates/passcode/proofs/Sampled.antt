@@ -21,7 +21,7 @@ pub sample_visited : IsVisited sample_production 1 1 2
 sample_visited = (0, omega arith, refl)
 
 pub sample_unvisited : IsVisited sample_production 1 1 1 → ⊥
-sample_unvisited (zero, less, e) = let bad : ⊥ = cc in bad
+sample_unvisited (zero, less, e) = cc
 sample_unvisited (suc t, less, e) = omega arith
 
 known : IsLegal sample sample_passes → IsPlanned sample_passes sample_production
@@ -46,18 +46,18 @@ undefined_refused legal h = let k = known legal in let runs =
     none (runs.1.1.1.1.1.1.1.1.0.2 0 0 rule_out refl refl refl)
   where
     none : Has {A = ℕ} (1 ∷ 2 ∷ []) 0 → ⊥
-    none (zero, e) = let bad : ⊥ = cc in bad
-    none (suc zero, e) = let bad : ⊥ = cc in bad
-    none (suc (suc n), e) = let bad : ⊥ = cc in bad
+    none (zero, e) = cc
+    none (suc zero, e) = cc
+    none (suc (suc n), e) = cc
 
 -- the only rule of the other production
 only_rule : (r : ℕ) (u : Rule) → IsRuleAt hasty_production r u → (hasty_rule ≡ u) × (0 ≡ r)
 only_rule zero u e = (cc, refl)
-only_rule (suc r) u e = absurd (let bad : ⊥ = cc in bad)
+only_rule (suc r) u e = absurd cc
 
 own_attribute : (o : Target) → IsArgument hasty_rule o → attribute 0 1 ≡ o
 own_attribute o (zero, e) = cc
-own_attribute o (suc n, e) = absurd (let bad : ⊥ = cc in bad)
+own_attribute o (suc n, e) = absurd cc
 
 -- under this assignment its list runs
 abbrev calm_passes : ℕ → List ℕ
@@ -66,7 +66,7 @@ calm_passes s = 1 ∷ 1 ∷ []
 calm_runs : Runs calm_passes hasty_production 1 start hasty_list
 calm_runs = (
   (
-    (λ e. let bad : ⊥ = cc in bad),
+    (λ e. cc),
     record {
       rule = hasty_rule;
       numbered = refl;
@@ -74,7 +74,7 @@ calm_runs = (
       passed = refl;
       available = λ o arg. subst (IsAvailable calm_passes hasty_production 1 start) (own_attribute o arg)
           (1, refl, omega arith, inr (inl refl));
-      fresh = λ h. (let e : slice_get {X = ℕ} [] h.0 ≡ Some 0 = h.1 in let bad : ⊥ = cc in bad);
+      fresh = λ h. (let e : slice_get {X = ℕ} [] h.0 ≡ Some 0 = h.1 in cc);
     },
   ),
   ((refl, refl, computed), refl),

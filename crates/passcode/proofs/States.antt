@@ -18,14 +18,14 @@ module _ (m : Passes) (q : Production) (k : ℕ) where
 
   pub state_next : (s : State) (xs : List Instr) (n : ℕ) (x : Instr) → slice_get xs n ≡ Some x
       → state_at q s xs (suc n) ≡ after q (state_at q s xs n) x
-  state_next s [] n x e = absurd (let bad : ⊥ = cc in bad)
+  state_next s [] n x e = absurd cc
   state_next s (y ∷ xs) zero x e = let same : y ≡ x = cc in ap (after q s) same
   state_next s (y ∷ xs) (suc n) x e = state_next (after q s y) xs n x e
 
   state_stays : (s : State) (xs : List Instr) (n : ℕ) → slice_get xs n ≡ None → state_at q s xs (suc n) ≡ state_at q s xs n
   state_stays s [] zero e = refl
   state_stays s [] (suc n) e = refl
-  state_stays s (y ∷ xs) zero e = absurd (let bad : ⊥ = cc in bad)
+  state_stays s (y ∷ xs) zero e = absurd cc
   state_stays s (y ∷ xs) (suc n) e = state_stays (after q s y) xs n e
 
   may_more : (s : State) (x : Instr) (xs : List Instr) → MayRun m q k s x → MayRunTo (after q s x) xs (length xs)

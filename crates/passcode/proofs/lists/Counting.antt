@@ -100,7 +100,7 @@ count_none f (i ∷ xs) never =
 
 count_one : (f : Instr → Bool) (xs : List Instr) (at : ℕ) (x : Instr) → slice_get xs at ≡ Some x → f x ≡ true
     → ((n : ℕ) (i : Instr) → slice_get xs n ≡ Some i → (n ≡ at → ⊥) → f i ≡ false) → count_by f xs ≡ 1
-count_one f [] at x e is only = absurd (let bad : ⊥ = cc in bad)
+count_one f [] at x e is only = absurd cc
 count_one f (i ∷ xs) zero x e is only =
     let same : i ≡ x = cc in
     let first : ◌≡◌ {A = ℕ} (cond (f i) 1 0) 1 = ap (λ b. cond b 1 0) (ap f same ∙ is) in
@@ -158,7 +158,7 @@ module _ (m : Passes) (q : Production) (k : ℕ) (xs : List Instr) (is : ListAgr
           (λ n i e ne. by_bool (evaluates r i) (λ t. ne (once.once n occurs.0 (e ∙ ap Some (own n r u i at e t)) occurs.1)))
 
       go : (o : Option ℕ) → pass_at m q u.target ≡ o → count_by (evaluates r) xs ≡ cond (is_pass k (pass_at m q u.target)) 1 0
-      go None e = not_there (λ has. let z : None ≡ Some k = sym e ∙ has in let bad : ⊥ = cc in bad)
+      go None e = not_there (λ has. let z : None ≡ Some k = sym e ∙ has in cc)
           ∙ sym (ap (λ o. cond (is_pass k o) 1 0) e)
       go (Some p) e = by_test (nat_eq p k) refl
         where
