@@ -199,10 +199,10 @@ module _ (m : Passes) (q : Production) (k : ℕ) where
 
   -- no more children are read than there are
   pub read_within : IsKept m q k (λ s. read_in s ≤ arity q)
-  read_within s (instr.Get j) may le = let e = read_after (item_at q j) s.turn in let w = may.within in omega arith
+  read_within s (instr.Get j) may le = omega (arith, read_after)
   read_within s (instr.Set j a r) may le = le
-  read_within s (instr.Go j) may le = let w = may.0.within in omega arith
-  read_within s (instr.Put j) may le = let w = may.within in omega arith
+  read_within s (instr.Go j) may le = omega arith
+  read_within s (instr.Put j) may le = omega arith
   read_within s (instr.Def a r) may le = le
   read_within s instr.End may le = let e = may.1 in omega arith
 
@@ -231,12 +231,9 @@ module _ (m : Passes) (q : Production) (k : ℕ) where
         more s n h = (suc h.0, h.1)
 
         stays : IsKept m q k (λ s. Has s.done r)
-        stays s (instr.Get j) may h = h
         stays s (instr.Set j a n) may h = more s n h
-        stays s (instr.Go j) may h = h
-        stays s (instr.Put j) may h = h
         stays s (instr.Def a n) may h = more s n h
-        stays s instr.End may h = h
+        stays s x may h = h
 
         made : (j a : ℕ) (s : State) → MayRun m q k s (set_or_def j a r) → Has (after q s (set_or_def j a r)).done r
         made zero a s may = (0, refl)

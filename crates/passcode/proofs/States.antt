@@ -9,7 +9,7 @@ use Rattle.passcode.specs.Agreement.{OccursBefore}
 use Rattle.passcode.specs.Course.{State, Ended, MayRun, Runs, after, start, state_at}
 
 further : (xs : List Instr) (n : ℕ) (x : Instr) → OccursBefore xs n x → OccursBefore xs (suc n) x
-further xs n x s = (s.0, (let less = s.1 in omega arith), s.2)
+further xs n x s = (s.0, omega arith, s.2)
 
 module _ (m : Passes) (q : Production) (k : ℕ) where
   -- each of the first n instructions of a list may come next at its index

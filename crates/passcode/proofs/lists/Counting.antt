@@ -71,14 +71,11 @@ abbrev IsNumberBelow : ℕ → Instr → Type 0
 IsNumberBelow n i = (r : ℕ) → ((k : ℕ) → evaluates k i ≡ nat_eq r k) → r < n
 
 by_instr : (us : List Rule) (i : Instr) → IsNumberBelow (length us) i → evaluated_by 0 us i ≡ cond (is_computation i) 1 0
-by_instr us (instr.Get j) is = by_none 0 us (instr.Get j) (λ k le. refl)
 by_instr us (instr.Set j a r) is = by_one 0 r us (instr.Set j a r) (λ k. refl) (omega arith)
     (let less = is r (λ k. refl) in omega arith)
-by_instr us (instr.Go j) is = by_none 0 us (instr.Go j) (λ k le. refl)
-by_instr us (instr.Put j) is = by_none 0 us (instr.Put j) (λ k le. refl)
 by_instr us (instr.Def a r) is = by_one 0 r us (instr.Def a r) (λ k. refl) (omega arith)
     (let less = is r (λ k. refl) in omega arith)
-by_instr us instr.End is = by_none 0 us instr.End (λ k le. refl)
+by_instr us i is = by_none 0 us i (λ k le. refl)
 
 all_evaluated : (us : List Rule) (xs : List Instr) → ((n : ℕ) (i : Instr) → slice_get xs n ≡ Some i → IsNumberBelow (length us) i)
     → count_by is_computation xs ≡ evaluated 0 us xs
@@ -95,8 +92,7 @@ count_none : (f : Instr → Bool) (xs : List Instr) → ((n : ℕ) (i : Instr) �
     → count_by f xs ≡ 0
 count_none f [] never = refl
 count_none f (i ∷ xs) never =
-    let first : ◌≡◌ {A = ℕ} (cond (f i) 1 0) 0 = ap (λ b. cond b 1 0) (never 0 i refl) in
-    omega (arith, first, count_more f i xs, count_none f xs (λ n j e. never (suc n) j e))
+    grind (arith, count_more f i xs, never 0 i refl, count_none f xs (λ n j e. never (suc n) j e))
 
 count_one : (f : Instr → Bool) (xs : List Instr) (at : ℕ) (x : Instr) → slice_get xs at ≡ Some x → f x ≡ true
     → ((n : ℕ) (i : Instr) → slice_get xs n ≡ Some i → (n ≡ at → ⊥) → f i ≡ false) → count_by f xs ≡ 1
