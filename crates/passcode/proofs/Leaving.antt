@@ -1,12 +1,13 @@
 -- What is left in a state runs from there to the end.
 use Rattle.std.proofs.Common.{ℕ, zero, suc, ◌≡◌, ◌+◌, ◌-◌, ◌<◌, ◌≤◌, ◌⊎◌, inl, inr, Bool, true, false, cond, List, [], ◌∷◌, ◌++◌}
 use Rattle.std.proofs.Common.{append_assoc, Option, Some, None, slice_get, get_or, length, refl, ap, ◌∙◌, sym, subst, arith}
-use Rattle.std.specs.Prelude.{nat_eq, ◌||◌}
+use Rattle.std.specs.Prelude.{nat_eq, ◌||◌, ◌↔◌}
+use Rattle.std.proofs.lemmas.List.Folds.{list_any_at}
 use Rattle.std.specs.List.{flat_map, list_any, position, position_or_len, range_with_len}
 use Rattle.std.proofs.lemmas.Bool.{cases_eq, cases_lt, eq-eqb, eqb-true, lt-ltb, ne_eqb}
 use Rattle.std.proofs.lemmas.List.Quantifiers.{position-Some}
 use Rattle.std.proofs.lemmas.List.Sums.{fails_before_first}
-use Rattle.std.proofs.lemmas.Option.{slice_get_within, slice_get-get_or}
+use Rattle.std.proofs.lemmas.Option.{get_or_from_slice_get, slice_get_within, slice_get-get_or}
 use Rattle.ag_grammar.specs.Lists.{DifferIn, Has}
 use Rattle.ag_grammar.specs.declared.grammar.Item.{Item}
 use Rattle.ag_grammar.specs.declared.grammar.Item.TheVariants as item
@@ -73,21 +74,15 @@ has_number : (done : List ℕ) (r : ℕ) → list_any (nat_eq r) done ≡ true �
 has_number [] r e = absurd cc
 has_number (x ∷ done) r e = elim (cases_eq r x) [
   | inl same ↦ (0, ap Some (sym same))
-  | inr other ↦ (let z = ap (λ b. b || list_any (nat_eq r) done) (ne_eqb r x other) in let h = has_number done r (sym z ∙ e) in
+  | inr other ↦ (let h = has_number done r (sym (ap (λ b. b || list_any (nat_eq r) done) (ne_eqb r x other)) ∙ e) in
       (suc h.0, h.1))
 ]
 
 lacks_number : (done : List ℕ) (r : ℕ) → list_any (nat_eq r) done ≡ false → Has done r → ⊥
-lacks_number [] r e h = let at : slice_get {X = ℕ} [] h.0 ≡ Some r = h.1 in cc
-lacks_number (x ∷ done) r e (zero, at) =
-    let same : r ≡ x = cc in
-    let z = ap (λ b. b || list_any (nat_eq r) done) (eq-eqb r x same) in
-    let bad : true ≡ false = sym z ∙ e in
+lacks_number done r e (i, at) =
+    let passes = ap (nat_eq r) (get_or_from_slice_get done i r 0 at) ∙ eq-eqb r r refl in
+    let found = list_any_at (nat_eq r) done i 0 (slice_get_within done i r at) passes in
     cc
-lacks_number (x ∷ done) r e (suc i, at) = elim (cases_eq r x) [
-  | inl same ↦ (let z = ap (λ b. b || list_any (nat_eq r) done) (eq-eqb r x same) in let bad : true ≡ false = sym z ∙ e in cc)
-  | inr other ↦ lacks_number done r (sym (ap (λ b. b || list_any (nat_eq r) done) (ne_eqb r x other)) ∙ e) (i, at)
-]
 
 is_the_pass : (k : ℕ) (o : Option ℕ) → (is_pass k o ≡ true → o ≡ Some k) × (is_pass k o ≡ false → o ≡ Some k → ⊥)
 is_the_pass k None = ((λ e. absurd cc), λ e f. cc)
@@ -95,6 +90,9 @@ is_the_pass k (Some p) = (
   (λ e. ap Some (eqb-true p k e)),
   λ e f. (let same : p ≡ k = cc in let t = eq-eqb p k same in let bad : true ≡ false = sym t ∙ e in cc),
 )
+
+abbrev node : Phase → ℕ → List ℕ → State
+node phase turn done = record { phase = phase; turn = turn; done = done }
 
 module _ (m : Passes) (q : Production) (k : ℕ) (one : 1 ≤ k) (single : DifferIn (λ u. u.target) q.rules)
     (allowed : IsLegalFor (HasPass m) q) (old : List ℕ) where
@@ -113,206 +111,53 @@ module _ (m : Passes) (q : Production) (k : ℕ) (one : 1 ≤ k) (single : Diffe
     pub alone : remaining_for m q k old o ≡ set_or_def o.place o.attr number ∷ []
 
   left_is : (o : Target) → IsNothing o ⊎ IsOne o
-  left_is o = by_pass (is_pass k (pass_at m q o)) refl
+  left_is o = by_pass (is_pass k (pass_at m q o)) (rule_for q o) refl refl refl
     where
-      by_list : (r : ℕ) → is_pass k (pass_at m q o) ≡ true → rule_for q o ≡ Some r → (b : Bool) → list_any (nat_eq r) old ≡ b
-          → IsNothing o ⊎ IsOne o
-      by_list r p e true h = inl record {
-        empty = ap (λ b. cond b (remaining_instruction old o (rule_for q o)) []) p ∙ ap (remaining_instruction old o) e
-            ∙ ap (λ b. cond b [] (set_or_def o.place o.attr r ∷ [])) h;
-        run = λ s u at same passed. (
-            let found = rule_found q.rules o r e in
-            let this : s ≡ r = single s r u found.0 at found.1 (same ∙ sym found.2) in
-            subst (Has old) (sym this) (has_number old r h));
+      by_list : (r : ℕ) → HasPass m q o k → rule_for q o ≡ Some r → (b : Bool) → list_any (nat_eq r) old ≡ b
+          → remaining_for m q k old o ≡ cond b [] (set_or_def o.place o.attr r ∷ []) → IsNothing o ⊎ IsOne o
+      by_list r has e true h is = let found = rule_found q.rules o r e in inl record {
+        empty = is;
+        run = λ s u at same passed.
+            subst (Has old) (single r s found.0 u found.1 at (found.2 ∙ sym same)) (has_number old r h);
       }
-      by_list r p e false h =
-          let found = rule_found q.rules o r e in
-          inr record {
-            number = r;
-            rule = found.0;
-            numbered = found.1;
-            target = found.2;
-            passed = (is_the_pass k (pass_at m q o)).0 p;
-            new = lacks_number old r h;
-            alone = ap (λ b. cond b (remaining_instruction old o (rule_for q o)) []) p ∙ ap (remaining_instruction old o) e
-                ∙ ap (λ b. cond b [] (set_or_def o.place o.attr r ∷ [])) h;
-          }
-
-      by_rule : is_pass k (pass_at m q o) ≡ true → (n : Option ℕ) → rule_for q o ≡ n → IsNothing o ⊎ IsOne o
-      by_rule p None e = inl record {
-        empty = ap (λ b. cond b (remaining_instruction old o (rule_for q o)) []) p ∙ ap (remaining_instruction old o) e;
-        run = λ s u at same passed. absurd (none_found q.rules o e s u at same);
-      }
-      by_rule p (Some r) e = by_list r p e (list_any (nat_eq r) old) refl
-
-      by_pass : (b : Bool) → is_pass k (pass_at m q o) ≡ b → IsNothing o ⊎ IsOne o
-      by_pass true p = by_rule p (rule_for q o) refl
-      by_pass false p = inl record {
-        empty = ap (λ b. cond b (remaining_instruction old o (rule_for q o)) []) p;
-        run = λ s u at same passed. absurd ((is_the_pass k (pass_at m q o)).1 p passed);
+      by_list r has e false h is = let found = rule_found q.rules o r e in inr record {
+        number = r;
+        rule = found.0;
+        numbered = found.1;
+        target = found.2;
+        passed = has;
+        new = lacks_number old r h;
+        alone = is;
       }
 
-  -- an attribute that was passed on the way: at one of the first children, or at a place with a lower number
+      by_pass : (b : Bool) (n : Option ℕ) → is_pass k (pass_at m q o) ≡ b → rule_for q o ≡ n
+          → remaining_for m q k old o ≡ cond b (remaining_instruction old o n) [] → IsNothing o ⊎ IsOne o
+      by_pass true None p e is = inl record { empty = is; run = λ s u at same has. absurd (none_found q.rules o e s u at same) }
+      by_pass true (Some r) p e is = by_list r ((is_the_pass k (pass_at m q o)).0 p) e (list_any (nat_eq r) old) refl is
+      by_pass false n p e is = inl record
+          { empty = is; run = λ s u at same has. absurd ((is_the_pass k (pass_at m q o)).1 p has) }
+
+  -- The way through what is left: of the rules of the pass those were run that are old, and those for what was passed.
+  abbrev Way : (Target → Type 0) → List ℕ → Type 0
+  Way P done = (r : ℕ) (u : Rule) → IsRuleAt q r u → HasPass m q u.target k → Has done r ↔ (Has old r ⊎ P u.target)
+
+  regroup : (P Q : Target → Type 0) (done : List ℕ) → Way P done → ((o : Target) → P o → Q o)
+      → ((r : ℕ) (u : Rule) → IsRuleAt q r u → HasPass m q u.target k → Q u.target → Has old r ⊎ P u.target) → Way Q done
+  regroup P Q done way forth back r u at has = (
+    (λ h. elim ((way r u at has).0 h) [ inl is ↦ inl is | inr p ↦ inr (forth u.target p) ]),
+    λ h. (way r u at has).1 (elim h [ inl is ↦ inl is | inr p ↦ back r u at has p ]),
+  )
+
+  -- an attribute at one of the first children, and one that was passed on the way: there, or at a place with a lower number
+  abbrev IsDoneAt : ℕ → Target → Type 0
+  IsDoneAt t o = IsVisited q k t o.place
+
   abbrev IsPassed : (t j a : ℕ) → Target → Type 0
-  IsPassed t j a o = IsVisited q k t o.place ⊎ ((o.place ≡ j) × (o.attr < a))
-
-  -- The way through what is left: the rules that were run are the old ones and those that give what was passed.
-  record Way (t j a : ℕ) (s : State) : Type 0 where
-    pub kept : (r : ℕ) → Has old r → Has s.done r
-    pub ran : (r : ℕ) (u : Rule) → IsRuleAt q r u → HasPass m q u.target k → IsPassed t j a u.target → Has s.done r
-    pub only : (r : ℕ) (u : Rule) → IsRuleAt q r u → Has s.done r → Has old r ⊎ IsPassed t j a u.target
-
-  -- A node computes the attributes of a place: of the child whose turn it is, or its own where all children are complete.
-  abbrev IsComputingAt : (t j : ℕ) → State → Type 0
-  IsComputingAt t j s = ((s.phase ≡ Got) × (s.turn ≡ t) × (t < arity q) × (j ≡ place_of q k t))
-      ⊎ ((s.phase ≡ Between) × (s.turn ≡ t) × (t ≡ arity q) × (j ≡ 0))
-
-  new_place : (t j : ℕ) (s : State) → IsComputingAt t j s → IsVisited q k t j → ⊥
-  new_place t j s (inl (phase, turn, within, is)) (u, less, place) = let same =
-      one_turn q k t u within (omega arith) (sym is ∙ place) in omega arith
-  new_place t j s (inr (phase, turn, all, is)) (u, less, place) = omega arith
-
-  after_giving : (s : State) (j a r : ℕ) → after q s (set_or_def j a r) ≡ record s { done = r ∷ s.done }
-  after_giving s zero a r = refl
-  after_giving s (suc j) a r = refl
-
-  may_run : (t j a r : ℕ) (s : State) → IsComputingAt t j s → MayCompute m q k s j a r → MayRun m q k s (set_or_def j a r)
-  may_run t zero a r s (inl (phase, turn, within, is)) run_rule = absurd (omega arith)
-  may_run t (suc j) a r s (inl (phase, turn, within, is)) run_rule =
-      (record { phase_is = phase; within = omega arith; place = is ∙ ap (place_of q k) (sym turn) }, run_rule)
-  may_run t zero a r s (inr (phase, turn, all, is)) run_rule = ((λ e. cc), run_rule)
-  may_run t (suc j) a r s (inr (phase, turn, all, is)) run_rule = absurd (omega arith)
+  IsPassed t j a o = IsDoneAt t o ⊎ ((o.place ≡ j) × (o.attr < a))
 
   -- the turn of the place of an argument of the pass
   place_turn : (o : Target) → HasPass m q o k → (o.place ≡ 0 → ⊥) → (t : ℕ) × (t < arity q) × (o.place ≡ place_of q k t)
   place_turn o has own = let s = has_symbol m q o k one has in turn_of q k o.place (item.Symbol s.0, (omega arith, s.1))
-
-  -- an argument from the right side that a rule for a child may use, of the pass itself, is of a child that was visited before
-  used_before : (j i p : ℕ) → MayUse k j i p → (1 ≤ j) → (p < k → ⊥) → (i ≡ 0 → ⊥) → IsBefore (direction_of k) i j
-  used_before zero i p h least late right = absurd (omega arith)
-  used_before (suc j) i p (inl h) least late right = absurd (right h.0)
-  used_before (suc j) i p (inr (inl h)) least late right = h.0
-  used_before (suc j) i p (inr (inr h)) least late right = absurd (late h)
-
-  final : (t j : ℕ) (s : State) → IsComputingAt t j s → (o : Target) (p : ℕ) → HasPass m q o p → MayUse k j o.place p
-      → IsFinal q k s o.place p
-  final t j s here o p has may = elim (cases_lt p k) [
-    | inl less ↦ inl less
-    | inr le ↦ elim (cases_eq o.place 0) [
-      | inl own ↦ inr (inl own)
-      | inr right ↦ inr (inr
-          (seen here (place_turn o
-          (subst (HasPass m q o) (let most = may_use_most k j o.place p may in let same : p ≡ k = omega arith in same) has) right)
-          (λ h. omega arith) right))
-    ]
-  ]
-    where
-      seen : IsComputingAt t j s → (u : ℕ) × (u < arity q) × (o.place ≡ place_of q k u) → (p < k → ⊥) → (o.place ≡ 0 → ⊥)
-          → IsVisited q k (run_count s.phase s.turn) o.place
-      seen (inl (phase, turn, within, is)) (u, less, place) late right =
-          let before = used_before j o.place p may (omega arith) late right in
-          let earlier = turn_before q k u t less within
-          (subst (λ i. IsBefore (direction_of k) i (place_of q k t)) place
-          (subst (IsBefore (direction_of k) o.place) is before)) in
-          let count = ap (λ p. run_count p s.turn) phase in
-          (u, omega arith, place)
-      seen (inr (phase, turn, all, is)) (u, less, place) late right = let count = ap (λ p. run_count p s.turn) phase in
-          (u, omega arith, place)
-
-  further : (t j a : ℕ) (o : Target) → IsPassed t j a o → IsPassed t j (a + 1) o
-  further t j a o (inl h) = inl h
-  further t j a o (inr h) = let less = h.1 in inr (h.0, omega arith)
-
-  -- what was passed one attribute further on was passed before, or is that attribute
-  passed_now : (t j a : ℕ) (o : Target) → IsPassed t j (a + 1) o → IsPassed t j a o ⊎ (o ≡ record { place = j; attr = a })
-  passed_now t j a o (inl h) = inl (inl h)
-  passed_now t j a o (inr (place, less)) = elim (cases_lt o.attr a) [
-    | inl h ↦ inl (inr (place, h))
-    | inr le ↦ inr (one_target o (record { place = j; attr = a }) place (omega arith))
-  ]
-
-  skip : (t j a : ℕ) (s : State) → Way t j a s → IsNothing (record { place = j; attr = a }) → Way t j (a + 1) s
-  skip t j a s way none = record {
-    kept = way.kept;
-    ran = λ r u at has passed. elim (passed_now t j a u.target passed) [
-      | inl before ↦ way.ran r u at has before
-      | inr same ↦ way.kept r (none.run r u at same (subst (λ o. HasPass m q o k) same has))
-    ];
-    only = λ r u at done. elim (way.only r u at done) [ inl is ↦ inl is | inr h ↦ inr (further t j a u.target h) ];
-  }
-
-  module _ (t j a : ℕ) (s : State) (way : Way t j a s) (it : IsOne (record { place = j; attr = a })) where
-    its_number : (r : ℕ) (u : Rule) → IsRuleAt q r u → u.target ≡ record { place = j; attr = a } → r ≡ it.number
-    its_number r u at same = single r it.number u it.rule at it.numbered (same ∙ sym it.target)
-
-    its_target : (r : ℕ) (u : Rule) → IsRuleAt q r u → r ≡ it.number → u.target ≡ record { place = j; attr = a }
-    its_target r u at same = let both : Some u ≡ Some it.rule = sym at ∙ ap (slice_get q.rules) same ∙ it.numbered in
-        let one : u ≡ it.rule = cc in ap (λ (w : Rule). w.target) one ∙ it.target
-
-    run_one : Way t j (a + 1) (record s { done = it.number ∷ s.done })
-    run_one = record {
-      kept = λ r h. (let d = way.kept r h in (suc d.0, d.1));
-      ran = λ r u at has passed. elim (passed_now t j a u.target passed) [
-        | inl before ↦ (let d = way.ran r u at has before in (suc d.0, d.1))
-        | inr same ↦ (0, ap Some (sym (its_number r u at same)))
-      ];
-      only = only;
-    }
-      where
-        only : (r : ℕ) (u : Rule) → IsRuleAt q r u → Has (it.number ∷ s.done) r → Has old r ⊎ IsPassed t j (a + 1) u.target
-        only r u at (zero, e) =
-            let same : r ≡ it.number = cc in
-            let target = its_target r u at same in
-            let place = ap (λ (o : Target). o.place) target in
-            let attr = ap (λ (o : Target). o.attr) target in
-            inr (inr (place, omega arith))
-        only r u at (suc i, e) = elim (way.only r u at (i, e)) [ inl is ↦ inl is | inr h ↦ inr (further t j a u.target h) ]
-
-    may_compute : IsComputingAt t j s → MayCompute m q k s j a it.number
-    may_compute here = record {
-      rule = it.rule;
-      numbered = it.numbered;
-      target = it.target;
-      passed = passed;
-      available = hand;
-      fresh = λ done. elim (way.only it.number it.rule it.numbered done) [
-        | inl is ↦ it.new is
-        | inr (inl h) ↦ new_place t j s here (subst (IsVisited q k t) (ap (λ (o : Target). o.place) it.target) h)
-        | inr (inr h) ↦ (let less = h.1 in let attr = ap (λ (o : Target). o.attr) it.target in omega arith)
-      ];
-    }
-      where
-        passed : HasPass m q it.rule.target k
-        passed = subst (λ o. HasPass m q o k) (sym it.target) it.passed
-
-        hand : (o : Target) → IsArgument it.rule o → IsAvailable m q k s o
-        hand o arg =
-            let p = allowed it.rule o k (it.number, it.numbered) arg passed in (
-              p.0,
-              p.1,
-              may_use_most k it.rule.target.place o.place p.0 p.2,
-              final t j s here o p.0 p.1 (subst (λ j. MayUse k j o.place p.0) (ap (λ (o : Target). o.place) it.target) p.2),
-            )
-
-  -- what is left at a place from an attribute on runs, if what comes after it does
-  abbrev at_place : (j a n : ℕ) → List Instr
-  at_place j a n = flat_map (λ a. remaining_for m q k old (record { place = j; attr = a })) (range_with_len a n)
-
-  run_rule : (n t j a : ℕ) (s : State) (ys : List Instr) → IsComputingAt t j s → Way t j a s
-      → ((s' : State) → IsComputingAt t j s' → Way t j (a + n) s' → Runs m q k s' ys) → Runs m q k s (at_place j a n ++ ys)
-  run_rule zero t j a s ys here way next = next s here (subst (λ a. Way t j a s) (let z : a ≡ a + 0 = omega arith in z) way)
-  run_rule (suc n) t j a s ys here way next = elim (left_is (record { place = j; attr = a })) [
-    | inl none ↦ subst (λ l. Runs m q k s ((l ++ at_place j (a + 1) n) ++ ys)) (sym none.empty)
-        (run_rule n t j (a + 1) s ys here (skip t j a s way none) onward)
-    | inr it ↦ subst (λ l. Runs m q k s ((l ++ at_place j (a + 1) n) ++ ys)) (sym it.alone) (
-      may_run t j a it.number s here (may_compute t j a s way it here),
-      subst (λ s. Runs m q k s (at_place j (a + 1) n ++ ys)) (sym (after_giving s j a it.number))
-          (run_rule n t j (a + 1) (record s { done = it.number ∷ s.done }) ys here (run_one t j a s way it) onward),
-    )
-  ]
-    where
-      onward : (s' : State) → IsComputingAt t j s' → Way t j (a + 1 + n) s' → Runs m q k s' ys
-      onward s' here way = next s' here (subst (λ a. Way t j a s') (let z : a + 1 + n ≡ a + suc n = omega arith in z) way)
 
   -- all attributes at a place were computed
   abbrev attribute_count : ℕ → ℕ
@@ -322,145 +167,218 @@ module _ (m : Passes) (q : Production) (k : ℕ) (one : 1 ≤ k) (single : Diffe
   within_count o j place has = let less = slice_get_within (item_passes m (item_at q o.place)) o.attr k has in
       subst (λ j. o.attr < length (item_passes m (item_at q j))) place less
 
-  all_given : (t j : ℕ) (s : State) → Way t j (attribute_count j) s → AreDone m q k s j
-  all_given t j s way r u at place has = way.ran r u at has (inr (place, within_count u.target j place has))
+  -- A node in a phase with t complete children computes the attributes at place j.
+  record Computes (p : Phase) (t j : ℕ) : Type 0 where
+    new : IsVisited q k t j → ⊥
+    count : run_count p t ≡ t
+    before : (u : ℕ) → u < arity q → MayUse k j (place_of q k u) k → u < t
+    runs : (a r : ℕ) (done : List ℕ) (ys : List Instr) → MayCompute m q k (node p t done) j a r
+        → Runs m q k (node p t (r ∷ done)) ys → Runs m q k (node p t done) (set_or_def j a r ∷ ys)
 
-  -- so the way goes on at the next turn,
-  turned : (t i : ℕ) (s : State) → Way t (place_of q k t) (attribute_count (place_of q k t)) s → Way (suc t) i 0 s
-  turned t i s way = record {
-    kept = way.kept;
-    ran = λ r u at has passed. way.ran r u at has (earlier u.target has passed);
-    only = λ r u at done. elim (way.only r u at done) [ inl is ↦ inl is | inr h ↦ inr (inl (later u.target h)) ];
-  }
-    where
-      earlier : (o : Target) → HasPass m q o k → IsPassed (suc t) i 0 o
-          → IsPassed t (place_of q k t) (attribute_count (place_of q k t)) o
-      earlier o has (inl (u, less, place)) = elim (cases_eq u t) [
-        | inl same ↦ (let here = place ∙ ap (place_of q k) same in inr (here, within_count o (place_of q k t) here has))
-        | inr other ↦ inl (u, omega arith, place)
-      ]
-      earlier o has (inr (place, less)) = absurd (omega arith)
+  module _ (p : Phase) (t j : ℕ) (here : Computes p t j) where
+    -- what was passed one attribute further on was passed before, or is that attribute
+    passed_now : (a : ℕ) (o : Target) → IsPassed t j (a + 1) o → IsPassed t j a o ⊎ (o ≡ record { place = j; attr = a })
+    passed_now a o (inl h) = inl (inl h)
+    passed_now a o (inr (place, less)) = elim (cases_lt o.attr a) [
+      | inl h ↦ inl (inr (place, h))
+      | inr le ↦ inr (one_target o (record { place = j; attr = a }) place (omega arith))
+    ]
 
-      later : (o : Target) → IsPassed t (place_of q k t) (attribute_count (place_of q k t)) o → IsVisited q k (suc t) o.place
-      later o (inl (u, less, place)) = (u, omega arith, place)
-      later o (inr (place, less)) = (t, omega arith, place)
+    further : (a : ℕ) (o : Target) → IsPassed t j a o → IsPassed t j (a + 1) o
+    further a o (inl h) = inl h
+    further a o (inr h) = inr (h.0, omega arith)
 
-  -- as it does past a token, for which no rule of the pass computes anything,
-  past_token : (t i : ℕ) (s : State) → (IsChild q (place_of q k t) → ⊥) → Way t i 0 s → Way (suc t) i 0 s
-  past_token t i s none way = record {
-    kept = way.kept;
-    ran = λ r u at has passed. way.ran r u at has (earlier u.target has passed);
-    only = λ r u at done. elim (way.only r u at done) [ inl is ↦ inl is | inr h ↦ inr (later u.target h) ];
-  }
-    where
-      earlier : (o : Target) → HasPass m q o k → IsPassed (suc t) i 0 o → IsPassed t i 0 o
-      earlier o has (inl (u, less, place)) = elim (cases_eq u t) [
-        | inl same ↦ absurd (
-            let here = place ∙ ap (place_of q k) same in
-            let s = has_symbol m q o k one has in
-            none (s.0, (omega arith, ap (item_at q) (sym here) ∙ s.1)))
-        | inr other ↦ inl (u, omega arith, place)
-      ]
-      earlier o has (inr h) = inr h
+    skip : (a : ℕ) (done : List ℕ) → Way (IsPassed t j a) done → IsNothing (record { place = j; attr = a })
+        → Way (IsPassed t j (a + 1)) done
+    skip a done way none =
+        regroup (IsPassed t j a) (IsPassed t j (a + 1)) done way (further a) (λ r u at has p. elim (passed_now a u.target p) [
+          | inl before ↦ inr before
+          | inr same ↦ inl (none.run r u at same (subst (λ o. HasPass m q o k) same has))
+        ])
 
-      later : (o : Target) → IsPassed t i 0 o → IsPassed (suc t) i 0 o
-      later o (inl (u, less, place)) = inl (u, omega arith, place)
-      later o (inr h) = inr h
-
-  -- and another place may be looked at next
-  moved : (t i j : ℕ) (s : State) → Way t i 0 s → Way t j 0 s
-  moved t i j s way = record {
-    kept = way.kept;
-    ran = λ r u at has passed. way.ran r u at has
-        (elim passed [ inl h ↦ inl h | inr h ↦ (let less = h.1 in absurd (omega arith)) ]);
-    only = λ r u at done. elim (way.only r u at done)
-        [ inl is ↦ inl is | inr (inl h) ↦ inr (inl h) | inr (inr h) ↦ (let less = h.1 in absurd (omega arith)) ];
-  }
-
-  -- A node between two children on the way through what is left, with a number of complete children.
-  abbrev IsBetween : ℕ → State → Type 0
-  IsBetween t s = (s.phase ≡ Between) × (s.turn ≡ t) × Way t 0 0 s
-
-  child_runs : (t : ℕ) (s : State) (ys : List Instr) → t < arity q → s.phase ≡ Got → s.turn ≡ t → Way t (place_of q k t) 0 s
-      → ((s' : State) → IsBetween (suc t) s' → Runs m q k s' ys) → Runs m q k s (child_part m q k old (place_of q k t) ++ ys)
-  child_runs t s ys within phase turn way next =
-      subst (Runs m q k s)
-      (sym (append_assoc (remaining_at m q k old (place_of q k t)) (instr.Go (place_of q k t) ∷ instr.Put (place_of q k t) ∷ [])
-      ys))
-      (run_rule (attribute_count (place_of q k t)) t (place_of q k t) 0 s
-      (instr.Go (place_of q k t) ∷ instr.Put (place_of q k t) ∷ ys) (inl (phase, turn, within, refl)) way following)
-    where
-      following : (s' : State) → IsComputingAt t (place_of q k t) s'
-          → Way t (place_of q k t) (0 + attribute_count (place_of q k t)) s'
-          → Runs m q k s' (instr.Go (place_of q k t) ∷ instr.Put (place_of q k t) ∷ ys)
-      following s' (inl (phase, turn, within, is)) way =
-          let way' : Way t (place_of q k t) (attribute_count (place_of q k t)) s' =
-          subst (λ n. Way t (place_of q k t) n s')
-          (let z : 0 + attribute_count (place_of q k t) ≡ attribute_count (place_of q k t) = omega arith in z) way in
-          let place = ap (place_of q k) (sym turn) in
-          let next_way = turned t 0 s' way' in (
-            (record { phase_is = phase; within = omega arith; place = place }, all_given t (place_of q k t) s' way'),
-            (
-              record { phase_is = refl; within = omega arith; place = place },
-              next (record { phase = Between; turn = suc s'.turn; done = s'.done })
-                  (refl, ap suc turn, record { kept = next_way.kept; ran = next_way.ran; only = next_way.only }),
-            ),
-          )
-      following s' (inr h) way = absurd (let none = h.3 in omega arith)
-
-  own_runs : (s : State) → IsBetween (arity q) s → Runs m q k s (own_part m q k old)
-  own_runs s (phase, turn, way) =
-      run_rule (attribute_count 0) (arity q) 0 0 s (instr.End ∷ []) (inr (phase, turn, refl, refl)) way
-      following
-    where
-      following : (s' : State) → IsComputingAt (arity q) 0 s' → Way (arity q) 0 (0 + attribute_count 0) s'
-          → Runs m q k s' (instr.End ∷ [])
-      following s' (inl h) way = absurd (let none = h.3 in omega arith)
-      following s' (inr (phase, turn, all, is)) way = ((phase, turn, computed), refl)
+    module _ (a : ℕ) (done : List ℕ) (way : Way (IsPassed t j a) done) (it : IsOne (record { place = j; attr = a })) where
+      run_one : Way (IsPassed t j (a + 1)) (it.number ∷ done)
+      run_one r u at has = (only, ran)
         where
-          computed : (j : ℕ) → AreDone m q k s' j
-          computed j r u at place has = elim (cases_eq u.target.place 0) [
-            | inl own ↦ way.ran r u at has (inr (own, (let less = within_count u.target 0 own has in omega arith)))
-            | inr right ↦ way.ran r u at has (inl (place_turn u.target has right))
+          more : Has done r → Has (it.number ∷ done) r
+          more h = (suc h.0, h.1)
+
+          only : Has (it.number ∷ done) r → Has old r ⊎ IsPassed t j (a + 1) u.target
+          only (zero, e) =
+              let same : r ≡ it.number = cc in
+              let both : Some u ≡ Some it.rule = sym at ∙ ap (slice_get q.rules) same ∙ it.numbered in
+              let target : u.target ≡ it.rule.target = cc in
+              let place = ap (λ (o : Target). o.place) (target ∙ it.target) in
+              let attr = ap (λ (o : Target). o.attr) (target ∙ it.target) in
+              inr (inr (place, omega arith))
+          only (suc i, e) = elim ((way r u at has).0 (i, e)) [ inl is ↦ inl is | inr h ↦ inr (further a u.target h) ]
+
+          ran : Has old r ⊎ IsPassed t j (a + 1) u.target → Has (it.number ∷ done) r
+          ran (inl is) = more ((way r u at has).1 (inl is))
+          ran (inr p) = elim (passed_now a u.target p) [
+            | inl before ↦ more ((way r u at has).1 (inr before))
+            | inr same ↦ (0, ap Some (single it.number r it.rule u it.numbered at (it.target ∙ sym same)))
           ]
 
-  -- the visits from a turn on, and then the node's own part
-  from_turn : (n t : ℕ) (s : State) → t + n ≡ arity q → IsBetween t s → Runs m q k s (visits m q k old t n ++ own_part m q k old)
-  from_turn zero t s all here = own_runs s (subst (λ t. IsBetween t s) (let z : t ≡ arity q = omega arith in z) here)
-  from_turn (suc n) t s all (phase, turn, way) =
-      subst (Runs m q k s)
-      (sym (append_assoc (visit m q k old (place_of q k t) (item_at q (place_of q k t))) (visits m q k old (t + 1) n)
-      (own_part m q k old)))
-      (at_item (λ s' here. from_turn n (t + 1) s' (omega arith)
-      (subst (λ t. IsBetween t s') (let z : suc t ≡ t + 1 = omega arith in z) here)) (item_at q (place_of q k t)) refl)
+      may_compute : MayCompute m q k (node p t done) j a it.number
+      may_compute = record {
+        rule = it.rule;
+        numbered = it.numbered;
+        target = it.target;
+        passed = passed;
+        available = λ o arg. (
+            let i = allowed it.rule o k (it.number, it.numbered) arg passed in
+            let may = subst (λ j. MayUse k j o.place i.0) (ap (λ (o : Target). o.place) it.target) i.2 in
+            (i.0, i.1, may_use_most k j o.place i.0 may, final o i.0 i.1 may));
+        fresh = λ h. elim ((way it.number it.rule it.numbered passed).0 h) [
+          | inl is ↦ it.new is
+          | inr (inl h) ↦ here.new (subst (IsVisited q k t) (ap (λ (o : Target). o.place) it.target) h)
+          | inr (inr h) ↦ (let less = h.1 in let attr = ap (λ (o : Target). o.attr) it.target in omega arith)
+        ];
+      }
+        where
+          passed : HasPass m q it.rule.target k
+          passed = subst (λ o. HasPass m q o k) (sym it.target) it.passed
+
+          final : (o : Target) (i : ℕ) → HasPass m q o i → MayUse k j o.place i → IsFinal q k (node p t done) o.place i
+          final o i has may = elim (cases_lt i k) [
+            | inl less ↦ inl less
+            | inr le ↦ elim (cases_eq o.place 0) [
+              | inl own ↦ inr (inl own)
+              | inr right ↦ (
+                  let most = may_use_most k j o.place i may in
+                  let same : i ≡ k = omega arith in
+                  let turn = place_turn o (subst (HasPass m q o) same has) right in
+                  let early = here.before turn.0 turn.1 (subst (MayUse k j (place_of q k turn.0)) same
+                  (subst (λ y. MayUse k j y i) turn.2 may)) in
+                  let count = here.count in
+                  inr (inr (turn.0, omega arith, turn.2)))
+            ]
+          ]
+
+    -- what is left at the place from an attribute on runs, if what comes after it does
+    abbrev at_place : (a n : ℕ) → List Instr
+    at_place a n = flat_map (λ a. remaining_for m q k old (record { place = j; attr = a })) (range_with_len a n)
+
+    module _ (ys : List Instr) (next : (done : List ℕ) → Way (IsPassed t j (attribute_count j)) done
+        → Runs m q k (node p t done) ys) where
+      from_attribute : (n a : ℕ) (done : List ℕ) → a + n ≡ attribute_count j → Way (IsPassed t j a) done
+          → Runs m q k (node p t done) (at_place a n ++ ys)
+      from_attribute zero a done all way =
+          next done (subst (λ a. Way (IsPassed t j a) done) (let z : a ≡ attribute_count j = omega arith in z) way)
+      from_attribute (suc n) a done all way = elim (left_is (record { place = j; attr = a })) [
+        | inl none ↦ subst (λ l. Runs m q k (node p t done) ((l ++ at_place (a + 1) n) ++ ys)) (sym none.empty)
+            (from_attribute n (a + 1) done (omega arith) (skip a done way none))
+        | inr it ↦ subst (λ l. Runs m q k (node p t done) ((l ++ at_place (a + 1) n) ++ ys)) (sym it.alone)
+            (here.runs a it.number done (at_place (a + 1) n ++ ys) (may_compute a done way it)
+            (from_attribute n (a + 1) (it.number ∷ done) (omega arith) (run_one a done way it)))
+      ]
+
+      at_all : (done : List ℕ) → Way (IsDoneAt t) done → Runs m q k (node p t done) (remaining_at m q k old j ++ ys)
+      at_all done way =
+          from_attribute (attribute_count j) 0 done (omega arith) (regroup (IsDoneAt t) (IsPassed t j 0) done way (λ o h. inl h)
+          (λ r u at has h. elim h [ inl v ↦ inr v | inr l ↦ (let less = l.1 in absurd (omega arith)) ]))
+
+  turn_is : (p : Phase) (t : ℕ) (done : List ℕ) → t < arity q → IsTurnOf q k (node p t done) p (place_of q k t)
+  turn_is p t done within = record { phase_is = refl; within = within; place = refl }
+
+  -- a node computes the attributes of the child whose turn it is, and its own where all children are complete
+  of_child : (t : ℕ) → t < arity q → Computes Got t (place_of q k t)
+  of_child t within = record {
+    new = λ v. (let same = one_turn q k t v.0 within (omega arith) v.2 in omega arith);
+    count = refl;
+    before = before;
+    runs = λ a r done ys may rest. ((turn_is Got t done within, may), rest);
+  }
     where
-      turn_now : IsTurnOf q k s Between (place_of q k t)
-      turn_now = record { phase_is = phase; within = omega arith; place = ap (place_of q k) (sym turn) }
+      before : (u : ℕ) → u < arity q → MayUse k (place_of q k t) (place_of q k u) k → u < t
+      before u less (inl h) = absurd (omega arith)
+      before u less (inr (inl h)) = turn_before q k u t less within h.0
+      before u less (inr (inr h)) = absurd (omega arith)
 
-      no_child : (x : Terminal) → item_at q (place_of q k t) ≡ Some (item.Terminal x) → IsChild q (place_of q k t) → ⊥
-      no_child x e child = let both = sym e ∙ child.1.1 in cc
+  own : (t : ℕ) → t ≡ arity q → Computes Between t 0
+  own t all = record {
+    new = λ v. omega arith;
+    count = refl;
+    before = λ u less may. omega arith;
+    runs = λ a r done ys may rest. (((λ e. cc), may), rest);
+  }
 
-      at_item : ((s' : State) → IsBetween (suc t) s' → Runs m q k s' (visits m q k old (t + 1) n ++ own_part m q k old))
-          → (o : Option Item) → item_at q (place_of q k t) ≡ o
-          → Runs m q k s (visit m q k old (place_of q k t) o ++ (visits m q k old (t + 1) n ++ own_part m q k old))
-      at_item next None e =
-          absurd (let x = is_stored_child q k t (omega arith) in let both = sym e ∙ x.1.1 in cc)
-      at_item next (Some (item.Symbol x)) e = (
-        turn_now,
-        child_runs t (after q s (instr.Get (place_of q k t))) (visits m q k old (t + 1) n ++ own_part m q k old) (omega arith)
-            (ap after_get e) turn
-            (let w = moved t 0 (place_of q k t) s way in record { kept = w.kept; ran = w.ran; only = w.only }) next,
-      )
-      at_item next (Some (item.Terminal x)) e = (
-        turn_now,
+  child_runs : (t : ℕ) (done : List ℕ) (ys : List Instr) → t < arity q → Way (IsDoneAt t) done
+      → ((done : List ℕ) → Way (IsDoneAt (suc t)) done → Runs m q k (node Between (suc t) done) ys)
+      → Runs m q k (node Got t done) (child_part m q k old (place_of q k t) ++ ys)
+  child_runs t done ys within way next =
+      subst (Runs m q k (node Got t done))
+      (sym (append_assoc (remaining_at m q k old (place_of q k t)) (instr.Go (place_of q k t) ∷ instr.Put (place_of q k t) ∷ [])
+      ys))
+      (at_all Got t (place_of q k t) (of_child t within) (instr.Go (place_of q k t) ∷ instr.Put (place_of q k t) ∷ ys)
+      (λ done way. (
         (
-          record { phase_is = ap after_get e; within = omega arith; place = ap (place_of q k) (sym turn) },
-          next (record { phase = Between; turn = suc s.turn; done = s.done }) (
-            refl,
-            ap suc turn,
-            (let w = past_token t 0 s (no_child x e) way in
-                record { kept = w.kept; ran = w.ran; only = w.only }),
-          ),
+          turn_is Got t done within,
+          λ r u at place has. (way r u at has).1 (inr (inr (place, within_count u.target (place_of q k t) place has))),
+        ),
+        (turn_is Gone t done within, next done (turned done way)),
+      )) done way)
+    where
+      turned : (done : List ℕ) → Way (IsPassed t (place_of q k t) (attribute_count (place_of q k t))) done
+          → Way (IsDoneAt (suc t)) done
+      turned done way =
+          regroup (IsPassed t (place_of q k t) (attribute_count (place_of q k t))) (IsDoneAt (suc t)) done way
+          (λ o h. elim h [ inl v ↦ (v.0, omega arith, v.2) | inr l ↦ (t, omega arith, l.0) ])
+          (λ r u at has v. elim (cases_eq v.0 t) [
+            | inl same ↦ (let here = v.2 ∙ ap (place_of q k) same in
+                inr (inr (here, within_count u.target (place_of q k t) here has)))
+            | inr other ↦ inr (inl (v.0, omega arith, v.2))
+          ])
+
+  own_runs : (t : ℕ) (done : List ℕ) → t ≡ arity q → Way (IsDoneAt t) done
+      → Runs m q k (node Between t done) (own_part m q k old)
+  own_runs t done all way =
+      at_all Between t 0 (own t all) (instr.End ∷ [])
+      (λ done way. ((refl, all, λ j r u at place has. (way r u at has).1 (inr (elim (cases_eq u.target.place 0) [
+        | inl own ↦ inr (own, within_count u.target 0 own has)
+        | inr right ↦ (let turn = place_turn u.target has right in inl (turn.0, omega arith, turn.2))
+      ]))), refl)) done way
+
+  -- the visits from a turn on, and then the node's own part
+  from_turn : (n t : ℕ) (done : List ℕ) → t + n ≡ arity q → Way (IsDoneAt t) done
+      → Runs m q k (node Between t done) (visits m q k old t n ++ own_part m q k old)
+  from_turn zero t done all way = own_runs t done (omega arith) way
+  from_turn (suc n) t done all way =
+      subst (Runs m q k (node Between t done))
+      (sym (append_assoc (visit m q k old (place_of q k t) (item_at q (place_of q k t))) (visits m q k old (t + 1) n)
+      (own_part m q k old))) (at_item (λ done way. subst
+      (λ v. Runs m q k (node Between (suc t) done) (visits m q k old v n ++ own_part m q k old))
+      (let z : suc t ≡ t + 1 = omega arith in z) (from_turn n (suc t) done (omega arith) way)) (item_at q (place_of q k t)) refl)
+    where
+      ys : List Instr
+      ys = visits m q k old (t + 1) n ++ own_part m q k old
+
+      within : t < arity q
+      within = omega arith
+
+      at_item : ((done : List ℕ) → Way (IsDoneAt (suc t)) done → Runs m q k (node Between (suc t) done) ys) → (o : Option Item)
+          → item_at q (place_of q k t) ≡ o
+          → Runs m q k (node Between t done) (visit m q k old (place_of q k t) o ++ ys)
+      at_item next None e = absurd (let x = is_stored_child q k t within in let both = sym e ∙ x.1.1 in cc)
+      at_item next (Some (item.Symbol x)) e = (
+        turn_is Between t done within,
+        subst (λ o. Runs m q k (node (after_get o) t done) (child_part m q k old (place_of q k t) ++ ys)) (sym e)
+            (child_runs t done ys within way next),
+      )
+      -- past a token, for which no rule of the pass computes anything
+      at_item next (Some (item.Terminal x)) e = (
+        turn_is Between t done within,
+        subst (λ o. Runs m q k (node (after_get o) t done) (instr.Put (place_of q k t) ∷ ys)) (sym e) (
+          turn_is Gone t done within,
+          next done (regroup (IsDoneAt t) (IsDoneAt (suc t)) done way (λ o v. (v.0, omega arith, v.2))
+              (λ r u at has v. elim (cases_eq v.0 t) [
+                | inl same ↦ absurd (
+                    let s = has_symbol m q u.target k one has in
+                    let both = sym e ∙ ap (item_at q) (sym (v.2 ∙ ap (place_of q k) same)) ∙ s.1 in
+                    cc)
+                | inr other ↦ inr (v.0, omega arith, v.2)
+              ])),
         ),
       )
 
@@ -516,38 +434,32 @@ module _ (m : Passes) (q : Production) (k : ℕ) (one : 1 ≤ k) (single : Diffe
   pub remaining_runs : (s : State) → IsReached m q k s → Runs m q k s (remaining_in m q k s.phase s.turn s.done)
   remaining_runs s is = at_phase s.phase refl
     where
-      way : (t i : ℕ) → t ≤ run_in s → Way m q k one single allowed s.done t i 0 s
-      way t i le = record {
-        kept = λ r h. h;
-        ran = λ r u at has passed. elim passed [
-          | inl h ↦ (let less = h.1 in is.computed h.0 (omega arith) r u at h.2 has)
-          | inr h ↦ (let less = h.1 in absurd (omega arith))
-        ];
-        only = λ r u at h. inl h;
-      }
+      way : (t : ℕ) → t ≤ run_in s → Way m q k one single allowed s.done (IsDoneAt m q k one single allowed s.done t) s.done
+      way t le r u at has = (
+        (λ h. inl h),
+        λ h. elim h [ inl h ↦ h | inr v ↦ is.computed v.0 (omega arith) r u at v.2 has ],
+      )
 
-      from : (t : ℕ) (s' : State) → t ≤ arity q → IsBetween m q k one single allowed s.done t s'
-          → Runs m q k s' (remaining_from m q k s.done t)
-      from t s' le = from_turn m q k one single allowed s.done (arity q - t) t s' (omega arith)
+      from : (t : ℕ) (done : List ℕ) → t ≤ arity q
+          → Way m q k one single allowed s.done (IsDoneAt m q k one single allowed s.done t) done
+          → Runs m q k (node Between t done) (remaining_from m q k s.done t)
+      from t done le = from_turn m q k one single allowed s.done (arity q - t) t done (omega arith)
 
-      at_phase : (p : Phase) → s.phase ≡ p → Runs m q k s (remaining_in m q k p s.turn s.done)
-      at_phase Between e = from s.turn s (let c = read_is s Between e in let w = is.within in omega arith)
-          (e, refl, way s.turn 0 (let c = run_is s Between e in omega arith))
+      at_phase : (p : Phase) → s.phase ≡ p → Runs m q k (node p s.turn s.done) (remaining_in m q k p s.turn s.done)
+      at_phase Between e = from s.turn s.done (let c = read_is s Between e in let w = is.within in omega arith)
+          (way s.turn (let c = run_is s Between e in omega arith))
       at_phase Got e =
           let c = read_is s Got e in
           let w = is.within in
-          child_runs m q k one single allowed s.done s.turn s (remaining_from m q k s.done (suc s.turn)) (omega arith) e refl
-          (way s.turn (place_of q k s.turn) (let c = run_is s Got e in omega arith))
-          (λ s' here. from (suc s.turn) s' (omega arith) here)
+          child_runs m q k one single allowed s.done s.turn s.done (remaining_from m q k s.done (suc s.turn)) (omega arith)
+          (way s.turn (let c = run_is s Got e in omega arith)) (λ done way. from (suc s.turn) done (omega arith) way)
       at_phase Gone e =
           let c = read_is s Gone e in
-          let w = is.within in
-          let next = way (suc s.turn) 0 (let c = run_is s Gone e in omega arith) in (
-            record { phase_is = e; within = omega arith; place = refl },
-            from (suc s.turn) (record { phase = Between; turn = suc s.turn; done = s.done }) (omega arith)
-                (refl, refl, record { kept = next.kept; ran = next.ran; only = next.only }),
+          let w = is.within in (
+            record { phase_is = refl; within = omega arith; place = refl },
+            from (suc s.turn) s.done (omega arith) (way (suc s.turn) (let c = run_is s Gone e in omega arith)),
           )
-      at_phase Ended e = e
+      at_phase Ended e = refl
 
   -- and so does the list for the production and the pass from the start
   pub list_runs : Runs m q k start (generated_list m q k)
