@@ -1,5 +1,5 @@
 -- A list that runs keeps the rules of agreement.
-use Rattle.std.proofs.Common.{ℕ, zero, suc, ◌≡◌, ◌<◌, ◌≤◌, inl, inr, List, [], ◌∷◌, Option, Some, None, slice_get, get_or, length}
+use Rattle.std.proofs.Common.{ℕ, zero, suc, ◌≡◌, ◌<◌, ◌≤◌, inl, inr, List, [], ◌∷◌, Option, Some, slice_get, get_or, length}
 use Rattle.std.proofs.Common.{refl, ap, ◌∙◌, sym, subst, arith}
 use Rattle.std.proofs.lemmas.Bool.{cases_lt}
 use Rattle.std.proofs.lemmas.Option.{slice_get_within, slice_get-get_or}
@@ -9,7 +9,7 @@ use Rattle.ag_grammar.specs.declared.grammar.Item.TheVariants as item
 use Rattle.ag_grammar.specs.declared.grammar.Production.{Production}
 use Rattle.ag_grammar.specs.declared.grammar.Rule.{Rule}
 use Rattle.ag_grammar.specs.declared.grammar.Target.{Target}
-use Rattle.ag_grammar.specs.declared.grammar.Terminal.TheVariants.{Literal, Class}
+use Rattle.ag_grammar.specs.declared.grammar.Terminal.TheVariants.{Class}
 use Rattle.ag_grammar.specs.grammars.AttributeGrammar.{item_at, IsArgument}
 use Rattle.ag_grammar.specs.grammars.Passes.{Passes, HasPass, IsBefore, direction_of, item_passes}
 use Rattle.passcode.specs.declared.instr.Instr.{Instr}
@@ -37,19 +37,12 @@ has_symbol m q o k one has = go (item_at q o.place) refl
     lex zero e = let z : 0 ≡ k = cc in omega arith
     lex (suc a) e = cc
 
-    nothing : (a : ℕ) → slice_get {X = ℕ} [] a ≡ Some k → ⊥
-    nothing a e = cc
-
     go : (x : Option Item) → item_at q o.place ≡ x → (s : ℕ) × (item_at q o.place ≡ Some (item.Symbol s))
-    go None e = absurd (nothing o.attr (there None e))
     go (Some (item.Symbol s)) e = (s, e)
     go (Some (item.Terminal (Class c))) e = absurd (lex o.attr (there (Some (item.Terminal (Class c))) e))
-    go (Some (item.Terminal (Literal l))) e = absurd (nothing o.attr (there (Some (item.Terminal (Literal l))) e))
+    go x e = let none = there x e in absurd cc
 
 module _ (m : Passes) (q : Production) (k : ℕ) (xs : List Instr) (one : 1 ≤ k) (runs : Runs m q k start xs) where
-  at : ℕ → State
-  at n = state_at q start xs n
-
   may_to : MayRunTo m q k start xs (length xs)
   may_to = (runs_by_index m q k start xs runs).0
 
@@ -205,7 +198,7 @@ module _ (m : Passes) (q : Production) (k : ℕ) (xs : List Instr) (one : 1 ≤ 
 
   -- a rule's own instruction
   of_rule : (s : State) (j a r : ℕ) (g : MayCompute m q k s j a r) → set_or_def j a r ≡ instruction_of g.rule r
-  of_rule s j a r g = ap (λ (o : Target). set_or_def o.place o.attr r) (sym g.target)
+  of_rule s j a r g = cc
 
   is_own : (i : Instr) → IsComputation i → Has xs i → (r : ℕ) × (u : Rule) × IsRuleAt q r u × (i ≡ instruction_of u r)
   is_own i (zero, a, r, inl e) h = let turn = (may h.0 (instr.Set 0 a r) (h.1 ∙ ap Some e)).0 in

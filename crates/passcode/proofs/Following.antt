@@ -26,21 +26,17 @@ use Rattle.passcode.proofs.Turns.{is_stored_child, place_before, turn_of}
 -- the phase of a node, by how many children were read and passed
 phase_between : (p : Phase) (t : ℕ) → read_count p t ≤ t → (p ≡ Ended → ⊥) → p ≡ Between
 phase_between Between t le going = refl
-phase_between Got t le going = absurd (omega arith)
-phase_between Gone t le going = absurd (omega arith)
 phase_between Ended t le going = absurd (going refl)
+phase_between p t le going = absurd (omega arith)
 
 phase_got : (p : Phase) (t u : ℕ) → run_count p t ≤ u → u < read_count p t → (p ≡ Got) × (u ≡ t)
-phase_got Between t u le less = absurd (omega arith)
 phase_got Got t u le less = (refl, omega arith)
-phase_got Gone t u le less = absurd (omega arith)
-phase_got Ended t u le less = absurd (omega arith)
+phase_got p t u le less = absurd (omega arith)
 
 phase_gone : (p : Phase) (t u : ℕ) → t ≤ u → u < read_count p t → (p ≡ Got → ⊥) → (p ≡ Gone) × (u ≡ t)
-phase_gone Between t u le less apart = absurd (omega arith)
 phase_gone Got t u le less apart = absurd (apart refl)
 phase_gone Gone t u le less apart = (refl, omega arith)
-phase_gone Ended t u le less apart = absurd (omega arith)
+phase_gone p t u le less apart = absurd (omega arith)
 
 -- what a rule may use is of no later pass
 pub may_use_most : (k j i p : ℕ) → MayUse k j i p → p ≤ k
@@ -51,13 +47,13 @@ may_use_most k (suc j) i p (inr (inr less)) = omega arith
 
 -- the parts of a rule's own instruction
 set_parts : (j a r : ℕ) (o : Target) (s : ℕ) → instr.Set j a r ≡ set_or_def o.place o.attr s
-    → (o ≡ record { place = j; attr = a }) × (r ≡ s)
+    → (o ≡ record { place = j; attr = a }) × (r ≡ s) × (1 ≤ j)
 set_parts j a r o s = go o.place o.attr
   where
     go : (p b : ℕ) → instr.Set j a r ≡ set_or_def p b s → ◌≡◌ {A = Target} (record { place = p; attr = b })
-        (record { place = j; attr = a }) × (r ≡ s)
+        (record { place = j; attr = a }) × (r ≡ s) × (1 ≤ j)
     go zero b e = absurd cc
-    go (suc p) b e = (cc, cc)
+    go (suc p) b e = let same : j ≡ suc p = cc in (cc, cc, omega arith)
 
 def_parts : (a r : ℕ) (o : Target) (s : ℕ) → instr.Def a r ≡ set_or_def o.place o.attr s → (o ≡ record { place = 0; attr = a })
     × (r ≡ s)
@@ -68,13 +64,6 @@ def_parts a r o s = go o.place o.attr
     go zero b e = (cc, cc)
     go (suc p) b e = absurd cc
 
-set_place : (j a r : ℕ) (o : Target) (s : ℕ) → instr.Set j a r ≡ set_or_def o.place o.attr s → 1 ≤ j
-set_place j a r o s = go o.place
-  where
-    go : (p : ℕ) → instr.Set j a r ≡ set_or_def p o.attr s → 1 ≤ j
-    go zero e = absurd cc
-    go (suc p) e = let same : j ≡ suc p = cc in omega arith
-
 set_of : (u : Rule) (r j : ℕ) → 1 ≤ j → u.target.place ≡ j → instruction_of u r ≡ instr.Set j u.target.attr r
 set_of u r zero least e = absurd (omega arith)
 set_of u r (suc j) least e = ap (λ p. set_or_def p u.target.attr r) e
@@ -83,11 +72,12 @@ not_end : (j a r : ℕ) → set_or_def j a r ≡ instr.End → ⊥
 not_end zero a r e = cc
 not_end (suc j) a r e = cc
 
+at_most : (a b : ℕ) → (b < a → ⊥) → a ≤ b
+at_most a b never = elim (cases_lt b a) [ inl less ↦ absurd (never less) | inr le ↦ le ]
+
 turn_read : (p : Phase) (t : ℕ) → t ≤ read_count p t
 turn_read Between t = omega arith
-turn_read Got t = omega arith
-turn_read Gone t = omega arith
-turn_read Ended t = omega arith
+turn_read p t = omega arith
 
 module _ (m : Passes) (q : Production) (k : ℕ) (xs : List Instr) (one : 1 ≤ k) (allowed : IsLegalFor (HasPass m) q)
     (list : ListAgrees m q k xs) where
@@ -187,36 +177,6 @@ module _ (m : Passes) (q : Production) (k : ℕ) (xs : List Instr) (one : 1 ≤ 
     abbrev now : State
     now = state_at q start xs n
 
-    get_may : (j : ℕ) → slice_get xs n ≡ Some (instr.Get j) → MayRun m q k (state_at q start xs n) (instr.Get j)
-    get_may j is = turn_here n (instr.Get j) is may Between turn.0 j turn.1 turn.2 phase
-        (let a = low in let b = high in let e = read_is now Between phase in omega arith)
-      where
-        turn : (t : ℕ) × (t < arity q) × (j ≡ place_of q k t)
-        turn = turn_of q k j ((list.visits.got j).only (n, is))
-
-        low : read_in now ≤ turn.0
-        low = elim (cases_lt turn.0 (read_in now)) [
-          | inl less ↦ absurd (new n (instr.Get j) is may (λ s. turn.0 < read_in s)
-              (subst (λ j. IsMark m q k (λ s. turn.0 < read_in s) (instr.Get j)) (sym turn.2) (get_mark m q k turn.0 turn.1))
-              (HasPlace q j) (list.visits.got j) less)
-          | inr le ↦ le
-        ]
-
-        high : turn.0 ≤ now.turn
-        high = elim (cases_lt now.turn turn.0) [
-          | inl less ↦ absurd (
-              let within : now.turn < arity q = (let w = turn.1 in omega arith) in
-              let earlier = subst (IsBefore (direction_of k) (place_of q k now.turn)) (sym turn.2)
-              (place_before q k now.turn turn.0 less turn.1) in
-              let put = was_put n (instr.Get j) is may now.turn (place_of q k now.turn) within refl
-              (λ i e. list.visits.in_direction (place_of q k now.turn) j earlier i n e is) in
-              omega arith)
-          | inr le ↦ le
-        ]
-
-        phase : now.phase ≡ Between
-        phase = phase_between now.phase now.turn (let a = low in let b = high in omega arith) (going n (instr.Get j) is may)
-
     -- at a child that was read, and in which the pass has not run
     got_turn : (x : Instr) → slice_get xs n ≡ Some x → (j : ℕ) → (child : IsChild q j)
         → ((i : ℕ) → slice_get xs i ≡ Some (instr.Get j) → i < n) → ((i : ℕ) → i < n → slice_get xs i ≡ Some (instr.Go j) → ⊥)
@@ -227,19 +187,38 @@ module _ (m : Passes) (q : Production) (k : ℕ) (xs : List Instr) (one : 1 ≤ 
         turn = turn_of q k j (item.Symbol child.0, child.1)
 
         low : run_in now ≤ turn.0
-        low = elim (cases_lt turn.0 (run_in now)) [
-          | inl less ↦ absurd (
-              let before = occurs m q k xs n may (λ s. turn.0 < run_in s) (instr.Go (place_of q k turn.0))
-              (go_mark m q k turn.0 turn.1 (subst (IsChild q) turn.2 child)) n (omega arith) less in
-              go before.0 before.1 (before.2 ∙ ap (λ j. Some (instr.Go j)) (sym turn.2)))
-          | inr le ↦ le
-        ]
+        low = at_most (run_in now) turn.0 (λ less. (
+            let before = occurs m q k xs n may (λ s. turn.0 < run_in s) (instr.Go (place_of q k turn.0))
+            (go_mark m q k turn.0 turn.1 (subst (IsChild q) turn.2 child)) n (omega arith) less in
+            go before.0 before.1 (before.2 ∙ ap (λ j. Some (instr.Go j)) (sym turn.2))))
 
         phase : (now.phase ≡ Got) × (turn.0 ≡ now.turn)
         phase = phase_got now.phase now.turn turn.0 low (was_read n x is may turn.0 j turn.1 turn.2 get)
 
-    set_may : (j a r : ℕ) → slice_get xs n ≡ Some (instr.Set j a r) → MayRun m q k (state_at q start xs n) (instr.Set j a r)
-    set_may j a r is = (
+    step : (x : Instr) → slice_get xs n ≡ Some x → MayRun m q k (state_at q start xs n) x
+    step (instr.Get j) is = turn_here n (instr.Get j) is may Between turn.0 j turn.1 turn.2 phase
+        (let a = low in let b = high in let e = read_is now Between phase in omega arith)
+      where
+        turn : (t : ℕ) × (t < arity q) × (j ≡ place_of q k t)
+        turn = turn_of q k j ((list.visits.got j).only (n, is))
+
+        low : read_in now ≤ turn.0
+        low = at_most (read_in now) turn.0 (new n (instr.Get j) is may (λ s. turn.0 < read_in s)
+            (subst (λ j. IsMark m q k (λ s. turn.0 < read_in s) (instr.Get j)) (sym turn.2) (get_mark m q k turn.0 turn.1))
+            (HasPlace q j) (list.visits.got j))
+
+        high : turn.0 ≤ now.turn
+        high = at_most turn.0 now.turn (λ less. (
+            let within : now.turn < arity q = (let w = turn.1 in omega arith) in
+            let earlier = subst (IsBefore (direction_of k) (place_of q k now.turn)) (sym turn.2)
+            (place_before q k now.turn turn.0 less turn.1) in
+            let put = was_put n (instr.Get j) is may now.turn (place_of q k now.turn) within refl
+            (λ i e. list.visits.in_direction (place_of q k now.turn) j earlier i n e is) in
+            omega arith))
+
+        phase : now.phase ≡ Between
+        phase = phase_between now.phase now.turn (let a = low in let b = high in omega arith) (going n (instr.Get j) is may)
+    step (instr.Set j a r) is = (
       got_turn (instr.Set j a r) is j child (λ i e. list.computes.after_get j a r i n e is)
           (λ i less e. let after = list.computes.before_go j a r n i is e in omega arith),
       subst (MayCompute m q k (state_at q start xs n) j a) (sym parts.1)
@@ -249,24 +228,15 @@ module _ (m : Passes) (q : Production) (k : ℕ) (xs : List Instr) (one : 1 ≤ 
         own : (r' : ℕ) × (u : Rule) × IsRuleAt q r' u × (instr.Set j a r ≡ instruction_of u r')
         own = list.computes.own (instr.Set j a r) (j, a, r, inl refl) (n, is)
 
-        parts : (own.1.target ≡ record { place = j; attr = a }) × (r ≡ own.0)
+        parts : (own.1.target ≡ record { place = j; attr = a }) × (r ≡ own.0) × (1 ≤ j)
         parts = set_parts j a r own.1.target own.0 own.3
 
         symbol : (s : ℕ) × (item_at q own.1.target.place ≡ Some (item.Symbol s))
         symbol = has_symbol m q own.1.target k one ((list.computes.computed own.0 own.1 own.2).only (n, is ∙ ap Some own.3))
 
         child : IsChild q j
-        child = (
-          symbol.0,
-          (
-            set_place j a r own.1.target own.0 own.3,
-            ap (λ (o : Target). item_at q o.place) (sym parts.0)
-                ∙ symbol.1,
-          ),
-        )
-
-    def_may : (a r : ℕ) → slice_get xs n ≡ Some (instr.Def a r) → MayRun m q k (state_at q start xs n) (instr.Def a r)
-    def_may a r is = (
+        child = (symbol.0, (parts.2, ap (λ (o : Target). item_at q o.place) (sym parts.0) ∙ symbol.1))
+    step (instr.Def a r) is = (
       going n (instr.Def a r) is may,
       subst (MayCompute m q k (state_at q start xs n) 0 a) (sym parts.1)
           (may_compute n (instr.Def a r) is may 0 a own.0 own.1 own.2 parts.0 own.3),
@@ -277,9 +247,7 @@ module _ (m : Passes) (q : Production) (k : ℕ) (xs : List Instr) (one : 1 ≤ 
 
         parts : (own.1.target ≡ record { place = 0; attr = a }) × (r ≡ own.0)
         parts = def_parts a r own.1.target own.0 own.3
-
-    go_may : (j : ℕ) → slice_get xs n ≡ Some (instr.Go j) → MayRun m q k (state_at q start xs n) (instr.Go j)
-    go_may j is = (
+    step (instr.Go j) is = (
       got_turn (instr.Go j) is j child (λ i e. list.visits.go_after_get j i n e is)
           (λ i less e. let same = (list.visits.gone j).once i n e is in omega arith),
       λ r u at here passed. was_given n (instr.Go j) is may r u at passed
@@ -288,20 +256,15 @@ module _ (m : Passes) (q : Production) (k : ℕ) (xs : List Instr) (one : 1 ≤ 
       where
         child : IsChild q j
         child = (list.visits.gone j).only (n, is)
-
-    put_may : (j : ℕ) → slice_get xs n ≡ Some (instr.Put j) → MayRun m q k (state_at q start xs n) (instr.Put j)
-    put_may j is = turn_here n (instr.Put j) is may Gone turn.0 j turn.1 turn.2 phase.0 phase.1
+    step (instr.Put j) is = turn_here n (instr.Put j) is may Gone turn.0 j turn.1 turn.2 phase.0 phase.1
       where
         turn : (t : ℕ) × (t < arity q) × (j ≡ place_of q k t)
         turn = turn_of q k j ((list.visits.put j).only (n, is))
 
         low : now.turn ≤ turn.0
-        low = elim (cases_lt turn.0 now.turn) [
-          | inl less ↦ absurd (new n (instr.Put j) is may (λ s. turn.0 < s.turn)
-              (subst (λ j. IsMark m q k (λ s. turn.0 < s.turn) (instr.Put j)) (sym turn.2) (put_mark m q k turn.0 turn.1))
-              (HasPlace q j) (list.visits.put j) less)
-          | inr le ↦ le
-        ]
+        low = at_most now.turn turn.0 (new n (instr.Put j) is may (λ s. turn.0 < s.turn)
+            (subst (λ j. IsMark m q k (λ s. turn.0 < s.turn) (instr.Put j)) (sym turn.2) (put_mark m q k turn.0 turn.1))
+            (HasPlace q j) (list.visits.put j))
 
         read : turn.0 < read_in now
         read = was_read n (instr.Put j) is may turn.0 j turn.1 turn.2 (λ i e. list.visits.put_after_get j i n e is)
@@ -322,9 +285,7 @@ module _ (m : Passes) (q : Production) (k : ℕ) (xs : List Instr) (one : 1 ≤ 
 
         phase : (now.phase ≡ Gone) × (turn.0 ≡ now.turn)
         phase = phase_gone now.phase now.turn turn.0 low read not_got
-
-    end_may : slice_get xs n ≡ Some instr.End → MayRun m q k (state_at q start xs n) instr.End
-    end_may is = (
+    step instr.End is = (
       phase_between now.phase now.turn (let a = all_put in let b = most in omega arith) (going n instr.End is may),
       (let a = all_put in let b = most in let c = turn_read now.phase now.turn in omega arith),
       computed,
@@ -338,11 +299,10 @@ module _ (m : Passes) (q : Production) (k : ℕ) (xs : List Instr) (one : 1 ≤ 
         ]
 
         all_put : arity q ≤ now.turn
-        all_put = elim (cases_lt now.turn (arity q)) [
-          | inl less ↦ absurd (let put = was_put n instr.End is may now.turn (place_of q k now.turn) less refl
-              (prefix (instr.Put (place_of q k now.turn)) (λ e. cc)) in omega arith)
-          | inr le ↦ le
-        ]
+        all_put = at_most (arity q) now.turn (λ less. (
+            let put = was_put n instr.End is may now.turn (place_of q k now.turn) less refl
+            (prefix (instr.Put (place_of q k now.turn)) (λ e. cc)) in
+            omega arith))
 
         most : read_in now ≤ arity q
         most = kept m q k xs n may (λ s. read_in s ≤ arity q) (read_within m q k) 0 n (omega arith) (omega arith) (omega arith)
@@ -350,14 +310,6 @@ module _ (m : Passes) (q : Production) (k : ℕ) (xs : List Instr) (one : 1 ≤ 
         computed : (j : ℕ) → AreDone m q k now j
         computed j r u at here passed = was_given n instr.End is may r u at passed
             (prefix (instruction_of u r) (not_end u.target.place u.target.attr r))
-
-    step : (x : Instr) → slice_get xs n ≡ Some x → MayRun m q k (state_at q start xs n) x
-    step (instr.Get j) is = get_may j is
-    step (instr.Set j a r) is = set_may j a r is
-    step (instr.Go j) is = go_may j is
-    step (instr.Put j) is = put_may j is
-    step (instr.Def a r) is = def_may a r is
-    step instr.End is = end_may is
 
   may_to : (n : ℕ) → MayRunTo m q k start xs n
   may_to zero i x less is = absurd (omega arith)

@@ -14,14 +14,13 @@ use Rattle.ag_grammar.specs.declared.grammar.Item.TheVariants as item
 use Rattle.ag_grammar.specs.declared.grammar.Production.{Production}
 use Rattle.ag_grammar.specs.declared.grammar.Rule.{Rule}
 use Rattle.ag_grammar.specs.declared.grammar.Target.{Target}
-use Rattle.ag_grammar.specs.declared.grammar.Terminal.{Terminal}
-use Rattle.ag_grammar.specs.grammars.AttributeGrammar.{item_at, IsArgument}
+use Rattle.ag_grammar.specs.grammars.AttributeGrammar.{item_at}
 use Rattle.ag_grammar.specs.grammars.Counts.{is_pass, pass_at}
-use Rattle.ag_grammar.specs.grammars.Passes.{Passes, HasPass, IsBefore, IsLegalFor, MayUse, direction_of, item_passes}
+use Rattle.ag_grammar.specs.grammars.Passes.{Passes, HasPass, IsLegalFor, MayUse, item_passes}
 use Rattle.passcode.specs.declared.instr.Instr.{Instr}
 use Rattle.passcode.specs.declared.instr.Instr.TheVariants as instr
-use Rattle.passcode.specs.Agreement.{IsChild, IsRuleAt, set_or_def}
-use Rattle.passcode.specs.Course.{AreDone, IsAvailable, IsFinal, IsTurnOf, IsVisited, MayCompute, MayRun, Phase, Runs, State}
+use Rattle.passcode.specs.Agreement.{IsRuleAt, set_or_def}
+use Rattle.passcode.specs.Course.{AreDone, IsFinal, IsTurnOf, IsVisited, MayCompute, MayRun, Phase, Runs, State}
 use Rattle.passcode.specs.Course.{Between, Got, Gone, Ended, after, after_get, arity, place_of, run_count, start}
 use Rattle.passcode.specs.Listing.{child_part, own_part, visits, is_same, remaining_instruction, remaining_at, remaining_for}
 use Rattle.passcode.specs.Listing.{remaining_from, remaining_in, generated_list, rule_for, visit}
@@ -84,7 +83,7 @@ lacks_number done r e (i, at) =
     let found = list_any_at (nat_eq r) done i 0 (slice_get_within done i r at) passes in
     cc
 
-is_the_pass : (k : ℕ) (o : Option ℕ) → (is_pass k o ≡ true → o ≡ Some k) × (is_pass k o ≡ false → o ≡ Some k → ⊥)
+pub is_the_pass : (k : ℕ) (o : Option ℕ) → (is_pass k o ≡ true → o ≡ Some k) × (is_pass k o ≡ false → o ≡ Some k → ⊥)
 is_the_pass k None = ((λ e. absurd cc), λ e f. cc)
 is_the_pass k (Some p) = (
   (λ e. ap Some (eqb-true p k e)),
@@ -335,10 +334,17 @@ module _ (m : Passes) (q : Production) (k : ℕ) (one : 1 ≤ k) (single : Diffe
       → Runs m q k (node Between t done) (own_part m q k old)
   own_runs t done all way =
       at_all Between t 0 (own t all) (instr.End ∷ [])
-      (λ done way. ((refl, all, λ j r u at place has. (way r u at has).1 (inr (elim (cases_eq u.target.place 0) [
-        | inl own ↦ inr (own, within_count u.target 0 own has)
-        | inr right ↦ (let turn = place_turn u.target has right in inl (turn.0, omega arith, turn.2))
-      ]))), refl)) done way
+      (λ done way. (
+        (
+          refl,
+          all,
+          λ j r u at place has. (way r u at has).1 (inr (elim (cases_eq u.target.place 0) [
+            | inl own ↦ inr (own, within_count u.target 0 own has)
+            | inr right ↦ (let turn = place_turn u.target has right in inl (turn.0, omega arith, turn.2))
+          ])),
+        ),
+        refl,
+      )) done way
 
   -- the visits from a turn on, and then the node's own part
   from_turn : (n t : ℕ) (done : List ℕ) → t + n ≡ arity q → Way (IsDoneAt t) done

@@ -1,5 +1,5 @@
 -- The marks of instructions: how many children were read, passed or completed, which rules were run, and the end.
-use Rattle.std.proofs.Common.{ℕ, zero, suc, ◌≡◌, ◌<◌, ◌≤◌, ◌⊎◌, inl, inr, [], ◌∷◌, Option, Some, None, slice_get, refl, ap, ◌∙◌}
+use Rattle.std.proofs.Common.{ℕ, zero, suc, ◌≡◌, ◌<◌, ◌≤◌, ◌⊎◌, inl, inr, [], ◌∷◌, Option, Some, slice_get, refl, ap, ◌∙◌}
 use Rattle.std.proofs.Common.{sym, subst, arith}
 use Rattle.std.proofs.lemmas.Bool.{cases_eq}
 use Rattle.ag_grammar.specs.Lists.{Has}
@@ -32,24 +32,20 @@ pub run_is : (s : State) (p : Phase) → s.phase ≡ p → run_in s ≡ run_coun
 run_is s p e = ap (λ p. run_count p s.turn) e
 
 read_after : (o : Option Item) (t : ℕ) → read_count (after_get o) t ≡ suc t
-read_after None t = refl
 read_after (Some (item.Symbol s)) t = refl
-read_after (Some (item.Terminal x)) t = refl
+read_after o t = refl
 
 pub run_after : (o : Option Item) (t : ℕ) → (t ≤ run_count (after_get o) t) × (run_count (after_get o) t ≤ suc t)
-run_after None t = (omega arith, omega arith)
 run_after (Some (item.Symbol s)) t = (omega arith, omega arith)
-run_after (Some (item.Terminal x)) t = (omega arith, omega arith)
+run_after o t = (omega arith, omega arith)
 
 not_ended : (o : Option Item) → after_get o ≡ Ended → ⊥
-not_ended None e = cc
 not_ended (Some (item.Symbol s)) e = cc
-not_ended (Some (item.Terminal x)) e = cc
+not_ended o e = cc
 
 got_symbol : (o : Option Item) → after_get o ≡ Got → (s : ℕ) × (o ≡ Some (item.Symbol s))
-got_symbol None e = absurd cc
 got_symbol (Some (item.Symbol s)) e = (s, refl)
-got_symbol (Some (item.Terminal x)) e = absurd cc
+got_symbol o e = absurd cc
 
 module _ (m : Passes) (q : Production) (k : ℕ) where
   -- A counter: it begins at 0, and rises from the turn's number by the instruction x of the turn's place, or at a place of
@@ -99,23 +95,18 @@ module _ (m : Passes) (q : Production) (k : ℕ) where
           ⊎ ((read_in s ≡ s.turn) × (read_in (after q s y) ≡ suc s.turn) × (Unit {0} → y ≡ instr.Get (place_of q k s.turn)))
       steps s (instr.Get j) may = inr
           (read_is s Between may.phase_is, read_after (item_at q j) s.turn, λ u. ap instr.Get may.place)
-      steps s (instr.Set j a r) may = inl refl
       steps s (instr.Go j) may = inl (sym (read_is s Got may.0.phase_is))
       steps s (instr.Put j) may = inl (sym (read_is s Gone may.phase_is))
-      steps s (instr.Def a r) may = inl refl
       steps s instr.End may = inl (sym (read_is s Between may.0))
+      steps s x may = inl refl
 
   puts : IsCounter Any (λ s. s.turn) instr.Put
   puts = record { first = refl; steps = steps; takes = λ s j may. (may.within, may.place, refl, refl) }
     where
       steps : (s : State) (y : Instr) → MayRun m q k s y → ((after q s y).turn ≡ s.turn)
           ⊎ ((s.turn ≡ s.turn) × ((after q s y).turn ≡ suc s.turn) × (Unit {0} → y ≡ instr.Put (place_of q k s.turn)))
-      steps s (instr.Get j) may = inl refl
-      steps s (instr.Set j a r) may = inl refl
-      steps s (instr.Go j) may = inl refl
       steps s (instr.Put j) may = inr (refl, refl, λ u. ap instr.Put may.place)
-      steps s (instr.Def a r) may = inl refl
-      steps s instr.End may = inl refl
+      steps s x may = inl refl
 
   runs : IsCounter (IsChild q) run_in instr.Go
   runs = record { first = refl; steps = steps; takes = λ s j may. (may.0.within, may.0.place, run_is s Got may.0.phase_is, refl) }
@@ -125,13 +116,7 @@ module _ (m : Passes) (q : Production) (k : ℕ) where
           ⊎ ((run_in s ≡ s.turn) × (run_count (after_get o) s.turn ≡ suc s.turn)
           × (IsChild q (place_of q k s.turn) → instr.Get j ≡ instr.Go (place_of q k s.turn)))
       by_item s j may (Some (item.Symbol x)) e = inl (sym (run_is s Between may.phase_is))
-      by_item s j may (Some (item.Terminal x)) e = inr (
-        run_is s Between may.phase_is,
-        refl,
-        λ child. absurd
-            (let both = sym e ∙ ap (item_at q) may.place ∙ child.1.1 in cc),
-      )
-      by_item s j may None e = inr (
+      by_item s j may o e = inr (
         run_is s Between may.phase_is,
         refl,
         λ child. absurd
@@ -142,11 +127,10 @@ module _ (m : Passes) (q : Production) (k : ℕ) where
           ⊎ ((run_in s ≡ s.turn) × (run_in (after q s y) ≡ suc s.turn)
           × (IsChild q (place_of q k s.turn) → y ≡ instr.Go (place_of q k s.turn)))
       steps s (instr.Get j) may = by_item s j may (item_at q j) refl
-      steps s (instr.Set j a r) may = inl refl
       steps s (instr.Go j) may = inr (run_is s Got may.0.phase_is, refl, λ child. ap instr.Go may.0.place)
       steps s (instr.Put j) may = inl (sym (run_is s Gone may.phase_is))
-      steps s (instr.Def a r) may = inl refl
       steps s instr.End may = inl (sym (run_is s Between may.0))
+      steps s x may = inl refl
 
   pub run_stays : (t : ℕ) → IsKept m q k (λ s. t < run_in s)
   run_stays t = counter_stays (IsChild q) run_in instr.Go runs t
@@ -173,38 +157,30 @@ module _ (m : Passes) (q : Production) (k : ℕ) where
     where
       stays : IsKept m q k (λ s. s.phase ≡ Ended)
       stays s (instr.Get j) may e = let f = may.phase_is in absurd cc
-      stays s (instr.Set j a r) may e = e
       stays s (instr.Go j) may e = let f = may.0.phase_is in absurd cc
       stays s (instr.Put j) may e = let f = may.phase_is in absurd cc
-      stays s (instr.Def a r) may e = e
       stays s instr.End may e = refl
+      stays s x may e = e
 
       only : (s : State) (y : Instr) → MayRun m q k s y → (after q s y).phase ≡ Ended → (s.phase ≡ Ended) ⊎ (y ≡ instr.End)
       only s (instr.Get j) may e = absurd (not_ended (item_at q j) e)
-      only s (instr.Set j a r) may e = inl e
       only s (instr.Go j) may e = absurd cc
       only s (instr.Put j) may e = absurd cc
-      only s (instr.Def a r) may e = inl e
       only s instr.End may e = inr refl
+      only s x may e = inl e
 
   -- a node that has come to a child and not gone into it has come to a declared symbol's
   pub got_child : IsKept m q k (λ s. s.phase ≡ Got → IsChild q (place_of q k s.turn))
   got_child s (instr.Get j) may was e = let x = got_symbol (item_at q j) e in
       subst (IsChild q) may.place (x.0, (let p = may.place in omega arith, x.1))
   got_child s (instr.Set j a r) may was e = was e
-  got_child s (instr.Go j) may was e = absurd cc
-  got_child s (instr.Put j) may was e = absurd cc
   got_child s (instr.Def a r) may was e = was e
-  got_child s instr.End may was e = absurd cc
+  got_child s x may was e = absurd cc
 
   -- no more children are read than there are
   pub read_within : IsKept m q k (λ s. read_in s ≤ arity q)
   read_within s (instr.Get j) may le = omega (arith, read_after)
-  read_within s (instr.Set j a r) may le = le
-  read_within s (instr.Go j) may le = omega arith
-  read_within s (instr.Put j) may le = omega arith
-  read_within s (instr.Def a r) may le = le
-  read_within s instr.End may le = let e = may.1 in omega arith
+  read_within s x may le = omega arith
 
   -- the own instruction of a rule
   module _ (r : ℕ) (u : Rule) (at : IsRuleAt q r u) where
@@ -244,14 +220,11 @@ module _ (m : Passes) (q : Production) (k : ℕ) where
         before (suc j) a s may h = may.1.fresh h
 
         only : (s : State) (y : Instr) → MayRun m q k s y → Has (after q s y).done r → Has s.done r ⊎ (y ≡ instruction_of u r)
-        only s (instr.Get j) may h = inl h
         only s (instr.Set j a n) may (suc i, e) = inl (i, e)
         only s (instr.Set zero a n) may (zero, e) = let p = may.0.place in absurd (omega arith)
         only s (instr.Set (suc j) a n) may (zero, e) = let same : n ≡ r = cc in
             inr (ap (instr.Set (suc j) a) same ∙ own s (suc j) a (subst (MayCompute m q k s (suc j) a) same may.1))
-        only s (instr.Go j) may h = inl h
-        only s (instr.Put j) may h = inl h
         only s (instr.Def a n) may (suc i, e) = inl (i, e)
         only s (instr.Def a n) may (zero, e) = let same : n ≡ r = cc in
             inr (ap (instr.Def a) same ∙ own s 0 a (subst (MayCompute m q k s 0 a) same may.1))
-        only s instr.End may h = inl h
+        only s x may h = inl h

@@ -1,6 +1,6 @@
 -- A list that agrees has one instruction for each rule of its production and pass.
-use Rattle.std.proofs.Common.{◌≡◌, ℕ, zero, suc, ◌+◌, ◌<◌, ◌≤◌, inl, inr, Bool, true, false, cond, List, [], ◌∷◌, length, Option}
-use Rattle.std.proofs.Common.{Some, None, slice_get, refl, ap, sym, subst, ◌∙◌, arith}
+use Rattle.std.proofs.Common.{◌≡◌, ℕ, zero, suc, ◌+◌, ◌<◌, ◌≤◌, inl, inr, Bool, true, false, cond, List, [], ◌∷◌, length}
+use Rattle.std.proofs.Common.{Some, slice_get, refl, ap, sym, subst, ◌∙◌, arith}
 use Rattle.std.specs.Prelude.{nat_eq}
 use Rattle.std.specs.List.{count_by}
 use Rattle.std.proofs.lemmas.Bool.{cases_lt, eq-eqb, eqb-true, ne_eqb}
@@ -15,6 +15,7 @@ use Rattle.passcode.specs.declared.instr.Instr.TheVariants as instr
 use Rattle.passcode.specs.Agreement.{IsComputation, ListAgrees, IsRuleAt, OccursOnceIf, set_or_def, instruction_of}
 use Rattle.passcode.specs.Counts.{is_computation}
 use Rattle.passcode.specs.Laws.{ListsEvaluateRules}
+use Rattle.passcode.proofs.Leaving.{is_the_pass}
 
 -- an instruction evaluates the rule of a number
 abbrev evaluates : ℕ → Instr → Bool
@@ -48,22 +49,14 @@ evaluated_more n (u ∷ us) i xs = omega (arith, count_more (evaluates n) i xs, 
 by_none : (n : ℕ) (us : List Rule) (i : Instr) → ((k : ℕ) → n ≤ k → evaluates k i ≡ false) → evaluated_by n us i ≡ 0
 by_none n [] i never = refl
 by_none n (u ∷ us) i never =
-    let rest = by_none (suc n) us i (λ k le. never k (omega arith)) in
-    let first : ◌≡◌ {A = ℕ} (cond (evaluates n i) 1 0) 0 = ap (λ b. cond b 1 0) (never n (omega arith)) in
-    omega (arith, first, rest)
+    grind (arith, never n (omega arith), by_none (suc n) us i (λ k le. never k (omega arith)))
 
 by_one : (n r : ℕ) (us : List Rule) (i : Instr) → ((k : ℕ) → evaluates k i ≡ nat_eq r k) → n ≤ r → r < n + length us
     → evaluated_by n us i ≡ 1
 by_one n r [] i is from to = absurd (omega arith)
 by_one n r (u ∷ us) i is from to = elim (cases_lt n r) [
-  | inl less ↦ (
-      let rest = by_one (suc n) r us i is (omega arith) (omega arith) in
-      let first : ◌≡◌ {A = ℕ} (cond (evaluates n i) 1 0) 0 = ap (λ b. cond b 1 0) (is n ∙ ne_eqb r n (λ e. omega arith)) in
-      omega (arith, first, rest))
-  | inr past ↦ (
-      let rest = by_none (suc n) us i (λ k le. is k ∙ ne_eqb r k (λ e. omega arith)) in
-      let first : ◌≡◌ {A = ℕ} (cond (evaluates n i) 1 0) 1 = ap (λ b. cond b 1 0) (is n ∙ eq-eqb r n (omega arith)) in
-      omega (arith, first, rest))
+  | inl less ↦ grind (arith, is n ∙ ne_eqb r n (λ e. omega arith), by_one (suc n) r us i is (omega arith) (omega arith))
+  | inr past ↦ grind (arith, is n ∙ eq-eqb r n (omega arith), by_none (suc n) us i (λ k le. is k ∙ ne_eqb r k (λ e. omega arith)))
 ]
 
 -- the number of the rule that an instruction evaluates is one of these, where it evaluates one
@@ -99,11 +92,14 @@ count_one : (f : Instr → Bool) (xs : List Instr) (at : ℕ) (x : Instr) → sl
 count_one f [] at x e is only = absurd cc
 count_one f (i ∷ xs) zero x e is only =
     let same : i ≡ x = cc in
-    let first : ◌≡◌ {A = ℕ} (cond (f i) 1 0) 1 = ap (λ b. cond b 1 0) (ap f same ∙ is) in
-    omega (arith, first, count_more f i xs, count_none f xs (λ n j h. only (suc n) j h (λ z. omega arith)))
+    grind (arith, ap f same ∙ is, count_more f i xs, count_none f xs (λ n j h. only (suc n) j h (λ z. omega arith)))
 count_one f (i ∷ xs) (suc at) x e is only =
-    let first : ◌≡◌ {A = ℕ} (cond (f i) 1 0) 0 = ap (λ b. cond b 1 0) (only 0 i refl (λ z. omega arith)) in
-    omega (arith, first, count_more f i xs, count_one f xs at x e is (λ n j h ne. only (suc n) j h (λ z. ne (omega arith))))
+    grind (
+      arith,
+      only 0 i refl (λ z. omega arith),
+      count_more f i xs,
+      count_one f xs at x e is (λ n j h ne. only (suc n) j h (λ z. ne (omega arith))),
+    )
 
 -- what evaluates a rule of a number in a list that agrees is that rule's own instruction
 own_number : (place attr r k : ℕ) → evaluates k (set_or_def place attr r) ≡ nat_eq r k
@@ -111,30 +107,33 @@ own_number zero a r k = refl
 own_number (suc j) a r k = refl
 
 is_given : (i : Instr) (k : ℕ) → evaluates k i ≡ true → IsComputation i
-is_given (instr.Get j) k e = absurd cc
 is_given (instr.Set j a r) k e = (j, a, r, inl refl)
-is_given (instr.Go j) k e = absurd cc
-is_given (instr.Put j) k e = absurd cc
 is_given (instr.Def a r) k e = (0, a, r, inr refl)
-is_given instr.End k e = absurd cc
+is_given i k e = absurd cc
 
 by_bool : (b : Bool) → (b ≡ true → ⊥) → b ≡ false
 by_bool true never = absurd (never refl)
 by_bool false never = refl
 
 module _ (m : Passes) (q : Production) (k : ℕ) (xs : List Instr) (is : ListAgrees m q k xs) where
+  own_rule : (n r : ℕ) (i : Instr) → slice_get xs n ≡ Some i → evaluates r i ≡ true → (u : Rule) × IsRuleAt q r u
+      × (i ≡ instruction_of u r)
+  own_rule n r i occurs e =
+      let o = is.computes.own i (is_given i r e) (n, occurs) in
+      subst (λ r. (u : Rule) × IsRuleAt q r u × (i ≡ instruction_of u r))
+      (eqb-true o.0 r (sym (own_number o.1.target.place o.1.target.attr o.0 r) ∙ ap (evaluates r) (sym o.3) ∙ e))
+      (o.1, o.2, o.3)
+
   own : (n r : ℕ) (u : Rule) (i : Instr) → IsRuleAt q r u → slice_get xs n ≡ Some i → evaluates r i ≡ true
       → i ≡ instruction_of u r
   own n r u i at occurs e =
-      let o = is.computes.own i (is_given i r e) (n, occurs) in
-      let same_number : o.0 ≡ r = eqb-true o.0 r
-      (sym (own_number o.1.target.place o.1.target.attr o.0 r) ∙ ap (evaluates r) (sym o.3) ∙ e) in
-      let z : Some o.1 ≡ Some u = sym o.2 ∙ ap (slice_get q.rules) same_number ∙ at in
-      let same : o.1 ≡ u = cc in
-      o.3 ∙ ap (instruction_of o.1) same_number ∙ ap (λ (w : Rule). instruction_of w r) same
+      let o = own_rule n r i occurs e in
+      let both : Some o.0 ≡ Some u = sym o.1 ∙ at in
+      let same : o.0 ≡ u = cc in
+      o.2 ∙ ap (λ (w : Rule). instruction_of w r) same
 
   one_rule : (r : ℕ) (u : Rule) → IsRuleAt q r u → count_by (evaluates r) xs ≡ cond (is_of_pass m k q u) 1 0
-  one_rule r u at = go (pass_at m q u.target) refl
+  one_rule r u at = go (is_pass k (pass_at m q u.target)) refl
     where
       once : OccursOnceIf (HasPass m q u.target k) xs (instruction_of u r)
       once = is.computes.computed r u at
@@ -153,17 +152,9 @@ module _ (m : Passes) (q : Production) (k : ℕ) (xs : List Instr) (is : ListAgr
           count_one (evaluates r) xs occurs.0 (instruction_of u r) occurs.1 here
           (λ n i e ne. by_bool (evaluates r i) (λ t. ne (once.once n occurs.0 (e ∙ ap Some (own n r u i at e t)) occurs.1)))
 
-      go : (o : Option ℕ) → pass_at m q u.target ≡ o → count_by (evaluates r) xs ≡ cond (is_pass k (pass_at m q u.target)) 1 0
-      go None e = not_there (λ has. let z : None ≡ Some k = sym e ∙ has in cc)
-          ∙ sym (ap (λ o. cond (is_pass k o) 1 0) e)
-      go (Some p) e = by_test (nat_eq p k) refl
-        where
-          by_test : (b : Bool) → nat_eq p k ≡ b → count_by (evaluates r) xs ≡ cond (is_pass k (pass_at m q u.target)) 1 0
-          by_test true same = always (e ∙ ap Some (eqb-true p k same))
-              ∙ sym (ap (λ o. cond (is_pass k o) 1 0) e ∙ ap (λ b. cond b 1 0) same)
-          by_test false other = not_there
-              (λ has. let z : Some p ≡ Some k = sym e ∙ has in let same : p ≡ k = cc in let bad : true ≡ false =
-              sym (eq-eqb p k same) ∙ other in cc) ∙ sym (ap (λ o. cond (is_pass k o) 1 0) e ∙ ap (λ b. cond b 1 0) other)
+      go : (b : Bool) → is_pass k (pass_at m q u.target) ≡ b → count_by (evaluates r) xs ≡ cond b 1 0
+      go true e = always ((is_the_pass k (pass_at m q u.target)).0 e)
+      go false e = not_there ((is_the_pass k (pass_at m q u.target)).1 e)
 
   -- each rule of some, of which the first has a number
   each_rule : (n : ℕ) (us : List Rule) → ((i : ℕ) (u : Rule) → slice_get us i ≡ Some u → IsRuleAt q (n + i) u)
@@ -176,13 +167,7 @@ module _ (m : Passes) (q : Production) (k : ℕ) (xs : List Instr) (is : ListAgr
       omega (arith, count_more (is_of_pass m k q) u us, one_rule n u first, others)
 
   numbered : (n : ℕ) (i : Instr) → slice_get xs n ≡ Some i → (r : ℕ) → ((k : ℕ) → evaluates k i ≡ nat_eq r k) → r < length q.rules
-  numbered n i occurs r e =
-      let there : evaluates r i ≡ true = e r ∙ eq-eqb r r refl in
-      let o = is.computes.own i (is_given i r there) (n, occurs) in
-      let same : o.0 ≡ r = eqb-true o.0 r
-      (sym (own_number o.1.target.place o.1.target.attr o.0 r) ∙ ap (evaluates r) (sym o.3) ∙ there) in
-      let w = slice_get_within q.rules o.0 o.1 o.2 in
-      omega arith
+  numbered n i occurs r e = let o = own_rule n r i occurs (e r ∙ eq-eqb r r refl) in slice_get_within q.rules r o.0 o.1
 
   counted : count_by is_computation xs ≡ pass_rule_count m k (Some q)
   counted =
