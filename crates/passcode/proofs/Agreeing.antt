@@ -124,36 +124,34 @@ module _ (m : Passes) (q : Production) (k : ℕ) (xs : List Instr) (one : 1 ≤ 
       omega arith
 
   -- the `Get`, `Go` and `Put` of a place
-  module _ (t : ℕ) (within : t < arity q) where
-    get_before : (i j : ℕ) (y : Instr) → slice_get xs i ≡ Some (instr.Get (place_of q k t)) → slice_get xs j ≡ Some y
-        → t < read_in (state_at q start xs j) → i < j
-    get_before = before_it (λ s. t < read_in s) (instr.Get (place_of q k t)) (get_mark m q k t within)
+  module _ (t j : ℕ) (within : t < arity q) (here : j ≡ place_of q k t) where
+    get_before : (i n : ℕ) (y : Instr) → slice_get xs i ≡ Some (instr.Get j) → slice_get xs n ≡ Some y
+        → t < read_in (state_at q start xs n) → i < n
+    get_before = before_it (λ s. t < read_in s) (instr.Get j) (get_mark m q k t j within here)
 
-    put_before : (i j : ℕ) (y : Instr) → slice_get xs i ≡ Some (instr.Put (place_of q k t)) → slice_get xs j ≡ Some y
-        → t < (state_at q start xs j).turn → i < j
-    put_before = before_it (λ s. t < s.turn) (instr.Put (place_of q k t)) (put_mark m q k t within)
+    put_before : (i n : ℕ) (y : Instr) → slice_get xs i ≡ Some (instr.Put j) → slice_get xs n ≡ Some y
+        → t < (state_at q start xs n).turn → i < n
+    put_before = before_it (λ s. t < s.turn) (instr.Put j) (put_mark m q k t j within here)
 
-    go_before : IsChild q (place_of q k t) → (i j : ℕ) (y : Instr) → slice_get xs i ≡ Some (instr.Go (place_of q k t))
-        → slice_get xs j ≡ Some y → t < run_in (state_at q start xs j) → i < j
-    go_before is = before_it (λ s. t < run_in s) (instr.Go (place_of q k t)) (go_mark m q k t within is)
+    go_before : IsChild q j → (i n : ℕ) (y : Instr) → slice_get xs i ≡ Some (instr.Go j) → slice_get xs n ≡ Some y
+        → t < run_in (state_at q start xs n) → i < n
+    go_before is = before_it (λ s. t < run_in s) (instr.Go j) (go_mark m q k t j within here is)
 
-    get_once : OccursOnceIf (HasPlace q (place_of q k t)) xs (instr.Get (place_of q k t))
-    get_once = occurring (λ s. t < read_in s) (instr.Get (place_of q k t)) (get_mark m q k t within) (HasPlace q (place_of q k t))
-        (λ h. (let e = read_final in omega arith)) (λ h. is_stored_child q k t within)
+    get_once : HasPlace q j → OccursOnceIf (HasPlace q j) xs (instr.Get j)
+    get_once is = occurring (λ s. t < read_in s) (instr.Get j) (get_mark m q k t j within here) (HasPlace q j)
+        (λ h. (let e = read_final in omega arith)) (λ h. is)
 
-    put_once : OccursOnceIf (HasPlace q (place_of q k t)) xs (instr.Put (place_of q k t))
-    put_once = occurring (λ s. t < s.turn) (instr.Put (place_of q k t)) (put_mark m q k t within) (HasPlace q (place_of q k t))
-        (λ h. (let e = turn_final in omega arith)) (λ h. is_stored_child q k t within)
+    put_once : HasPlace q j → OccursOnceIf (HasPlace q j) xs (instr.Put j)
+    put_once is = occurring (λ s. t < s.turn) (instr.Put j) (put_mark m q k t j within here) (HasPlace q j)
+        (λ h. (let e = turn_final in omega arith)) (λ h. is)
 
-    go_once : IsChild q (place_of q k t) → OccursOnceIf (IsChild q (place_of q k t)) xs (instr.Go (place_of q k t))
-    go_once is =
-        occurring (λ s. t < run_in s) (instr.Go (place_of q k t)) (go_mark m q k t within is) (IsChild q (place_of q k t))
+    go_once : IsChild q j → OccursOnceIf (IsChild q j) xs (instr.Go j)
+    go_once is = occurring (λ s. t < run_in s) (instr.Go j) (go_mark m q k t j within here is) (IsChild q j)
         (λ h. (let e = run_final in omega arith)) (λ h. is)
 
   -- What is there once if a place is of some kind: it is enough to know it of each place of that kind.
   once_at : (P : ℕ → Type 0) (x : ℕ → Instr) → ((n j : ℕ) → slice_get xs n ≡ Some (x j) → P j) → ((j : ℕ) → P j → HasPlace q j)
-      → ((t : ℕ) → t < arity q → P (place_of q k t) → OccursOnceIf (P (place_of q k t)) xs (x (place_of q k t))) → (j : ℕ)
-      → OccursOnceIf (P j) xs (x j)
+      → ((t j : ℕ) → t < arity q → j ≡ place_of q k t → P j → OccursOnceIf (P j) xs (x j)) → (j : ℕ) → OccursOnceIf (P j) xs (x j)
   once_at P x only places each j = record {
     there = λ p. (at_place p).there p;
     only = λ h. only h.0 j h.1;
@@ -161,39 +159,32 @@ module _ (m : Passes) (q : Production) (k : ℕ) (xs : List Instr) (one : 1 ≤ 
   }
     where
       at_place : P j → OccursOnceIf (P j) xs (x j)
-      at_place p = let turn = turn_of q k j (places j p) in
-          subst (λ j. OccursOnceIf (P j) xs (x j)) (sym turn.2) (each turn.0 turn.1 (subst P turn.2 p))
+      at_place p = let turn = turn_of q k j (places j p) in each turn.0 j turn.1 turn.2 p
 
   visits : VisitsPlaces q k xs
   visits = record {
-    got = once_at (HasPlace q) instr.Get (λ n j e. place n j (instr.Get j) Between e (may n (instr.Get j) e)) (λ j p. p)
-        (λ t less p. get_once t less);
+    got = once_at (HasPlace q) instr.Get (λ n j e. place n j (instr.Get j) Between e (may n (instr.Get j) e)) (λ j p. p) get_once;
     gone = once_at (IsChild q) instr.Go child (λ j p. (item.Symbol p.0, p.1)) go_once;
-    put = once_at (HasPlace q) instr.Put (λ n j e. place n j (instr.Put j) Gone e (may n (instr.Put j) e)) (λ j p. p)
-        (λ t less p. put_once t less);
+    put = once_at (HasPlace q) instr.Put (λ n j e. place n j (instr.Put j) Gone e (may n (instr.Put j) e)) (λ j p. p) put_once;
     go_after_get = λ j i n a b. (
         let turn = (may n (instr.Go j) b).0 in
         let count = read_is (state_at q start xs n) Got turn.phase_is in
-        get_before (state_at q start xs n).turn turn.within i n (instr.Go j) (a ∙ ap (λ j. Some (instr.Get j)) turn.place) b
-        (omega arith));
+        get_before (state_at q start xs n).turn j turn.within turn.place i n (instr.Go j) a b (omega arith));
     put_after_go = λ j i n a b. (
         let turn = may n (instr.Put j) b in
         let count = run_is (state_at q start xs n) Gone turn.phase_is in
-        go_before (state_at q start xs n).turn turn.within (subst (IsChild q) turn.place (child i j a)) i n (instr.Put j)
-        (a ∙ ap (λ j. Some (instr.Go j)) turn.place) b (omega arith));
+        go_before (state_at q start xs n).turn j turn.within turn.place (child i j a) i n (instr.Put j) a b (omega arith));
     put_after_get = λ j i n a b. (
         let turn = may n (instr.Put j) b in
         let count = read_is (state_at q start xs n) Gone turn.phase_is in
-        get_before (state_at q start xs n).turn turn.within i n (instr.Put j) (a ∙ ap (λ j. Some (instr.Get j)) turn.place) b
-        (omega arith));
+        get_before (state_at q start xs n).turn j turn.within turn.place i n (instr.Put j) a b (omega arith));
     in_direction = λ i j before s n a b. (
         let first = may s (instr.Put i) a in
         let next = may n (instr.Get j) b in
         let earlier = turn_before q k (state_at q start xs s).turn (state_at q start xs n).turn first.within next.within
         (subst (IsBefore (direction_of k) (place_of q k (state_at q start xs s).turn)) next.place
         (subst (λ i. IsBefore (direction_of k) i j) first.place before)) in
-        put_before (state_at q start xs s).turn first.within s n (instr.Get j) (a ∙ ap (λ j. Some (instr.Put j)) first.place) b
-        earlier);
+        put_before (state_at q start xs s).turn i first.within first.place s n (instr.Get j) a b earlier);
   }
 
   -- a rule's own instruction
@@ -230,8 +221,7 @@ module _ (m : Passes) (q : Production) (k : ℕ) (xs : List Instr) (one : 1 ≤ 
     after_get = λ j a r i n b c. (
         let turn = (may n (instr.Set j a r) c).0 in
         let count = read_is (state_at q start xs n) Got turn.phase_is in
-        get_before (state_at q start xs n).turn turn.within i n (instr.Set j a r) (b ∙ ap (λ j. Some (instr.Get j)) turn.place)
-        c (omega arith));
+        get_before (state_at q start xs n).turn j turn.within turn.place i n (instr.Set j a r) b c (omega arith));
     before_go = before_go;
   }
     where
@@ -260,10 +250,9 @@ module _ (m : Passes) (q : Production) (k : ℕ) (xs : List Instr) (one : 1 ≤ 
             let s = has_symbol m q o k one now in
             let prefix = slice_get_within xs n (instruction_of u r) e in
             let within = run_within n t (omega arith) less in
-            let is_child : IsChild q (place_of q k t) = (s.0, (omega arith, ap (item_at q) (sym place) ∙ s.1)) in
-            let go = occurs m q k xs (length xs) may_to (λ s. t < run_in s) (instr.Go (place_of q k t))
-            (go_mark m q k t within is_child) n (let w = slice_get_within xs n (instruction_of u r) e in omega arith) less in
-            inr (inr (now, subst (λ j. OccursBefore xs n (instr.Go j)) (sym place) go)))
+            let go = occurs m q k xs (length xs) may_to (λ s. t < run_in s) (instr.Go o.place)
+            (go_mark m q k t o.place within place (s.0, (omega arith, s.1))) n (omega arith) less in
+            inr (inr (now, go)))
       ]
 
   pub agrees : ListAgrees m q k xs

@@ -107,33 +107,29 @@ module _ (m : Passes) (q : Production) (k : ℕ) (xs : List Instr) (one : 1 ≤ 
         omega arith
 
     -- if the `Get` of a turn is before it, the child was read
+    was : (A : State → Type 0) (y : Instr) → IsMark m q k A y → Has xs y → ((i : ℕ) → slice_get xs i ≡ Some y → i < n)
+        → A (state_at q start xs n)
+    was A y mark has prefix = seen A y mark has.0 (prefix has.0 has.1) has.1
+
     was_read : (t j : ℕ) → t < arity q → j ≡ place_of q k t → ((i : ℕ) → slice_get xs i ≡ Some (instr.Get j) → i < n)
         → t < read_in (state_at q start xs n)
-    was_read t j within place prefix =
-        let get = (list.visits.got j).there (subst (HasPlace q) (sym place) (is_stored_child q k t within)) in
-        seen (λ s. t < read_in s) (instr.Get (place_of q k t)) (get_mark m q k t within) get.0 (prefix get.0 get.1)
-        (get.1 ∙ ap (λ j. Some (instr.Get j)) place)
+    was_read t j within place = was (λ s. t < read_in s) (instr.Get j) (get_mark m q k t j within place)
+        ((list.visits.got j).there (subst (HasPlace q) (sym place) (is_stored_child q k t within)))
 
     was_run : (t j : ℕ) → t < arity q → j ≡ place_of q k t → IsChild q j → ((i : ℕ) → slice_get xs i ≡ Some (instr.Go j) → i < n)
         → t < run_in (state_at q start xs n)
-    was_run t j within place child prefix =
-        let go = (list.visits.gone j).there child in
-        seen (λ s. t < run_in s) (instr.Go (place_of q k t)) (go_mark m q k t within (subst (IsChild q) place child)) go.0
-        (prefix go.0 go.1) (go.1 ∙ ap (λ j. Some (instr.Go j)) place)
+    was_run t j within place child = was (λ s. t < run_in s) (instr.Go j) (go_mark m q k t j within place child)
+        ((list.visits.gone j).there child)
 
     was_put : (t j : ℕ) → t < arity q → j ≡ place_of q k t → ((i : ℕ) → slice_get xs i ≡ Some (instr.Put j) → i < n)
         → t < (state_at q start xs n).turn
-    was_put t j within place prefix =
-        let put = (list.visits.put j).there (subst (HasPlace q) (sym place) (is_stored_child q k t within)) in
-        seen (λ s. t < s.turn) (instr.Put (place_of q k t)) (put_mark m q k t within) put.0 (prefix put.0 put.1)
-        (put.1 ∙ ap (λ j. Some (instr.Put j)) place)
+    was_put t j within place = was (λ s. t < s.turn) (instr.Put j) (put_mark m q k t j within place)
+        ((list.visits.put j).there (subst (HasPlace q) (sym place) (is_stored_child q k t within)))
 
     was_given : (r : ℕ) (u : Rule) → IsRuleAt q r u → HasPass m q u.target k
         → ((i : ℕ) → slice_get xs i ≡ Some (instruction_of u r) → i < n) → Has (state_at q start xs n).done r
-    was_given r u at passed prefix =
-        let run_rule = (list.computes.computed r u at).there passed in
-        seen (λ s. Has s.done r) (instruction_of u r) (rule_mark m q k r u at) run_rule.0
-        (prefix run_rule.0 run_rule.1) run_rule.1
+    was_given r u at passed = was (λ s. Has s.done r) (instruction_of u r) (rule_mark m q k r u at)
+        ((list.computes.computed r u at).there passed)
 
     turn_here : (p : Phase) (t j : ℕ) → t < arity q → j ≡ place_of q k t → s.phase ≡ p → t ≡ s.turn → IsTurnOf q k s p j
     turn_here p t j within place phase same = record
@@ -149,9 +145,7 @@ module _ (m : Passes) (q : Production) (k : ℕ) (xs : List Instr) (one : 1 ≤ 
         let go = h.1 in
         let child = (list.visits.gone o.place).only (go.0, go.2) in
         let turn = turn_of q k o.place (item.Symbol child.0, child.1) in
-        let run = seen (λ s. turn.0 < run_in s) (instr.Go (place_of q k turn.0))
-        (go_mark m q k turn.0 turn.1 (subst (IsChild q) turn.2 child)) go.0 go.1 (go.2 ∙ ap (λ j. Some (instr.Go j)) turn.2)
-        in
+        let run = seen (λ s. turn.0 < run_in s) (instr.Go o.place) (go_mark m q k turn.0 o.place turn.1 turn.2 child) go.0 go.1 go.2 in
         (k, h.0, omega arith, inr (inr (turn.0, run, turn.2)))
 
     -- a rule's own instruction may give its value
@@ -188,9 +182,9 @@ module _ (m : Passes) (q : Production) (k : ℕ) (xs : List Instr) (one : 1 ≤ 
 
         low : run_in now ≤ turn.0
         low = at_most (run_in now) turn.0 (λ less. (
-            let before = occurs m q k xs n may (λ s. turn.0 < run_in s) (instr.Go (place_of q k turn.0))
-            (go_mark m q k turn.0 turn.1 (subst (IsChild q) turn.2 child)) n (omega arith) less in
-            go before.0 before.1 (before.2 ∙ ap (λ j. Some (instr.Go j)) (sym turn.2))))
+            let before = occurs m q k xs n may (λ s. turn.0 < run_in s) (instr.Go j)
+            (go_mark m q k turn.0 j turn.1 turn.2 child) n (omega arith) less in
+            go before.0 before.1 before.2))
 
         phase : (now.phase ≡ Got) × (turn.0 ≡ now.turn)
         phase = phase_got now.phase now.turn turn.0 low (was_read n x is may turn.0 j turn.1 turn.2 get)
@@ -204,8 +198,7 @@ module _ (m : Passes) (q : Production) (k : ℕ) (xs : List Instr) (one : 1 ≤ 
 
         low : read_in now ≤ turn.0
         low = at_most (read_in now) turn.0 (new n (instr.Get j) is may (λ s. turn.0 < read_in s)
-            (subst (λ j. IsMark m q k (λ s. turn.0 < read_in s) (instr.Get j)) (sym turn.2) (get_mark m q k turn.0 turn.1))
-            (HasPlace q j) (list.visits.got j))
+            (get_mark m q k turn.0 j turn.1 turn.2) (HasPlace q j) (list.visits.got j))
 
         high : turn.0 ≤ now.turn
         high = at_most turn.0 now.turn (λ less. (
@@ -263,8 +256,7 @@ module _ (m : Passes) (q : Production) (k : ℕ) (xs : List Instr) (one : 1 ≤ 
 
         low : now.turn ≤ turn.0
         low = at_most now.turn turn.0 (new n (instr.Put j) is may (λ s. turn.0 < s.turn)
-            (subst (λ j. IsMark m q k (λ s. turn.0 < s.turn) (instr.Put j)) (sym turn.2) (put_mark m q k turn.0 turn.1))
-            (HasPlace q j) (list.visits.put j))
+            (put_mark m q k turn.0 j turn.1 turn.2) (HasPlace q j) (list.visits.put j))
 
         read : turn.0 < read_in now
         read = was_read n (instr.Put j) is may turn.0 j turn.1 turn.2 (λ i e. list.visits.put_after_get j i n e is)

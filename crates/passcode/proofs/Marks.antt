@@ -62,20 +62,19 @@ module _ (m : Passes) (q : Production) (k : ℕ) where
       [ inl e ↦ omega arith | inr h ↦ (let a = h.0 in let b = h.1 in omega arith) ]
 
   -- so that it has passed a turn is the mark of that turn's instruction
-  counter_mark : (P : ℕ → Type 0) (f : State → ℕ) (x : ℕ → Instr) → IsCounter P f x → (t : ℕ) → t < arity q → P (place_of q k t)
-      → IsMark m q k (λ s. t < f s) (x (place_of q k t))
-  counter_mark P f x counter t within is = record {
+  counter_mark : (P : ℕ → Type 0) (f : State → ℕ) (x : ℕ → Instr) → IsCounter P f x → (t j : ℕ) → t < arity q
+      → j ≡ place_of q k t → P j → IsMark m q k (λ s. t < f s) (x j)
+  counter_mark P f x counter t j within here is = record {
     none = λ less. (let e = counter.first in omega arith);
     stays = counter_stays P f x counter t;
-    made = λ s may. (let h = counter.takes s (place_of q k t) may in let e = one_turn q k t s.turn within h.0 h.1 in let a =
-        h.3 in omega arith);
-    before = λ s may less. (let h = counter.takes s (place_of q k t) may in let e = one_turn q k t s.turn within h.0 h.1 in
-        let a = h.2 in omega arith);
+    made = λ s may. (let h = counter.takes s j may in let e = one_turn q k t s.turn within h.0 (sym here ∙ h.1) in omega arith);
+    before = λ s may less.
+        (let h = counter.takes s j may in let e = one_turn q k t s.turn within h.0 (sym here ∙ h.1) in omega arith);
     only = λ s y may less. elim (counter.steps s y may) [
       | inl e ↦ inl (omega arith)
       | inr h ↦ elim (cases_eq t s.turn) [
-        | inl same ↦ (let here = ap (place_of q k) same in inr (h.2 (subst P here is) ∙ ap x (sym here)))
-        | inr other ↦ inl (let a = h.0 in let b = h.1 in omega arith)
+        | inl same ↦ (let place = here ∙ ap (place_of q k) same in inr (h.2 (subst P place is) ∙ ap x (sym place)))
+        | inr other ↦ inl (omega arith)
       ]
     ];
   }
@@ -135,14 +134,14 @@ module _ (m : Passes) (q : Production) (k : ℕ) where
   pub run_stays : (t : ℕ) → IsKept m q k (λ s. t < run_in s)
   run_stays t = counter_stays (IsChild q) run_in instr.Go runs t
 
-  pub get_mark : (t : ℕ) → t < arity q → IsMark m q k (λ s. t < read_in s) (instr.Get (place_of q k t))
-  get_mark t within = counter_mark Any read_in instr.Get reads t within tt
+  pub get_mark : (t j : ℕ) → t < arity q → j ≡ place_of q k t → IsMark m q k (λ s. t < read_in s) (instr.Get j)
+  get_mark t j within here = counter_mark Any read_in instr.Get reads t j within here tt
 
-  pub put_mark : (t : ℕ) → t < arity q → IsMark m q k (λ s. t < s.turn) (instr.Put (place_of q k t))
-  put_mark t within = counter_mark Any (λ s. s.turn) instr.Put puts t within tt
+  pub put_mark : (t j : ℕ) → t < arity q → j ≡ place_of q k t → IsMark m q k (λ s. t < s.turn) (instr.Put j)
+  put_mark t j within here = counter_mark Any (λ s. s.turn) instr.Put puts t j within here tt
 
-  pub go_mark : (t : ℕ) → t < arity q → IsChild q (place_of q k t) → IsMark m q k (λ s. t < run_in s) (instr.Go (place_of q k t))
-  go_mark t within child = counter_mark (IsChild q) run_in instr.Go runs t within child
+  pub go_mark : (t j : ℕ) → t < arity q → j ≡ place_of q k t → IsChild q j → IsMark m q k (λ s. t < run_in s) (instr.Go j)
+  go_mark = counter_mark (IsChild q) run_in instr.Go runs
 
   -- the end
   pub end_mark : IsMark m q k (λ s. s.phase ≡ Ended) instr.End
