@@ -169,22 +169,22 @@ module _ (m : Passes) (q : Production) (k : ℕ) (xs : List Instr) (one : 1 ≤ 
     go_after_get = λ j i n a b. (
         let turn = (may n (instr.Go j) b).0 in
         let count = read_is (state_at q start xs n) Got turn.phase_is in
-        get_before (state_at q start xs n).turn j turn.within turn.place i n (instr.Go j) a b (omega arith));
+        get_before _ j turn.within turn.place i n _ a b (omega arith));
     put_after_go = λ j i n a b. (
         let turn = may n (instr.Put j) b in
         let count = run_is (state_at q start xs n) Gone turn.phase_is in
-        go_before (state_at q start xs n).turn j turn.within turn.place (child i j a) i n (instr.Put j) a b (omega arith));
+        go_before _ j turn.within turn.place (child i j a) i n _ a b (omega arith));
     put_after_get = λ j i n a b. (
         let turn = may n (instr.Put j) b in
         let count = read_is (state_at q start xs n) Gone turn.phase_is in
-        get_before (state_at q start xs n).turn j turn.within turn.place i n (instr.Put j) a b (omega arith));
+        get_before _ j turn.within turn.place i n _ a b (omega arith));
     in_direction = λ i j before s n a b. (
         let first = may s (instr.Put i) a in
         let next = may n (instr.Get j) b in
-        let earlier = turn_before q k (state_at q start xs s).turn (state_at q start xs n).turn first.within next.within
+        let earlier = turn_before q k _ _ first.within next.within
         (subst (IsBefore (direction_of k) (place_of q k (state_at q start xs s).turn)) next.place
         (subst (λ i. IsBefore (direction_of k) i j) first.place before)) in
-        put_before (state_at q start xs s).turn i first.within first.place s n (instr.Get j) a b earlier);
+        put_before _ i first.within first.place s n _ a b earlier);
   }
 
   -- a rule's own instruction
@@ -221,7 +221,7 @@ module _ (m : Passes) (q : Production) (k : ℕ) (xs : List Instr) (one : 1 ≤ 
     after_get = λ j a r i n b c. (
         let turn = (may n (instr.Set j a r) c).0 in
         let count = read_is (state_at q start xs n) Got turn.phase_is in
-        get_before (state_at q start xs n).turn j turn.within turn.place i n (instr.Set j a r) b c (omega arith));
+        get_before _ j turn.within turn.place i n _ b c (omega arith));
     before_go = before_go;
   }
     where

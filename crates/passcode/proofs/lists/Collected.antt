@@ -34,7 +34,7 @@ lists_more m q n lists new one put len here before i xs is =
     ]
   where
     row : row_of new ≡ row_of lists ++ one.items ∷ []
-    row = ap row_of put ∙ map_push (λ (v : Vec Instr). v.items) lists one
+    row = ap row_of put ∙ map_push _ lists one
 
 -- The rows of some productions: each has as many lists as there are passes, which are generated.
 pub record AreCollected (m : Passes) (passes : ℕ) (productions : List Production) (rows : Lists) : Type 0 where
@@ -50,7 +50,7 @@ pub rows_more : (m : Passes) (passes n : ℕ) (productions : List Production) (q
 rows_more m passes n productions q rows new one put len this many here before = record { lengths = lengths; lists = lists }
   where
     all : rows_of new ≡ rows_of rows ++ row_of one.items ∷ []
-    all = ap rows_of put ∙ map_push (λ (v : Vec (Vec Instr)). row_of v.items) rows one
+    all = ap rows_of put ∙ map_push _ rows one
 
     cases : (p : ℕ) (row : List (List Instr)) → slice_get (rows_of new) p ≡ Some row → (slice_get (rows_of rows) p ≡ Some row)
         ⊎ ((p ≡ length (rows_of rows)) × (row_of one.items ≡ row))

@@ -5,9 +5,7 @@ use Rattle.passcode.proofs.generating.lists_of.Goals as goal
 
 pub loop-before-preserved : goal.loop-before-preserved
 loop-before-preserved c = record {
-  len = length_pushed c.loop-before.lists.items c.push.new.self.items c.in_ok-list.field-0 c.loop-before.before
-      c.in_ok-push.ensures.items c.loop-before.invariant.len;
-  lists = lists_more (passes_of c.args.assignment.now) c.args.production.now c.loop-before.before c.loop-before.lists.items
-      c.push.new.self.items c.in_ok-list.field-0 c.in_ok-push.ensures.items c.loop-before.invariant.len c.in_ok-list.ensures
+  len = length_pushed _ _ _ _ c.in_ok-push.ensures.items c.loop-before.invariant.len;
+  lists = lists_more (passes_of c.args.assignment.now) c.args.production.now _ _ _ _ c.in_ok-push.ensures.items c.loop-before.invariant.len c.in_ok-list.ensures
       c.loop-before.invariant.lists;
 }

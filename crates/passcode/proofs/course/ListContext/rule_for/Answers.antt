@@ -6,20 +6,15 @@ use Rattle.passcode.proofs.course.ListContext.rule_for.Goals as goal
 
 pub returns-then-is_same : goal.returns-then-is_same
 returns-then-is_same c =
-    sym (first_is (λ u. is_same u.target c.args.target) c.args.self.now.production.now.rules c.loop-number.number
-    c.loop-number.invariant c.rule-item.result
-    (read_at c.args.self.now.production.now.rules c.as_slice-rule-items.result.now c.loop-number.number c.rule-item.result
-    c.as_slice-rule-items.ensures c.loop-number-test.true c.rule-item.is) (sym c.is_same.ensures ∙ c.if-is_same.true))
+    sym (first_is (λ u. is_same u.target c.args.target) _ _ c.loop-number.invariant _
+    (read_at _ _ _ _ c.as_slice-rule-items.ensures c.loop-number-test.true c.rule-item.is) (sym c.is_same.ensures ∙ c.if-is_same.true))
 
 pub loop-number-preserved : goal.loop-number-preserved
 loop-number-preserved c =
-    before_more (λ u. is_same u.target c.args.target) c.args.self.now.production.now.rules c.loop-number.number
-    c.loop-number.invariant c.rule-item.result
-    (read_at c.args.self.now.production.now.rules c.as_slice-rule-items.result.now c.loop-number.number c.rule-item.result
-    c.as_slice-rule-items.ensures c.loop-number-test.true c.rule-item.is) (sym c.is_same.ensures ∙ c.if-is_same.false)
+    before_more (λ u. is_same u.target c.args.target) _ _ c.loop-number.invariant _
+    (read_at _ _ _ _ c.as_slice-rule-items.ensures c.loop-number-test.true c.rule-item.is) (sym c.is_same.ensures ∙ c.if-is_same.false)
 
 pub returns : goal.returns
 returns c =
-    sym (none_is (λ u. is_same u.target c.args.target) c.args.self.now.production.now.rules c.loop-number.number
-    c.loop-number.invariant
+    sym (none_is (λ u. is_same u.target c.args.target) _ _ c.loop-number.invariant
     (subst (λ xs. length xs ≤ c.loop-number.number) c.as_slice-rule-items.ensures c.loop-number-test.false))
