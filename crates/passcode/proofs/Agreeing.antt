@@ -20,7 +20,7 @@ use Rattle.passcode.specs.Agreement.{instruction_of}
 use Rattle.passcode.specs.Course as Course
 use Rattle.passcode.specs.Course.{Phase, State, Between, Got, Gone, Ended, MayCompute, MayRun, IsTurnOf, Runs, after, arity}
 use Rattle.passcode.specs.Course.{place_of, start, state_at}
-use Rattle.passcode.proofs.Marks.{end_mark, got_child, get_mark, go_mark, put_mark, read_is, rule_mark, run_stays, run_is, run_in}
+use Rattle.passcode.proofs.Marks.{not_after_end, end_mark, got_child, get_mark, go_mark, put_mark, read_is, rule_mark, run_stays, run_is, run_in}
 use Rattle.passcode.proofs.Marks.{read_in}
 use Rattle.passcode.proofs.States.{IsMark, MayRunTo, kept, once, precedes, runs_by_index, occurs, state_next}
 use Rattle.passcode.proofs.Turns.{is_stored_child, turn_before, turn_of}
@@ -72,20 +72,11 @@ module _ (m : Passes) (q : Production) (k : ℕ) (xs : List Instr) (one : 1 ≤ 
 
   last : (n : ℕ) → slice_get xs n ≡ Some instr.End → suc n ≡ length xs
   last n e = elim (cases_lt (suc n) (length xs)) [
-    | inl less ↦ absurd (more (get_or xs (suc n) instr.End) (slice_get-get_or xs (suc n) instr.End less))
+    | inl less ↦ absurd (not_after_end m q k (state_at q start xs (suc n)) (get_or xs (suc n) instr.End)
+        (may (suc n) (get_or xs (suc n) instr.End) (slice_get-get_or xs (suc n) instr.End less))
+        (ap (λ (s : State). s.phase) (state_next m q k start xs n instr.End e)))
     | inr le ↦ (let w = slice_get_within xs n instr.End e in omega arith)
   ]
-    where
-      ended : (state_at q start xs (suc n)).phase ≡ Ended
-      ended = ap (λ (s : State). s.phase) (state_next m q k start xs n instr.End e)
-
-      more : (x : Instr) → slice_get xs (suc n) ≡ Some x → ⊥
-      more (instr.Get j) f = let p = (may (suc n) (instr.Get j) f).phase_is in let e = ended in cc
-      more (instr.Set j a r) f = let p = (may (suc n) (instr.Set j a r) f).0.phase_is in let e = ended in cc
-      more (instr.Go j) f = let p = (may (suc n) (instr.Go j) f).0.phase_is in let e = ended in cc
-      more (instr.Put j) f = let p = (may (suc n) (instr.Put j) f).phase_is in let e = ended in cc
-      more (instr.Def a r) f = (may (suc n) (instr.Def a r) f).0 ended
-      more instr.End f = let p = (may (suc n) instr.End f).0 in let e = ended in cc
 
   done_at : MayRun m q k (state_at q start xs end.0) instr.End
   done_at = may end.0 instr.End end.2

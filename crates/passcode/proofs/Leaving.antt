@@ -405,26 +405,17 @@ module _ (m : Passes) (q : Production) (k : ℕ) (one : 1 ≤ k) where
 
       computed : (s : State) (x : Instr) → MayRun m q k s x → ((t : ℕ) → t < run_in s → AreDone m q k s (place_of q k t))
           → (t : ℕ) → t < run_in (after q s x) → AreDone m q k (after q s x) (place_of q k t)
-      computed s (instr.Get j) may was t less = by_item (item_at q j) refl
-        where
-          count : run_in s ≡ s.turn
-          count = run_is s Between may.phase_is
-
-          old_one : t < s.turn → AreDone m q k s (place_of q k t)
-          old_one h = was t (let c = count in omega arith)
-
-          by_item : (o : Option Item) → item_at q j ≡ o → AreDone m q k s (place_of q k t)
-          by_item o e = elim (cases_lt t s.turn) [
-            | inl h ↦ old_one h
-            | inr le ↦ λ r u at place has. (
-                let most = run_after (item_at q j) s.turn in
-                let same : t ≡ s.turn = omega arith in
-                let symbol = has_symbol m q u.target k one has in
-                let here : item_at q j ≡ Some (item.Symbol symbol.0) =
-                ap (item_at q) (may.place ∙ ap (place_of q k) (sym same) ∙ sym place) ∙ symbol.1 in
-                let none : run_count (after_get (item_at q j)) s.turn ≡ s.turn = ap (λ o. run_count (after_get o) s.turn) here in
-                absurd (omega arith))
-          ]
+      computed s (instr.Get j) may was t less = elim (cases_lt t s.turn) [
+        | inl h ↦ was t (let c = run_is s Between may.phase_is in omega arith)
+        | inr le ↦ λ r u at place has. (
+            let most = run_after (item_at q j) s.turn in
+            let same : t ≡ s.turn = omega arith in
+            let symbol = has_symbol m q u.target k one has in
+            let here : item_at q j ≡ Some (item.Symbol symbol.0) =
+            ap (item_at q) (may.place ∙ ap (place_of q k) (sym same) ∙ sym place) ∙ symbol.1 in
+            let none : run_count (after_get (item_at q j)) s.turn ≡ s.turn = ap (λ o. run_count (after_get o) s.turn) here in
+            absurd (omega arith))
+      ]
       computed s (instr.Set j a r) may was t less = more s r (place_of q k t) (was t less)
       computed s (instr.Go j) may was t less = elim (cases_eq t s.turn) [
         | inl same ↦ subst (AreDone m q k s) (may.0.place ∙ ap (place_of q k) (sym same)) may.1

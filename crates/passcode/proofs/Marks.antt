@@ -143,24 +143,24 @@ module _ (m : Passes) (q : Production) (k : ℕ) where
   pub go_mark : (t j : ℕ) → t < arity q → j ≡ place_of q k t → IsChild q j → IsMark m q k (λ s. t < run_in s) (instr.Go j)
   go_mark = counter_mark (IsChild q) run_in instr.Go runs
 
-  -- the end
+  -- the end, after which nothing may come
+  pub not_after_end : (s : State) (x : Instr) → MayRun m q k s x → s.phase ≡ Ended → ⊥
+  not_after_end s (instr.Get j) may e = let f = may.phase_is in cc
+  not_after_end s (instr.Set j a r) may e = let f = may.0.phase_is in cc
+  not_after_end s (instr.Go j) may e = let f = may.0.phase_is in cc
+  not_after_end s (instr.Put j) may e = let f = may.phase_is in cc
+  not_after_end s (instr.Def a r) may e = may.0 e
+  not_after_end s instr.End may e = let f = may.0 in cc
+
   pub end_mark : IsMark m q k (λ s. s.phase ≡ Ended) instr.End
   end_mark = record {
     none = λ e. (cc);
-    stays = stays;
+    stays = λ s x may e. absurd (not_after_end s x may e);
     made = λ s may. refl;
-    before =
-        λ s may e. (let f = may.0 in cc);
+    before = λ s may e. not_after_end s instr.End may e;
     only = only;
   }
     where
-      stays : IsKept m q k (λ s. s.phase ≡ Ended)
-      stays s (instr.Get j) may e = let f = may.phase_is in absurd cc
-      stays s (instr.Go j) may e = let f = may.0.phase_is in absurd cc
-      stays s (instr.Put j) may e = let f = may.phase_is in absurd cc
-      stays s instr.End may e = refl
-      stays s x may e = e
-
       only : (s : State) (y : Instr) → MayRun m q k s y → (after q s y).phase ≡ Ended → (s.phase ≡ Ended) ⊎ (y ≡ instr.End)
       only s (instr.Get j) may e = absurd (not_ended (item_at q j) e)
       only s (instr.Go j) may e = absurd cc

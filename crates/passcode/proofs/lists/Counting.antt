@@ -141,20 +141,13 @@ module _ (m : Passes) (q : Production) (k : ℕ) (xs : List Instr) (is : ListAgr
       here : evaluates r (instruction_of u r) ≡ true
       here = own_number u.target.place u.target.attr r r ∙ eq-eqb r r refl
 
-      -- where it isn't of the pass
-      not_there : (HasPass m q u.target k → ⊥) → count_by (evaluates r) xs ≡ 0
-      not_there never = count_none (evaluates r) xs
-          (λ n i e. by_bool (evaluates r i) (λ t. never (once.only (n, e ∙ ap Some (own n r u i at e t)))))
-
-      always : HasPass m q u.target k → count_by (evaluates r) xs ≡ 1
-      always has =
-          let occurs = once.there has in
+      go : (b : Bool) → is_pass k (pass_at m q u.target) ≡ b → count_by (evaluates r) xs ≡ cond b 1 0
+      go true e =
+          let occurs = once.there ((is_the_pass k (pass_at m q u.target)).0 e) in
           count_one (evaluates r) xs occurs.0 (instruction_of u r) occurs.1 here
           (λ n i e ne. by_bool (evaluates r i) (λ t. ne (once.once n occurs.0 (e ∙ ap Some (own n r u i at e t)) occurs.1)))
-
-      go : (b : Bool) → is_pass k (pass_at m q u.target) ≡ b → count_by (evaluates r) xs ≡ cond b 1 0
-      go true e = always ((is_the_pass k (pass_at m q u.target)).0 e)
-      go false e = not_there ((is_the_pass k (pass_at m q u.target)).1 e)
+      go false other = count_none (evaluates r) xs (λ n i e. by_bool (evaluates r i)
+          (λ t. (is_the_pass k (pass_at m q u.target)).1 other (once.only (n, e ∙ ap Some (own n r u i at e t)))))
 
   -- each rule of some, of which the first has a number
   each_rule : (n : ℕ) (us : List Rule) → ((i : ℕ) (u : Rule) → slice_get us i ≡ Some u → IsRuleAt q (n + i) u)
