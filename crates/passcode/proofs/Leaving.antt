@@ -232,7 +232,7 @@ module _ (m : Passes) (q : Production) (k : ℕ) (one : 1 ≤ k) (single : Diffe
         fresh = λ h. elim ((way it.number it.rule it.numbered passed).0 h) [
           | inl is ↦ it.new is
           | inr (inl h) ↦ here.new (subst (IsVisited q k t) (ap (λ (o : Target). o.place) it.target) h)
-          | inr (inr h) ↦ (let less = h.1 in let attr = ap (λ (o : Target). o.attr) it.target in omega arith)
+          | inr (inr h) ↦ (let attr = ap (λ (o : Target). o.attr) it.target in omega arith)
         ];
       }
         where

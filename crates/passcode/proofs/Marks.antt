@@ -59,7 +59,7 @@ module _ (m : Passes) (q : Production) (k : ℕ) where
 
   counter_stays : (P : ℕ → Type 0) (f : State → ℕ) (x : ℕ → Instr) → IsCounter P f x → (t : ℕ) → IsKept m q k (λ s. t < f s)
   counter_stays P f x counter t s y may less = elim (counter.steps s y may)
-      [ inl e ↦ omega arith | inr h ↦ (let a = h.0 in let b = h.1 in omega arith) ]
+      [ inl e ↦ omega arith | inr h ↦ (omega arith) ]
 
   -- so that it has passed a turn is the mark of that turn's instruction
   counter_mark : (P : ℕ → Type 0) (f : State → ℕ) (x : ℕ → Instr) → IsCounter P f x → (t j : ℕ) → t < arity q
@@ -171,7 +171,7 @@ module _ (m : Passes) (q : Production) (k : ℕ) where
   -- a node that has come to a child and not gone into it has come to a declared symbol's
   pub got_child : IsKept m q k (λ s. s.phase ≡ Got → IsChild q (place_of q k s.turn))
   got_child s (instr.Get j) may was e = let x = got_symbol (item_at q j) e in
-      subst (IsChild q) may.place (x.0, (let p = may.place in omega arith, x.1))
+      subst (IsChild q) may.place (x.0, (omega arith, x.1))
   got_child s (instr.Set j a r) may was e = was e
   got_child s (instr.Def a r) may was e = was e
   got_child s x may was e = absurd cc
@@ -220,7 +220,7 @@ module _ (m : Passes) (q : Production) (k : ℕ) where
 
         only : (s : State) (y : Instr) → MayRun m q k s y → Has (after q s y).done r → Has s.done r ⊎ (y ≡ instruction_of u r)
         only s (instr.Set j a n) may (suc i, e) = inl (i, e)
-        only s (instr.Set zero a n) may (zero, e) = let p = may.0.place in absurd (omega arith)
+        only s (instr.Set zero a n) may (zero, e) = absurd (omega arith)
         only s (instr.Set (suc j) a n) may (zero, e) = let same : n ≡ r = cc in
             inr (ap (instr.Set (suc j) a) same ∙ own s (suc j) a (subst (MayCompute m q k s (suc j) a) same may.1))
         only s (instr.Def a n) may (suc i, e) = inl (i, e)

@@ -108,6 +108,5 @@ module _ (m : Passes) (q : Production) (k : ℕ) where
     pub precedes : (i j : ℕ) → i < n → j < n → slice_get xs i ≡ Some x → A (state_at q start xs j) → i < j
     precedes i j a b at there =
         let s = occurs j (omega arith) there in
-        let less = s.1 in
         let same : s.0 ≡ i = once s.0 i (omega arith) a s.2 at in
         omega arith

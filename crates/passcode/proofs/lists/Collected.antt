@@ -27,7 +27,6 @@ lists_more m q n lists new one put len here before i xs is =
     elim (get_push_cases (row_of lists) one.items xs i (ap (λ r. slice_get r i) (sym row) ∙ is)) [
       | inl old ↦ before i xs old
       | inr last ↦ (
-          let a = last.0 in
           let b : length (row_of lists) ≡ length lists = length-map lists (λ (v : Vec Instr). v.items) in
           let at : n ≡ i = omega arith in
           subst (IsGenerated m q (i + 1)) last.1 (subst (λ k. IsGenerated m q (k + 1) one.items) at here))
@@ -67,7 +66,6 @@ rows_more m passes n productions q rows new one put len this many here before = 
     lists p i w row xs at is e = elim (cases p row is) [
       | inl old ↦ before.lists p i w row xs at old e
       | inr last ↦ (
-          let a = last.0 in
           let b : length (rows_of rows) ≡ length rows = length-map rows (λ (v : Vec (Vec Instr)). row_of v.items) in
           let place : p ≡ n = omega arith in
           let both : Some w ≡ Some q = sym at ∙ ap (slice_get productions) place ∙ this in
@@ -86,10 +84,10 @@ module _ (g : Grammar) (m : Passes) (passes : ℕ) (code : Lists) (many : length
         found.0,
         found.2,
         subst (λ n. IsGenerated m found.0 n xs)
-            (let one = is.0 in let e : k - 1 + 1 ≡ k = omega arith in e)
+            (let e : k - 1 + 1 ≡ k = omega arith in e)
             (all.lists p (k - 1) found.0 (get_or code p []) xs found.2 (slice_get-get_or code p [] less) is.1),
       )
-      | inr past ↦ absurd (let most = past.0 in omega arith)
+      | inr past ↦ absurd (omega arith)
     ]
     | inr past ↦ absurd (let bad : slice_get {X = List Instr} [] (k - 1) ≡ Some xs =
         ap (λ r. slice_get r (k - 1)) (sym (get_or_past code p [] past)) ∙ is.1 in let worse : ⊥ = cc in worse)
