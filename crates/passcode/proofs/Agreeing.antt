@@ -43,26 +43,29 @@ has_symbol m q o k one has = go (item_at q o.place) refl
     go x e = let none = there x e in absurd cc
 
 module _ (m : Passes) (q : Production) (k : ℕ) (xs : List Instr) (one : 1 ≤ k) (runs : Runs m q k start xs) where
+  abbrev state : ℕ → State
+  state n = state_at q start xs n
+
   may_to : MayRunTo m q k start xs (length xs)
   may_to = (runs_by_index m q k start xs runs).0
 
-  may : (n : ℕ) (x : Instr) → slice_get xs n ≡ Some x → MayRun m q k (state_at q start xs n) x
+  may : (n : ℕ) (x : Instr) → slice_get xs n ≡ Some x → MayRun m q k (state n) x
   may n x e = may_to n x (slice_get_within xs n x e) e
 
   -- the mark of an instruction decides what is before an index, and what is in the list at all
   module _ (A : State → Type 0) (x : Instr) (mark : IsMark m q k A x) where
-    before_it : (i j : ℕ) (y : Instr) → slice_get xs i ≡ Some x → slice_get xs j ≡ Some y → A (state_at q start xs j) → i < j
+    before_it : (i j : ℕ) (y : Instr) → slice_get xs i ≡ Some x → slice_get xs j ≡ Some y → A (state j) → i < j
     before_it i j y a b =
         precedes m q k xs (length xs) may_to A x mark i j (slice_get_within xs i x a) (slice_get_within xs j y b)
         a
 
-    there : A (state_at q start xs (length xs)) → Has xs x
+    there : A (state (length xs)) → Has xs x
     there a = let s = occurs m q k xs (length xs) may_to A x mark (length xs) (omega arith) a in (s.0, s.2)
 
     single : (i j : ℕ) → slice_get xs i ≡ Some x → slice_get xs j ≡ Some x → i ≡ j
     single i j a b = once m q k xs (length xs) may_to A x mark i j (slice_get_within xs i x a) (slice_get_within xs j x b) a b
 
-    occurring : (P : Type 0) → (P → A (state_at q start xs (length xs))) → (Has xs x → P) → OccursOnceIf P xs x
+    occurring : (P : Type 0) → (P → A (state (length xs))) → (Has xs x → P) → OccursOnceIf P xs x
     occurring P forth back = record { there = λ p. there (forth p); only = back; once = single }
 
   -- `End` is last, and all is done there
@@ -72,33 +75,33 @@ module _ (m : Passes) (q : Production) (k : ℕ) (xs : List Instr) (one : 1 ≤ 
 
   last : (n : ℕ) → slice_get xs n ≡ Some instr.End → suc n ≡ length xs
   last n e = elim (cases_lt (suc n) (length xs)) [
-    | inl less ↦ absurd (not_after_end m q k (state_at q start xs (suc n)) (get_or xs (suc n) instr.End)
+    | inl less ↦ absurd (not_after_end m q k (state (suc n)) (get_or xs (suc n) instr.End)
         (may (suc n) (get_or xs (suc n) instr.End) (slice_get-get_or xs (suc n) instr.End less))
         (ap (λ (s : State). s.phase) (state_next m q k start xs n instr.End e)))
     | inr le ↦ (let w = slice_get_within xs n instr.End e in omega arith)
   ]
 
-  done_at : MayRun m q k (state_at q start xs end.0) instr.End
+  done_at : MayRun m q k (state end.0) instr.End
   done_at = may end.0 instr.End end.2
 
-  final : state_at q start xs (length xs) ≡ after q (state_at q start xs end.0) instr.End
-  final = subst (λ n. state_at q start xs n ≡ after q (state_at q start xs end.0) instr.End) (last end.0 end.2)
+  final : state (length xs) ≡ after q (state end.0) instr.End
+  final = subst (λ n. state n ≡ after q (state end.0) instr.End) (last end.0 end.2)
       (state_next m q k start xs end.0 instr.End end.2)
 
-  turn_final : (state_at q start xs (length xs)).turn ≡ arity q
+  turn_final : (state (length xs)).turn ≡ arity q
   turn_final = ap (λ (s : State). s.turn) final ∙ done_at.1
 
-  read_final : read_in (state_at q start xs (length xs)) ≡ arity q
+  read_final : read_in (state (length xs)) ≡ arity q
   read_final = ap read_in final ∙ done_at.1
 
-  run_final : run_in (state_at q start xs (length xs)) ≡ arity q
+  run_final : run_in (state (length xs)) ≡ arity q
   run_final = ap run_in final ∙ done_at.1
 
-  run_rule : (r : ℕ) (u : Rule) → IsRuleAt q r u → HasPass m q u.target k → Has (state_at q start xs (length xs)).done r
+  run_rule : (r : ℕ) (u : Rule) → IsRuleAt q r u → HasPass m q u.target k → Has (state (length xs)).done r
   run_rule r u is has = subst (λ (s : State). Has s.done r) (sym final) (done_at.2 u.target.place r u is refl has)
 
-  place : (n j : ℕ) (x : Instr) (p : Phase) → slice_get xs n ≡ Some x → IsTurnOf q k (state_at q start xs n) p j → HasPlace q j
-  place n j x p e turn = subst (HasPlace q) (sym turn.place) (is_stored_child q k (state_at q start xs n).turn turn.within)
+  place : (n j : ℕ) (x : Instr) (p : Phase) → slice_get xs n ≡ Some x → IsTurnOf q k (state n) p j → HasPlace q j
+  place n j x p e turn = subst (HasPlace q) (sym turn.place) (is_stored_child q k (state n).turn turn.within)
 
   child : (n j : ℕ) → slice_get xs n ≡ Some (instr.Go j) → IsChild q j
   child n j e =
@@ -107,7 +110,7 @@ module _ (m : Passes) (q : Production) (k : ℕ) (xs : List Instr) (one : 1 ≤ 
       (omega arith) (let w = slice_get_within xs n (instr.Go j) e in omega arith) (λ e. absurd cc) in
       subst (IsChild q) (sym turn.place) (got turn.phase_is)
 
-  run_within : (n t : ℕ) → n ≤ length xs → t < run_in (state_at q start xs n) → t < arity q
+  run_within : (n t : ℕ) → n ≤ length xs → t < run_in (state n) → t < arity q
   run_within n t prefix less =
       let more = kept m q k xs (length xs) may_to (λ s. t < run_in s) (run_stays m q k t) n (length xs) prefix (omega arith) less
       in
@@ -117,15 +120,15 @@ module _ (m : Passes) (q : Production) (k : ℕ) (xs : List Instr) (one : 1 ≤ 
   -- the `Get`, `Go` and `Put` of a place
   module _ (t j : ℕ) (within : t < arity q) (here : j ≡ place_of q k t) where
     get_before : (i n : ℕ) (y : Instr) → slice_get xs i ≡ Some (instr.Get j) → slice_get xs n ≡ Some y
-        → t < read_in (state_at q start xs n) → i < n
+        → t < read_in (state n) → i < n
     get_before = before_it (λ s. t < read_in s) (instr.Get j) (get_mark m q k t j within here)
 
     put_before : (i n : ℕ) (y : Instr) → slice_get xs i ≡ Some (instr.Put j) → slice_get xs n ≡ Some y
-        → t < (state_at q start xs n).turn → i < n
+        → t < (state n).turn → i < n
     put_before = before_it (λ s. t < s.turn) (instr.Put j) (put_mark m q k t j within here)
 
     go_before : IsChild q j → (i n : ℕ) (y : Instr) → slice_get xs i ≡ Some (instr.Go j) → slice_get xs n ≡ Some y
-        → t < run_in (state_at q start xs n) → i < n
+        → t < run_in (state n) → i < n
     go_before is = before_it (λ s. t < run_in s) (instr.Go j) (go_mark m q k t j within here is)
 
     get_once : HasPlace q j → OccursOnceIf (HasPlace q j) xs (instr.Get j)
@@ -159,21 +162,21 @@ module _ (m : Passes) (q : Production) (k : ℕ) (xs : List Instr) (one : 1 ≤ 
     put = once_at (HasPlace q) instr.Put (λ n j e. place n j (instr.Put j) Gone e (may n (instr.Put j) e)) (λ j p. p) put_once;
     go_after_get = λ j i n a b. (
         let turn = (may n (instr.Go j) b).0 in
-        let count = read_is (state_at q start xs n) Got turn.phase_is in
+        let count = read_is (state n) Got turn.phase_is in
         get_before _ j turn.within turn.place i n _ a b (omega arith));
     put_after_go = λ j i n a b. (
         let turn = may n (instr.Put j) b in
-        let count = run_is (state_at q start xs n) Gone turn.phase_is in
+        let count = run_is (state n) Gone turn.phase_is in
         go_before _ j turn.within turn.place (child i j a) i n _ a b (omega arith));
     put_after_get = λ j i n a b. (
         let turn = may n (instr.Put j) b in
-        let count = read_is (state_at q start xs n) Gone turn.phase_is in
+        let count = read_is (state n) Gone turn.phase_is in
         get_before _ j turn.within turn.place i n _ a b (omega arith));
     in_direction = λ i j before s n a b. (
         let first = may s (instr.Put i) a in
         let next = may n (instr.Get j) b in
         let earlier = turn_before q k _ _ first.within next.within
-        (subst (IsBefore (direction_of k) (place_of q k (state_at q start xs s).turn)) next.place
+        (subst (IsBefore (direction_of k) (place_of q k (state s).turn)) next.place
         (subst (λ i. IsBefore (direction_of k) i j) first.place before)) in
         put_before _ i first.within first.place s n _ a b earlier);
   }
@@ -186,18 +189,18 @@ module _ (m : Passes) (q : Production) (k : ℕ) (xs : List Instr) (one : 1 ≤ 
   is_own i (zero, a, r, inl e) h = let turn = (may h.0 (instr.Set 0 a r) (h.1 ∙ ap Some e)).0 in
       absurd (let p = turn.place in omega arith)
   is_own i (suc j, a, r, inl e) h = let g = (may h.0 (instr.Set (suc j) a r) (h.1 ∙ ap Some e)).1 in
-      (r, g.rule, g.numbered, e ∙ of_rule (state_at q start xs h.0) (suc j) a r g)
+      (r, g.rule, g.numbered, e ∙ of_rule (state h.0) (suc j) a r g)
   is_own i (j, a, r, inr e) h = let g = (may h.0 (instr.Def a r) (h.1 ∙ ap Some e)).1 in
-      (r, g.rule, g.numbered, e ∙ of_rule (state_at q start xs h.0) 0 a r g)
+      (r, g.rule, g.numbered, e ∙ of_rule (state h.0) 0 a r g)
 
   -- where a rule's own instruction is it may give its value
-  may_compute : (j a r n : ℕ) → slice_get xs n ≡ Some (set_or_def j a r) → MayCompute m q k (state_at q start xs n) j a r
+  may_compute : (j a r n : ℕ) → slice_get xs n ≡ Some (set_or_def j a r) → MayCompute m q k (state n) j a r
   may_compute zero a r n e = (may n (instr.Def a r) e).1
   may_compute (suc j) a r n e = (may n (instr.Set (suc j) a r) e).1
 
   -- and the rule is this one
   module _ (r n : ℕ) (u : Rule) (is : IsRuleAt q r u) (e : slice_get xs n ≡ Some (instruction_of u r)) where
-    its_own : MayCompute m q k (state_at q start xs n) u.target.place u.target.attr r
+    its_own : MayCompute m q k (state n) u.target.place u.target.attr r
     its_own = may_compute u.target.place u.target.attr r n e
 
     same : its_own.rule ≡ u
@@ -211,7 +214,7 @@ module _ (m : Passes) (q : Production) (k : ℕ) (xs : List Instr) (one : 1 ≤ 
     own = is_own;
     after_get = λ j a r i n b c. (
         let turn = (may n (instr.Set j a r) c).0 in
-        let count = read_is (state_at q start xs n) Got turn.phase_is in
+        let count = read_is (state n) Got turn.phase_is in
         get_before _ j turn.within turn.place i n _ b c (omega arith));
     before_go = before_go;
   }
@@ -222,15 +225,15 @@ module _ (m : Passes) (q : Production) (k : ℕ) (xs : List Instr) (one : 1 ≤ 
           let g = (may i (instr.Set (suc j) a r) b).1 in
           let done = (may n (instr.Go (suc j)) c).1 r g.rule g.numbered (ap (λ (o : Target). o.place) g.target) g.passed in
           before_it (λ s. Has s.done r) (instruction_of g.rule r) (rule_mark m q k r g.rule g.numbered) i n (instr.Go (suc j))
-          (b ∙ ap Some (of_rule (state_at q start xs i) (suc j) a r g)) c done
+          (b ∙ ap Some (of_rule (state i) (suc j) a r g)) c done
 
   arguments : HasArguments m q k xs
   arguments r n u o is e arg = go hand
     where
-      hand : Course.IsAvailable m q k (state_at q start xs n) o
+      hand : Course.IsAvailable m q k (state n) o
       hand = (its_own r n u is e).available o (subst (λ (w : Rule). IsArgument w o) (sym (same r n u is e)) arg)
 
-      go : Course.IsAvailable m q k (state_at q start xs n) o → IsAvailableAt m q k xs n o
+      go : Course.IsAvailable m q k (state n) o → IsAvailableAt m q k xs n o
       go (p, has, most, inl less) = inr (inl (p, has, less))
       go (p, has, most, inr (inl own)) = inl own
       go (p, has, most, inr (inr (t, less, place))) = elim (cases_lt p k) [

@@ -81,24 +81,24 @@ turn_read p t = omega arith
 
 module _ (m : Passes) (q : Production) (k : ℕ) (xs : List Instr) (one : 1 ≤ k) (allowed : IsLegalFor (HasPass m) q)
     (list : ListAgrees m q k xs) where
+  abbrev state : ℕ → State
+  state n = state_at q start xs n
+
   -- the instruction at an index, if those before it were followed
   module _ (n : ℕ) (x : Instr) (is : slice_get xs n ≡ Some x) (may : MayRunTo m q k start xs n) where
-    abbrev s : State
-    s = state_at q start xs n
-
     -- what is before it has left its mark, and what is here has not yet
     seen : (A : State → Type 0) (y : Instr) → IsMark m q k A y → (i : ℕ) → i < n → slice_get xs i ≡ Some y
-        → A (state_at q start xs n)
+        → A (state n)
     seen A y mark i less at = marked m q k xs n may A y mark i n less (omega arith) at
 
-    new : (A : State → Type 0) → IsMark m q k A x → (P : Type 0) → OccursOnceIf P xs x → A (state_at q start xs n) → ⊥
+    new : (A : State → Type 0) → IsMark m q k A x → (P : Type 0) → OccursOnceIf P xs x → A (state n) → ⊥
     new A mark P occurs_once a =
         let before = occurs m q k xs n may A x mark n (omega arith) a in
         let less = before.1 in
         let same = occurs_once.once before.0 n before.2 is in
         omega arith
 
-    going : (state_at q start xs n).phase ≡ Ended → ⊥
+    going : (state n).phase ≡ Ended → ⊥
     going e =
         let before = occurs m q k xs n may (λ s. s.phase ≡ Ended) instr.End (end_mark m q k) n (omega arith) e in
         let less = before.1 in
@@ -108,36 +108,36 @@ module _ (m : Passes) (q : Production) (k : ℕ) (xs : List Instr) (one : 1 ≤ 
 
     -- if the `Get` of a turn is before it, the child was read
     was : (A : State → Type 0) (y : Instr) → IsMark m q k A y → Has xs y → ((i : ℕ) → slice_get xs i ≡ Some y → i < n)
-        → A (state_at q start xs n)
+        → A (state n)
     was A y mark has prefix = seen A y mark has.0 (prefix has.0 has.1) has.1
 
     was_read : (t j : ℕ) → t < arity q → j ≡ place_of q k t → ((i : ℕ) → slice_get xs i ≡ Some (instr.Get j) → i < n)
-        → t < read_in (state_at q start xs n)
+        → t < read_in (state n)
     was_read t j within place = was (λ s. t < read_in s) (instr.Get j) (get_mark m q k t j within place)
         ((list.visits.got j).there (subst (HasPlace q) (sym place) (is_stored_child q k t within)))
 
     was_run : (t j : ℕ) → t < arity q → j ≡ place_of q k t → IsChild q j → ((i : ℕ) → slice_get xs i ≡ Some (instr.Go j) → i < n)
-        → t < run_in (state_at q start xs n)
+        → t < run_in (state n)
     was_run t j within place child = was (λ s. t < run_in s) (instr.Go j) (go_mark m q k t j within place child)
         ((list.visits.gone j).there child)
 
     was_put : (t j : ℕ) → t < arity q → j ≡ place_of q k t → ((i : ℕ) → slice_get xs i ≡ Some (instr.Put j) → i < n)
-        → t < (state_at q start xs n).turn
+        → t < (state n).turn
     was_put t j within place = was (λ s. t < s.turn) (instr.Put j) (put_mark m q k t j within place)
         ((list.visits.put j).there (subst (HasPlace q) (sym place) (is_stored_child q k t within)))
 
     was_given : (r : ℕ) (u : Rule) → IsRuleAt q r u → HasPass m q u.target k
-        → ((i : ℕ) → slice_get xs i ≡ Some (instruction_of u r) → i < n) → Has (state_at q start xs n).done r
+        → ((i : ℕ) → slice_get xs i ≡ Some (instruction_of u r) → i < n) → Has (state n).done r
     was_given r u at passed = was (λ s. Has s.done r) (instruction_of u r) (rule_mark m q k r u at)
         ((list.computes.computed r u at).there passed)
 
-    turn_here : (p : Phase) (t j : ℕ) → t < arity q → j ≡ place_of q k t → s.phase ≡ p → t ≡ s.turn → IsTurnOf q k s p j
+    turn_here : (p : Phase) (t j : ℕ) → t < arity q → j ≡ place_of q k t → (state n).phase ≡ p → t ≡ (state n).turn → IsTurnOf q k (state n) p j
     turn_here p t j within place phase same = record
         { phase_is = phase; within = subst (λ t. t < arity q) same within; place = place ∙ ap (place_of q k) same }
 
     -- what is at hand at the index is at hand in its state
     hand : (r : ℕ) (u : Rule) → IsRuleAt q r u → HasPass m q u.target k → (o : Target) → IsArgument u o
-        → IsAvailableAt m q k xs n o → Course.IsAvailable m q k s o
+        → IsAvailableAt m q k xs n o → Course.IsAvailable m q k (state n) o
     hand r u at passed o arg (inl own) = let p = allowed u o k (r, at) arg passed in
         (p.0, p.1, may_use_most k u.target.place o.place p.0 p.2, inr (inl own))
     hand r u at passed o arg (inr (inl h)) = let low = h.2 in (h.0, h.1, omega arith, inl low)
@@ -150,7 +150,7 @@ module _ (m : Passes) (q : Production) (k : ℕ) (xs : List Instr) (one : 1 ≤ 
 
     -- a rule's own instruction may give its value
     may_compute : (j a r : ℕ) (u : Rule) → IsRuleAt q r u → u.target ≡ record { place = j; attr = a } → x ≡ instruction_of u r
-        → MayCompute m q k s j a r
+        → MayCompute m q k (state n) j a r
     may_compute j a r u at target own = record {
       rule = u;
       numbered = at;
@@ -169,12 +169,12 @@ module _ (m : Passes) (q : Production) (k : ℕ) (xs : List Instr) (one : 1 ≤ 
 
   module _ (n : ℕ) (may : MayRunTo m q k start xs n) where
     abbrev now : State
-    now = state_at q start xs n
+    now = state n
 
     -- at a child that was read, and in which the pass has not run
     got_turn : (x : Instr) → slice_get xs n ≡ Some x → (j : ℕ) → (child : IsChild q j)
         → ((i : ℕ) → slice_get xs i ≡ Some (instr.Get j) → i < n) → ((i : ℕ) → i < n → slice_get xs i ≡ Some (instr.Go j) → ⊥)
-        → IsTurnOf q k (state_at q start xs n) Got j
+        → IsTurnOf q k (state n) Got j
     got_turn x is j child get go = turn_here n x is may Got turn.0 j turn.1 turn.2 phase.0 phase.1
       where
         turn : (t : ℕ) × (t < arity q) × (j ≡ place_of q k t)
@@ -189,7 +189,7 @@ module _ (m : Passes) (q : Production) (k : ℕ) (xs : List Instr) (one : 1 ≤ 
         phase : (now.phase ≡ Got) × (turn.0 ≡ now.turn)
         phase = phase_got now.phase now.turn turn.0 low (was_read n x is may turn.0 j turn.1 turn.2 get)
 
-    step : (x : Instr) → slice_get xs n ≡ Some x → MayRun m q k (state_at q start xs n) x
+    step : (x : Instr) → slice_get xs n ≡ Some x → MayRun m q k (state n) x
     step (instr.Get j) is = turn_here n (instr.Get j) is may Between turn.0 j turn.1 turn.2 phase
         (let a = low in let b = high in let e = read_is now Between phase in omega arith)
       where
@@ -214,7 +214,7 @@ module _ (m : Passes) (q : Production) (k : ℕ) (xs : List Instr) (one : 1 ≤ 
     step (instr.Set j a r) is = (
       got_turn (instr.Set j a r) is j child (λ i e. list.computes.after_get j a r i n e is)
           (λ i less e. let after = list.computes.before_go j a r n i is e in omega arith),
-      subst (MayCompute m q k (state_at q start xs n) j a) (sym parts.1)
+      subst (MayCompute m q k (state n) j a) (sym parts.1)
           (may_compute n (instr.Set j a r) is may j a own.0 own.1 own.2 parts.0 own.3),
     )
       where
@@ -231,7 +231,7 @@ module _ (m : Passes) (q : Production) (k : ℕ) (xs : List Instr) (one : 1 ≤ 
         child = (symbol.0, (parts.2, ap (λ (o : Target). item_at q o.place) (sym parts.0) ∙ symbol.1))
     step (instr.Def a r) is = (
       going n (instr.Def a r) is may,
-      subst (MayCompute m q k (state_at q start xs n) 0 a) (sym parts.1)
+      subst (MayCompute m q k (state n) 0 a) (sym parts.1)
           (may_compute n (instr.Def a r) is may 0 a own.0 own.1 own.2 parts.0 own.3),
     )
       where
@@ -306,7 +306,7 @@ module _ (m : Passes) (q : Production) (k : ℕ) (xs : List Instr) (one : 1 ≤ 
   may_to : (n : ℕ) → MayRunTo m q k start xs n
   may_to zero i x less is = absurd (omega arith)
   may_to (suc n) i x less is = elim (cases_eq i n) [
-    | inl same ↦ subst (λ i. MayRun m q k (state_at q start xs i) x) (sym same)
+    | inl same ↦ subst (λ i. MayRun m q k (state i) x) (sym same)
         (step n (may_to n) x (ap (slice_get xs) (sym same) ∙ is))
     | inr other ↦ may_to n i x (omega arith) is
   ]
