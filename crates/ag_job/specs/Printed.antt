@@ -3,7 +3,7 @@ use Rattle.std.specs.Prelude.{ℕ, List, codes}
 use Rattle.ag_job.specs.declared.fault.JobFault.{JobFault}
 use Rattle.ag_job.specs.declared.fault.JobFault.TheVariants as fault
 
--- the fault's number, what is wrong, and what to do
+-- the fault's number or `NoMemory`, what is wrong, and for J1 and J3 what to do
 abbrev pub printed : JobFault → List ℕ
 printed fault.NoSeparator = codes "J1 no line is exactly `%%`, write one between the grammar and the sentence"
 printed fault.Read = codes "J2 standard input can't be read"
