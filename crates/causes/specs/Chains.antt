@@ -1,5 +1,5 @@
 -- The chain of rules that passed an error on, from one rule to that in which the error arises. All of this is this project's.
-use Rattle.std.specs.Prelude.{ℕ, suc, ◌≡◌, ◌<◌, ◌⊎◌, List, [], ◌∷◌, ◌++◌, map, Some, Ok, slice_get, true}
+use Rattle.std.specs.Prelude.{ℕ, suc, ◌≡◌, ◌<◌, ◌⊎◌, List, [], ◌∷◌, ◌++◌, map, Some, None, Ok, slice_get, true}
 use Rattle.ag_value.specs.declared.value.Value.{Value}
 use Rattle.ag_grammar.specs.declared.grammar.Production.{Production}
 use Rattle.ag_grammar.specs.declared.grammar.Rule.{Rule}
@@ -7,7 +7,9 @@ use Rattle.ag_grammar.specs.declared.grammar.Target.{Target}
 use Rattle.ag_grammar.specs.grammars.AttributeGrammar.{Grammar, IsProduction}
 use Rattle.treefile.specs.records.TreeFile.{version_two}
 use Rattle.treefile.specs.framing.Ending.{body_before}
-use Rattle.origins.specs.Arising.{Table, is_arising}
+use Rattle.ag_grammar.specs.expressions.Evaluation.{value_of}
+use Rattle.ag_grammar.specs.values.Arguments.{fault_of}
+use Rattle.origins.specs.Arising.{Table, environment, is_arising}
 use Rattle.origins.specs.Causes.{IsSource}
 use Rattle.origins.specs.Records.{IsNode}
 use Rattle.origins.specs.Rows.{table_of}
@@ -40,6 +42,16 @@ pub record Arises (rules : List Rule) (e : Table) (target : Target) (number : �
   pub there : slice_get rules number ≡ Some rule
   pub gives : rule.target ≡ target
   pub arises : is_arising e rule ≡ true
+
+-- No rule for a target has an error as its value. Rules are numbered with two bytes.
+abbrev pub HasNoError : List Rule → Table → Target → Type 0
+HasNoError rules e target = (number : ℕ) (rule : Rule) → number < 65536 → slice_get rules number ≡ Some rule
+    → rule.target ≡ target
+    → fault_of (value_of rule.expr.0 (environment rule e)) ≡ None
+
+-- and at a node of the production of a number, with the values of its record
+abbrev pub HasNoErrorAt : Grammar → ℕ → List Value → Target → Type 0
+HasNoErrorAt g p vs target = (q : Production) → IsProduction g p q → HasNoError q.rules (table_of g q vs) target
 
 -- what the rule for a target does
 abbrev pub DoesNext : List Rule → Table → Target → Next → Type 0

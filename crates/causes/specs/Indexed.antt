@@ -1,20 +1,26 @@
 -- What is read along the nodes of the index of a file: what the tree has there. All of this is this project's.
-use Rattle.std.specs.Prelude.{ℕ, suc, ◌≡◌, ◌^◌, ◌<◌, List, [], ◌∷◌, ◌++◌, map, reverse, Some}
+use Rattle.std.specs.Prelude.{ℕ, suc, ◌≡◌, ◌^◌, ◌<◌, ◌≤◌, ◌⊎◌, List, [], ◌∷◌, ◌++◌, map, reverse, Some, None, Ok}
+use Rattle.ag_value.specs.declared.value.Value.{Value}
 use Rattle.ag_grammar.specs.declared.direction.Direction.{Direction}
 use Rattle.ag_grammar.specs.declared.grammar.Target.{Target}
-use Rattle.ag_grammar.specs.grammars.AttributeGrammar.{Grammar}
+use Rattle.ag_grammar.specs.declared.grammar.Production.{Production}
+use Rattle.ag_grammar.specs.grammars.AttributeGrammar.{Grammar, IsProduction}
 use Rattle.ag_grammar.specs.grammars.Passes.{IsLegal, Passes}
 use Rattle.ag_grammar.specs.grammars.Running.{IsLastPass}
 use Rattle.ag_grammar.specs.grammars.Solution.{Valuation}
 use Rattle.ag_grammar.specs.grammars.Tree.{IsTreeOf, Tree}
 use Rattle.treefile.specs.records.Records.{IsFileOfTree}
 use Rattle.treefile.specs.records.TreeFile.{version_two}
-use Rattle.tree_index.specs.Nodes.{HasNodes, IsIndexIn, StandsAt, back_from, end_of, nodes_of}
+use Rattle.treefile.specs.framing.Ending.{body_before}
+use Rattle.tree_index.specs.Nodes.{HasNoChild, HasNodes, IsIndexIn, StandsAt, back_from, end_of, kind_in, nodes_of}
+use Rattle.tree_index.specs.declared.index.NodeKind.TheVariants as kind
 use Rattle.tree_index.specs.declared.index.TreeIndex.{TreeIndex}
 use Rattle.origins.specs.Causes.{HasCause, place_path, tree_at, values_at}
-use Rattle.causes.specs.Chains.{IsCause, IsInRecord, Reading}
+use Rattle.origins.specs.Records.{IsNode}
+use Rattle.causes.specs.Chains.{HasNoErrorAt, IsCause, IsChain, IsInRecord, Reading}
 use Rattle.causes.specs.Laws.{IsInTree, in_tree}
 use Rattle.causes.specs.declared.chain.PathNode.{PathNode}
+use Rattle.causes.specs.declared.next_rule.Next.TheVariants as rule_does
 
 -- The number of a node, in the order of an index, is that of the node of a tree at the end of some places, which count from 1.
 pub record IsAtPlaces (d : Direction) (t : Tree) (v : Valuation) (places : List ℕ) (number : ℕ) : Type 0 where
@@ -69,3 +75,64 @@ pub record IsCauseOf (g : Grammar) (places : List ℕ) (target : Target) (there 
 abbrev pub IsCauseIn : Grammar → TreeIndex → List ℕ → List ℕ → Target → List ℕ → ℕ → ℕ → Type 0
 IsCauseIn g index content places target there number n = IsIndexIn g content index
     → OfEachLast (IsCauseOf g places target there number n) g content
+
+-- A node of a production, which has a number in an index, has no record there.
+abbrev pub HasNoRecord : Grammar → TreeIndex → ℕ → Type 0
+HasNoRecord g index number = (p : ℕ) (q : Production) → kind_in index number ≡ Some (kind.Node p) → IsProduction g p q
+    → end_of index number ≡ None
+
+-- The node at the end of some places has no record in the index.
+pub record IsWithoutRecord (g : Grammar) (index : TreeIndex) (places : List ℕ) : Type 0 where
+  pub number : ℕ
+  pub numbered : IsNumberAt g index places number
+  pub none : HasNoRecord g index number
+
+-- It has one, with the values of which no rule for a target has an error as its value.
+pub record IsWithoutError (g : Grammar) (index : TreeIndex) (content places : List ℕ) (target : Target) : Type 0 where
+  pub end : ℕ
+  pub ends : IsEndAt g index places end
+  pub body : List ℕ
+  pub there : body_before version_two content end ≡ Ok body
+  pub production : ℕ
+  pub values : List Value
+  pub is_node : IsNode g body production values
+  pub none : HasNoErrorAt g production values target
+
+-- The node at the end of some places does not have a child at a place.
+pub record HasNoChildAt (g : Grammar) (index : TreeIndex) (places : List ℕ) (place : ℕ) : Type 0 where
+  pub number : ℕ
+  pub numbered : IsNumberAt g index places number
+  pub none : HasNoChild g index number place
+
+-- No node has a rule for an argument of a rule at the node at the end of some places: it is an attribute of the root itself, or
+-- of a
+-- child that the node does not have.
+abbrev pub GoesNowhere : Grammar → TreeIndex → List ℕ → Target → Type 0
+GoesNowhere g index places argument = ((argument.place ≡ 0) × (places ≡ [])) ⊎ HasNoChildAt g index places argument.place
+
+-- A rule passes on the error of such an argument.
+pub record IsPassedFromNowhere (g : Grammar) (index : TreeIndex) (content places : List ℕ) (target : Target) : Type 0 where
+  pub argument : Target
+  pub passes : in_file g index content places target (rule_does.Passes argument)
+  pub nowhere : GoesNowhere g index places argument
+
+-- No rule follows the one for a target at the node at the end of some places, and the error does not arise in it.
+abbrev pub Stops : Grammar → TreeIndex → List ℕ → List ℕ → Target → Type 0
+Stops g index content places target = IsWithoutRecord g index places ⊎ IsWithoutError g index content places target
+    ⊎ IsPassedFromNowhere g index content places target
+
+-- A chain of rules that passed an error on stops without a cause, or has as many rules as the limit.
+pub record StopsAfter (g : Grammar) (index : TreeIndex) (content places : List ℕ) (target : Target) (limit : ℕ) : Type 0 where
+  pub there : List ℕ
+  pub from : Target
+  pub rules : ℕ
+  pub chain : IsChain (in_file g index content) places target there from rules
+  pub stops : (limit ≤ rules) ⊎ Stops g index content there from
+
+-- On the way along some places a node does not have a child.
+pub record LeadsNowhere (g : Grammar) (index : TreeIndex) (places : List ℕ) : Type 0 where
+  pub prefix : List ℕ
+  pub place : ℕ
+  pub others : List ℕ
+  pub split : places ≡ prefix ++ place ∷ others
+  pub none : HasNoChildAt g index prefix place

@@ -1,8 +1,11 @@
 //! The chain of rules that passed an error on.
 
-ghost use Rattle.std.specs.Prelude.{◌≡◌, ◌++◌, ◌∷◌, [], IfOk, IfSome, IsErrOf, IsTrue, OnOk};
+ghost use Rattle.std.specs.Prelude.{◌≡◌, ◌*◌, ◌++◌, ◌∷◌, ◌⊎◌, [], IfNone, IfOk, IfSome, IsErrOf, IsTrue, OnOk, false};
+ghost use Rattle.ag_grammar.specs.declared.limits.TheConstants.{MAX_NODES};
 ghost use Rattle.causes.specs.Chains.{Follows, GoesTo, IsCause, in_content, places_of};
-ghost use Rattle.causes.specs.Indexed.{IsCauseIn, IsEndAt, IsNumberAt, Leads, in_file};
+ghost use Rattle.causes.specs.Indexed.{GoesNowhere, HasNoChildAt, HasNoRecord, IsCauseIn, IsEndAt, IsNumberAt};
+ghost use Rattle.causes.specs.Indexed.{IsWithoutError, IsWithoutRecord, Leads, LeadsNowhere, Stops, StopsAfter, in_file};
+ghost use Rattle.causes.specs.declared.chain.Step.TheVariants as to;
 ghost use Rattle.treefile.specs.devices.Device.{LeavesContent, Persists, WhenHonest};
 
 use crate::bodies::body_before;
@@ -11,7 +14,7 @@ use ag_grammar::limits::MAX_NODES;
 use ag_grammar::{Grammar, Item, Target};
 use origins::{DecodeFault, LastRecord, record_of};
 use std::alloc::Global;
-use tree_index::{TreeFault, TreeIndex};
+use tree_index::{NodeKind, TreeFault, TreeIndex};
 use treefile::Device;
 
 /// The greatest number of rules in a chain: 16 attributes for each node.
@@ -78,6 +81,10 @@ impl<'a> Chain<'a> {
         ensures next { IfOk result (λ next. IfSome next (λ does. WhenHonest (D.is_honest device.new)
             (in_file self.now.grammar.now self.now.index.now (D.content device.old)
             (places_of self.now.nodes.items) target does))) }
+        ensures none { IfOk result (λ next. IfNone next (WhenHonest (D.is_honest device.new)
+            (IsWithoutRecord self.now.grammar.now self.now.index.now (places_of self.now.nodes.items)
+            ⊎ IsWithoutError self.now.grammar.now self.now.index.now (D.content device.old)
+            (places_of self.now.nodes.items) target))) }
         ensures content { LeavesContent (D.is_honest device.new)
             (D.content device.old) (D.content device.new) }
         ensures persists { Persists (D.is_honest device.old) (D.is_honest device.new)
@@ -91,7 +98,7 @@ impl<'a> Chain<'a> {
             Ok(LastRecord::Node(number, values)) => {
                 Ok(next_at(alloc, self.grammar, number, values.as_slice(), target)?)
             }
-            Ok(LastRecord::Token) => Ok(None),
+            Ok(LastRecord::Token) => Err(TreeFault::Damaged(end)),
             Err(DecodeFault::Damaged) => Err(TreeFault::Damaged(end)),
             Err(DecodeFault::NoMemory) => Err(TreeFault::NoMemory),
         }
@@ -109,14 +116,37 @@ impl<'a> Chain<'a> {
         }
     }
 
-    /// Returns the end of the record of the node at which the chain is, and its item.
+    /// Returns the end of the record of the node at which the chain is, and its item. Returns `None` if it is not
+    /// a node of a production.
     fn record(&self) -> Option<(u64, Item)>
         requires leads { Leads self.now.grammar.now self.now.index.now self.now.nodes.items }
-        ensures { IfSome result (λ parts. IsEndAt self.now.grammar.now self.now.index.now
+        ensures end { IfSome result (λ parts. IsEndAt self.now.grammar.now self.now.index.now
             (places_of self.now.nodes.items) parts.0) }
+        ensures none { IfNone result (IsWithoutRecord self.now.grammar.now self.now.index.now
+            (places_of self.now.nodes.items)) }
     {
         let node = self.node();
-        Some((self.index.end(node)?, self.index.item(self.grammar, node)?))
+        let Some(left) = self.left_of(node) else {
+            return None;
+        };
+        match self.index.end(node) {
+            Some(end) => Some((end, Item::Symbol(left))),
+            None => None,
+        }
+    }
+
+    /// Returns the left side of the production of a node. Returns `None` for a token.
+    fn left_of(&self, node: u32) -> Option<u16>
+        ensures { IfNone result (HasNoRecord self.now.grammar.now self.now.index.now node) }
+    {
+        let Some(NodeKind::Node(number)) = self.index.kind(node) else {
+            return None;
+        };
+        let productions = self.grammar.productions();
+        if productions.len() <= usize::from(number) {
+            return None;
+        }
+        Some(productions[usize::from(number)].left)
     }
 
     /// Goes to the child at a place. Returns whether there is one.
@@ -124,6 +154,8 @@ impl<'a> Chain<'a> {
         requires leads { Leads self.old.grammar.now self.old.index.now self.old.nodes.items }
         ensures places { IfOk result (λ found. IsTrue found → places_of self.new.nodes.items
             ≡ places_of self.old.nodes.items ++ place ∷ []) }
+        ensures none { IfOk result (λ found. found ≡ false → HasNoChildAt self.old.grammar.now
+            self.old.index.now (places_of self.old.nodes.items) place) }
         ensures leads { OnOk result (Leads self.new.grammar.now self.new.index.now self.new.nodes.items) }
         ensures index { self.new.index ≡ self.old.index }
         ensures grammar { self.new.grammar ≡ self.old.grammar }
@@ -143,6 +175,8 @@ impl<'a> Chain<'a> {
         requires root { self.old.nodes.items ≡ [] }
         ensures places { IfOk result (λ found. IsTrue found
             → places_of self.new.nodes.items ≡ places.now) }
+        ensures none { IfOk result (λ found. found ≡ false → LeadsNowhere self.old.grammar.now
+            self.old.index.now places.now) }
         ensures leads { OnOk result (Leads self.new.grammar.now self.new.index.now self.new.nodes.items) }
         ensures index { self.new.index ≡ self.old.index }
         ensures grammar { self.new.grammar ≡ self.old.grammar }
@@ -162,6 +196,8 @@ impl<'a> Chain<'a> {
         requires leads { Leads self.old.grammar.now self.old.index.now self.old.nodes.items }
         ensures goes { IfOk result (λ target. IfSome target (GoesTo
             (places_of self.old.nodes.items) argument (places_of self.new.nodes.items))) }
+        ensures none { IfOk result (λ target. IfNone target (GoesNowhere self.old.grammar.now
+            self.old.index.now (places_of self.old.nodes.items) argument)) }
         ensures leads { OnOk result (Leads self.new.grammar.now self.new.index.now self.new.nodes.items) }
         ensures index { self.new.index ≡ self.old.index }
         ensures grammar { self.new.grammar ≡ self.old.grammar }
@@ -182,6 +218,7 @@ impl<'a> Chain<'a> {
         requires leads { Leads self.old.grammar.now self.old.index.now self.old.nodes.items }
         ensures goes { IfSome result (λ target. (target.attr ≡ attr) × (places_of self.old.nodes.items
             ≡ places_of self.new.nodes.items ++ target.place ∷ [])) }
+        ensures none { IfNone result (places_of self.old.nodes.items ≡ []) }
         ensures leads { Leads self.new.grammar.now self.new.index.now self.new.nodes.items }
         ensures index { self.new.index ≡ self.old.index }
         ensures grammar { self.new.grammar ≡ self.old.grammar }
@@ -204,6 +241,9 @@ impl<'a> Chain<'a> {
         ensures step { IfOk result (λ step. WhenHonest (D.is_honest device.new) (Follows
             (in_file self.old.grammar.now self.old.index.now (D.content device.old))
             (places_of self.old.nodes.items) target (places_of self.new.nodes.items) step)) }
+        ensures stops { IfOk result (λ step. step ≡ to.Nothing → WhenHonest (D.is_honest device.new) (Stops
+            self.old.grammar.now self.old.index.now (D.content device.old)
+            (places_of self.old.nodes.items) target)) }
         ensures leads { OnOk result (Leads self.new.grammar.now self.new.index.now self.new.nodes.items) }
         ensures index { self.new.index ≡ self.old.index }
         ensures grammar { self.new.grammar ≡ self.old.grammar }
@@ -240,7 +280,8 @@ impl<'a> Chain<'a> {
 /// Finds the cause of an error, which the rule for a target computes: follows the rules that passed the error
 /// on. `device` contains the file of the last pass, and `index` is its index.
 ///
-/// Returns `None` if the target has no rule, the rule's value is not an error, or the file does not have the chain.
+/// Returns `None` if the target has no rule, the rule's value is not an error, or the file does not have the chain;
+/// and after 16,777,216 rules, 16 for each of `MAX_NODES` nodes.
 /// Fails with R1 if a record on it is damaged, with D1 if a call of the device fails, and if memory is
 /// refused. Reads a record for each rule in the chain.
 pub fn find_cause<D: Device>(
@@ -261,6 +302,11 @@ pub fn find_cause<D: Device>(
         start.now.target cause.places.items cause.rule cause.steps))) }
     ensures node { IfOk result (λ cause. IfSome cause (λ cause.
         IsNumberAt grammar.now index.now cause.places.items cause.node)) }
+    // If there is none, the places lead to no node, or the chain of rules that passed an error on from one to the
+    // next stops at one that has no error, or has the greatest number of rules
+    ensures none { IfOk result (λ cause. IfNone cause (WhenHonest (D.is_honest device.new)
+        (LeadsNowhere grammar.now index.now start.now.places.now ⊎ StopsAfter grammar.now index.now
+        (D.content device.old) start.now.places.now start.now.target (16 * MAX_NODES)))) }
     ensures content { LeavesContent (D.is_honest device.new)
         (D.content device.old) (D.content device.new) }
     ensures persists { Persists (D.is_honest device.old) (D.is_honest device.new)

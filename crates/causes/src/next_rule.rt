@@ -1,12 +1,12 @@
 //! What a rule does with an error: it passes on the error of an argument, or the error arises in it.
 
-ghost use Rattle.std.specs.Prelude.{◌≡◌, All, IfOk, IfSome, length};
-ghost use Rattle.ag_grammar.specs.Lists.{Each};
+ghost use Rattle.std.specs.Prelude.{ℕ, ◌≡◌, ◌<◌, All, IfNone, IfOk, IfSome, Some, length, slice_get};
+ghost use Rattle.ag_grammar.specs.Lists.{DifferIn, Each};
 ghost use Rattle.ag_grammar.specs.declared.grammar.Rule.{Rule as TheRule};
 ghost use Rattle.ag_grammar.specs.grammars.Accepted.{IsAccepted};
 ghost use Rattle.ag_value.specs.Well.{IsWell};
 ghost use Rattle.origins.specs.Rows.{table_of};
-ghost use Rattle.causes.specs.Chains.{DoesNext, DoesNextAt, IsNumberFor};
+ghost use Rattle.causes.specs.Chains.{DoesNext, DoesNextAt, HasNoError, HasNoErrorAt, IsNumberFor};
 
 use ag_grammar::{Grammar, Rule, Target};
 use ag_value::{NoMemory, Value};
@@ -24,7 +24,9 @@ pub(crate) enum Next {
 
 /// Returns the number of the rule for a target, from 0. Returns `None` if no rule has that target.
 pub fn rule_for(rules: &[Rule], target: Target) -> Option<u16>
-    ensures { IfSome result (IsNumberFor rules.now target) }
+    ensures number { IfSome result (IsNumberFor rules.now target) }
+    ensures none { IfNone result ((number : ℕ) → (rule : TheRule) → number < 65536
+        → slice_get rules.now number ≡ Some rule → rule.target ≡ target → ⊥) }
 {
     for (number, rule) in rules.iter().enumerate() {
         if rule.target == target {
@@ -39,7 +41,10 @@ pub fn rule_for(rules: &[Rule], target: Target) -> Option<u16>
 fn next_in(alloc: Global, row: &Row<'_>, target: Target) -> Result<Option<Next>, NoMemory>
     requires arguments { Each (λ (r : TheRule). length r.args ≡ length r.expr.1)
         row.now.production.now.rules }
-    ensures { IfOk result (λ next. IfSome next (DoesNext row.now.production.now.rules
+    requires single { DifferIn (λ (r : TheRule). r.target) row.now.production.now.rules }
+    ensures next { IfOk result (λ next. IfSome next (DoesNext row.now.production.now.rules
+        (table_of row.now.grammar.now row.now.production.now row.now.values.now) target)) }
+    ensures none { IfOk result (λ next. IfNone next (HasNoError row.now.production.now.rules
         (table_of row.now.grammar.now row.now.production.now row.now.values.now) target)) }
 {
     let rules = row.production.rules.as_slice();
@@ -70,6 +75,8 @@ pub(crate) fn next_at(
     requires well { All IsWell values.now }
     ensures next { IfOk result (λ next. IfSome next
         (DoesNextAt grammar.now number values.now target)) }
+    ensures none { IfOk result (λ next. IfNone next
+        (HasNoErrorAt grammar.now number values.now target)) }
     ensures accepted { IsAccepted grammar.now }
 {
     if grammar.productions().len() <= number as usize {

@@ -24,7 +24,7 @@ use Rattle.origins.specs.Origins as origins
 use Rattle.origins.specs.Origins.{child_of}
 use Rattle.origins.proofs.Induction.{Closed, ClosedIn, attribute_induction}
 
-number_clean : fault_of (Num (pos 0)) ≡ None
+pub number_clean : fault_of (Num (pos 0)) ≡ None
 number_clean = ap fault_at (outs-Num (pos 0))
 
 text_clean : (x : List ℕ) → fault_of (Text x) ≡ None
@@ -40,11 +40,11 @@ still_by : (r : Rule) (e : Table) (f h : ℕ → Value) → ((k : ℕ) → f k �
 still_by r e f h same = let one : f ≡ h = λ i k. same k i in
     ap (λ z. is_same_error (fault_of (value_of r.expr.0 (environment r e))) (fault_of (value_of r.expr.0 z))) one
 
-same_itself : (c : ErrorCode) → is_same_error (Some c) (Some c) ≡ true
+pub same_itself : (c : ErrorCode) → is_same_error (Some c) (Some c) ≡ true
 same_itself c = eq-eqb (number_of c) (number_of c) refl
 
 -- with none exchanged it is,
-still_none : (r : Rule) (e : Table) (c : ErrorCode) → fault_of (value_of r.expr.0 (environment r e)) ≡ Some c
+pub still_none : (r : Rule) (e : Table) (c : ErrorCode) → fault_of (value_of r.expr.0 (environment r e)) ≡ Some c
     → is_still r e 0 ≡ true
 unfolding is_still
 still_none r e c error =
@@ -108,7 +108,7 @@ exchanged_next k env clean j false true ea eb = let same : j ≡ k = turn_at j k
     sym (stays_clean (env j) (ap (λ z. fault_of (env z)) same ∙ clean))
 
 -- the argument at the turn is an error
-not_clean : (r : Rule) (e : Table) (k : ℕ) → is_still r e k ≡ true → is_still r e (suc k) ≡ false
+pub not_clean : (r : Rule) (e : Table) (k : ℕ) → is_still r e k ≡ true → is_still r e (suc k) ≡ false
     → fault_of (environment r e k) ≡ None → ⊥
 unfolding is_still
 not_clean r e k on off clean =

@@ -6,4 +6,5 @@ pub mod Order
 pub mod Origin
 pub mod Quiet
 pub mod Same
+pub mod Sources
 pub mod Step

@@ -16,7 +16,7 @@ use Rattle.ag_grammar.specs.expressions.Evaluation.{Meaning, value_of, value_ste
 use Rattle.ag_grammar.specs.values.Arguments.{fault_at, fault_of}
 use Rattle.origins.specs.Arising.{arises, exchanged, exchanged_to, is_same_error}
 
-value_of_occurrence : (k : ℕ) (env : ℕ → Value) → value_of (node_of.Occurrence k) env ≡ env k
+pub value_of_occurrence : (k : ℕ) (env : ℕ → Value) → value_of (node_of.Occurrence k) env ≡ env k
 value_of_occurrence k env =
     ap (λ (e : Node). value_of e env) (sym (node_of.rolls-Occurrence k))
     ∙ ap (λ (f : Meaning). f env []) (fold-roll-Node Meaning value_step (Node-F.Occurrence k))
@@ -29,7 +29,7 @@ another_error c v true e =
     ap (is_same_error (Some c)) (ap fault_at (outs-Fault Divide)) ∙ ap (λ n. nat_eq n 2) one
 another_error c v false e = ap (is_same_error (Some c)) (ap fault_at (outs-Fault Overflow)) ∙ e
 
-exchanged_differs : (v : Value) (o : Option ErrorCode)
+pub exchanged_differs : (v : Value) (o : Option ErrorCode)
     → is_same_error o (fault_of (exchanged_to (value.Fault Divide) (value.Fault Overflow) o v)) ≡ false
 exchanged_differs v None = refl
 exchanged_differs v (Some c) = another_error c v (nat_eq (number_of c) 1) refl

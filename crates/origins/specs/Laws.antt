@@ -20,6 +20,6 @@ NoneIsClean = (g : Grammar) (m : Passes) (t : Tree) (v : Valuation) → IsAccept
     → Solves AnyRule g t v → IsFirst g t v None
     → HoldsAt (λ path ps. (a p : ℕ) → slice_get ps a ≡ Some p → fault_of (values_at v path [] a) ≡ None) g m t []
 
--- A tree has no origin exactly if none is counted.
+-- A tree has no origin exactly if no rule in which an error arises is counted.
 abbrev pub NoneIsCounted : Type 0
 NoneIsCounted = (g : Grammar) (t : Tree) (v : Valuation) → IsFirst g t v None ↔ (origin_count g t v ≡ 0)

@@ -32,7 +32,7 @@ abbrev pub HasOrigin : Grammar → List ℕ → Option Tree → Valuation → Ty
 HasOrigin g [] t v = 0 < arising_at g t v
 HasOrigin g (i ∷ path) t v = HasOrigin g path (child_of t i) (below i v)
 
--- the number of rules of a tree in which one arises
+-- the number of rules of a tree in which an error arises; a node with two of them is one origin
 abbrev mutual
   pub origin_count : Grammar → Tree → Valuation → ℕ
   origin_count g (leaf c x) v = 0

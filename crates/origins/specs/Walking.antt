@@ -32,7 +32,7 @@ pub record Kid : Type 0 where
   pub tree : Tree
   pub values : Valuation
 
--- the children of a node from left to right, numbered from one on
+-- the children of a node from left to right, numbered from n on
 abbrev pub kids : ℕ → Forest → (ℕ → Valuation) → List Kid
 kids n none vs = []
 kids n (more t ts) vs = record { number = n; tree = t; values = vs 0 } ∷ kids (suc n) ts (rest vs)
@@ -102,7 +102,8 @@ AreOpen g m k (o ∷ os) (f ∷ fs) =
     × SolvesAll NoRule g f.trees f.values × AtEachNodeOf (WellAt (λ p. p ≤ k)) g m f.trees f.values f.values
     × (o.children ≡ length (stored_items q.items)) × AreOpen g m k os fs
 
--- no path that was met comes before this one; where none was met none is
+-- The path, the second argument, does not come before the first origin that was found, the first argument. False if none
+-- was found.
 abbrev pub IsNotBefore : Option (List ℕ) → List ℕ → Type 0
 IsNotBefore None path = ⊥
 IsNotBefore (Some first) path = is_before path first ≡ false
@@ -149,7 +150,7 @@ abbrev pub IsNextRecord : Grammar → Direction → List ℕ → ℕ → Item �
 IsNextRecord g d content at x open_nodes first count =
     OfEach (λ m k t v. IsPending g m k d t v content at x open_nodes first count) g content
 
--- A reader is one of the content, of version 2, and no failure is final.
+-- A reader is one of the content, of version 2, and has no permanent fault.
 pub record IsReady (honest : Bool) (content : List ℕ) (state : BackState) : Type 0 where
   pub over : WhenHonest honest (IsOver content state)
   pub version : state.progress.version ≡ version_two
@@ -172,7 +173,7 @@ abbrev pub first_after : Option (List ℕ) → ℕ → List ℕ → Option (List
 first_after first zero path = first
 first_after first (suc n) path = Some (earlier first path)
 
--- A node was entered: it is open, none of its children is visited, and where it has origins they are counted.
+-- A node was entered: it is open, none of its children is visited, and its rules in which an error arises are counted.
 pub record HasEntered (g : Grammar) (d : Direction) (p : ℕ) (vs : List Value) (open_old open_new : List Open)
     (first_old first_new : Option (List ℕ)) (count_old count_new : ℕ) : Type 0 where
   pub production : Production

@@ -1,16 +1,18 @@
 //! Whether an error arises in a rule, and which argument passed it on.
 
-ghost use Rattle.std.specs.Prelude.{◌≡◌, IfOk, Some, length};
+ghost use Rattle.std.specs.Prelude.{◌≡◌, ◌+◌, ◌-◌, ◌^◌, ◌<◌, IfOk, Some, length, true};
 ghost use Rattle.ag_grammar.specs.Lists.{Each};
 ghost use Rattle.ag_grammar.specs.declared.grammar.Rule.{Rule as TheRule};
+ghost use Rattle.ag_grammar.specs.declared.syntax.node.Node.TheVariants as node;
 ghost use Rattle.ag_grammar.specs.expressions.Evaluation.{value_of};
+ghost use Rattle.ag_grammar.specs.values.Arguments.{fault_of, has_fault};
 ghost use Rattle.origins.specs.Arising.{arising_count, environment, exchanged, is_arising};
 ghost use Rattle.origins.specs.Causes.{AnswersSource, exchanged_below, is_still};
 ghost use Rattle.origins.specs.Rows.{table_of};
 
 use crate::lending::{Arguments, ExchangedErrors, FirstExchanged, error_of, is_same_error};
 use crate::row::Row;
-use ag_eval::{Meter, eval};
+use ag_eval::{Environment, Meter, eval};
 use ag_grammar::{Node, Rule, Target};
 use ag_value::{ErrorCode, NoMemory, Value};
 use std::alloc::Global;
@@ -89,7 +91,7 @@ impl<'a> Row<'a> {
 
     /// Whether an error arises in a rule at the node: its value is an error, and would be the same one if
     /// every error among its arguments were another. Evaluates the rule, and a second time if its value is
-    /// an error. Fails if memory is refused.
+    /// an error; a rule that only copies an argument is not evaluated. Fails if memory is refused.
     pub fn is_arising(&self, alloc: Global, rule: &Rule) -> Result<bool, NoMemory>
         requires arguments { length rule.now.args ≡ length rule.now.expr.1 }
         ensures { IfOk result (λ arises. arises ≡ is_arising
@@ -123,30 +125,97 @@ impl<'a> Row<'a> {
         Ok(count)
     }
 
-    /// Whether a rule has the same error with other errors among its first `count` arguments.
-    fn is_still(&self, alloc: Global, rule: &Rule, count: usize) -> Result<bool, NoMemory>
+    /// Returns whether the value of the argument of a number is an error.
+    fn is_error_at(&self, rule: &Rule, number: usize) -> bool
+        requires { number < length rule.now.args }
+        ensures { result ≡ has_fault (fault_of (environment rule.now
+            (table_of self.now.grammar.now self.now.production.now self.now.values.now) number)) }
+    {
+        let spare = Value::Num(0);
+        let arguments = Arguments {
+            row: self,
+            arguments: rule.args.as_slice(),
+            spare: &spare,
+        };
+        error_of(arguments.lend(number)).is_some()
+    }
+
+    /// Evaluates a rule, and returns the error that its value is, if it is one.
+    fn error_in(&self, alloc: Global, rule: &Rule) -> Result<Option<ErrorCode>, NoMemory>
         requires arguments { length rule.now.args ≡ length rule.now.expr.1 }
-        ensures { IfOk result (λ still. still ≡ is_still rule.now
-            (table_of self.now.grammar.now self.now.production.now self.now.values.now) count) }
+        ensures { IfOk result (λ code. code ≡ fault_of (value_of rule.now.expr.0 (environment rule.now
+            (table_of self.now.grammar.now self.now.production.now self.now.values.now)))) }
     {
         let value = self.evaluate(alloc, rule)?;
-        let other = self.evaluate_first_exchanged(alloc, rule, count)?;
-        Ok(is_same_error(error_of(&value), error_of(&other)))
+        Ok(error_of(&value))
+    }
+
+    /// Whether a rule whose value is an error has the same error with another error in place of the argument of
+    /// a number too, as it has with other errors in place of those before it. Evaluates the rule only if
+    /// the argument is an error.
+    #[tactic(auto, using(crate::proofs::Sources::still_clean), unfolding(crate::specs::Causes::is_still))]
+    fn is_still(
+        &self,
+        alloc: Global,
+        rule: &Rule,
+        code: ErrorCode,
+        number: usize,
+    ) -> Result<bool, NoMemory>
+        requires arguments { length rule.now.args ≡ length rule.now.expr.1 }
+        requires error { fault_of (value_of rule.now.expr.0 (environment rule.now (table_of
+            self.now.grammar.now self.now.production.now self.now.values.now))) ≡ Some code }
+        requires within { number < length rule.now.args }
+        requires room { number < 2 ^ 64 - 1 }
+        requires before { is_still rule.now (table_of self.now.grammar.now
+            self.now.production.now self.now.values.now) number ≡ true }
+        ensures { IfOk result (λ still. still ≡ is_still rule.now (table_of self.now.grammar.now
+            self.now.production.now self.now.values.now) (number + 1)) }
+    {
+        if !self.is_error_at(rule, number) {
+            return Ok(true);
+        }
+        let other = self.evaluate_first_exchanged(alloc, rule, number + 1)?;
+        Ok(is_same_error(Some(code), error_of(&other)))
+    }
+
+    /// Returns the argument of a number if its value is an error: a rule that only copies the argument passes
+    /// that error on.
+    #[tactic(auto, using(crate::proofs::Sources::copied_clean, crate::proofs::Sources::copied_nothing))]
+    fn copied_error(&self, rule: &Rule, number: usize) -> Option<Target>
+        requires copies { rule.now.expr.0 ≡ node.Occurrence number }
+        ensures { AnswersSource rule.now
+            (table_of self.now.grammar.now self.now.production.now self.now.values.now) result }
+    {
+        let args = rule.args.as_slice();
+        if args.len() <= number {
+            return None;
+        }
+        if self.is_error_at(rule, number) {
+            Some(args[number])
+        } else {
+            None
+        }
     }
 
     /// Returns the argument that passes its error on to a rule. Returns `None` if the rule's value is not
     /// an error, or the error arises in the rule. Fails if memory is refused.
-    #[tactic(auto, using(crate::proofs::Caused::error_free, crate::proofs::Caused::arises_here))]
+    ///
+    /// Evaluates the rule, and if its value is an error once more for each argument that is an error, up to the
+    /// one that passes it on. Does not evaluate a rule that only copies an argument.
+    #[tactic(auto, using(crate::proofs::Caused::still_none, crate::proofs::Caused::arises_here))]
     pub fn source_of(&self, alloc: Global, rule: &Rule) -> Result<Option<Target>, NoMemory>
         requires arguments { length rule.now.args ≡ length rule.now.expr.1 }
         ensures { IfOk result (AnswersSource rule.now
             (table_of self.now.grammar.now self.now.production.now self.now.values.now)) }
     {
-        if !self.is_still(alloc, rule, 0)? {
-            return Ok(None);
+        if let Node::Occurrence(number) = rule.expr.tree() {
+            return Ok(self.copied_error(rule, *number));
         }
+        let Some(code) = self.error_in(alloc, rule)? else {
+            return Ok(None);
+        };
         for (number, argument) in rule.args.as_slice().iter().enumerate() {
-            if !self.is_still(alloc, rule, number + 1)? {
+            if !self.is_still(alloc, rule, code, number)? {
                 return Ok(Some(*argument));
             }
         }

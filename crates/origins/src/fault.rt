@@ -31,9 +31,9 @@ impl From<ValueFault> for DecodeFault {
 /// Why a walk over a tree file failed.
 #[derive(Clone, Copy, Debug, PartialEq, Eq)]
 pub enum WalkFault {
-    /// R1: no tree of the grammar has this file of the last pass. The offset in bytes is 0 if the file does
-    /// not begin as a tree file, else the end of the first frame from the end of the file that shows it, or
-    /// the offset at which one should end.
+    /// R1: the content is not the file of the last pass of a tree of the grammar. The offset in bytes is 0
+    /// if the content does not begin as a tree file. Else frames are read from the end of the content on, and
+    /// it is where the first bad frame ends, or where a frame should end and none does.
     Damaged(u64),
     /// P2: the tree has more than `MAX_DEPTH` levels.
     TooDeep,

@@ -7,8 +7,8 @@ ghost use Rattle.ag_grammar.specs.grammars.Accepted.{max_items};
 use ag_grammar::{Grammar, Production};
 use ag_value::Value;
 
-/// The values in the record of a node in the file of the last pass: those of its own attributes, and the
-/// copies of its children's.
+/// The values in the record of a node in the file of the last pass: those of its own attributes, and
+/// copies of its children's synthesized ones.
 #[derive(Drop)]
 pub struct Row<'a> {
     /// The grammar.

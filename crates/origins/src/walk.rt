@@ -21,7 +21,8 @@ use backreader::Back;
 use std::alloc::Global;
 use treefile::Device;
 
-/// The greatest number of turns to an open node: one for each node below it, and one to leave it.
+/// A bound of the number of turns of a whole walk: one for each record but the root's, one to leave each node, and
+/// one in which no node is open.
 const MAX_TURNS: u32 = 2 * MAX_NODES + 1;
 
 /// Where errors arise in a tree.
@@ -88,7 +89,7 @@ fn is_before(path: &[u16], other: &[u16]) -> bool
     path.len() < other.len()
 }
 
-/// An open node: its record was read, and the records of some of its children were not.
+/// An open node: its record was read, and the walk has not left it yet.
 #[derive(Clone, Copy, Debug)]
 pub(crate) struct Open {
     /// The number of its production.
@@ -335,8 +336,8 @@ impl Walk {
 /// the order of the sentence that has a rule in which an error arises, and the number of such rules in the
 /// tree. A node comes before what is below it.
 ///
-/// Reads the file once, from its end. Evaluates each rule of the tree, and a second time if its value is an
-/// error. Takes memory for a buffer, for the values of one record, and for each level.
+/// Reads the file once, from its end. Evaluates each rule of the tree that does more than copy an argument, and
+/// a second time if its value is an error. Takes memory for a buffer, for the values of one record, and for each level.
 pub fn find_origins<D: Device>(
     alloc: Global,
     grammar: &Grammar,

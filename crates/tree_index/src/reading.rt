@@ -25,7 +25,8 @@ use treefile::Device;
 /// The offset in bytes of the number of the pass in a header.
 const PASS_OFFSET: u64 = 4;
 
-/// The greatest number of turns to an open node: one for each node below it, and one to leave it.
+/// The greatest number of turns of a walk: one to each node below the root, one to leave each node, and one at
+/// which no node is open.
 const MAX_TURNS: u32 = 2 * MAX_NODES + 1;
 
 /// An open node: its record was read, and the records of some of its children were not.
@@ -232,6 +233,9 @@ impl Reading {
 
     /// Returns whether the values from `start` on begin with the copies of them.
     fn has_copies(&self, copies: Copies, start: usize) -> bool {
+        if copies.width == 0 {
+            return true;
+        }
         let Some(own) = self.values.get(start..) else {
             return false;
         };

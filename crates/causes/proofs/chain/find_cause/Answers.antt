@@ -1,10 +1,12 @@
-use Rattle.std.proofs.Common.{◌≡◌, Bor, List, ℕ, ap, refl, true, subst, sym, ◌∙◌, arith, rules}
+use Rattle.std.proofs.Common.{◌≡◌, ◌*◌, Bor, List, ℕ, inl, inr, ap, refl, true, subst, sym, ◌∙◌, arith, rules}
 use Rattle.causes.specs.Chains.{Follows, IsCause, IsChain, in_content, itself, places_of}
 use Rattle.causes.specs.Indexed.{IsNumberAt, in_file}
 use Rattle.ag_grammar.specs.grammars.AttributeGrammar.{Grammar}
 use Rattle.tree_index.specs.declared.index.TreeIndex.{TreeIndex}
 use Rattle.causes.proofs.ChainSteps.{arises_in, reads_on}
+use Rattle.ag_grammar.specs.declared.limits.TheConstants.{MAX_NODES}
 use Rattle.causes.proofs.InIndex.{cause_in, cause_in_tree}
+use Rattle.causes.proofs.Stops.{stops_after}
 use Rattle.causes.proofs.chain.find_cause.Given as given
 use Rattle.causes.proofs.chain.find_cause.Goals as goal
 
@@ -102,3 +104,27 @@ returns-in-Arises-clause-node g c =
     let of_grammar : chain.grammar.now ≡ c.args.grammar.now = ap (λ (x : Bor Grammar). x.now) now.grammar ∙ before.grammar in
     subst (λ (x : Grammar). IsNumberAt x c.args.index.now places node) of_grammar
     (subst (λ (i : TreeIndex). IsNumberAt chain.grammar.now i places node) of_index at_places)
+
+pub returns-in-Nothing-clause-none : goal.returns-in-Nothing-clause-none
+returns-in-Nothing-clause-none g c = λ honest.
+    let before = c.loop-steps.invariant in
+    let now = c.in_ok-next.ensures in
+    let chain = c.loop-steps.chain in
+    let start = c.args.start.now in
+    let honest_before = now.persists.honest honest in
+    inr
+    (stops_after chain.grammar.now c.args.grammar.now chain.index.now c.args.index.now
+    (g.D.Device.content c.loop-steps.device)
+    (g.D.Device.content c.args.device.now) before.grammar before.index
+    (before.content honest_before) start.places.now start.target
+    (places_of chain.nodes.items) c.loop-steps.target c.loop-steps.steps (16 * MAX_NODES) (before.chain honest_before)
+    (now.stops c.in-Nothing.is honest))
+
+pub returns-clause-none : goal.returns-clause-none
+returns-clause-none g c = λ honest. inr (record {
+  there = places_of c.loop-steps.chain.nodes.items;
+  from = c.loop-steps.target;
+  rules = c.loop-steps.steps;
+  chain = c.loop-steps.invariant.chain honest;
+  stops = inl c.loop-steps-test.false;
+})

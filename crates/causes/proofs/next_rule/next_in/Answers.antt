@@ -2,16 +2,17 @@ use Rattle.std.proofs.Common.{◌∙◌, sym, subst}
 use Rattle.origins.specs.Causes.{AnswersSource}
 use Rattle.origins.specs.Rows.{table_of}
 use Rattle.causes.proofs.ChainSteps.{rule_there}
+use Rattle.causes.proofs.Stops.{clean_of, no_other}
 use Rattle.causes.proofs.next_rule.next_in.Goals as goal
 
-pub returns-in-Some-2 : goal.returns-in-Some-2
-returns-in-Some-2 c =
+pub returns-in-Some-2-clause-next : goal.returns-in-Some-2-clause-next
+returns-in-Some-2-clause-next c =
     let row = c.args.row.now in
     let rule = c.in-Some-get.rule.now in
     let lookup = c.in-Some-get.ensures.lookup in
     let is =
     rule_there row.production.now.rules c.as_slice-rules.result.now c.from.result c.in-Some.number c.args.target rule
-    c.as_slice-rules.ensures c.from.ensures lookup.3.0 lookup.1 c.in-Some.ensures in
+    c.as_slice-rules.ensures c.from.ensures lookup.3.0 lookup.1 c.in-Some.ensures.number in
     let source =
     subst (AnswersSource rule (table_of row.grammar.now row.production.now row.values.now)) c.in-Some-2.is
     c.in_ok-argument.ensures in
@@ -31,14 +32,36 @@ is_arising-requires c =
     let lookup = c.in-Some-get.ensures.lookup in
     let is =
     rule_there c.args.row.now.production.now.rules c.as_slice-rules.result.now c.from.result c.in-Some.number c.args.target
-    rule c.as_slice-rules.ensures c.from.ensures lookup.3.0 lookup.1 c.in-Some.ensures in
+    rule c.as_slice-rules.ensures c.from.ensures lookup.3.0 lookup.1 c.in-Some.ensures.number in
     record { arguments = c.requires.arguments c.in-Some.number rule is.0 }
 
-pub returns-then-branch : goal.returns-then-branch
-returns-then-branch c =
+pub returns-then-branch-clause-next : goal.returns-then-branch-clause-next
+returns-then-branch-clause-next c =
     let rule = c.in-Some-get.rule.now in
     let lookup = c.in-Some-get.ensures.lookup in
     let is =
     rule_there c.args.row.now.production.now.rules c.as_slice-rules.result.now c.from.result c.in-Some.number c.args.target
-    rule c.as_slice-rules.ensures c.from.ensures lookup.3.0 lookup.1 c.in-Some.ensures in
+    rule c.as_slice-rules.ensures c.from.ensures lookup.3.0 lookup.1 c.in-Some.ensures.number in
     record { rule = rule; there = is.0; gives = is.1; arises = sym c.in_ok-is_arising.ensures ∙ c.if-branch.true }
+
+pub returns-in-Some-2-clause-none : goal.returns-in-Some-2-clause-none
+returns-in-Some-2-clause-none c = tt
+
+pub returns-then-branch-clause-none : goal.returns-then-branch-clause-none
+returns-then-branch-clause-none c = tt
+
+pub returns : goal.returns
+returns c =
+    let row = c.args.row.now in
+    let rule = c.in-Some-get.rule.now in
+    let lookup = c.in-Some-get.ensures.lookup in
+    let table = table_of row.grammar.now row.production.now row.values.now in
+    let is =
+    rule_there row.production.now.rules c.as_slice-rules.result.now c.from.result c.in-Some.number c.args.target rule
+    c.as_slice-rules.ensures c.from.ensures lookup.3.0 lookup.1 c.in-Some.ensures.number in
+    let nothing = subst (AnswersSource rule table) c.in_default-2.is c.in_ok-argument.ensures in
+    let clean = clean_of rule table nothing (sym c.in_ok-is_arising.ensures ∙ c.if-branch.false) in
+    record {
+      next = tt;
+      none = no_other row.production.now.rules table c.args.target c.in-Some.number rule c.requires.single is.0 is.1 clean;
+    }
