@@ -109,9 +109,10 @@ pub fn evaluate_file<F: Read + Write + Seek + OpenFile, W: Write>(
 }
 
 /// Converts the tree file of version 1 on `old` to version 2: writes it to `tree`, in place of what
-/// it has, and then prints the number of the tree's stored nodes and returns it. `old` keeps its
-/// content. The records in between are in memory, and all of `old` is read before `tree` is
-/// written, so both may be devices over one file.
+/// it has, and then prints the number of the tree's nodes and returns it. `old` is only read: by the
+/// record of its own calls it keeps its content. The records in between are in memory, and all of
+/// `old` is read before `tree` is written, so both may be devices over one file, which then has the
+/// new tree, and the old one no more.
 ///
 /// Fails with D1 if the file can't be written out, and otherwise as `Translator::upgrade` and
 /// `print_count` do. After O2 the new file has the tree, and a prefix of the line was printed.

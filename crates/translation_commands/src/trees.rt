@@ -5,19 +5,21 @@ use aggen_files::{parse_to_file, upgrade_file};
 use command_line::{ParsePaths, UpgradePaths};
 use messages::{ConvertedPaths, FaultReport, Source};
 use noted_file::CallRecord;
-use program_io::{read_input, read_translator, report_of_sentence};
+use program_io::{check_output, read_input, read_translator, report_of_sentence};
 use std::alloc::Global;
 use std::io;
 use std::rt::Files;
 use treefile::FileDevice;
 
 /// Writes the tree file of a sentence, and prints the number of its nodes. The grammar is read first, then the
-/// sentence, and only then is the tree file created.
+/// sentence, and only then is the tree file created. Fails before if the tree file is one of these two.
 pub fn parse_file<R: Files + Input + Print>(
     rt: &R,
     alloc: Global,
     paths: &ParsePaths<'_>,
 ) -> Result<(), FaultReport> {
+    let inputs = [paths.grammar, paths.sentence];
+    check_output(rt, alloc, paths.tree, &inputs, None)?;
     let translator = read_translator(rt, alloc, paths.grammar)?;
     parse_file_with(rt, alloc, &translator, paths)
 }
