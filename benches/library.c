@@ -1,5 +1,6 @@
-/* Measures microseconds a sentence, for benches/library: `library PROGRAM GRAMMAR SENTENCE COUNT`. By one handle; with a new handle
-   for each sentence; and by starting PROGRAM for each, a hundredth as often. Each is the least of five series. */
+/* Measures microseconds a sentence, for benches/library: `library PROGRAM GRAMMAR SENTENCE COUNT`. It uses one handle; then a new
+   handle for each sentence; and then a process of PROGRAM for each, for COUNT / 100 sentences. Each figure is the least of five
+   series. */
 #define _GNU_SOURCE
 #include <aggen.h>
 #include <fcntl.h>

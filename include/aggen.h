@@ -85,17 +85,17 @@ typedef struct aggen_refusal {
  * rejected; AGGEN_NO_MEMORY; AGGEN_MISUSE. Unless it returns AGGEN_OK or AGGEN_MISUSE, the handle has no
  * translator afterwards.
  *
- * The message of a refusal is one line, which begins with the refusal's number, or with NoMemory. It is
- * written to `message`, as far as there is room, and `*refusal` says how long it is, and where the
- * fault is. After AGGEN_OK the buffer is as before, and `*refusal` has no number, no place and length
+ * The message of a refusal is one line, which begins with the refusal's number, or with NoMemory. Its
+ * first `message_capacity` bytes are written to `message`; `*refusal` gets its length and the place of
+ * the fault. After AGGEN_OK the buffer is as before, and `*refusal` has no number, no place and length
  * 0. `refusal` may be null. */
 int aggen_build(const void *grammar, size_t grammar_length, aggen_handle *handle,
                 char *message, size_t message_capacity, aggen_refusal *refusal);
 
 /* Translates a sentence.
  *
- * The translation is written to `out`, as far as there is room, and `*length` is the length of the
- * whole translation. If that is above `capacity`, call again with more room. Returns AGGEN_OK, also if
+ * The first `capacity` bytes of the translation are written to `out`, and `*length` is the length of
+ * the whole translation. If that is above `capacity`, call again with more room. Returns AGGEN_OK, also if
  * there is not enough room; AGGEN_SENTENCE or AGGEN_NO_TEXT if the sentence or its translation is
  * rejected; AGGEN_NO_MEMORY; AGGEN_NO_TRANSLATOR; AGGEN_MISUSE. After a refusal `out` is as before, and
  * `*length` is 0; after AGGEN_MISUSE it is as before too.

@@ -1,11 +1,11 @@
-/* Tests of the library, for tests/library: `library TEST GRAMMAR SENTENCE`, where a test is one of these.
+/* Tests of the library, for tests/library: `library TEST GRAMMAR SENTENCE`. The tests are:
  *
  *   run      prints the translation and the message as `aggen run` does, and ends with its status; `plan` likewise
  *   all      the tests below, one after the other
  *   lengths  buffers of every length from 0 to one more than the text's, for results and messages
  *   many     10,000 sentences by one handle
  *   handles  100 handles at the same time; handles that are freed twice, built again, and without a translator
- *   misuse   null pointers, overlapping arguments, and lengths that no object has
+ *   misuse   null pointers, overlapping arguments, and lengths that exceed every object
  *   threads  four threads, each with a handle of its own, and a handle that one thread builds and another one uses
  *   memory   each request for memory refused in turn; only if it is linked with --wrap=malloc and --wrap=realloc, and REFUSE
  *
@@ -24,7 +24,7 @@ struct bytes {
     size_t length;
 };
 
-/* The number of requests for memory until one is refused, or 0; whether one was. */
+/* The number of requests for memory until one is refused, or 0 for none; and whether one was refused. */
 static long requests_left;
 static int was_refused;
 
@@ -53,7 +53,7 @@ void *__wrap_malloc(size_t size) { return refuses() ? NULL : __real_malloc(size)
 void *__wrap_realloc(void *old, size_t size) { return refuses() ? NULL : __real_realloc(old, size); }
 #endif
 
-/* Returns memory of exactly this length, so that a byte too many is found by the tools that look for one. */
+/* Returns memory of exactly this length, so that sanitizers find an access past its end. */
 static char *room_for(size_t length) {
     char *start = malloc(length + (length == 0));
     REQUIRE(start != NULL);
@@ -73,7 +73,7 @@ static int same(struct bytes one, struct bytes other) {
     return one.length == other.length && memcmp(one.start, other.start, one.length) == 0;
 }
 
-/* A call, its input and its answer. */
+/* A call of the library, with its input and its result. */
 typedef int call(aggen_handle *, const void *, size_t, void *, size_t, size_t *, char *, size_t, aggen_refusal *);
 
 static int plan(aggen_handle *handle, const void *input, size_t length, void *out, size_t capacity, size_t *needed,
@@ -106,7 +106,7 @@ static int build(aggen_handle *handle, struct bytes grammar) {
     return aggen_build(grammar.start, grammar.length, handle, message, sizeof message, &refusal);
 }
 
-/* Compares the fields of a refusal with its message: `N8 at 95 (grammar:4:47): ..`. */
+/* Compares the fields of a refusal with its message, such as `N8 at 95 (grammar:4:47): ..`. */
 static void compare_fields(int status) {
     if (status == AGGEN_OK || status == AGGEN_NO_TRANSLATOR) {
         REQUIRE(refusal.letter == 0 && refusal.index == 0 && refusal.offset == AGGEN_NO_OFFSET);
@@ -145,7 +145,7 @@ static void compare_fields(int status) {
     }
 }
 
-/* Prints what a call answers, as the program does, and returns the status. */
+/* Prints the result of a call as the program does, and returns the status. */
 static int print(int status, struct bytes result) {
     compare_fields(status);
     if (status == AGGEN_OK) {
@@ -156,7 +156,7 @@ static int print(int status, struct bytes result) {
     return status;
 }
 
-/* A sentence's translation is that of its tree file. */
+/* Checks that the translation of a sentence equals that of its tree file. */
 static void compare_ways(aggen_handle *handle, struct bytes sentence, int status, struct bytes text) {
     struct bytes file, again;
     int parsed = answer(aggen_parse, handle, sentence, &file);
@@ -192,19 +192,19 @@ static int run(call *function, struct bytes grammar, struct bytes sentence) {
 /* ---- buffers of every length */
 
 static void try_lengths(call *function, aggen_handle *handle, struct bytes input) {
-    struct bytes whole;
-    REQUIRE(answer(function, handle, input, &whole) == AGGEN_OK);
-    for (size_t capacity = 0; capacity <= whole.length + 1; capacity++) {
+    struct bytes full;
+    REQUIRE(answer(function, handle, input, &full) == AGGEN_OK);
+    for (size_t capacity = 0; capacity <= full.length + 1; capacity++) {
         char *out = room_for(capacity);
         memset(out, '#', capacity);
-        size_t needed = 0, copied = capacity < whole.length ? capacity : whole.length;
+        size_t needed = 0, copied = capacity < full.length ? capacity : full.length;
         REQUIRE(function(handle, input.start, input.length, out, capacity, &needed, NULL, 0, NULL) == AGGEN_OK);
-        REQUIRE(needed == whole.length);
-        REQUIRE(memcmp(out, whole.start, copied) == 0);
+        REQUIRE(needed == full.length);
+        REQUIRE(memcmp(out, full.start, copied) == 0);
         REQUIRE(copied == capacity || out[copied] == '#');
         free(out);
     }
-    free(whole.start);
+    free(full.start);
 }
 
 static void try_messages(void) {
@@ -245,33 +245,33 @@ static void lengths(struct bytes grammar, struct bytes sentence) {
 
 static void many(struct bytes grammar, struct bytes sentence) {
     aggen_handle handle = AGGEN_HANDLE_INIT;
-    struct bytes whole;
+    struct bytes full;
     REQUIRE(build(&handle, grammar) == AGGEN_OK);
-    REQUIRE(answer(aggen_translate, &handle, sentence, &whole) == AGGEN_OK);
-    char *out = room_for(whole.length);
+    REQUIRE(answer(aggen_translate, &handle, sentence, &full) == AGGEN_OK);
+    char *out = room_for(full.length);
     for (int i = 0; i < 10000; i++) {
         size_t needed = 0;
-        memset(out, '#', whole.length);
-        REQUIRE(aggen_translate(&handle, sentence.start, sentence.length, out, whole.length, &needed, NULL, 0, NULL) == AGGEN_OK);
-        REQUIRE(needed == whole.length && memcmp(out, whole.start, needed) == 0);
+        memset(out, '#', full.length);
+        REQUIRE(aggen_translate(&handle, sentence.start, sentence.length, out, full.length, &needed, NULL, 0, NULL) == AGGEN_OK);
+        REQUIRE(needed == full.length && memcmp(out, full.start, needed) == 0);
     }
     free(out);
-    free(whole.start);
+    free(full.start);
     aggen_free(&handle);
 }
 
 static void handles(struct bytes grammar, struct bytes sentence) {
     static aggen_handle all[100];
     static const char empty[] = "start S; symbol S syn out; S = { $0.out = \"\"; }";
-    struct bytes other = {(char *)empty, sizeof empty - 1}, nothing = {NULL, 0}, whole, result;
+    struct bytes other = {(char *)empty, sizeof empty - 1}, nothing = {NULL, 0}, full, result;
     for (int i = 0; i < 100; i++) {
         REQUIRE(build(&all[i], i % 2 == 0 ? grammar : other) == AGGEN_OK);
         compare_fields(AGGEN_OK);
     }
-    REQUIRE(answer(aggen_translate, &all[0], sentence, &whole) == AGGEN_OK);
+    REQUIRE(answer(aggen_translate, &all[0], sentence, &full) == AGGEN_OK);
     for (int i = 99; i >= 0; i -= 3) {
         REQUIRE(answer(aggen_translate, &all[i], i % 2 == 0 ? sentence : nothing, &result) == AGGEN_OK);
-        REQUIRE(i % 2 == 0 ? same(result, whole) : result.length == 0);
+        REQUIRE(i % 2 == 0 ? same(result, full) : result.length == 0);
         free(result.start);
         aggen_free(&all[i]);
         aggen_free(&all[i]);
@@ -279,7 +279,7 @@ static void handles(struct bytes grammar, struct bytes sentence) {
         compare_fields(AGGEN_NO_TRANSLATOR);
         free(result.start);
     }
-    /* a refused grammar takes the translator away, and another one takes its place */
+    /* a refused grammar removes the translator; an accepted one builds a new translator */
     struct bytes rejected = {(char *)"start", 5};
     REQUIRE(build(&all[0], rejected) == AGGEN_GRAMMAR);
     REQUIRE(answer(plan, &all[0], nothing, &result) == AGGEN_NO_TRANSLATOR);
@@ -287,14 +287,14 @@ static void handles(struct bytes grammar, struct bytes sentence) {
     REQUIRE(build(&all[0], other) == AGGEN_OK);
     REQUIRE(build(&all[0], grammar) == AGGEN_OK);
     REQUIRE(answer(aggen_translate, &all[0], sentence, &result) == AGGEN_OK);
-    REQUIRE(same(result, whole));
+    REQUIRE(same(result, full));
     free(result.start);
     for (int i = 0; i < 100; i++) {
         aggen_free(&all[i]);
         REQUIRE(all[i].translator == NULL);
     }
     aggen_free(NULL);
-    free(whole.start);
+    free(full.start);
     REQUIRE(strcmp(aggen_version(), AGGEN_VERSION) == 0);
 }
 
@@ -325,7 +325,7 @@ static void misuse(struct bytes grammar, struct bytes sentence) {
         REQUIRE(f(&handle, s, n, out, 64, NULL, message, 64, &refusal) == AGGEN_MISUSE);
         REQUIRE(f(&handle, s, n, out, 64, &needed, NULL, 1, &refusal) == AGGEN_MISUSE);
         REQUIRE(f(&handle, s, n, out, 64, &needed, message, SIZE_MAX, &refusal) == AGGEN_MISUSE);
-        /* ranges above all others: one that is too long, and one that ends after the last address */
+        /* ranges at the end of the address space: one that is too long, and one that ends after the last address */
         char *high = (char *)(UINTPTR_MAX / 4), *last = (char *)(UINTPTR_MAX - 10);
         REQUIRE(f(&handle, s, n, high, most, &needed, message, 64, &refusal) == AGGEN_MISUSE);
         REQUIRE(f(&handle, s, n, last, 64, &needed, message, 64, &refusal) == AGGEN_MISUSE);
@@ -349,9 +349,9 @@ static void misuse(struct bytes grammar, struct bytes sentence) {
     REQUIRE(aggen_build(grammar.start, grammar.length, &handle, NULL, 1, &refusal) == AGGEN_MISUSE);
     REQUIRE(aggen_build(grammar.start, grammar.length, &handle, grammar.start, 1, &refusal) == AGGEN_MISUSE);
     REQUIRE(aggen_build(grammar.start, grammar.length, &handle, (char *)&handle, 1, &refusal) == AGGEN_MISUSE);
-    /* after all this the handle has its translator, and neighbours don't overlap */
+    /* the handle still has its translator, and adjacent ranges don't overlap */
     REQUIRE(aggen_translate(&handle, sentence.start, sentence.length, out, 32, &needed, out + 32, 32, &refusal) == AGGEN_OK);
-    /* an empty text may be null: it is not a grammar, and a sentence of some grammars */
+    /* an empty text may be null: it is never a grammar, but it is a sentence of some grammars */
     REQUIRE(aggen_build(NULL, 0, &handle, NULL, 0, NULL) == AGGEN_GRAMMAR);
     static const char letter[] = "start S; symbol S syn out; S = { $0.out = \"x\"; }";
     REQUIRE(aggen_build(letter, sizeof letter - 1, &handle, NULL, 0, NULL) == AGGEN_OK);
@@ -395,7 +395,7 @@ static void threads(struct bytes grammar, struct bytes sentence) {
     REQUIRE(answer(aggen_translate, &first, sentence, &text) == AGGEN_OK);
     for (int i = 0; i < 4; i++) {
         works[i] = (struct work){grammar, sentence, text, AGGEN_HANDLE_INIT};
-        /* the first thread goes on with a handle that this one has built */
+        /* the first thread continues with a handle that this one has built */
         if (i == 0) {
             works[i].handle = first;
         }
@@ -411,34 +411,34 @@ static void threads(struct bytes grammar, struct bytes sentence) {
 /* ---- each request for memory refused in turn */
 
 #ifdef REFUSE
-/* Tries a call that has an answer: it answers the same, or that memory was refused, and then a second call answers. */
+/* Tests a call with a known result: it returns that, or reports refused memory, and then a second call returns the result. */
 static void refuse_in_turn(call *function, aggen_handle *handle, struct bytes input) {
-    struct bytes whole;
-    int right = answer(function, handle, input, &whole);
+    struct bytes full;
+    int right = answer(function, handle, input, &full);
     aggen_refusal fields = refusal;
-    char *out = room_for(whole.length);
+    char *out = room_for(full.length);
     for (long number = 1;; number++) {
         size_t needed = 0;
         requests_left = number;
         was_refused = 0;
-        int status = function(handle, input.start, input.length, out, whole.length, &needed, message, sizeof message, &refusal);
+        int status = function(handle, input.start, input.length, out, full.length, &needed, message, sizeof message, &refusal);
         requests_left = 0;
         REQUIRE(status == right || (was_refused && status == AGGEN_NO_MEMORY));
         if (status == right) {
-            REQUIRE(needed == whole.length && memcmp(out, whole.start, needed) == 0);
+            REQUIRE(needed == full.length && memcmp(out, full.start, needed) == 0);
             REQUIRE(refusal.letter == fields.letter && refusal.index == fields.index && refusal.offset == fields.offset);
         } else {
             REQUIRE(needed == 0 && refusal.letter == 0);
         }
-        status = function(handle, input.start, input.length, out, whole.length, &needed, message, sizeof message, &refusal);
-        REQUIRE(status == right && needed == whole.length && memcmp(out, whole.start, needed) == 0);
+        status = function(handle, input.start, input.length, out, full.length, &needed, message, sizeof message, &refusal);
+        REQUIRE(status == right && needed == full.length && memcmp(out, full.start, needed) == 0);
         if (!was_refused) {
             REQUIRE(number > 1);
             break;
         }
     }
     free(out);
-    free(whole.start);
+    free(full.start);
 }
 
 static void refuse_build(struct bytes grammar) {

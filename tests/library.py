@@ -1,7 +1,7 @@
-"""The library through its Python binding, for tests/library.
+"""Tests of the library through its Python binding, for tests/library.
 
-    library.py run GRAMMAR SENTENCE    prints what `aggen run` prints, and ends with its status; `plan` likewise
-    library.py test GRAMMAR SENTENCE   what the binding does besides
+    library.py run GRAMMAR SENTENCE    prints the output of `aggen run`, and ends with its status; `plan` likewise
+    library.py test GRAMMAR SENTENCE   tests the other parts of the binding
 """
 import pickle
 import sys
@@ -29,7 +29,7 @@ def print_result(command, grammar, sentence):
 
 
 def compare_fields(refusal):
-    """Compares the fields of a refusal with its message."""
+    """Compares the fields of a refusal with its message; an assertion fails if they differ."""
     first, *words = refusal.message.split(" ")
     assert refusal.number == (first.rstrip(":") if first != "NoMemory" else None), refusal
     name = "grammar" if refusal.status == aggen.Status.GRAMMAR else "sentence"
@@ -48,7 +48,7 @@ def refusal_of(call):
 
 
 def test(grammar, sentence):
-    """The parts of the binding that no row shows."""
+    """Tests the parts of the binding that no row covers."""
     translator = aggen.Translator(grammar.decode())
     assert translator.translate(sentence.decode()) == b"868352"
     refusal = refusal_of(lambda: translator.translate("10.2"))
@@ -60,7 +60,7 @@ def test(grammar, sentence):
     translator.close()
     refusal = refusal_of(lambda: translator.translate(sentence))
     assert (refusal.status, refusal.number, str(refusal)) == (aggen.Status.NO_TRANSLATOR, None, "status 1")
-    # a message that has more bytes than the first buffer, and a translation that has
+    # a message and a translation with more bytes than the first buffer
     names = ["N" * 200 + str(number) for number in range(10)]
     symbols = " ".join(f"symbol {it};" for it in names)
     endless = " ".join(f"{it} = {names[0]} {{ }}" for it in names)
@@ -68,11 +68,11 @@ def test(grammar, sentence):
     refusal = refusal_of(lambda: aggen.Translator(text))
     assert refusal.status == aggen.Status.GRAMMAR and refusal.message.startswith(refusal.number)
     assert len(refusal.message) > aggen.MESSAGE
-    # the refusal can be pickled, and anything but text and bytes is no sentence
+    # the refusal can be pickled, and a sentence has to be text or bytes
     assert pickle.loads(pickle.dumps(refusal)).message == refusal.message
     try:
         translator.parse(5)
-        raise AssertionError("5 is taken for a sentence")
+        raise AssertionError("5 is accepted as a sentence")
     except TypeError:
         pass
     letters = aggen.Translator('start S; symbol S syn out; S = NAME { $0.out = $1.lex ++ "!"; }')

@@ -1,5 +1,5 @@
-//! The library through its Rust binding, for tests/library: `rust run GRAMMAR SENTENCE` prints what `aggen run` prints, and ends
-//! with its status; `plan` likewise. A translator also goes to another thread, and comes back.
+//! Tests of the library through its Rust binding, for tests/library. `rust run GRAMMAR SENTENCE` prints the output of
+//! `aggen run`, and ends with its status; `plan` likewise. A translator is also moved to another thread.
 
 use aggen::{Refusal, Translator};
 use std::io::Write;
@@ -24,9 +24,9 @@ fn main() {
     let [command, grammar, sentence] = words.as_slice() else {
         exit(2);
     };
-    let read = |path: &String| std::fs::read(path).expect("the file is there");
+    let read = |path: &String| std::fs::read(path).expect("the file can be read");
     match result(command, &read(grammar), &read(sentence)) {
-        Ok(text) => std::io::stdout().write_all(&text).expect("standard output takes the text"),
+        Ok(text) => std::io::stdout().write_all(&text).expect("standard output can be written"),
         Err(refusal) => {
             let first = refusal.message.split([' ', ':']).next().unwrap_or_default();
             assert_eq!(refusal.number.as_deref(), (first != "NoMemory").then_some(first));

@@ -1,7 +1,7 @@
-// Uses a page of tools/page, for tests/page: in a browser, where it is a second script of the page, or with node, where `Stub` is
-// as much of a browser as the page's script needs. `node page.js PAGE STEPS` prints the result as JSON.
+// Uses a page of tools/page, for tests/page: in a browser, as a second script of the page, or with node, where `Stub` simulates
+// the parts of a browser that the page's script needs. `node page.js PAGE STEPS` prints the result as JSON.
 //
-// `play` takes steps, each a word and its arguments, and returns what is on the screen after each of them.
+// `play` takes steps, each a word and its arguments, and returns the contents of the screen after each of them.
 "use strict";
 
 async function play(window, steps) {
@@ -57,7 +57,7 @@ async function play(window, steps) {
   return result;
 }
 
-// Elements with ids of a page, and no more of a browser than its script needs.
+// Simulates the elements with ids of a page, and the parts of a browser that its script needs.
 class Stub {
   constructor(page) {
     const stub = this;

@@ -1,6 +1,6 @@
 # shellcheck shell=sh disable=SC2034,SC2154
 # Sets `program` to the program that a script of this folder runs. Each script sources this file, with `top` set to the top of the
-# repository: the program is that of the words `--program PATH`, which are dropped, or else the proved one, which ./aggen --build
+# repository. With the arguments `--program PATH`, which are dropped, it is PATH; without, the proved one, which ./aggen --build
 # builds. It is never the one in dist/.
 if [ "${1-}" = --program ]; then
     case ${2-} in

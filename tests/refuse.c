@@ -1,5 +1,5 @@
-/* A library for LD_PRELOAD that refuses one request for memory: the one whose number, counted from 1, is in REFUSE. It then
-   writes a byte to the file with the descriptor in REFUSED. */
+/* A library for LD_PRELOAD that refuses one request for memory: number REFUSE, counted from 1. When it refuses, it writes a byte
+   to the descriptor REFUSED. */
 #include <errno.h>
 #include <stdlib.h>
 #include <unistd.h>

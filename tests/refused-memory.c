@@ -1,20 +1,20 @@
 /* Runs the rows of tests/refused-memory: `refused-memory LIBRARY ROWS FOLDER PROCESSES`.
 
-   A line of the file ROWS is a row. Between tabs it has:
-     the status with which the program ends if no request for memory is refused
+   A line of the file ROWS is a row. Its fields, separated by tabs, are:
+     the status of the program if no request for memory is refused
      the number of its refusal, the first word on standard error; `-` if it prints nothing there
-     the whole line on standard error of a run that ends with status 7, since memory was refused
-     lines that some runs print before that, with `|` between them: a run that prints one goes on and ends as if nothing had been
-     refused, and each of them has to be met; `-` if there are none
+     the complete line on standard error of a run that ends with status 7, since memory was refused
+     lines, separated by `|`, that some runs print first: such a run continues and ends as if nothing had been refused, and each
+     line has to be printed by some run; `-` if there are none
      the file that is standard input
-     the program, and its arguments; in one that begins with `@/`, `@` is a folder of this process's own
+     the program, and its arguments; in an argument that begins with `@/`, `@` is a folder of this process's own
 
-   Each row is run once without LIBRARY, and then with its request for memory number 1, 2, 3 and so on refused, until a run ends
-   in which none was refused. PROCESSES of these runs are made at once, each with a folder of its own below FOLDER. A run is right
-     if it does what the first run did: the status, standard output, and on standard error the refusal's number and what is
-     printed with it before a colon, such as the offset (the rest of the line takes memory); of a run in which nothing was
-     refused the whole line is compared
-     if a request was refused, and it ends with status 7, has that row's line on standard error, and nothing on standard output.
+   Each row is run once without LIBRARY, and then with request for memory number 1, 2, 3 and so on refused, until a run ends in
+   which none was refused. PROCESSES runs are made at the same time, each with a folder of its own below FOLDER. A run is right
+     if it ends like the first run: with its status, its standard output, and on standard error its line up to the first colon or
+     place in parentheses, such as the number and the offset (the rest of the line needs memory); for a run in which nothing was
+     refused the complete line is compared
+     if a request was refused, and it ends with status 7, that row's line on standard error, and nothing on standard output.
    The first wrong run is printed, and then the status is 1. */
 #define _GNU_SOURCE
 #include <errno.h>
@@ -32,7 +32,7 @@
 extern char **environ;
 
 enum { WORDS = 32, NOTES = 8, SECONDS = 60, NO_MEMORY = 7, REFUSED_AT = 200 };
-/* after so many refused requests of one row something is wrong */
+/* a row with more refused requests than this is a failure */
 enum { MOST = 10000 };
 
 struct bytes {
@@ -44,13 +44,13 @@ struct row {
     const char *label;
     int status;
     const char *number;
-    const char *want;
+    const char *no_memory;
     const char *notes[NOTES];
-    long met[NOTES];
+    long printed[NOTES];
     const char *input;
     char *words[WORDS];
     struct bytes out, err;
-    /* the next request to refuse; the least number of a run that refused none, or 0 */
+    /* the next request to refuse; the least number for which no request was refused, or 0 */
     long next, end;
     long refused;
 };
@@ -102,7 +102,7 @@ static int is_line(struct bytes text, const char *line) {
     return text.length == length + 1 && memcmp(text.at, line, length) == 0 && text.at[length] == '\n';
 }
 
-/* The length of what a refusal prints without memory: all before a colon, or before the place in parentheses. */
+/* Returns the length of the part of a refusal that needs no memory: up to the first colon or the place in parentheses. */
 static size_t head_length(struct bytes text) {
     size_t length = strcspn(text.at, ":\n");
     char *place = strstr(text.at, " (");
@@ -114,7 +114,7 @@ static int same_head(struct bytes one, struct bytes other) {
     return length == head_length(other) && memcmp(one.at, other.at, length) == 0 && (one.length == 0) == (other.length == 0);
 }
 
-/* Takes the fields of a line apart; the line stays in memory. */
+/* Splits a line into its fields; the row refers to the line's memory. */
 static void read_row(char *line, struct row *row) {
     char *fields[WORDS + 5];
     int count = 0;
@@ -131,7 +131,7 @@ static void read_row(char *line, struct row *row) {
     }
     row->status = atoi(fields[0]);
     row->number = fields[1];
-    row->want = fields[2];
+    row->no_memory = fields[2];
     int notes = 0;
     if (strcmp(fields[3], "-") != 0) {
         for (char *note; (note = strsep(&fields[3], "|")) != NULL && notes < NOTES - 1;) {
@@ -254,7 +254,7 @@ static void wrong(const struct process *process, int status, const char *why) {
     exit(1);
 }
 
-/* Keeps what the run without the library did, which has to be what the row says. */
+/* Stores the result of the run without the library, and checks it against the row. */
 static void keep_right(const struct process *process, int status) {
     struct row *row = process->row;
     row->out = content_of(process->out);
@@ -265,18 +265,18 @@ static void keep_right(const struct process *process, int status) {
         wrong(process, status, "nothing refused");
     }
     if (first != strlen(number) || memcmp(row->err.at, number, first) != 0) {
-        wrong(process, status, "nothing refused, and another refusal than the row says");
+        wrong(process, status, "nothing refused, and the refusal is not that of the row");
     }
 }
 
-/* Whether the run printed one of the row's notes and then what the first run did; counts it. */
+/* Returns whether the run printed one of the row's notes and then the line of the first run; counts the note. */
 static int is_noted(struct row *row, struct bytes err) {
     for (int at = 0; row->notes[at] != NULL; ++at) {
         size_t length = strlen(row->notes[at]);
         if (err.length > length && strncmp(err.at, row->notes[at], length) == 0 && err.at[length] == '\n') {
             struct bytes rest = {err.at + length + 1, err.length - length - 1};
             if (same(rest, row->err)) {
-                ++row->met[at];
+                ++row->printed[at];
                 return 1;
             }
         }
@@ -284,7 +284,7 @@ static int is_noted(struct row *row, struct bytes err) {
     return 0;
 }
 
-/* Judges a run that has ended with a status. */
+/* Checks a run that has ended with a status. */
 static void judge(const struct process *process, int status) {
     struct row *row = process->row;
     struct bytes out = content_of(process->out), err = content_of(process->err), refused = content_of(process->refused);
@@ -298,7 +298,7 @@ static void judge(const struct process *process, int status) {
             row->end = process->number;
         }
     } else {
-        if (ended == NO_MEMORY && out.length == 0 && is_line(err, row->want)) {
+        if (ended == NO_MEMORY && out.length == 0 && is_line(err, row->no_memory)) {
             ++reported;
         } else if (is_own && is_noted(row, err)) {
             ++reported;
@@ -313,7 +313,7 @@ static void judge(const struct process *process, int status) {
     free(refused.at);
 }
 
-/* Gives a process the next run of the first row that has one; returns whether there was one. */
+/* Starts the next run of the first row that has one; returns whether there was one. */
 static int start_next(struct process *process, struct row *rows, int count) {
     for (int at = 0; at < count; ++at) {
         if (rows[at].end == 0) {
@@ -349,14 +349,14 @@ static struct process *wait_for_one(struct process *processes, int count, int *s
     }
 }
 
-/* Checks what only all runs of a row show. */
-static void check_whole(const struct row *row) {
+/* Checks the counts over all runs of a row. */
+static void check_counts(const struct row *row) {
     if (row->refused == 0 || row->refused != row->end - 1) {
-        fprintf(stderr, "refused-memory: %s%ld requests were refused of %ld\n", row->label, row->refused, row->end - 1);
+        fprintf(stderr, "refused-memory: %s%ld of %ld requests were refused\n", row->label, row->refused, row->end - 1);
         exit(1);
     }
     for (int at = 0; row->notes[at] != NULL; ++at) {
-        if (row->met[at] == 0) {
+        if (row->printed[at] == 0) {
             fprintf(stderr, "refused-memory: %sno run prints `%s`\n", row->label, row->notes[at]);
             exit(1);
         }
@@ -369,14 +369,14 @@ int main(int count, char **words) {
         return 2;
     }
     library = words[1];
-    int rows_count = 0, wanted = atoi(words[4]), status = 0, working = 0;
+    int rows_count = 0, process_count = atoi(words[4]), status = 0, working = 0;
     struct row *rows = read_rows(words[2], &rows_count);
-    struct process *processes = room((size_t)wanted * sizeof *processes);
+    struct process *processes = room((size_t)process_count * sizeof *processes);
     sigset_t ended;
     sigemptyset(&ended);
     sigaddset(&ended, SIGCHLD);
     sigprocmask(SIG_BLOCK, &ended, NULL);
-    for (int at = 0; at < wanted; ++at) {
+    for (int at = 0; at < process_count; ++at) {
         furnish(processes + at, words[3], at);
     }
     for (int at = 0; at < rows_count; ++at) {
@@ -384,16 +384,16 @@ int main(int count, char **words) {
         struct process *process = wait_for_one(processes, 1, &status);
         keep_right(process, status);
     }
-    for (int at = 0; at < wanted; ++at) {
+    for (int at = 0; at < process_count; ++at) {
         working += start_next(processes + at, rows, rows_count);
     }
     while (working > 0) {
-        struct process *process = wait_for_one(processes, wanted, &status);
+        struct process *process = wait_for_one(processes, process_count, &status);
         judge(process, status);
         working += start_next(process, rows, rows_count) - 1;
     }
     for (int at = 0; at < rows_count; ++at) {
-        check_whole(rows + at);
+        check_counts(rows + at);
     }
     printf("refused-memory: %d rows, %ld runs; %ld requests were refused, and %ld of these were reported\n", rows_count, runs,
            refusals, reported);

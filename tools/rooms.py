@@ -1,7 +1,7 @@
-"""Rooms: copies of the repository, as far as a run of `rt` on one crate reads it.
+"""Makes rooms: copies of the part of the repository that a run of `rt` on one crate reads.
 
-`rt` keeps a second run out of the libraries that a first one uses. So runs side by side are made in rooms. What is kept
-from earlier runs is linked there: a run writes anew beside it, and renames.
+`rt` locks the libraries that a run uses, so parallel runs need rooms of their own. The results that earlier runs have kept are
+hard links there. That is safe, since a run writes a new file and renames it.
 """
 import os
 import re
@@ -13,13 +13,13 @@ PARTS = ("src", "specs", "proofs")
 
 
 def crates_in(text):
-    """The libraries that each crate of a crates.txt uses, by the crate's name, in the order of its lines."""
+    """Returns the libraries that each crate of a crates.txt uses, by the crate's name, in the order of its lines."""
     lines = (line.split("#")[0].partition(":") for line in text.splitlines())
     return {head.split()[0]: uses.split() for head, _, uses in lines if head.strip()}
 
 
 def below(crate, uses):
-    """The crates of the repository that this one uses, each behind those that it uses itself."""
+    """Returns the crates of the repository that this one uses, each after those that it uses itself."""
     found = []
     for it in uses[crate]:
         if it in uses:
@@ -28,9 +28,9 @@ def below(crate, uses):
 
 
 def free_memory():
-    """The memory that is free, in bytes."""
-    told = Path("/proc/meminfo").read_text(encoding="utf-8")
-    return 1024 * int(re.search(r"MemAvailable:\s+(\d+)", told)[1])
+    """Returns the available memory in bytes."""
+    text = Path("/proc/meminfo").read_text(encoding="utf-8")
+    return 1024 * int(re.search(r"MemAvailable:\s+(\d+)", text)[1])
 
 
 def link_or_copy(file, to):
@@ -41,8 +41,8 @@ def link_or_copy(file, to):
 
 
 def furnish(room, crate, uses):
-    """Makes the room of a crate in a new folder: its sources and what is kept of it, and the libraries below it with what
-    was built of them. Returns the crate's folder there."""
+    """Makes the room of a crate in a new folder: its sources and kept results, and the libraries below it with their build
+    output. Returns the crate's folder there."""
     lower = below(crate, uses)
     (room / "crates").mkdir(parents=True)
     shutil.copy2(TOP / "HANDLES", room)

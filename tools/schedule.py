@@ -3,9 +3,9 @@
 
     tools/schedule.py [--cores N] [--crates]
 
-It simulates the schedule of `rt ci`: a crate's proof, and beside it that of its tests, begins when the crates that it uses are
-proved, and first the one with the longest chain of work after it. An idle core that no other proof waits for is one more job of a
-proof. The edits that must fail begin when nothing else can.
+It simulates the schedule of `rt ci`. The proofs of a crate and of its tests begin when the crates that it uses are proved; of the
+tasks that can begin, the one with the longest chain of work after it is first. A core that no other proof needs is one more job
+of a proof. The edits that must fail begin when no proof can.
 """
 import argparse
 import os
@@ -18,9 +18,9 @@ sys.path.insert(0, str(Path(__file__).resolve().parent))
 from rooms import TOP, crates_in
 
 CORES = len(os.sched_getaffinity(0))
-# the part of a proof that one job does alone, and what several jobs take more in all
+# the part of a proof that is not parallel, and the factor of the total work of several jobs
 ALONE, OVERHEAD = 0.25, 1.2
-# processor seconds of a crate that the table does not name
+# processor seconds of a crate that is not in the table
 UNKNOWN = (100, 0, 0)
 
 
@@ -33,7 +33,7 @@ class Task(NamedTuple):
 
 
 def times_in(text):
-    """Returns the processor seconds of each line: of a crate those of its proof, its tests and its edits, of a script its own."""
+    """Returns the processor seconds of each line: those of a crate's proof, tests and edits, or those of a script."""
     lines = (line.split("#")[0].split() for line in text.splitlines())
     return {it[0]: tuple(map(float, it[1:])) for it in lines if it}
 
@@ -49,7 +49,7 @@ def read_crates():
 
 
 def edit_tasks(crate, proofs, work, count):
-    """Returns the tasks that try a crate's edits. Several begin with the work of one more task, a second proof of the crate."""
+    """Returns the tasks that try a crate's edits. Several edits need one more task first, a second proof of the crate."""
     if count == 1:
         return {(crate, "edit", 0): Task(proofs, work, True)}
     first = 0.5 * work
@@ -74,7 +74,7 @@ def tasks_of(crates, times, kept=()):
 
 
 def chains(tasks):
-    """Returns the processor seconds of the longest chain of tasks that each one begins."""
+    """Returns for each task the processor seconds of the longest chain of tasks that begins with it."""
     users, found = {it: [] for it in tasks}, {}
     for key, task in tasks.items():
         for it in task.after:
@@ -118,7 +118,7 @@ def ends_of(tasks, cores):
 
 def main():
     options = argparse.ArgumentParser(description=__doc__, formatter_class=argparse.RawDescriptionHelpFormatter)
-    options.add_argument("--cores", type=int, default=CORES, help="the number of cores, if not that of this machine")
+    options.add_argument("--cores", type=int, default=CORES, help="the number of cores; by default that of this machine")
     options.add_argument("--crates", action="store_true", help="also print when the proof of each crate ends")
     options = options.parse_args()
     times, crates = read_times(), read_crates()

@@ -1,10 +1,10 @@
 #!/usr/bin/env python3
-"""Runs programs one after the other, and tells what each took. It is started with `-I -S` by who wants to know, as benches/mutate:
-to the memory of a run the kernel counts what the process had that became the program, so that one has to be small.
+"""Runs programs one after the other, and prints the time and the memory that each took. benches/mutate starts it with `-I -S`:
+the kernel counts the memory of the forked process as memory of the run, so this process must be small.
 
-A line of standard input is a run: its words with tabs between, the first one the seconds on the clock after which it is ended.
-The answer is a line: its status (negative, the signal that ended it), the seconds that the processor worked for it, and the
-most memory that it had in KB. What the run writes is in the files `out` and `err` of the folder that this process stands in.
+Each line of standard input is a run: its words, separated by tabs. The first word is the time limit in seconds of elapsed time.
+The answer is a line: the status (negative if a signal ended the run), the processor time in seconds, and the peak memory in KB.
+The output of the run is in the files `out` and `err` of the current folder.
 """
 import os
 import signal
@@ -13,8 +13,8 @@ import sys
 WRITING = os.O_WRONLY | os.O_CREAT | os.O_TRUNC
 
 
-def ran(seconds, words):
-    """Runs a program: its status, how long the processor worked for it in seconds, and the most memory that it had in KB."""
+def run(seconds, words):
+    """Runs a program; returns its status, its processor time in seconds, and its peak memory in KB."""
     opened = ((0, os.devnull, os.O_RDONLY), (1, "out", WRITING), (2, "err", WRITING))
     actions = [(os.POSIX_SPAWN_OPEN, number, path, how, 0o600) for number, path, how in opened]
     process = os.posix_spawn(words[0], words, os.environ, file_actions=actions)
@@ -26,5 +26,5 @@ def ran(seconds, words):
 
 
 for line in sys.stdin:
-    limit, *asked = line.rstrip("\n").split("\t")
-    print(*ran(float(limit), asked), flush=True)
+    limit, *words = line.rstrip("\n").split("\t")
+    print(*run(float(limit), words), flush=True)

@@ -1,7 +1,7 @@
 """Reads the rows of crates/cases about strikes, and answers them by the definition of the strikes of an assignment alone.
 
-It shares nothing with the libraries but the reader of grammars in tree_files.py. `rows_in` yields the rows `strikes` and `least`
-with the grammar that each is about, and `is_least` says whether lists of strikes are those of an assignment. A strike is
+It shares no code with the libraries. Grammars are read by tree_files.py. `rows_in` yields the rows `strikes` and `least` with
+the grammar that each is about, and `is_least` says whether lists of strikes are those of an assignment. A strike is
 (symbol, attribute, production, rule, argument), all from 0; the passes of an assignment are a row of numbers for each symbol.
 """
 from dataclasses import dataclass
@@ -56,7 +56,7 @@ def arguments_of(rule):
 
 
 class Strikes:
-    """A grammar, and what its strikes may name."""
+    """A grammar, and the answers about its strikes."""
 
     def __init__(self, text):
         self.grammar = tree_files.grammar_in(text)
@@ -84,8 +84,8 @@ class Strikes:
         return rule.target.says[0], arguments[arg][0], self.attribute_at(production, arguments[arg])
 
     def is_good(self, number, passes, struck, strike):
-        """Returns whether a strike is good in a pass: its argument is struck before it, or it has this pass or a later one and is
-        at the target's child or at one that the pass visits later."""
+        """Returns whether a strike is valid in a pass: its argument is struck before it, or has this pass or a later one and is
+        at the target's child or at a child that the pass visits later."""
         named = self.named(strike)
         if named is None or named[2] is None:
             return False
@@ -95,7 +95,7 @@ class Strikes:
         return used in struck or (is_ahead and passes.get(used, 0) >= number)
 
     def are_strikes(self, number, passes, strikes):
-        """Returns whether a list strikes each attribute that has a later pass, once, and nothing else, each for a good reason."""
+        """Returns whether a list has a valid strike for each attribute of a later pass, once, and no other strike."""
         struck = set()
         for one in strikes:
             attribute = one[:2]
@@ -113,7 +113,7 @@ class Strikes:
 
 
 def faults_in(lines, least_passes):
-    """Returns the number of rows, the number of those answered `true`, and what is wrong. `least_passes` finds the passes of a
+    """Returns the number of rows, the number of those answered `true`, and the faults. `least_passes` finds the passes of a
     grammar, by the names of symbols and attributes."""
     faults, count, right = [], 0, 0
     for row in rows_in(lines):

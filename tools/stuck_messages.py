@@ -1,7 +1,7 @@
-"""Makes grammars that no order of passes evaluates, and checks what `aggen` says of them (A1), by docs/LANGUAGE alone.
+"""Makes grammars that no order of passes evaluates, and checks the messages of `aggen` about them (A1), by docs/LANGUAGE alone.
 
-It shares nothing with the libraries but the reader of grammars in tree_files.py. `changed_grammars` changes one argument of one
-rule, and `faults_of` reads a message and tries each reason in it against the grammar.
+It shares no code with the libraries. Grammars are read by tree_files.py. `changed_grammars` changes one argument of one rule, and
+`faults_of` reads a message and checks each reason in it against the grammar.
 """
 import random
 import re
@@ -21,7 +21,7 @@ REASON = re.compile(
     r"|which is known only after the visit of \$(\d+))"
 )
 OTHERS = re.compile(r"and (\d+) more")
-MOST_NAMED = 8
+MAX_NAMED = 8
 
 
 @dataclass
@@ -108,7 +108,7 @@ def message_of(program, folder, text):
     return run.stderr.decode()
 
 
-# What a message says, tried against the grammar
+# Messages, checked against the grammar
 
 
 def attribute_of(grammar, production, says):
@@ -131,7 +131,7 @@ def dependencies_of(grammar):
 
 
 def is_too_early(direction, place, other):
-    """Returns whether a pass comes to a rule for a place before it has been through the child at the other one."""
+    """Returns whether a pass evaluates a rule for a place before it has visited the child at the other place."""
     return place != 0 and other != 0 and (place == other or (other - place) * direction > 0)
 
 
@@ -172,7 +172,7 @@ def rule_at(grammar, line, column):
 
 
 def fault_of_reason(grammar, direction, stuck, reason):
-    """Returns what is wrong with a printed reason, and the attribute that it is about; None for nothing."""
+    """Returns the fault of a printed reason, and the attribute that it is about; None for no fault."""
     found = REASON.fullmatch(reason)
     if not found:
         return f"can't be read: {reason}", None
@@ -197,7 +197,7 @@ def fault_of_reason(grammar, direction, stuck, reason):
 
 
 def faults_of(text, message):
-    """Returns what is wrong with the message A1 of a grammar's text: nothing, where each reason holds."""
+    """Returns the faults of the message A1 for a grammar's text, which are none if each reason holds."""
     grammar = tree_files.grammar_in(text)
     found = MESSAGE.fullmatch(message)
     if not found:
@@ -213,9 +213,10 @@ def faults_of(text, message):
         fault, attribute = fault_of_reason(grammar, direction, stuck, reason)
         faults += [fault] if fault else []
         named.append(attribute)
-    if len(set(named)) != len(named) or len(reasons) > MOST_NAMED or (others and len(reasons) < MOST_NAMED):
+    if len(set(named)) != len(named) or len(reasons) > MAX_NAMED or (others and len(reasons) < MAX_NAMED):
         faults.append("the rules are not named once each, or not eight at most")
-    if (found[3], found[5]) != (("this rule", "change it") if len(reasons) == 1 else ("these rules", "change one or more of them")):
+    ends = ("this rule", "change it") if len(reasons) == 1 else ("these rules", "change one or more of them")
+    if (found[3], found[5]) != ends:
         faults.append("the number of rules is another")
     if not faults and not others and struck_by(dependencies_of(grammar), set(stuck), named) != set(stuck):
         faults.append("some attribute waits for none of the rules")

@@ -1,21 +1,23 @@
 """Finds where errors arise in a tree file of the last pass, by docs/LANGUAGE.md and docs/FORMATS.md alone.
 
-`study` evaluates each rule by the values in the file, and follows each error to the occurrence that passed it on, or to the rule
-in which it arises. It shares nothing with the crates, so that the program's explanations can be compared with it (`tests/causes`).
+`study` evaluates each rule on the values in the file, and follows each error to the occurrence that passed it on, or to the rule
+in which it arises. It shares no code with the crates, so that the program's explanations can be compared with it
+(`tests/causes`).
 """
 import re
 
 from tree_files import Failure, Tokens, grammar_in, pass_of, read_tree
 
 LEAST, GREATEST = -(2**63), 2**63 - 1
-CALLS = {"len": 1, "text": 1, "number": 1, "keys": 1, "iserr": 1, "nth": 2, "append": 2, "join": 2, "get": 2, "has": 2, "orelse": 2, "put": 3}
+CALLS = {"len": 1, "text": 1, "number": 1, "keys": 1, "iserr": 1, "nth": 2, "append": 2, "join": 2, "get": 2, "has": 2,
+         "orelse": 2, "put": 3}
 
 
 # Expressions
 
 
 def parse(tokens):
-    """An expression as nested tuples, up to a `;`, a `)`, a `]`, a `,` or a reserved word."""
+    """Reads an expression up to a `;`, a `)`, a `]`, a `,` or a reserved word, and returns it as nested tuples."""
     if tokens.is_word("let"):
         tokens.step()
         name = tokens.take("name").says
@@ -41,12 +43,12 @@ LEVELS = [("++",), ("+", "-"), ("*", "div", "mod")]
 
 
 def sign_of(tokens):
-    """The sign or word of an operator that comes next."""
+    """Returns the sign or word of the next token, which may be an operator."""
     return tokens.next.says if tokens.next.kind == "name" and tokens.next.says in ("div", "mod") else tokens.next.kind
 
 
 def chain(tokens, level):
-    """Operands with operators of a level between them."""
+    """Reads operands with operators of a level between them."""
     if level == len(LEVELS):
         return atom(tokens)
     left = chain(tokens, level + 1)
@@ -58,7 +60,7 @@ def chain(tokens, level):
 
 
 def atom(tokens):
-    """An operand."""
+    """Reads an operand."""
     token = tokens.step()
     if token.kind in ("number", "text"):
         return ("value", token.says)
@@ -91,7 +93,7 @@ def atom(tokens):
 
 
 def weight(value):
-    """The length of the spelling of a value."""
+    """Returns the length of the spelling of a value, in bytes."""
     if isinstance(value, int):
         return 9
     if isinstance(value, str):
@@ -104,7 +106,7 @@ def weight(value):
 
 
 def depth(value):
-    """How deep lists and tables nest."""
+    """Returns the depth of nested lists and tables."""
     if isinstance(value, list):
         return 1 + max(map(depth, value), default=0)
     if isinstance(value, dict):
@@ -113,7 +115,7 @@ def depth(value):
 
 
 def fit(value):
-    """A value, or the error of the limit that it exceeds."""
+    """Returns a value, or the error of the limit that it exceeds."""
     if isinstance(value, (int, Failure)):
         return value
     if depth(value) > 64:
@@ -122,12 +124,12 @@ def fit(value):
 
 
 def ranged(number):
-    """A number, or overflow."""
+    """Returns a number, or the error `overflow`."""
     return number if LEAST <= number <= GREATEST else Failure("overflow")
 
 
 def is_number(value):
-    """Whether a value is a number."""
+    """Returns whether a value is a number."""
     return isinstance(value, int)
 
 
@@ -228,6 +230,7 @@ def operated(name, a, b=None, c=None):
 
 
 def expression_of(grammar, rule):
+    """Returns the expression of a rule."""
     tokens = Tokens(grammar.text[rule.target.at :])
     tokens.take("occurrence")
     tokens.take("=")
@@ -245,9 +248,9 @@ class Node:
 
 
 def tree_in(grammar, content):
-    """The nodes of a file of the last pass, in the order of reading."""
+    """Returns the nodes of a file of the last pass, in the order of reading."""
     last = pass_of(content)
-    # all attributes are in the file: any passes up to the last will do
+    # the file has all attributes, so any passes up to the last one fit
     passes = {(number, name): 1 for number, symbol in enumerate(grammar.symbols) for name in symbol.attributes}
     nodes = []
     answer = read_tree(content, grammar, passes, last, lambda record: nodes.append(Node(record)))
@@ -260,7 +263,8 @@ def tree_in(grammar, content):
 
 
 def in_order(grammar, root):
-    """The nodes in the order of the sentence, with their places and the number of tokens before each; and that of all tokens."""
+    """Returns the nodes in the order of the sentence, each with its path and the number of tokens before it; and the number of
+    all tokens."""
     order, before = [], 0
     stack = [(root, ())]
     while stack:
@@ -285,27 +289,19 @@ def in_order(grammar, root):
 
 
 def value_at(node, occurrence):
-    """The value of an occurrence in a rule of a node."""
+    """Returns the value of an occurrence in a rule of a node."""
     place, name = occurrence
     return (node if place == 0 else node.children[place]).record.values[name]
 
 
 def expressions_of(grammar):
-    """The expression of each rule of each production."""
+    """Returns the expression of each rule of each production."""
     return [[expression_of(grammar, rule) for rule in production.rules] for production in grammar.productions]
 
 
-def expression_of(grammar, rule):
-    """The expression of a rule."""
-    tokens = Tokens(grammar.text[rule.target.at :])
-    tokens.take("occurrence")
-    tokens.take("=")
-    return parse(tokens)
-
-
 def arising(grammar, expressions, order):
-    """The rules in which errors arise, in the order of the sentence, each with its node; and the number of values in the file
-    that are not those of their rules."""
+    """Returns the rules in which errors arise, in the order of the sentence, each with its node; and the number of values in the
+    file that differ from those of their rules."""
     found, wrong = [], 0
     for node in order:
         if node.record.production is None:
@@ -319,7 +315,8 @@ def arising(grammar, expressions, order):
 
 
 def cause_of(grammar, expressions, nodes):
-    """The node and the number of the rule in which the error of the root's `out` arises, and how many rules passed it on."""
+    """Returns the node and the number of the rule in which the error of the root's `out` arises, and the number of rules that
+    passed it on."""
     parents = {id(child): it for it in nodes for child in it.children.values()}
     node, target, steps = nodes[0], (0, "out"), 0
     while True:
@@ -338,8 +335,8 @@ def cause_of(grammar, expressions, nodes):
 
 
 def study(grammar_text, content):
-    """The grammar, the nodes in the order of the sentence, the rules in which errors arise, the number of wrong values, and the
-    cause of the error of the root's `out`, or None if that is not an error."""
+    """Returns the grammar, the nodes in the order of the sentence, the rules in which errors arise, the number of wrong values,
+    and the cause of the error of the root's `out`, or None if that is not an error."""
     grammar = grammar_in(grammar_text)
     nodes = tree_in(grammar, content)
     order, _ = in_order(grammar, nodes[0])

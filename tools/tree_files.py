@@ -1,10 +1,10 @@
 """Reads grammars and tree files, by docs/LANGUAGE and docs/FORMATS alone.
 
-It shares nothing with the libraries, so that their answers can be compared with its own (`benches/mutate`), and so that
-pictures show what a file says (`tools/picture`). It is no part of what is proved. Nothing here recurses over a tree.
+It shares no code with the libraries, so that their answers can be compared with its own (`benches/mutate`), and pictures show
+the content of a file (`tools/picture`). It is not proved. Nothing here recurses over a tree.
 
-`grammar_in` reads a grammar's text as far as its trees and the passes of its attributes ask for it, `passes_in` what
-`aggen plan` prints, and `read_tree` a tree file.
+`grammar_in` reads the parts of a grammar's text that its trees and its passes need, `passes_in` reads the output of
+`aggen plan`, and `read_tree` reads a tree file.
 """
 import re
 from dataclasses import dataclass, field
@@ -16,8 +16,8 @@ LONGEST_BODY = 3 + 272 * 1_048_576
 LONGEST_SPELLING = 1_048_576
 DEEPEST_VALUE = 64
 LONGEST_LEX = 65_535
-# a tree is within the limits where it has no more levels, and no more nodes and tokens
-MOST_LEVELS, MOST_RECORDS = 65_536, 1_048_576
+# the limits of a tree: its levels, and its nodes and tokens
+MAX_LEVELS, MAX_RECORDS = 65_536, 1_048_576
 CLASSES = ("NAME", "NUMBER", "TEXT")
 ERRORS = ("overflow", "divide", "kind", "index", "key", "number", "big", "deep")
 
@@ -26,13 +26,13 @@ ERRORS = ("overflow", "divide", "kind", "index", "key", "number", "big", "deep")
 
 
 class GrammarFault(Exception):
-    """What is no text of a grammar, or has a name in it that means nothing."""
+    """The text is not a grammar, or a name in it is not declared."""
 
 
 @dataclass(frozen=True)
 class Token:
-    """A token of a grammar's text: its kind ("name", "number", "text", "occurrence" or a sign), what it says, and its offset
-    in characters. An occurrence says its place and its attribute."""
+    """A token of a grammar's text: its kind ("name", "number", "text", "occurrence" or a sign), its value, and its offset in
+    characters. The value of an occurrence is its place and its attribute."""
 
     kind: str
     says: object
@@ -49,7 +49,7 @@ class Item:
 
 @dataclass
 class Symbol:
-    """A symbol: its attributes in declared order, the synthesized ones first, and how many of these there are."""
+    """A symbol: its attributes in declared order, the synthesized ones first, and the number of synthesized ones."""
 
     name: str
     attributes: list
@@ -58,7 +58,7 @@ class Symbol:
 
 @dataclass
 class Rule:
-    """A rule: the place and the attribute that it gives a value, and the occurrences in its expression, as tokens."""
+    """A rule: its target and the occurrences in its expression, as tokens."""
 
     target: Token
     uses: list
@@ -74,13 +74,13 @@ class Production:
     at: int
 
     def stored(self):
-        """The items that have a place, from place 1 on."""
+        """Returns the items that have a place, from place 1 on."""
         return [item for item in self.items if item.kind != "literal"]
 
 
 @dataclass
 class Grammar:
-    """A grammar: everything numbered from 0 in the order of the text."""
+    """A grammar. Symbols and productions are numbered from 0, in the order of the text."""
 
     text: str
     symbols: list = field(default_factory=list)
@@ -88,33 +88,33 @@ class Grammar:
     start: int = 0
 
     def number_of(self, name):
-        """The number of the symbol of this name."""
+        """Returns the number of the symbol with this name. Fails if none is declared."""
         for number, symbol in enumerate(self.symbols):
             if symbol.name == name:
                 return number
         raise GrammarFault(f"no symbol {name} is declared")
 
     def name_of(self, item):
-        """How an item is written."""
+        """Returns an item as it is written."""
         if item.kind == "literal":
             return f'"{item.which}"'
         return CLASSES[item.which] if item.kind == "class" else self.symbols[item.which].name
 
     def item_at(self, production, place):
-        """The symbol or class at a place of a production; place 0 is its left side."""
+        """Returns the symbol or class at a place of a production; place 0 is its left side. Fails if it has no such place."""
         items = [Item("symbol", production.left), *production.stored()]
         if place >= len(items):
             raise GrammarFault(f"a production of {self.symbols[production.left].name} has no place {place}")
         return items[place]
 
     def written(self, number):
-        """A production as it is written, without its rules."""
+        """Returns a production as it is written, without its rules."""
         production = self.productions[number]
         right = "".join(f" {self.name_of(item)}" for item in production.items)
         return f"{self.symbols[production.left].name} ={right}"
 
     def line_of(self, at):
-        """The line of an offset, from 1."""
+        """Returns the line of an offset, from 1."""
         return self.text.count("\n", 0, at) + 1
 
 
@@ -127,7 +127,8 @@ ESCAPED = {"n": "\n", "t": "\t", "r": "\r"}
 
 
 def name_end(text, at):
-    """The end of the name that begins at an offset: XID_Start or `_`, and then XID_Continue. The offset where none begins."""
+    """Returns the end of the name that begins at an offset: XID_Start or `_`, then XID_Continue. Returns the offset if no name
+    begins there."""
     if not text[at : at + 1].isidentifier():
         return at
     end = at + 1
@@ -137,7 +138,7 @@ def name_end(text, at):
 
 
 def token_at(text, at):
-    """The longest token that begins at an offset, and its end."""
+    """Returns the longest token that begins at an offset, and its end. Fails if none begins there."""
     if place := PLACE.match(text, at):
         end = name_end(text, place.end())
         if end > place.end():
@@ -155,7 +156,7 @@ def token_at(text, at):
 
 
 class Tokens:
-    """The tokens of a text, one after the other; spaces, tabs, CR and LF part them."""
+    """The tokens of a text, in order. Spaces, tabs, CR and LF separate them."""
 
     def __init__(self, text):
         self.text, self.end = text, 0
@@ -163,7 +164,7 @@ class Tokens:
         self.step()
 
     def step(self):
-        """Takes a token."""
+        """Takes the next token."""
         taken, at = self.next, self.end
         while at < len(self.text) and self.text[at] in " \t\r\n":
             at += 1
@@ -174,18 +175,18 @@ class Tokens:
         return taken
 
     def is_word(self, word):
-        """Whether this name comes next."""
+        """Returns whether the next token is this name."""
         return (self.next.kind, self.next.says) == ("name", word)
 
     def take(self, kind, word=None):
-        """Takes a token of a kind, and where a word is given this one."""
+        """Takes a token of a kind, which is `word` if one is passed. Fails if the next token is another one."""
         if self.next.kind != kind or word not in (None, self.next.says):
             line = self.text.count("\n", 0, self.next.at) + 1
-            raise GrammarFault(f"in line {line} a {word or kind} should stand")
+            raise GrammarFault(f"line {line}: expected {word or kind}, found {self.next.says or self.next.kind}")
         return self.step()
 
     def names(self):
-        """Takes names with commas between."""
+        """Takes names that commas separate."""
         taken = [self.take("name").says]
         while self.next.kind == ",":
             self.step()
@@ -194,7 +195,7 @@ class Tokens:
 
 
 def symbol_in(tokens):
-    """symbol = "symbol" name [ "syn" names ] [ "inh" names ] ";" """
+    """Reads a symbol: "symbol" name [ "syn" names ] [ "inh" names ] ";" """
     tokens.take("name", "symbol")
     symbol = Symbol(tokens.take("name").says, [])
     for word in ("syn", "inh"):
@@ -208,7 +209,7 @@ def symbol_in(tokens):
 
 
 def item_in(tokens, grammar):
-    """item = name | literal | "NAME" | "NUMBER" | "TEXT" """
+    """Reads an item: name | literal | "NAME" | "NUMBER" | "TEXT" """
     if tokens.next.kind == "text":
         return Item("literal", tokens.step().says)
     name = tokens.take("name").says
@@ -218,7 +219,8 @@ def item_in(tokens, grammar):
 
 
 def rule_in(tokens):
-    """rule = occurrence "=" expr ";": of the expression its occurrences alone; no expression holds a `;` outside a text."""
+    """Reads a rule: occurrence "=" expr ";". Of the expression it keeps only the occurrences; no expression contains a `;`
+    outside a text."""
     target, uses = tokens.take("occurrence"), []
     tokens.take("=")
     while tokens.next.kind not in (";", "end"):
@@ -230,7 +232,7 @@ def rule_in(tokens):
 
 
 def production_in(tokens, grammar):
-    """production = name "=" { item } "{" { rule } "}" """
+    """Reads a production: name "=" { item } "{" { rule } "}" """
     left = tokens.take("name")
     tokens.take("=")
     production = Production(grammar.number_of(left.says), [], [], left.at)
@@ -244,8 +246,8 @@ def production_in(tokens, grammar):
 
 
 def grammar_in(text):
-    """The grammar of a text: "start" name ";" { symbol } { production }. What an expression says is not looked at; each
-    occurrence has to be of a place and an attribute that are there."""
+    """Reads a grammar: "start" name ";" { symbol } { production }. Expressions are not checked, but each occurrence must have a
+    place and an attribute that exist."""
     tokens, grammar = Tokens(text), Grammar(text)
     tokens.take("name", "start")
     start = tokens.take("name").says
@@ -269,13 +271,13 @@ PASS_LINE = re.compile(r"pass (\d+) (right-to-left|left-to-right):((?: \S+)*)")
 
 
 def passes_in(listing, grammar):
-    """The pass of each attribute, by its symbol's number and its name, from what `aggen plan` prints."""
+    """Returns the pass of each attribute, by its symbol's number and its name, from the output of `aggen plan`."""
     passes = {}
     for number, line in enumerate(listing.splitlines(), 1):
-        told = PASS_LINE.fullmatch(line)
-        if not told or int(told[1]) != number or (told[2] == "right-to-left") != (number % 2 == 1):
+        found = PASS_LINE.fullmatch(line)
+        if not found or int(found[1]) != number or (found[2] == "right-to-left") != (number % 2 == 1):
             raise GrammarFault(f"no line of a plan: {line}")
-        for name in told[3].split():
+        for name in found[3].split():
             symbol, _, attribute = name.partition(".")
             passes[grammar.number_of(symbol), attribute] = number
     every = {(number, it) for number, symbol in enumerate(grammar.symbols) for it in symbol.attributes}
@@ -288,33 +290,33 @@ def passes_in(listing, grammar):
 
 
 class Malformed(Exception):
-    """What begins with no spelling of a well value."""
+    """The bytes do not begin with the spelling of a well value."""
 
 
 @dataclass(frozen=True)
 class Failure:
-    """The value that is an error."""
+    """An error value."""
 
     name: str
 
 
-def taken(content, at, length):
-    """So many bytes from an offset on, and where they end."""
+def bytes_at(content, at, length):
+    """Returns `length` bytes from an offset on, and the offset after them."""
     if at + length > len(content):
         raise Malformed
     return content[at : at + length], at + length
 
 
-def counted(content, at):
-    """A number in four bytes, and where it ends."""
-    there, end = taken(content, at, 4)
+def count_at(content, at):
+    """Returns a number of four bytes, and the offset after it."""
+    there, end = bytes_at(content, at, 4)
     return int.from_bytes(there, "big"), end
 
 
 def text_at(content, at):
-    """A length in four bytes and as many bytes of UTF-8, and where they end."""
-    length, at = counted(content, at)
-    there, end = taken(content, at, length)
+    """Returns a text, which is spelled as its length in four bytes and its UTF-8, and the offset after it."""
+    length, at = count_at(content, at)
+    there, end = bytes_at(content, at, length)
     try:
         return bytes(there).decode("utf-8"), end
     except UnicodeDecodeError:
@@ -322,8 +324,8 @@ def text_at(content, at):
 
 
 def list_at(content, at, levels):
-    """A count and as many values, none of them an error."""
-    count, at = counted(content, at)
+    """Returns a list, which is spelled as a count and its values, and the offset after it. No value is an error."""
+    count, at = count_at(content, at)
     items = []
     for _ in range(count):
         item, at = any_value_at(content, at, levels)
@@ -334,8 +336,9 @@ def list_at(content, at, levels):
 
 
 def table_at(content, at, levels):
-    """A count and as many keys with their values; the keys rise by their bytes, and no value is an error."""
-    count, at = counted(content, at)
+    """Returns a table, which is spelled as a count and its keys with their values, and the offset after it. The bytes of the
+    keys are in ascending order, and no value is an error."""
+    count, at = count_at(content, at)
     pairs, before = {}, None
     for _ in range(count):
         key, at = text_at(content, at)
@@ -347,24 +350,25 @@ def table_at(content, at, levels):
 
 
 def any_value_at(content, at, levels):
-    """The value spelled from an offset on, inside so many lists and tables, and where the spelling ends."""
-    kind, at = taken(content, at, 1)
+    """Returns the value that is spelled from an offset on, and the offset after it. `levels` is the number of lists and tables
+    around it."""
+    kind, at = bytes_at(content, at, 1)
     if kind[0] == 0:
-        there, end = taken(content, at, 8)
+        there, end = bytes_at(content, at, 8)
         return int.from_bytes(there, "big", signed=True), end
     if kind[0] == 1:
         return text_at(content, at)
     if kind[0] in (2, 3) and levels < DEEPEST_VALUE:
         return (list_at, table_at)[kind[0] - 2](content, at, levels + 1)
     if kind[0] == 4:
-        number, end = taken(content, at, 1)
+        number, end = bytes_at(content, at, 1)
         if 1 <= number[0] <= len(ERRORS):
             return Failure(ERRORS[number[0] - 1]), end
     raise Malformed
 
 
 def value_at(content, at):
-    """The well value that is spelled from an offset on, and where its spelling ends."""
+    """Returns the well value that is spelled from an offset on, and the offset after it."""
     value, end = any_value_at(content, at, 0)
     if end - at > LONGEST_SPELLING:
         raise Malformed
@@ -375,7 +379,7 @@ SHOWN = {'"': '\\"', "\\": "\\\\", "\n": "\\n", "\r": "\\r", "\t": "\\t"}
 
 
 def shown(value):
-    """A value as text for a reader."""
+    """Returns a value as text for a reader."""
     if isinstance(value, int):
         return str(value)
     if isinstance(value, str):
@@ -392,9 +396,8 @@ def shown(value):
 
 @dataclass
 class Record:
-    """A record of a tree file: its own values by name, in declared order; and where it stands in the tree: the number of its
-    parent's record in the order of reading (None of the root's), its place there, and its level, from 1. A token has no
-    production."""
+    """A record of a tree file: its own values by name, in declared order; the number of its parent's record in the order of
+    reading (None for the root); its place there; and its level, from 1. A token has no production."""
 
     item: Item
     production: object
@@ -406,9 +409,9 @@ class Record:
 
 @dataclass
 class Answer:
-    """What a content is: the file of a tree where there is no fault. A fault has the offset that an R1 tells. `beyond` says
-    what came first on the way from the end: P2, that a record had to stand one level deeper than a tree may be, or P3, that one
-    had to be one more than it may have; nothing where neither did."""
+    """The answer for a content. Without a fault it is the file of a tree; `fault` is the offset that R1 prints. `beyond` is the
+    limit that was exceeded first, from the end of the file: P2 if a record was expected one level too deep, P3 if one record too
+    many was expected, and empty if neither happened."""
 
     records: int = 0
     fault: object = None
@@ -416,20 +419,20 @@ class Answer:
     beyond: str = ""
 
     def refusal(self):
-        """What is first in the way, as a line of the program begins; nothing of the file of a tree within the limits."""
+        """Returns the first refusal, as a line of the program begins; empty for the file of a tree within the limits."""
         return self.beyond or ("" if self.fault is None else f"R1 at {self.fault}")
 
 
 def pass_of(content):
-    """The number of the pass that wrote a file, or None where it begins as no tree file."""
+    """Returns the number of the pass that wrote a file, or None if it does not begin as a tree file."""
     if len(content) < HEADER or content[:4] != LETTERS:
         return None
     return int.from_bytes(content[4:HEADER], "big")
 
 
 def body_before(content, end):
-    """The offset of the body whose frame ends at an offset, or None where none does: a length of 3 to 285,212,675 in four
-    bytes, and before it as many bytes behind the header."""
+    """Returns the offset of the body whose frame ends at an offset, or None if no frame ends there. A frame is a body after the
+    header, and its length in four bytes, from 3 to 285,212,675."""
     if end - HEADER < 4:
         return None
     length = int.from_bytes(content[end - 4 : end], "big")
@@ -439,7 +442,7 @@ def body_before(content, end):
 
 
 def values_in(spellings, at, count):
-    """So many values from an offset on, and the offsets where they begin and where the last ends."""
+    """Returns `count` values from an offset on, the offset of each, and the offset after the last one."""
     values, offsets = [], [at]
     for _ in range(count):
         value, at = value_at(spellings, at)
@@ -452,7 +455,7 @@ class Reader:
     """Reads records of a grammar's trees in files of one pass."""
 
     def __init__(self, grammar, passes, number):
-        """`passes` may be None where the pass is 0, which has no values of attributes."""
+        """Makes a reader. `passes` may be None for pass 0, which has no values of attributes."""
         self.grammar, self.number = grammar, number
         self.known, self.copied = [], []
         for symbol, it in enumerate(grammar.symbols):
@@ -462,30 +465,30 @@ class Reader:
         self.children = [production.stored() for production in grammar.productions]
 
     def copies_of(self, item):
-        """How many values of a child its parent's record has copies of: those synthesized, or the text of a token."""
+        """Returns the number of values of a child that its parent's record copies: the synthesized ones, or a token's text."""
         return 1 if item.kind == "class" else self.copied[item.which]
 
     def token_in(self, spelling):
-        """The value of a token, and the bytes that its parent's record has to have of it."""
+        """Returns the value of a token, and the copy of it that its parent's record must have, as bytes."""
         (lex,), (_, end) = values_in(spelling, 0, 1)
         if end != len(spelling) or not isinstance(lex, str) or len(lex.encode()) > LONGEST_LEX:
             raise Malformed
         return {"lex": lex}, spelling
 
-    def record_in(self, body, item, told):
-        """The production (None of a token), the values of a body that is to be a record of an item, and what it tells of each
-        child, as bytes; else Malformed, as where its parent's record told something else of it."""
+    def record_in(self, body, item, copy):
+        """Reads a body as a record of an item. Returns its production (None for a token), its values, and its copies for each
+        child, as bytes. Fails if it is not such a record, or if `copy`, the bytes in its parent's record, is different."""
         kind, which, spellings = body[0], int.from_bytes(body[1:3], "big"), body[3:]
         if item.kind == "class":
             values, copied = self.token_in(spellings)
-            if (kind, which) != (1, item.which) or told not in (None, copied):
+            if (kind, which) != (1, item.which) or copy not in (None, copied):
                 raise Malformed
             return None, values, []
         if kind != 0 or which >= len(self.children) or self.grammar.productions[which].left != item.which:
             raise Malformed
         names, copies = self.known[item.which], []
         values, offsets = values_in(spellings, 0, len(names))
-        if told not in (None, spellings[: offsets[self.copied[item.which]]]):
+        if copy not in (None, spellings[: offsets[self.copied[item.which]]]):
             raise Malformed
         for child in self.children[which]:
             begin = offsets[-1]
@@ -495,20 +498,20 @@ class Reader:
             raise Malformed
         return which, dict(zip(names, values)), copies
 
-    def waiting(self, production, copies, record, level):
-        """What a node awaits behind it, the last first: its children, the rightmost first where the pass is even, each with
-        what the node's record tells of it."""
+    def pending_children(self, production, copies, record, level):
+        """Returns the children whose records are expected after that of a node, the last one first, each with its copies in the
+        node's record. In the file of an even pass the rightmost child is first."""
         places = list(enumerate(zip(self.children[production], copies), 1))
         if self.number % 2 == 1:
             places.reverse()
-        return [(item, told, record, place, level + 1) for place, (item, told) in places]
+        return [(item, copy, record, place, level + 1) for place, (item, copy) in places]
 
 
 def read_tree(content, grammar, passes, number, visit=None):
-    """What a content is as the file of a pass: reads its frames from the end, each as the record that the tree awaits there,
-    and hands each to `visit`. The first fault ends it: 0 where the file begins as none, 4 where it is of another pass, 6 where
-    a frame is missing, else the end of the frame that is none, no record of what is awaited, otherwise than its parent's record
-    tells, or left over."""
+    """Reads a content as the file of a pass: its frames from the end, each as the record that the tree expects there. Calls
+    `visit` with each record, and stops at the first fault. The offset of the fault is 0 if the content does not begin as a tree
+    file, 4 if it is of another pass, and 6 if a frame is missing. Otherwise it is the end of the frame that is damaged, that is
+    not the expected record, that differs from the copy in its parent's record, or that is left over."""
     answer = Answer()
     if pass_of(content) != number:
         is_none = pass_of(content) is None
@@ -517,35 +520,35 @@ def read_tree(content, grammar, passes, number, visit=None):
     reader, end = Reader(grammar, passes, number), len(content)
     awaited = [(Item("symbol", grammar.start), None, None, 0, 1)]
     while awaited:
-        item, told, parent, place, level = awaited.pop()
-        answer.beyond = answer.beyond or beyond(level, answer.records)
+        item, copy, parent, place, level = awaited.pop()
+        answer.beyond = answer.beyond or limit_beyond(level, answer.records)
         begin = body_before(content, end)
         try:
             if begin is None:
                 raise Malformed
-            production, values, copies = reader.record_in(content[begin : end - 4], item, told)
+            production, values, copies = reader.record_in(content[begin : end - 4], item, copy)
         except Malformed:
-            answer.fault, answer.why = end, why_none(grammar, begin, end, item)
+            answer.fault, answer.why = end, reason_at(grammar, begin, end, item)
             return answer
         if visit:
             visit(Record(item, production, values, parent, place, level))
         if production is not None:
-            awaited += reader.waiting(production, copies, answer.records, level)
+            awaited += reader.pending_children(production, copies, answer.records, level)
         answer.records, end = answer.records + 1, begin
     if end != HEADER:
         answer.fault, answer.why = end, "the tree is whole, and something is left over"
     return answer
 
 
-def beyond(level, before):
-    """What refuses a record that has to stand at a level, behind so many; nothing within the limits."""
-    if level > MOST_LEVELS:
+def limit_beyond(level, before):
+    """Returns the limit that a record at a level exceeds, after `before` records; empty within the limits."""
+    if level > MAX_LEVELS:
         return "P2"
-    return "P3" if before == MOST_RECORDS else ""
+    return "P3" if before == MAX_RECORDS else ""
 
 
-def why_none(grammar, begin, end, item):
-    """Why no record of an item ends at an offset, where the body begins at another (None where there is none)."""
+def reason_at(grammar, begin, end, item):
+    """Returns why no record of an item ends at `end`. `begin` is the offset of the body, or None if no frame ends there."""
     if end == HEADER:
         return f"the record of {grammar.name_of(item)} is missing"
     if begin is None:

@@ -1,4 +1,4 @@
-"""The rows of tests/rows/tree-files: contents by hand, and what each is as a tree file; how one is written stands there."""
+"""Reads the rows of tests/rows/tree-files: contents by hand, each with its answer as a tree file. That file explains the rows."""
 import re
 from dataclasses import dataclass
 from pathlib import Path
@@ -9,8 +9,8 @@ WORD = re.compile(r"(\)|[0-9a-f]+)\*(\d+)")
 
 @dataclass
 class Row:
-    """A row: the number of its line, a grammar's text and the listing of its plan, the pass whose file the content is to be,
-    the content, and what it is."""
+    """A row: the number of its line, a grammar's text and the listing of its plan, the pass as whose file the content is read,
+    the content, and the right answer."""
 
     line: int
     grammar: str
@@ -21,7 +21,7 @@ class Row:
 
 
 def bytes_of(written):
-    """The bytes that words stand for: of two hexadecimal digits each, `*N` behind a word or a closing parenthesis."""
+    """Returns the bytes of words of two hexadecimal digits each. `*N` after a word or a closing parenthesis repeats it."""
     open_ = [b""]
     for word in written.split():
         if word == "(":
@@ -36,7 +36,7 @@ def bytes_of(written):
 
 
 def rows():
-    """All rows, in order."""
+    """Returns all rows, in order."""
     grammar, plan, number, content = "", "", 0, None
     found = []
     text = (TOP / "tests" / "rows" / "tree-files").read_text(encoding="utf-8")

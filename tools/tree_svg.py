@@ -1,8 +1,8 @@
 """Lays out the boxes of a tree and writes the picture as an SVG, for `tools/picture`.
 
-It knows boxes and no grammar. Leaves stand from left to right, each box in the middle above its children, and all boxes of a
-level at one height. A box and all below it have a strip for themselves, so that neither boxes nor edges run into each other.
-Each step is linear, and nothing here recurses over a tree. All lengths are whole pixels, so that a tree has one picture, byte
+It knows boxes, but no grammar. Leaves are drawn from left to right, each box is centered above its children, and all boxes of a
+level have their upper sides at one height. A subtree has a strip of its own, so that neither boxes nor edges overlap. Each step
+is linear, and nothing here recurses over a tree. All lengths are whole pixels, so that a tree always has the same picture, byte
 for byte.
 """
 import html
@@ -10,20 +10,20 @@ import unicodedata
 from dataclasses import dataclass
 from itertools import accumulate
 
-# the height of letters; the room for one, which has to do for any monospace font; the height of a line, and how far below
-# its upper side letters stand
+# the height of letters; the width of a letter, enough for any monospace font; the height of a line; and the distance from its
+# upper side to the base line of letters
 LETTERS, LETTER, LINE, FOOT = 13, 8, 18, 13
-# the room between the side of a box and what is in it, between its columns, between boxes side by side, and between levels
+# the space between the side of a box and its content, between its columns, between adjacent boxes, and between levels
 PADDING, BETWEEN, BESIDE, BELOW = 6, 12, 16, 40
-# the room around the picture, and the size of a colour in the legend
+# the space around the picture, and the size of a colour in the legend
 MARGIN, PATCH = 12, 12
 
 
 @dataclass
 class Box:
-    """What a picture shows of a node or a token, as a reader is to see it: its symbol or class, and its production or text;
-    for each attribute a colour and the cells of a row, as many in all rows; and the text of its tooltip. Then the number of its
-    parent's box (None of the root's) and its level, from 1."""
+    """The box of a node or a token: its symbol or class, and its production or text; for each attribute a colour and the cells
+    of a row, the same number in all rows; and the text of its tooltip. Then the number of its parent's box (None for the root)
+    and its level, from 1."""
 
     name: str
     says: str
@@ -36,8 +36,8 @@ class Box:
 
 @dataclass
 class Place:
-    """Where a box stands: its size, where its columns begin; how far it and all below it reach to the left and to the right of
-    its middle; and its middle, from that of its parent until the whole is placed, and its upper side."""
+    """The place of a box: its size and the offsets of its columns; the extent of its subtree to the left and to the right of its
+    middle; and its middle and its upper side. The middle is relative to that of its parent until the whole tree is placed."""
 
     width: int
     height: int
@@ -52,12 +52,12 @@ class Place:
 
 
 def width_of(text):
-    """The room for a text. Wide letters take twice that of others."""
+    """Returns the width of a text. Wide letters are twice as wide as others."""
     return LETTER * sum(2 if unicodedata.east_asian_width(it) in "WF" else 1 for it in text)
 
 
 def place_of(box):
-    """The size of a box: its columns are as wide as the widest cell of each."""
+    """Returns the place of a box with its size. Each column is as wide as its widest cell."""
     cells = zip(*(cells for _, cells in box.rows))
     columns = list(accumulate((BETWEEN + max(map(width_of, column)) for column in cells), initial=0))
     inner = max(width_of(box.name), width_of(box.says), columns.pop() - BETWEEN)
@@ -65,7 +65,7 @@ def place_of(box):
 
 
 def put_above(place, children):
-    """Puts the places of children side by side, and that of their parent in the middle above the first and the last."""
+    """Puts the places of children side by side, and that of their parent in the middle between the first and the last one."""
     end, middle = -BESIDE, 0
     for child in children:
         child.middle = end + BESIDE + child.left
@@ -77,8 +77,9 @@ def put_above(place, children):
     place.left, place.right = max(middle, place.width // 2), max(end - middle, place.width // 2)
 
 
-def placed(boxes, top):
-    """The places of boxes that stand in the order of the sentence, each before its children, from a height on."""
+def places_of(boxes, top):
+    """Returns the places of boxes, whose upper end is at `top`. The boxes are in the order of the sentence, each before its
+    children."""
     places = [place_of(box) for box in boxes]
     children = [[] for _ in boxes]
     highest = [0] * max(box.level for box in boxes)
@@ -95,21 +96,21 @@ def placed(boxes, top):
     return places
 
 
-# What is written
+# The picture
 
 
 def title_of(text):
-    """The title of the whole picture, or of a box. Browsers show that of a box as its tooltip."""
+    """Returns the title of the whole picture, or of a box. Browsers show that of a box as its tooltip."""
     return f"<title>{html.escape(text, quote=False)}</title>"
 
 
 def text_at(x, y, text, more=""):
-    """A text that begins at x, or has its middle there, in the line whose upper side is at y."""
+    """Returns a text that begins at x, or has its middle there, in the line whose upper side is at y."""
     return f'<text x="{x}" y="{y + FOOT}"{more}>{html.escape(text, quote=False)}</text>'
 
 
 def box_lines(box, place):
-    """A box with its texts and its tooltip: rounded that of a node, plain that of a token."""
+    """Yields the lines of a box with its texts and its tooltip. The box of a node is rounded, that of a token is not."""
     kind = 'class="token"' if box.is_token else 'class="node" rx="8"'
     x, y = place.middle - place.width // 2, place.top
     yield f"<g>{title_of(box.tooltip)}"
@@ -124,12 +125,12 @@ def box_lines(box, place):
 
 
 def edge_line(above, below):
-    """An edge, from the middle of the lower side of a box to that of the upper side of one below."""
+    """Returns an edge, from the middle of the lower side of a box to that of the upper side of one below."""
     return f'<line x1="{above.middle}" y1="{above.top + above.height}" x2="{below.middle}" y2="{below.top}"/>'
 
 
 def legend_lines(legend):
-    """A line for each colour, below the title."""
+    """Yields a line for each colour, below the title."""
     for count, (hue, text) in enumerate(legend, 1):
         y = MARGIN + count * LINE
         patch = f'x="{MARGIN}" y="{y + (LINE - PATCH) // 2}" width="{PATCH}" height="{PATCH}"'
@@ -138,8 +139,8 @@ def legend_lines(legend):
 
 
 def drawing(boxes, legend, title):
-    """The picture of a tree whose boxes stand in the order of the sentence, with a title and, for each colour, what it means."""
-    places = placed(boxes, MARGIN + LINE * (1 + len(legend)) + MARGIN)
+    """Returns the picture of a tree with a title and a legend of its colours. The boxes are in the order of the sentence."""
+    places = places_of(boxes, MARGIN + LINE * (1 + len(legend)) + MARGIN)
     heads = [width_of(title), *(PATCH + LETTER + width_of(text) for _, text in legend)]
     width = 2 * MARGIN + max(places[0].left + places[0].right, *heads)
     height = MARGIN + max(place.top + place.height for place in places)

@@ -1,9 +1,9 @@
-"""Checks what `aggen why` prints of a grammar, by docs/LANGUAGE alone.
+"""Checks the output of `aggen why` for a grammar, by docs/LANGUAGE alone.
 
-It shares nothing with the libraries but the reader of grammars in tree_files.py. It finds the least passes of a grammar by their
-definition, and then reads each printed line: the rule has to be at its place, with that target and that argument, and the reason
-has to hold for the pass. Each rule of a chain waits for the attribute of the next one, and the last one for none. `check_grammar`
-and `check_attribute` read an answer; a `Checker` keeps what is wrong with it.
+It shares no code with the libraries. Grammars are read by tree_files.py. It finds the least passes of a grammar by their
+definition, and then reads each printed line: the rule must be at its place, with that target and that argument, and the reason
+must hold for the pass. Each rule of a chain waits for the attribute of the next one, and the last rule waits for none.
+`check_grammar` and `check_attribute` read an answer, and a `Checker` collects its faults.
 """
 import re
 from collections import Counter
@@ -12,7 +12,7 @@ from itertools import takewhile
 import tree_files
 from stuck_messages import attribute_of, is_too_early, position_of, stuck_of
 
-MOST_LINES, MOST_PASSES = 40, 20
+MAX_LINES, MAX_PASSES = 40, 20
 NAMES = ("right-to-left", "left-to-right")
 LINK = re.compile(
     r"  (\w+)\.(\w+): `\$(\d+)\.(\w+)` \((.+):(\d+):(\d+)\) uses `\$(\d+)\.(\w+)` \((\w+)\.(\w+)\), (.+)"
@@ -51,7 +51,8 @@ def dependencies_of(grammar):
 
 
 def passes_of(grammar):
-    """Returns the least pass of each attribute that has one: a pass computes what it can of what no earlier one computes."""
+    """Returns the least pass of each attribute that has one. Each pass computes the attributes that it can and that no earlier
+    pass computes."""
     dependencies = dependencies_of(grammar)
     users = {}
     for one in dependencies:
@@ -110,12 +111,12 @@ def hints_of(grammar):
 
 def shortened(lines):
     """Returns the first forty lines, and the number of the others."""
-    others = len(lines) - MOST_LINES
-    return [*lines[:MOST_LINES], *([f"  and {others} more"] if others > 0 else [])]
+    others = len(lines) - MAX_LINES
+    return [*lines[:MAX_LINES], *([f"  and {others} more"] if others > 0 else [])]
 
 
 class Checker:
-    """A grammar with its least passes, and what is wrong with the lines about it."""
+    """A grammar with its least passes, and the faults of the lines about it."""
 
     def __init__(self, text, file):
         self.grammar = tree_files.grammar_in(text)
@@ -135,7 +136,7 @@ class Checker:
         """Adds a fault."""
         self.faults.append(f"{why}: {line}")
 
-    def reason(self, pass_or_direction, places, used):
+    def reason_for(self, pass_or_direction, places, used):
         """Returns the reason that holds for a rule, and whether the rule waits for what it uses."""
         (place, other), number = places, pass_or_direction
         if self.stuck:
@@ -174,7 +175,7 @@ class Checker:
             return self.blame("the rule computes another attribute", line)
         if attribute_of(self.grammar, production, argument) != (owner, used):
             return self.blame("the rule uses another attribute", line)
-        right, waits = self.reason(number, (target[0], argument[0]), (owner, used))
+        right, waits = self.reason_for(number, (target[0], argument[0]), (owner, used))
         if reason != right:
             return self.blame(f"the reason is not {right!r}", line)
         if not self.is_candidate(number, (owner, used)) or not self.is_candidate(number, (symbol, name)):
@@ -183,10 +184,10 @@ class Checker:
         return (symbol, name), (owner, used), waits
 
     def chain(self, number, lines, first):
-        """Reads the lines of a chain that begins with an attribute."""
+        """Checks the lines of a chain that begins with an attribute."""
         awaited, waits = first, True
         for count, line in enumerate(lines):
-            if count == MOST_LINES and OTHERS.fullmatch(line):
+            if count == MAX_LINES and OTHERS.fullmatch(line):
                 return
             link = self.link(number, line)
             if link is None:
@@ -198,7 +199,7 @@ class Checker:
             self.blame("the chain has no end", ".".join(first))
 
     def plan(self, paragraphs):
-        """Reads what is printed of a plan, without its hints."""
+        """Checks the answer about a plan, without its hints."""
         most = max(self.passes.values())
         head = FIRST.fullmatch("\n".join(paragraphs[0]))
         if not head or int(head[1]) != most or (head[2] == "pass") != (most == 1):
@@ -215,30 +216,30 @@ class Checker:
             else:
                 self.chain(number - 1, links, (found[2], found[3]))
 
-    def attribute(self, paragraphs, asked):
-        """Reads what is printed of an attribute."""
-        name, own = ".".join(asked), self.passes[asked]
+    def attribute(self, paragraphs, pair):
+        """Checks the answer about an attribute."""
+        name, own = ".".join(pair), self.passes[pair]
         if own == 1:
             if paragraphs != [[f"pass 1 computes {name}, and no pass is earlier"]]:
                 self.blame("it has pass 1", paragraphs)
             return
         numbers = list(range(own - 1, 0, -1))
-        others = numbers[MOST_PASSES:]
+        others = numbers[MAX_PASSES:]
         if paragraphs[0] != [f"pass {own} computes {name}"]:
             self.blame("the attribute has another pass", paragraphs[0])
         if others:
             last = "pass 1 can't compute it either" if others == [1] else f"passes {others[0]} to 1 can't compute it either"
             if paragraphs.pop() != [last]:
                 self.blame("the number of the other passes is another", last)
-        if len(paragraphs) - 1 != len(numbers[:MOST_PASSES]):
+        if len(paragraphs) - 1 != len(numbers[:MAX_PASSES]):
             return self.blame("a pass is missing, or there is one too many", name)
         for number, (line, *links) in zip(numbers, paragraphs[1:]):
             if line != f"pass {number} ({name_of(direction_of(number))}) can't compute {name}:":
                 self.blame("the heading is another", line)
-            self.chain(number, links, asked)
+            self.chain(number, links, pair)
 
     def obstacles(self, paragraph):
-        """Reads the rules that all attributes without a pass wait for."""
+        """Checks the rules that all attributes without a pass wait for."""
         line, *links = paragraph
         found = STUCK.fullmatch(line)
         if not found or found[1] not in NAMES:
@@ -252,10 +253,10 @@ class Checker:
             if link and link[2]:
                 self.blame("the rule waits for another", one)
 
-    def stuck_attribute(self, paragraphs, asked):
-        """Reads what is printed of an attribute of a grammar that no order of passes evaluates."""
-        name = ".".join(asked)
-        if asked not in self.stuck:
+    def stuck_attribute(self, paragraphs, pair):
+        """Checks the answer about an attribute of a grammar that no order of passes evaluates."""
+        name = ".".join(pair)
+        if pair not in self.stuck:
             if paragraphs != [[f"{name} is not one of the attributes that no pass computes"]]:
                 self.blame("a pass computes it", paragraphs)
             return
@@ -264,7 +265,7 @@ class Checker:
         for direction, (line, *links) in zip((-1, 1), paragraphs[1:]):
             if line != f"passes {name_of(direction)} can't compute {name}:":
                 self.blame("the heading is another", line)
-            self.chain(direction, links, asked)
+            self.chain(direction, links, pair)
 
 
 def paragraphs_of(lines):
@@ -273,8 +274,8 @@ def paragraphs_of(lines):
 
 
 def rules_in(printed):
-    """Returns the rules that `why` prints of a grammar: by the line and the column of each and what it uses, the passes that are
-    needed for it."""
+    """Returns the rules that `why` prints for a grammar: the passes that each makes needed, by its line and column and what it
+    uses."""
     rules, number = {}, None
     for line in printed.splitlines():
         if found := NEXT.fullmatch(line):
@@ -285,7 +286,7 @@ def rules_in(printed):
 
 
 def check_grammar(checker, printed):
-    """Reads what `why` prints of a grammar."""
+    """Checks the output of `why` for a grammar."""
     lines, hints = printed.split("\n"), hints_of(checker.grammar)
     if lines.pop() != "" or (hints and lines[-len(hints) :] != hints):
         return checker.blame("the hints are not", "\n".join(hints))
@@ -298,13 +299,13 @@ def check_grammar(checker, printed):
         checker.obstacles(paragraphs[0])
 
 
-def check_attribute(checker, printed, asked):
-    """Reads what `why` prints of an attribute, as (symbol's name, attribute)."""
+def check_attribute(checker, printed, pair):
+    """Checks the output of `why` for an attribute, which is a symbol's name and an attribute's name."""
     lines = printed.split("\n")
     if lines.pop() != "":
         return checker.blame("no line break at the end", printed)
     paragraphs = paragraphs_of(lines)
     if checker.stuck:
-        checker.stuck_attribute(paragraphs, asked)
+        checker.stuck_attribute(paragraphs, pair)
     else:
-        checker.attribute(paragraphs, asked)
+        checker.attribute(paragraphs, pair)

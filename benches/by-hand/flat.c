@@ -1,5 +1,5 @@
-/* Groups of five, by flat.ag beside this file: pass 1 goes from right to left and gives each node how many leaves are below it,
-   pass 2 goes from left to right and gives it how many leaves are before it. */
+/* The translator of flat.ag in this folder, groups of five. Pass 1 goes from right to left and counts the leaves below each node.
+   Pass 2 goes from left to right and counts the leaves before each node. */
 #include "translator.h"
 
 #include <stdio.h>
@@ -34,9 +34,8 @@ static void parse(struct scanner *scanner) {
 
 /* The passes */
 
-/* An open node: its production, how many of its children were visited, its values, and the sizes of its children, of which
-   there are none where it is a leaf: pass 1 gives them, and pass 2 reads copies of them. The root has no place, and a text where
-   the others have their size. */
+/* An open node: its production, the number of visited children, its values, and the sizes of its children if it is a group.
+   Pass 1 computes the sizes, and pass 2 reads their copies. The root has no `at`, and has a text instead of a size. */
 struct node {
     enum production production;
     unsigned visited;
@@ -53,7 +52,7 @@ static int64_t sum(int64_t a, int64_t b) {
     return a + b;
 }
 
-/* The number from which a sum begins, and the sizes of so many children from the left. */
+/* Returns the sum of a number and of the sizes of the first `count` children. */
 static int64_t sum_of(int64_t first, const int64_t *sizes, unsigned count) {
     for (unsigned child = 0; child < count; child++) {
         first = sum(first, sizes[child]);
@@ -65,7 +64,7 @@ static unsigned children_of(enum production production) {
     return production == ROOT_GROUP || production == GROUP ? CHILDREN : 0;
 }
 
-/* Opens the node below so many open ones whose record comes next in the file of the pass before this one. */
+/* Reads the next record of the file of the previous pass, and opens its node, which has `open` nodes above it. */
 static void open_node(struct node *node, unsigned open, unsigned pass, struct reader *from) {
     unsigned production = take_record(from);
     if (open == 0 ? production > ROOT_GROUP : production < LEAF || production > GROUP) {
@@ -86,7 +85,7 @@ static void open_node(struct node *node, unsigned open, unsigned pass, struct re
     end_values(from);
 }
 
-/* Puts the record of a node, whose values up to this pass are there. */
+/* Writes the record of a node, whose values up to this pass are known. */
 static void put_node(const struct node *node, unsigned pass, struct file *to) {
     begin_record(to, node->production);
     if (node->production <= ROOT_GROUP) {
@@ -104,7 +103,7 @@ static void put_node(const struct node *node, unsigned pass, struct file *to) {
 }
 
 static void run_first_pass(struct reader *from, struct file *to) {
-    static struct node nodes[MOST_LEVELS];
+    static struct node nodes[MAX_LEVELS];
     unsigned open = 0, count = 0;
     count_node(&count, 1, OF_FILE);
     open_node(&nodes[open], open, 1, from);
@@ -140,7 +139,7 @@ static int64_t place_of_child(const struct node *node) {
 }
 
 static void run_second_pass(struct reader *from, struct file *to) {
-    static struct node nodes[MOST_LEVELS];
+    static struct node nodes[MAX_LEVELS];
     unsigned open = 0, count = 0;
     count_node(&count, 1, OF_FILE);
     open_node(&nodes[open], open, 2, from);

@@ -1,4 +1,4 @@
-/* Lists in groups, by examples/lists-in-groups.ag: one pass, from right to left, in which each node gets one value. */
+/* The translator of examples/lists-in-groups.ag: one pass, from right to left, which computes one value for each node. */
 #include "translator.h"
 
 enum symbol { GROUPS, LISTS, LETTERS };
@@ -66,8 +66,8 @@ static void parse(struct scanner *scanner) {
 
 /* The pass */
 
-/* An open node: its production, how many of its children were not visited yet, its value, and those of its children that were
-   visited: numbers by their places, and the text of a rest of the groups. */
+/* An open node: its production, the number of children that are not visited yet, its value, and the values of the visited
+   children: numbers by their places, and the text of the remaining groups. */
 struct node {
     enum production production;
     unsigned unvisited;
@@ -77,7 +77,7 @@ struct node {
     struct text rest;
 };
 
-/* Opens the node of this symbol whose record comes next. */
+/* Reads the next record, and opens its node, which must have this symbol. */
 static void open_node(struct node *node, enum symbol symbol, struct reader *from) {
     unsigned production = take_record(from);
     end_values(from);
@@ -88,7 +88,7 @@ static void open_node(struct node *node, enum symbol symbol, struct reader *from
     node->unvisited = shapes[production].count;
 }
 
-/* Evaluates the rule of a node whose children are done, and puts its record. */
+/* Evaluates the rule of a node whose children are closed, and writes its record. */
 static void close_node(struct node *node, struct file *to) {
     begin_record(to, node->production);
     switch (node->production) {
@@ -112,17 +112,17 @@ static void close_node(struct node *node, struct file *to) {
     end_record(to);
 }
 
-/* Gives the node above what it has a copy of. */
-static void hand_over(const struct node *node, struct node *above) {
+/* Copies the value of a node to its parent. */
+static void copy_to_parent(const struct node *node, struct node *parent) {
     if (shapes[node->production].left == GROUPS) {
-        above->rest = node->out;
+        parent->rest = node->out;
     } else {
-        above->cs[above->unvisited] = node->c;
+        parent->cs[parent->unvisited] = node->c;
     }
 }
 
 static void run_pass(unsigned pass, struct reader *from, struct file *to) {
-    static struct node nodes[MOST_LEVELS];
+    static struct node nodes[MAX_LEVELS];
     unsigned open = 0, count = 0;
     (void)pass;
     count_node(&count, 1, OF_FILE);
@@ -137,7 +137,7 @@ static void run_pass(unsigned pass, struct reader *from, struct file *to) {
             close_node(node, to);
             open--;
             if (open > 0) {
-                hand_over(node, node - 1);
+                copy_to_parent(node, node - 1);
             }
         }
     }

@@ -1,11 +1,11 @@
-/* Two translators that were written by hand, for comparing them with those that `aggen` makes of the same grammars:
-   `lists` is that of examples/lists-in-groups.ag, and `flat` that of flat.ag beside this file. The words are
+/* Two translators written by hand, to compare them with those that `aggen` makes of the same grammars: `lists` is that of
+   examples/lists-in-groups.ag, and `flat` that of flat.ag in this folder.
 
-       by-hand GRAMMAR parse S TREE    the sentence in the file S is parsed, and the file of its tree goes to TREE
-       by-hand GRAMMAR eval TREE       the passes run over the tree in TREE, and the root's text is printed
-       by-hand GRAMMAR run S DIR       both, and the two last tree files stay in that folder as a.agt and b.agt
+       by-hand GRAMMAR parse S TREE    parses the sentence in the file S, and writes its tree file to TREE
+       by-hand GRAMMAR eval TREE       runs the passes over the tree in TREE, and prints the root's text
+       by-hand GRAMMAR run S DIR       does both, and leaves the last two tree files in that folder as a.agt and b.agt
 
-   which do what `aggen parse`, `aggen eval` and `aggen run --work DIR` do, and leave the same bytes. */
+   They do what `aggen parse`, `aggen eval` and `aggen run --work DIR` do, and write the same bytes. */
 #include "translator.h"
 
 #include <stdbool.h>
@@ -13,7 +13,7 @@
 #include <stdlib.h>
 #include <string.h>
 
-enum { MOST_SENTENCE = 1048576, MOST_PATH = 4096 };
+enum { MAX_SENTENCE = 1048576, MAX_PATH = 4096 };
 
 static bool is_separator(uint8_t letter) {
     return letter == ' ' || letter == '\t' || letter == '\r' || letter == '\n';
@@ -37,7 +37,7 @@ void next_token(struct scanner *scanner) {
 }
 
 _Noreturn void unexpected(const struct scanner *scanner) {
-    refuse(OF_SENTENCE, "P1 at %td: this token can't stand here", scanner->token_at - scanner->begin);
+    refuse(OF_SENTENCE, "P1 at %td: unexpected token", scanner->token_at - scanner->begin);
 }
 
 void expect(struct scanner *scanner, char letter) {
@@ -48,18 +48,18 @@ void expect(struct scanner *scanner, char letter) {
 }
 
 void count_node(unsigned *nodes, unsigned level, int status) {
-    if (level > MOST_LEVELS) {
+    if (level > MAX_LEVELS) {
         refuse(status, "P2 no tree of at most 65,536 levels");
     }
-    if (*nodes == MOST_NODES) {
+    if (*nodes == MAX_NODES) {
         refuse(status, "P3 no tree of at most 1,048,576 nodes");
     }
     ++*nodes;
 }
 
-/* Parses the sentence in a file, and writes its tree: how many nodes that has. */
+/* Parses the sentence in a file, and writes its tree. Returns the number of nodes. */
 static unsigned parse(const struct translator *translator, const char *path, struct file *to) {
-    static uint8_t sentence[MOST_SENTENCE + 1];
+    static uint8_t sentence[MAX_SENTENCE + 1];
     FILE *file = fopen(path, "rb");
     if (file == NULL) {
         refuse(8, "the file can't be opened: %s", path);
@@ -68,7 +68,7 @@ static unsigned parse(const struct translator *translator, const char *path, str
     if (ferror(file) || fclose(file) != 0) {
         refuse(8, "the file can't be read: %s", path);
     }
-    if (count > MOST_SENTENCE) {
+    if (count > MAX_SENTENCE) {
         refuse(OF_SENTENCE, "S4 the sentence has more than 1,048,576 bytes");
     }
     struct scanner scanner = {.begin = sentence, .at = sentence, .end = sentence + count, .to = to};
@@ -79,8 +79,8 @@ static unsigned parse(const struct translator *translator, const char *path, str
     return scanner.nodes;
 }
 
-/* Runs all passes, the first from `tree` to `next`, and the others to and fro between that and `other`: prints the root's text,
-   which stands in the last record of the last file. */
+/* Runs all passes: the first one from `tree` to `next`, the second one from `next` to `other`, the third one back, and so on.
+   Prints the root's text, which is in the last record of the last file. */
 static void evaluate(const struct translator *translator, struct file *tree, struct file *next, struct file *other) {
     static struct reader reader;
     struct file *from = tree, *to = next;
@@ -102,8 +102,8 @@ static void evaluate(const struct translator *translator, struct file *tree, str
 
 /* Makes the file of this name in a folder. */
 static struct file file_in(const char *folder, const char *name) {
-    char path[MOST_PATH];
-    if (snprintf(path, sizeof path, "%s/%s", folder, name) >= MOST_PATH) {
+    char path[MAX_PATH];
+    if (snprintf(path, sizeof path, "%s/%s", folder, name) >= MAX_PATH) {
         refuse(8, "the name is too long: %s", folder);
     }
     return file_made(path);

@@ -1,26 +1,26 @@
 #!/usr/bin/env python3
-"""Prints a sentence whose tree has so many nodes: `sentences.py lists|flat NODES`, of examples/lists-in-groups.ag, or of
-flat.ag beside this file."""
+"""Prints a sentence whose tree has this number of nodes, of examples/lists-in-groups.ag or of flat.ag in this folder:
+`sentences.py lists|flat NODES`."""
 import sys
 
-# a list of so many letters has 33 nodes, and a group of so many lists 1,025
-MOST_LETTERS, MOST_LISTS = 31, 31
-GROUP = "x " * MOST_LETTERS + ","
+# a list of 31 letters has 33 nodes, and a group of 31 such lists has 1,025
+MAX_LETTERS, MAX_LISTS = 31, 31
+GROUP = "x " * MAX_LETTERS + ","
 CHILDREN = 5
 
 
 def lists(nodes):
-    """Full groups, and one in which what is missing stands. It is 1 node more that ends the groups."""
-    list_nodes = MOST_LETTERS + 2
-    full, missing = divmod(nodes - 1, MOST_LISTS * list_nodes + 2)
+    """Returns full groups, and one with the remaining nodes. The node that ends the groups is one more."""
+    list_nodes = MAX_LETTERS + 2
+    full, missing = divmod(nodes - 1, MAX_LISTS * list_nodes + 2)
     if missing in (1, 3):
-        raise SystemExit("sentences: no sentence of lists has a tree of so many nodes, ask for one more")
-    text = (GROUP * MOST_LISTS + ";") * full
+        raise SystemExit(f"sentences: no sentence of lists has a tree of {nodes} nodes, use {nodes + 1}")
+    text = (GROUP * MAX_LISTS + ";") * full
     if missing == 0:
         return text
     missing -= 2
     while missing > 0:
-        # one node alone is no list
+        # one node is not a list
         taken = min(missing, list_nodes) - (missing == list_nodes + 1)
         text += "x " * (taken - 2) + ","
         missing -= taken
@@ -28,13 +28,13 @@ def lists(nodes):
 
 
 def flat(nodes):
-    """The group whose groups stand as near to the root as they can."""
+    """Returns the group whose groups are as near to the root as possible."""
     groups, rest = divmod(nodes - 1, CHILDREN)
     if rest != 0:
         raise SystemExit(f"sentences: a flat tree has 1 node and {CHILDREN} for each group")
 
     def part(number):
-        """The part of a node, where nodes are numbered from the root by levels."""
+        """Returns the text of a node. Nodes are numbered from the root by levels."""
         if number >= groups:
             return "."
         first = CHILDREN * number + 1
@@ -45,5 +45,5 @@ def flat(nodes):
 
 if __name__ == "__main__":
     if len(sys.argv) != 3 or sys.argv[1] not in ("lists", "flat") or not sys.argv[2].isdecimal() or sys.argv[2] == "0":
-        sys.exit("sentences: say lists or flat, and how many nodes")
+        sys.exit("sentences: expected `lists` or `flat`, and the number of nodes")
     print(end=(lists if sys.argv[1] == "lists" else flat)(int(sys.argv[2])))

@@ -67,7 +67,7 @@ struct file file_opened(const char *path) {
     return file_on_disk(path, O_RDONLY);
 }
 
-/* Writes out what is gathered. */
+/* Writes the buffered bytes. */
 static void finish(struct file *file) {
     if (file->descriptor < 0) {
         return;
@@ -90,7 +90,7 @@ void close_file(struct file *file) {
     free(file->bytes);
 }
 
-/* Makes room for so many bytes, at most a block. */
+/* Makes room for `count` bytes, at most a block. */
 static void make_room(struct file *file, size_t count) {
     if (file->room - file->count >= count) {
         return;
@@ -145,7 +145,7 @@ void begin_file(struct file *file, unsigned pass) {
 }
 
 void begin_record(struct file *file, unsigned production) {
-    make_room(file, MOST_RECORD);
+    make_room(file, MAX_RECORD);
     file->record = file->count;
     file->bytes[file->count] = IS_NODE;
     put_big_endian(file->bytes + file->count + 1, production, 2);
@@ -179,7 +179,7 @@ void put_bare(struct file *file, unsigned production) {
 /* Reading */
 
 _Noreturn void damaged(const struct reader *reader) {
-    refuse(OF_FILE, "R1 at %llu: no record that should be here ends here", (unsigned long long)reader->end);
+    refuse(OF_FILE, "R1 at %llu: expected the end of another record", (unsigned long long)reader->end);
 }
 
 void start_reading(struct reader *reader, struct file *file, unsigned pass) {
@@ -201,7 +201,7 @@ void start_reading(struct reader *reader, struct file *file, unsigned pass) {
     }
 }
 
-/* Reads what fits into the block before the bytes that are there. */
+/* Fills the block with the bytes before those that it has. */
 static void read_block(struct reader *reader) {
     size_t held = reader->to - reader->from;
     uint64_t ahead = reader->at - HEADER - held;
@@ -215,7 +215,7 @@ static void read_block(struct reader *reader) {
     read_at(reader->file, reader->at - held - count, reader->bytes + reader->from, count);
 }
 
-/* Takes the frame before those that were taken: where its body stands, with its length. */
+/* Takes the next frame backward. Returns its body, and the length of the body in `length`. */
 static const uint8_t *take_body(struct reader *reader, size_t *length) {
     reader->end = reader->at;
     if (reader->at < HEADER + LENGTH) {
@@ -263,7 +263,7 @@ void take_text(struct reader *reader, struct text *text) {
     }
     value += TEXT;
     text->length = big_endian(value - 4, 4);
-    if (text->length > MOST_TEXT || text->length > (size_t)(reader->last - value)) {
+    if (text->length > MAX_TEXT || text->length > (size_t)(reader->last - value)) {
         damaged(reader);
     }
     for (size_t i = 0; i < text->length; i++) {

@@ -1,11 +1,12 @@
-/* The translator of names.ag, written by hand, as a floor for what its tree files cost:
+/* The translator of names.ag, written by hand, as a lower bound of the costs of its tree files:
 
        names PASSES S DIR
 
    parses the sentence in the file S, prints its translation, and leaves the last two tree files in that folder as a.agt and
    b.agt, with the bytes of `aggen run --work DIR`. With 2 passes the grammar is names.ag, with 3 the one of `read_again` in
-   names.py. A table is spelled once, when it is made; what hands it on has a pointer to it, and a record is written by memcpy.
-   The tree is in memory up to pass 2. Pass 3 reads the file of pass 2 from its end, as `aggen` does, but checks nothing. */
+   names.py. A table is spelled once, when it is made. Nodes that pass it on share a pointer to it, and a record is written by
+   memcpy. The tree is in memory up to pass 2. Pass 3 reads the file of pass 2 from its end, as `aggen` does, but checks
+   nothing. */
 #include <fcntl.h>
 #include <stdbool.h>
 #include <stdint.h>
@@ -15,7 +16,7 @@
 #include <sys/stat.h>
 #include <unistd.h>
 
-enum { BLOCK = 1 << 20, MOST_SENTENCE = 1 << 20, MOST_PARTS = 4, MOST_VALUES = 13, HEADER = 6, LENGTH = 4 };
+enum { BLOCK = 1 << 20, MAX_SENTENCE = 1 << 20, MAX_PARTS = 4, MAX_VALUES = 13, HEADER = 6, LENGTH = 4 };
 enum { LEVELS = 5, MODULUS = 65521 };
 
 enum production {
@@ -64,7 +65,7 @@ static size_t count_at(const uint8_t *at) {
     return (size_t)at[0] << 24 | (size_t)at[1] << 16 | (size_t)at[2] << 8 | at[3];
 }
 
-/* Some bytes: a word of the sentence, or a value as it is spelled */
+/* A range of bytes: a word of the sentence, or the spelling of a value */
 struct bytes {
     const uint8_t *at;
     size_t count;
@@ -79,12 +80,12 @@ struct node {
     unsigned parts;
     int64_t count;
     struct bytes word;
-    struct node *part[MOST_PARTS];
+    struct node *part[MAX_PARTS];
 };
 
 enum class { NAME, NUMBER };
 
-static uint8_t sentence[MOST_SENTENCE + 1];
+static uint8_t sentence[MAX_SENTENCE + 1];
 static const uint8_t *sentence_end;
 static struct bytes token;
 
@@ -244,7 +245,7 @@ static struct node *parse(const char *path) {
     if (file == NULL) {
         fail("the sentence can't be read");
     }
-    sentence_end = sentence + fread(sentence, 1, MOST_SENTENCE, file);
+    sentence_end = sentence + fread(sentence, 1, MAX_SENTENCE, file);
     fclose(file);
     token.at = sentence;
     next_token();
@@ -261,7 +262,7 @@ static struct node *parse(const char *path) {
 
 /* Writing */
 
-/* The file that is written: what is gathered of it, and the length of the record that was begun. */
+/* The file that is written: its buffer, and the length of the current record. */
 static struct {
     int descriptor;
     size_t count;
@@ -338,7 +339,7 @@ static void begin_file(const char *path, unsigned pass) {
     put(number, 2);
 }
 
-/* Pass 1: how many declarations there are */
+/* Pass 1: the number of declarations */
 
 static bool has_count(unsigned production) {
     return production >= MORE_PROCS && production <= NO_DECLS;
@@ -369,7 +370,7 @@ static void run_first_pass(const struct node *node) {
 
 /* Tables */
 
-/* A table as it is spelled, which has so many owners. */
+/* The spelling of a table, and the number of its owners. */
 struct table {
     size_t owners;
     size_t count;
@@ -405,7 +406,7 @@ static struct table *empty_table(void) {
     return made;
 }
 
-/* Where the value ends that is spelled here. */
+/* Returns the end of the value that is spelled here. */
 static const uint8_t *end_of_value(const uint8_t *at) {
     unsigned kind = *at++;
     if (kind == IS_NUMBER) {
@@ -425,7 +426,7 @@ static const uint8_t *end_of_value(const uint8_t *at) {
     return at;
 }
 
-/* Where the entry of this key stands, or the first after it; `found` says which. */
+/* Returns the entry of a key, or the first entry after it, and in `found` whether the key is in the table. */
 static const uint8_t *entry_of(const struct table *table, struct bytes key, bool *found) {
     const uint8_t *at = table->bytes + 1 + LENGTH, *end = table->bytes + table->count;
     *found = false;
@@ -444,7 +445,7 @@ static const uint8_t *entry_of(const struct table *table, struct bytes key, bool
     return at;
 }
 
-/* The table with one more entry: of this key, a list of a text and a number. */
+/* Returns the table with one more entry: a key, and a list of a text and a number. */
 static struct table *table_with(const struct table *table, struct bytes key, const char *what, int64_t value) {
     bool found;
     const uint8_t *end = table->bytes + table->count, *at = entry_of(table, key, &found);
@@ -469,13 +470,13 @@ static struct table *table_with(const struct table *table, struct bytes key, con
     return made;
 }
 
-/* The number of a name in the table, and 0 where it isn't there. */
+/* Returns the number of a name in the table, or 0 if it isn't there. */
 static int64_t value_in(const struct table *table, struct bytes key, bool *found) {
     const uint8_t *at = entry_of(table, key, found);
     return *found ? (int64_t)big_endian(end_of_value(at + LENGTH + key.count) - 8, 8) : 0;
 }
 
-/* Pass 2: the tables and what is found in them. Each function puts the records of a node and of all below it. */
+/* Pass 2: the tables and the names found in them. Each function writes the records of a subtree. */
 
 struct results {
     int64_t value;
@@ -585,7 +586,7 @@ static struct results run_level(enum level level, const struct node *node, const
     return results;
 }
 
-/* The table after the declaration, which the caller drops; its unknown names go to `wrong`. */
+/* Returns the table after the declaration, which the caller drops, and in `wrong` the number of unknown names. */
 static struct table *run_decl(const struct node *decl, const struct table *env, int64_t *wrong) {
     struct bytes name = decl->part[0]->word;
     put_token(decl->part[0]);
@@ -629,7 +630,7 @@ static struct table *run_decls(const struct node *decls, struct table *env, int6
     return after;
 }
 
-/* The sum of the procedures, and their unknown names. */
+/* Returns the sum of the procedures, and the number of their unknown names. */
 static struct results run_procs(const struct node *procs, struct table *env) {
     struct results value = {0, 0}, rest = {0, 0}, results = {0, 0};
     struct table *after = NULL;
@@ -662,7 +663,7 @@ static struct results run_procs(const struct node *procs, struct table *env) {
     return results;
 }
 
-/* The table after what is imported, which the caller drops. */
+/* Returns the table after the imports, which the caller drops. */
 static struct table *run_uses(const struct node *uses, struct table *env) {
     struct table *after_first = NULL, *after;
     if (uses->parts > 0) {
@@ -698,7 +699,7 @@ static struct table *run_uses(const struct node *uses, struct table *env) {
     return after;
 }
 
-/* What is printed; `late` is what pass 3 found, and negative where there is none. */
+/* Returns the translation. `late` is the result of pass 3, or negative without that pass. */
 static char translation[200];
 
 static struct bytes translate(int64_t count, int64_t sum, int64_t wrong, int64_t late) {
@@ -726,9 +727,9 @@ static void run_second_pass(const struct node *program, bool is_last) {
     drop(env);
 }
 
-/* Pass 3: the file of pass 2 is read from its end, and written again with a few numbers more */
+/* Pass 3: reads the file of pass 2 from its end, and writes it again with a few more numbers */
 
-/* The file that is read: `bytes[from..]` are those before the offset `at`. */
+/* The file that is read. `bytes[from..]` are the bytes before the offset `at`. */
 static struct {
     int descriptor;
     size_t at;
@@ -737,7 +738,7 @@ static struct {
     uint8_t *bytes;
 } input;
 
-/* Takes so many bytes before those that were taken. */
+/* Takes `count` bytes, backward from those that were taken before. */
 static const uint8_t *take_bytes(size_t count) {
     static size_t held;
     if (held < count) {
@@ -770,7 +771,7 @@ static const uint8_t *take_bytes(size_t count) {
     return input.bytes + input.from + held;
 }
 
-/* How many parts a production has, tokens among them. */
+/* Returns the number of parts of a production, including tokens. */
 static unsigned parts_of(unsigned production) {
     static const uint8_t few[FIRST_LEVEL] = {
         [PROGRAM] = 2, [MORE_USES] = 2, [USE_NAME] = 1, [USE_GROUP] = 1, [MORE_PROCS] = 4, [MORE_DECLS] = 2, [DECL] = 2,
@@ -792,15 +793,15 @@ static int64_t number_in(struct bytes value) {
     return (int64_t)big_endian(value.at + 1, 8);
 }
 
-/* Runs the pass over a node and all below it, from right to left: `rest` is the node's own, where it has one, and what is
-   returned is its `late`, or 0. */
+/* Runs the pass over a subtree, from right to left. `rest` is that attribute of its root, if it has one. Returns the `late` of
+   its root, or 0. */
 static int64_t run_third_pass(int64_t rest) {
     size_t count = count_at(take_bytes(LENGTH));
     uint8_t *body = memory(count);
     memcpy(body, take_bytes(count), count);
     unsigned production = (unsigned)big_endian(body + 1, 2);
     int64_t late = 0, first = 0, second = 0;
-    struct bytes values[MOST_VALUES];
+    struct bytes values[MAX_VALUES];
     bool is_node = body[0] == 0;
     if (is_node && (production <= PROGRAM || (production >= MORE_PROCS && production <= DECL))) {
         const uint8_t *at = body + 3;

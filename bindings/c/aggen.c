@@ -1,6 +1,6 @@
 /* The functions of aggen.h. Each checks its pointers, and then calls the proved export of the crate
-   aggen_c, which takes for granted that none is null and that no two overlap. There is no other logic
-   here. */
+   aggen_c. The export assumes that no pointer is null and that no two ranges overlap. There is no
+   other logic here. */
 #include "aggen.h"
 #include "unchecked.h"
 
@@ -10,7 +10,7 @@ struct range {
     size_t length;
 };
 
-/* Returns whether a range can be that of an object. Only an empty one may be null. */
+/* Returns whether a range can be that of an object. A null pointer needs length 0. */
 static int is_valid(struct range range) {
     if (range.start == NULL) {
         return range.length == 0;
@@ -39,7 +39,7 @@ static int are_separate(const struct range *ranges, size_t count) {
     return 1;
 }
 
-/* What an empty range points to. Nothing reads or writes it. */
+/* The pointer that replaces a null pointer. No call reads or writes it. */
 static uint8_t nothing[1];
 
 static const uint8_t *input_of(const void *start) { return start == NULL ? nothing : start; }
@@ -112,7 +112,7 @@ int aggen_parse(aggen_handle *handle, const void *sentence, size_t sentence_leng
                         message, message_capacity, refusal);
 }
 
-/* The export without an input, as a call with an empty one. */
+/* Calls the export that has no input. The arguments of the input are not used. */
 static uint8_t plan(aggen_handle *handle, const uint8_t *input, size_t input_length,
                     uint8_t *out, size_t capacity, size_t *length,
                     uint8_t *message, size_t message_capacity, aggen_refusal *refusal) {

@@ -1,5 +1,5 @@
-/* The exports of the crate aggen_c. They are proved for pointers that are not null, also of a length 0,
-   and of which no two overlap. */
+/* The exports of the crate aggen_c. The proofs assume that no pointer is null, even with length 0, and
+   that no two ranges overlap. */
 #ifndef AGGEN_UNCHECKED_H
 #define AGGEN_UNCHECKED_H
 

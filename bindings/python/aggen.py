@@ -23,7 +23,7 @@ MESSAGE = 1024
 
 
 class Status(enum.IntEnum):
-    """Why a call was refused. The values are those of aggen.h."""
+    """Why a call failed. The values are those of aggen.h."""
 
     NO_TRANSLATOR = 1
     MISUSE = 2
@@ -35,7 +35,7 @@ class Status(enum.IntEnum):
 
 
 class Refusal(Exception):
-    """A call was refused: a grammar, a sentence or a tree file is rejected, or memory is."""
+    """A call failed: it rejected a grammar, a sentence or a tree file, or memory was refused."""
 
     def __init__(self, status: Status, number: str | None, offset: int | None, place: tuple[int, int] | None, message: str):
         super().__init__(message)
@@ -98,7 +98,7 @@ class Translator:
     """The translator of a grammar's text. It raises Refusal if the text is rejected."""
 
     def __init__(self, grammar: str | bytes):
-        # held during a call, and again by a call within it, as `__del__` may make one
+        # a call locks it, and may lock it again, as `__del__` may be called within a call
         self._lock = threading.RLock()
         self._handle = _Handle()
         self._refusal = _Refusal()
@@ -154,7 +154,7 @@ class Translator:
                 out = ctypes.create_string_buffer(length.value)
 
     def _check(self, call: Callable[[], int]) -> None:
-        """Makes a call, and raises its refusal. If the message has not enough room, makes the call again."""
+        """Makes a call, and raises its refusal. Makes the call again if the message needs a larger buffer."""
         status = call()
         needed = self._refusal.message_length
         if status not in (0, Status.MISUSE) and needed > len(self._message):

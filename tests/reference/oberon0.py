@@ -17,12 +17,12 @@ TOKEN = re.compile(r"\s*(?:([^\W\d]\w*)|(\d+)|(:=|\.\.|<=|>=|[-+*=#<>&~.,;:|()\[
 KEYWORDS = set("""MODULE CONST TYPE VAR PROCEDURE BEGIN END ARRAY OF RECORD IF THEN ELSIF ELSE WHILE DO FOR TO BY CASE DIV MOD
 OR""".split())
 LEAST, GREATEST = -(2**63), 2**63 - 1
-MOST_CALLS = 10000
-MOST_ELEMENTS = 1000000
+MAX_CALLS = 10000
+MAX_ELEMENTS = 1000000
 
 
 class Fault(Exception):
-    """What ends a run: a result out of range, an index outside its array, and so on."""
+    """A run ends with a fault: a result out of range, an index outside its array, and so on."""
 
 
 class NoModule(Exception):
@@ -31,7 +31,7 @@ class NoModule(Exception):
 
 @dataclass(eq=False)
 class Type:
-    """A type, which is equal to itself alone: its name, and the length and element type of an array or the fields of a record."""
+    """A type, which is equal only to itself: its name, and the length and element type of an array or the fields of a record."""
 
     name: str
     length: int = 0
@@ -52,8 +52,8 @@ INTEGER, BOOLEAN, UNKNOWN = Type("INTEGER"), Type("BOOLEAN"), Type("?")
 
 @dataclass
 class Entry:
-    """What a name means: its kind, its type, the scope that it is declared in, the value of a constant, or whether a variable is a
-    VAR parameter, and the procedure."""
+    """The meaning of a name: its kind, its type, the scope that declares it, the value of a constant, whether a variable is a VAR
+    parameter, and the procedure."""
 
     kind: str
     type: Type
@@ -94,7 +94,7 @@ class Scope:
         return None
 
     def declare(self, name, entry):
-        """Declares a name, and notes if it is there already."""
+        """Declares a name, and records a mistake if it is already declared."""
         if name in self.names:
             self.wrong.append(f"{name} is declared twice")
         entry.scope = self
@@ -107,8 +107,8 @@ class Scope:
 
 @dataclass
 class Operand:
-    """An expression: its type, the function of a frame that computes it, its value if it is constant, and, of a variable, the
-    function of a frame that returns where it is, as a container and a key."""
+    """An expression: its type, the function of a frame that computes it, and its value if it is constant. A variable also has the
+    function of a frame that returns its place, as a container and a key."""
 
     type: Type
     compute: Callable
@@ -118,7 +118,7 @@ class Operand:
 
 
 def in_range(value, what):
-    """Returns a number that an INTEGER can have, or raises a fault."""
+    """Returns a number if an INTEGER can have it, or raises a fault."""
     if not LEAST <= value <= GREATEST:
         raise Fault(f"a {what} is too large")
     return value
@@ -195,13 +195,13 @@ class Reader:
         outermost.names = {
             "INTEGER": Entry("type", INTEGER), "BOOLEAN": Entry("type", BOOLEAN),
             "TRUE": Entry("constant", BOOLEAN, value=1), "FALSE": Entry("constant", BOOLEAN, value=0),
-            "Read": self.given([("x", True, INTEGER)], machine.read),
-            "Write": self.given([("x", False, INTEGER)], machine.write),
-            "WriteLn": self.given([], machine.write_line),
+            "Read": self.predefined([("x", True, INTEGER)], machine.read),
+            "Write": self.predefined([("x", False, INTEGER)], machine.write),
+            "WriteLn": self.predefined([], machine.write_line),
         }
 
     @staticmethod
-    def given(parameters, body):
+    def predefined(parameters, body):
         """Returns the entry of a procedure of the language itself, whose level is 0."""
         return Entry("procedure", UNKNOWN, procedure=Procedure(parameters, 0, body=body))
 
@@ -213,19 +213,19 @@ class Reader:
         return text if kind in ("keyword", "mark", "end") else None
 
     def accept(self, text):
-        """Takes the next token if it is this one, and says whether it is."""
+        """Takes the next token if it is this one. Returns whether it is."""
         if self.next() != text:
             return False
         self.at += 1
         return True
 
     def expect(self, text):
-        """Takes the next token, which has to be this one."""
+        """Takes the next token, which must be this one."""
         if not self.accept(text):
             raise NoModule(f"expected {text}, found {self.tokens[self.at][1]}")
 
     def word(self, kind):
-        """Takes the next token, which has to be of this kind, and returns its text."""
+        """Takes the next token, which must be of this kind, and returns its text."""
         found, text = self.tokens[self.at]
         if found != kind:
             raise NoModule(f"expected a {kind}, found {text}")
@@ -233,15 +233,15 @@ class Reader:
         return text
 
     def is_next(self, kind):
-        """Says whether the next token is of this kind."""
+        """Returns whether the next token is of this kind."""
         return self.tokens[self.at][0] == kind
 
     def complain(self, line):
-        """Notes a mistake of this scope."""
+        """Records a mistake of this scope."""
         self.scope.wrong.append(line)
 
     def agree(self, what, wanted, found):
-        """Notes a mistake unless a type is the wanted one, and says whether it is."""
+        """Records a mistake unless a type is the wanted one. Returns whether it is."""
         if found is wanted or found is UNKNOWN or wanted is UNKNOWN:
             return True
         self.complain(f"{what}: expected {wanted.name}, found {found.name}")
@@ -250,7 +250,7 @@ class Reader:
     # declarations
 
     def module(self):
-        """Reads a module, and returns its mistakes and the procedure that it is."""
+        """Reads a module, and returns its mistakes and its procedure."""
         self.expect("MODULE")
         name = self.word("name")
         self.expect(";")
@@ -262,7 +262,7 @@ class Reader:
         return lines, procedure
 
     def block(self, name, procedure):
-        """Reads what follows the heading of a module or a procedure, leaves its scope, and returns the mistakes in it."""
+        """Reads the rest of a module or a procedure after its heading, leaves its scope, and returns the mistakes in it."""
         if self.accept("CONST"):
             while self.is_next("name"):
                 self.constant_declaration()
@@ -327,8 +327,8 @@ class Reader:
         """Reads a type, which has this name if it is a new one."""
         if self.accept("ARRAY"):
             length = self.constant(f"the length of {name}")
-            if length is not None and not 1 <= length <= MOST_ELEMENTS:
-                self.complain(f"the length of {name} is not from 1 to {MOST_ELEMENTS}")
+            if length is not None and not 1 <= length <= MAX_ELEMENTS:
+                self.complain(f"the length of {name} is not from 1 to {MAX_ELEMENTS}")
             self.expect("OF")
             return Type(name, length=length, element=self.type(name + "[]"))
         if self.accept("RECORD"):
@@ -398,7 +398,7 @@ class Reader:
         return all_of
 
     def statement(self):
-        """Reads a statement, and returns what it does, or None for the empty one."""
+        """Reads a statement, and returns its function, or None for the empty one."""
         if self.is_next("name"):
             return self.assignment_or_call()
         for word, read in (("IF", self.if_), ("WHILE", self.while_), ("FOR", self.for_), ("CASE", self.case)):
@@ -445,7 +445,7 @@ class Reader:
         return self.calling(procedure, arguments)
 
     def calling(self, procedure, arguments):
-        """Returns what a call does."""
+        """Returns the function of a call."""
         level = self.scope.level
 
         def call(frame):
@@ -560,7 +560,7 @@ class Reader:
         return low, high
 
     def note_repeated(self, ranges):
-        """Notes each range that shares a number with a later one, at its place."""
+        """Records a mistake for each range that shares a number with a later one, at its place."""
         for index in range(len(ranges) - 1, -1, -1):
             low, high, place = ranges[index]
             shared = [number for number in (low, high) if any(a <= number <= b for a, b, _ in ranges[index + 1:])]
@@ -570,14 +570,14 @@ class Reader:
     # expressions
 
     def constant(self, what):
-        """Reads a constant INTEGER, and returns its value, or None with a mistake noted."""
+        """Reads a constant INTEGER, and returns its value. Returns None and records a mistake if it is not one."""
         value = self.expression(what, INTEGER)
         if value.type is INTEGER and value.constant is None:
             self.complain(f"{what} is not constant")
         return value.constant if value.type is INTEGER else None
 
     def expression(self, what, wanted):
-        """Reads an expression, which has to be of the wanted type."""
+        """Reads an expression, which must be of the wanted type."""
         value = self.simple()
         if self.next() in RELATORS:
             value = self.binary(RELATORS, value, self.simple)
@@ -655,7 +655,7 @@ class Reader:
         return value
 
     def designator(self):
-        """Reads a name with what selects a part of it, and returns it with the entry of the name."""
+        """Reads a name and its selectors, and returns the selected variable and the entry of the name."""
         name = self.word("name")
         entry = self.scope.find(name)
         if entry is None:
@@ -671,7 +671,7 @@ class Reader:
                 return value, entry
 
     def named(self, name, entry):
-        """Returns what a name is as an operand."""
+        """Returns a name as an operand."""
         if entry.kind == "constant":
             return Operand(entry.type, lambda frame: entry.value, entry.value, text=name)
         if entry.kind == "wrong":
@@ -735,7 +735,7 @@ class Machine:
 
     def call(self, procedure, outer, given):
         """Runs a call of a procedure, with the frame around it and its arguments."""
-        if self.depth == MOST_CALLS:
+        if self.depth == MAX_CALLS:
             raise Fault("the calls nest too deep")
         frame = {None: outer}
         frame.update((name, of.new()) for name, of in procedure.variables.items())
@@ -745,7 +745,7 @@ class Machine:
         self.depth -= 1
 
     def read(self, frame):
-        """The procedure Read."""
+        """Runs the procedure Read."""
         if self.numbers is None:
             self.numbers = iter(sys.stdin.read().split())
         container, key = frame["x"]
@@ -755,11 +755,11 @@ class Machine:
         container[key] = int(number)
 
     def write(self, frame):
-        """The procedure Write."""
+        """Runs the procedure Write."""
         sys.stdout.write(f" {frame['x']}")
 
     def write_line(self, frame):
-        """The procedure WriteLn."""
+        """Runs the procedure WriteLn."""
         sys.stdout.write("\n")
 
 

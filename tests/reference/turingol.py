@@ -63,14 +63,14 @@ class Program:
         return word
 
     def accept(self, what):
-        """Takes the next token if it is this word or mark, and says whether it is."""
+        """Takes the next token if it is this word or mark. Returns whether it is."""
         if self.at == len(self.tokens) or what not in self.tokens[self.at][1:]:
             return False
         self.at += 1
         return True
 
     def expect(self, what):
-        """Takes the next token, which has to be this word or mark."""
+        """Takes the next token, which must be this word or mark."""
         if not self.accept(what):
             raise ValueError(f"token {self.at} is not {what}")
 
@@ -119,7 +119,7 @@ class Program:
             self.statement()
 
     def check(self):
-        """Notes symbols that aren't in the alphabet or are there twice, and labels that are missing or there twice."""
+        """Records symbols that aren't in the alphabet or are in it twice, and labels that are missing or declared twice."""
         self.wrong += [f"{name} is twice in the alphabet" for name in set(self.alphabet) if self.alphabet.count(name) > 1]
         self.wrong += [f"the label {name} is there twice" for name, places in self.labels.items() if len(places) > 1]
         for instruction in self.code:

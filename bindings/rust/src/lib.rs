@@ -65,7 +65,7 @@ unsafe extern "C" fn plan(
     aggen_plan(handle, out, capacity, needed, message, room, refusal)
 }
 
-/// Why a call was refused.
+/// Why a call failed.
 #[derive(Clone, Debug, PartialEq, Eq)]
 pub struct Refusal {
     /// The status, as in `aggen.h`.
@@ -157,7 +157,7 @@ pub fn version() -> &'static str {
     unsafe { CStr::from_ptr(aggen_version()) }.to_str().unwrap_or_default()
 }
 
-/// Makes a call with a buffer for its message, and returns its refusal. If the message has not enough room, makes the call again.
+/// Makes a call with a buffer for its message, and returns its refusal. Makes the call again with a larger buffer if needed.
 fn checked(mut call: impl FnMut(*mut c_char, usize, *mut RawRefusal) -> c_int) -> Result<(), Refusal> {
     let mut found = RawRefusal { letter: 0, index: 0, offset: u64::MAX, line: 0, column: 0, message_length: 0 };
     let mut message = vec![0u8; MESSAGE];
