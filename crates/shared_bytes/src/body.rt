@@ -69,12 +69,21 @@ fn is_before(splices: &[Splice], count: usize, own: usize) -> bool
     true
 }
 
+/// Where a part of a list of bytes begins.
+#[derive(Clone, Copy)]
+struct Start {
+    /// The number of own bytes of the whole list before the part.
+    base: usize,
+    /// The offset in the whole list at which the part begins.
+    at: u64,
+}
+
 /// Returns the number of the own byte at `offset`, if it comes before all splices.
-fn first_own(splices: &[Splice], base: usize, at: u64, end: usize, offset: u64) -> Option<usize>
-    ensures cut { IfSome result (λ own. CutAt base at splices.now 0 own offset) }
+fn first_own(splices: &[Splice], start: Start, end: usize, offset: u64) -> Option<usize>
+    ensures cut { IfSome result (λ own. CutAt start.base start.at splices.now 0 own offset) }
     ensures within { IfSome result (λ own. own ≤ end) }
 {
-    let own = own_from(base, at, end, offset)?;
+    let own = own_from(start.base, start.at, end, offset)?;
     if !is_before(splices, 0, own) {
         return None;
     }
@@ -84,20 +93,19 @@ fn first_own(splices: &[Splice], base: usize, at: u64, end: usize, offset: u64) 
 /// Returns the number of the own byte at `offset`, if it comes after `count` splices.
 fn next_own(
     splices: &[Splice],
-    base: usize,
-    at: u64,
+    start: Start,
     end: usize,
     offset: u64,
     count: usize,
 ) -> Option<usize>
     requires some { 1 ≤ count }
     requires few { count ≤ length splices.now }
-    ensures cut { IfSome result (λ own. CutAt base at splices.now count own offset) }
+    ensures cut { IfSome result (λ own. CutAt start.base start.at splices.now count own offset) }
     ensures within { IfSome result (λ own. own ≤ end) }
 {
     let splice = &splices[count - 1];
-    let start = splice.at.checked_add(splice.bytes.len() as u64)?;
-    let own = own_from(splice.own, start, end, offset)?;
+    let after = splice.at.checked_add(splice.bytes.len() as u64)?;
+    let own = own_from(splice.own, after, end, offset)?;
     if !is_before(splices, count, own) {
         return None;
     }
@@ -105,25 +113,18 @@ fn next_own(
 }
 
 /// Returns the number of the own byte at `offset`, if `count` splices come before it, else `None`.
-fn own_at(
-    splices: &[Splice],
-    base: usize,
-    at: u64,
-    end: usize,
-    offset: u64,
-    count: usize,
-) -> Option<usize>
-    ensures cut { IfSome result (λ own. CutAt base at splices.now count own offset) }
+fn own_at(splices: &[Splice], start: Start, end: usize, offset: u64, count: usize) -> Option<usize>
+    ensures cut { IfSome result (λ own. CutAt start.base start.at splices.now count own offset) }
     ensures within { IfSome result (λ own. own ≤ end) }
     ensures few { IfSome result (λ _. count ≤ length splices.now) }
 {
     if count == 0 {
-        return first_own(splices, base, at, end, offset);
+        return first_own(splices, start, end, offset);
     }
     if splices.len() < count {
         return None;
     }
-    next_own(splices, base, at, end, offset, count)
+    next_own(splices, start, end, offset, count)
 }
 
 impl<'a> Body<'a> {
@@ -195,7 +196,7 @@ impl<'a> Body<'a> {
             end,
         } = self;
         let place = at.checked_add(offset)?;
-        let middle = own_at(splices, base, at, base + own.len(), place, count)?;
+        let middle = own_at(splices, Start { base, at }, base + own.len(), place, count)?;
         let (own, own_after) = own.split_at(middle - base);
         let (splices, splices_after) = splices.split_at(count);
         let prefix = Body {
