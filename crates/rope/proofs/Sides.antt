@@ -1,7 +1,6 @@
 -- Comparison of two lists that are cut at the same place.
-use Rattle.std.proofs.Common.{◌≡◌, ◌↔◌, ◌≤◌, ◌+◌, ℕ, List, ◌++◌, length, take, drop, refl, sym, ap, ◌∙◌, arith, length-append, false}
+use Rattle.std.proofs.Common.{◌≡◌, ◌↔◌, ◌≤◌, ◌+◌, ℕ, List, ◌++◌, length, take, drop, refl, sym, ap, ◌∙◌, arith, length-append}
 use Rattle.std.proofs.lemmas.List.{take-append-drop, take-take, take_at, drop_at, drop-take}
-use Rattle.std.specs.Prelude.{IsTrue}
 
 same_left : (l r l' r' : List ℕ) → l ++ r ≡ l' ++ r' → length l ≡ length l' → l ≡ l'
 same_left l r l' r' e n =
