@@ -22,10 +22,6 @@ const MAX_INLINE_WEIGHT: u64 = 24;
 /// The greatest length in bytes of a text that is stored inline without being weighed.
 const MAX_INLINE_TEXT: usize = 16;
 
-/// The greatest length in bytes of a text that operations make flat. A longer one that `++` makes is a
-/// `SharedText`.
-pub const MAX_FLAT_TEXT: usize = 256;
-
 /// How a value is stored.
 #[derive(Debug, Drop)]
 enum Form {

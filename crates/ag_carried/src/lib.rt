@@ -6,6 +6,6 @@ mod encoded;
 mod shared_text;
 mod spelled;
 
-pub use carried::{Carried, MAX_FLAT_TEXT};
+pub use carried::Carried;
 pub use encoded::Encoded;
-pub use shared_text::SharedText;
+pub use shared_text::{MAX_FLAT_TEXT, SharedText};

@@ -13,6 +13,10 @@ use rope::Rope;
 use std::alloc::{AllocError, Global};
 use std::marker::Model;
 
+/// The greatest length in bytes of a text that operations make flat. A longer one that `++` makes is a
+/// `SharedText`.
+pub const MAX_FLAT_TEXT: usize = 256;
+
 /// The number of bytes before those of a text in its encoding: the kind and the length.
 const HEADER_LENGTH: usize = 5;
 
@@ -38,7 +42,6 @@ impl Model for SharedText {
 
 impl SharedText {
     /// Makes a shared text of a well one, whose bytes are moved. Fails with NoMemory.
-    #[tactic(auto, using(crate::proofs::Texts::short_text))]
     pub fn new(alloc: Global, text: Text) -> Result<SharedText, NoMemory>
         requires { IsWell (TextValue text) }
         ensures { IfOk result (λ shared. shared ≡ text) }
@@ -49,7 +52,6 @@ impl SharedText {
     }
 
     /// Returns the number of bytes. Takes no memory.
-    #[tactic(auto, using(crate::proofs::Texts::well_text))]
     pub fn len(&self) -> usize
         ensures len { result ≡ length self.now }
         ensures limit { 5 + result ≤ max_weight }

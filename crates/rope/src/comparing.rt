@@ -80,13 +80,17 @@ impl Rope {
     }
 }
 
-/// Returns whether two ropes of the same length have the same bytes.
+/// Returns whether two ropes of the same length have the same bytes, which are compared by blocks if
+/// neither rope is one piece.
 fn same_by_blocks(one: &Rope, another: &Rope) -> bool
     requires { length one.now ≡ length another.now }
     ensures { IsTrue result ↔ (one.now ≡ another.now) }
 {
-    if let (Node::Piece(piece), Node::Piece(other_piece)) = (&one.node, &another.node) {
-        return piece.as_slice() == other_piece.as_slice();
+    if let Node::Piece(piece) = &one.node {
+        return another.has_bytes(piece.as_slice());
+    }
+    if let Node::Piece(piece) = &another.node {
+        return one.has_bytes(piece.as_slice());
     }
     let len = one.len();
     let mut at = 0;

@@ -5,5 +5,7 @@ mod comparing;
 mod copying;
 mod joining;
 mod rope;
+#[cfg(test)]
+mod tests;
 
 pub use rope::Rope;
