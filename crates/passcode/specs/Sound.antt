@@ -5,7 +5,7 @@ use Rattle.ag_grammar.specs.grammars.Accepted.{IsAccepted}
 use Rattle.ag_grammar.specs.grammars.AttributeGrammar.{IsProduction}
 use Rattle.ag_grammar.specs.grammars.Passes.{IsLegal}
 use Rattle.passcode.specs.Course.{Runs, start}
-use Rattle.planchecker.specs.courses.Settings.{Setting, list_at}
+use Rattle.passcode.specs.Settings.{Setting, list_at}
 
 -- The grammar is accepted, the assignment is legal, the list of each production for the pass runs from the start to the end,
 -- and the pass that is written is the one after the pass that is read.

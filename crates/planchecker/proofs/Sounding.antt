@@ -6,7 +6,7 @@ use Rattle.passcode.specs.Rows.{lists_of}
 use Rattle.passcode.proofs.Lawful.{lists_run}
 use Rattle.passcode.proofs.lists.Shaped.{list_there}
 use Rattle.planchecker.specs.Laws.{PlansAreSound}
-use Rattle.planchecker.specs.courses.Settings.{list_at, setting_of}
+use Rattle.passcode.specs.Settings.{list_at, setting_of}
 
 pub plans_are_sound : PlansAreSound
 plans_are_sound g rows code passes k accepted plan greatest one most = record {
