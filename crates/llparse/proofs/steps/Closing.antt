@@ -20,7 +20,7 @@ use Rattle.llparse.proofs.answers.Kept.{parted, texts-joined}
 use Rattle.llparse.proofs.steps.Sizes as size
 use Rattle.llparse.proofs.steps.Steps as step
 
--- there are no words if the look-ahead is the end
+-- the list of words is empty if its look-ahead is the end
 ends : (ws : List Lexeme) → ahead_of ws ≡ ahead.End → ws ≡ []
 ends [] e = refl
 ends (w ∷ ws) e = absurd (cc)

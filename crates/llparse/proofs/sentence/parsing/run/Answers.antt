@@ -29,7 +29,7 @@ use Rattle.llparse.proofs.sentence.parsing.run.Goals as goal
 pub returns-in_err-node-clause-refused : goal.returns-in_err-node-clause-refused
 returns-in_err-node-clause-refused g c =
     let k =
-    task_of c.args.grammar.now c.args.sentence.now (g.D.Device.is_honest c.args.device.now)
+    task_of c.args.language.now.grammar.now c.args.sentence.now (g.D.Device.is_honest c.args.device.now)
     (g.D.Device.content c.args.device.now) in
     let p = err_from_is_err_and c.from_residual.result c.from_residual.ensures.1 in
     let made = c.new-parser.ensures.tokens in
@@ -37,15 +37,15 @@ returns-in_err-node-clause-refused g c =
     (stuck k.grammar c.args.sentence.now k.honest k.prefix 0 c.in_err-node.field-0.0
     (subst (λ (h : TokenReader). c.in_err-node.field-0.0 ≡ Unexpected (offset_at h.list h.taken)) made
     c.in_err-node.ensures.offset)
-    (turn.not_begun k c.args.tables.now c.requires.tables c.start.result c.start.ensures.value c.start.ensures.accepted
+    (turn.not_begun k c.args.language.now.tables.now c.requires.tables c.start-start.result c.start-start.ensures.value c.start-start.ensures.accepted
     (subst
-    (λ (h : TokenReader). choice_of c.args.tables.now c.start.result (ahead_of (drop h.taken (words_of h.list))) ≡ None)
+    (λ (h : TokenReader). choice_of c.args.language.now.tables.now c.start-start.result (ahead_of (drop h.taken (words_of h.list))) ≡ None)
     made c.in_err-node.ensures.none)))
 
 pub loop-terminal-init : goal.loop-terminal-init
 loop-terminal-init g c =
     let k =
-    task_of c.args.grammar.now c.args.sentence.now (g.D.Device.is_honest c.args.device.now)
+    task_of c.args.language.now.grammar.now c.args.sentence.now (g.D.Device.is_honest c.args.device.now)
     (g.D.Device.content c.args.device.now) in
     let made = c.new-parser.ensures in
     let none_waits = ap length made.waiting in
@@ -54,13 +54,13 @@ loop-terminal-init g c =
     record {
       occurs =
           λ honest below.
-          turn.begun (task_of c.args.grammar.now c.args.sentence.now honest (g.D.Device.content c.args.device.now))
-          c.args.tables.now c.requires.tables c.start.result c.start.ensures.value c.in_ok-node.node c.new-parser.result
+          turn.begun (task_of c.args.language.now.grammar.now c.args.sentence.now honest (g.D.Device.content c.args.device.now))
+          c.args.language.now.tables.now c.requires.tables c.start-start.result c.start-start.ensures.value c.in_ok-node.node c.new-parser.result
           (omega arith) (omega arith) made.waiting made.texts
           (ap (λ (h : TokenReader). h.taken) made.tokens) made.count c.in_ok-node.ensures.begins
           c.in_ok-node.ensures.base
           (subst
-          (λ (h : TokenReader). choice_of c.args.tables.now c.start.result
+          (λ (h : TokenReader). choice_of c.args.language.now.tables.now c.start-start.result
           (ahead_of (drop h.taken (words_of h.list)))
           ≡ Some c.in_ok-node.node.production) made.tokens c.in_ok-node.ensures.chosen);
       written = omega arith;
@@ -73,7 +73,7 @@ loop-terminal-init g c =
 pub next_item-requires : goal.next_item-requires
 next_item-requires g c =
     turn.within
-    (task_of c.args.grammar.now c.args.sentence.now (g.D.Device.is_honest c.loop-terminal.device)
+    (task_of c.args.language.now.grammar.now c.args.sentence.now (g.D.Device.is_honest c.loop-terminal.device)
     (g.D.Device.content c.args.device.now)) c.loop-terminal.node c.loop-terminal.parser
     (g.D.Device.content c.loop-terminal.device)
     (c.loop-terminal.invariant.occurs (g.D.Device.is_honest c.loop-terminal.device) (λ h. h))
@@ -82,7 +82,7 @@ next_item-requires g c =
 pub loop-terminal-smaller-in-Continue-branch-2 : goal.loop-terminal-smaller-in-Continue-branch-2
 loop-terminal-smaller-in-Continue-branch-2 g c =
     turn.smaller
-    (task_of c.args.grammar.now c.args.sentence.now (g.D.Device.is_honest c.args.device.now)
+    (task_of c.args.language.now.grammar.now c.args.sentence.now (g.D.Device.is_honest c.args.device.now)
     (g.D.Device.content c.args.device.now)) c.loop-terminal.node c.next_item.new.node c.in-Some-Terminal.field-0
     c.in-Some-Terminal.ensures c.loop-terminal.parser c.take.new.self c.in_ok-take-in-Some-Terminal.ensures.waiting
     c.in_ok-take-in-Some-Terminal.ensures.count
@@ -90,7 +90,7 @@ loop-terminal-smaller-in-Continue-branch-2 g c =
 pub loop-terminal-preserved-in-Continue-branch-2 : goal.loop-terminal-preserved-in-Continue-branch-2
 loop-terminal-preserved-in-Continue-branch-2 g c =
     let k =
-    task_of c.args.grammar.now c.args.sentence.now (g.D.Device.is_honest c.args.device.now)
+    task_of c.args.language.now.grammar.now c.args.sentence.now (g.D.Device.is_honest c.args.device.now)
     (g.D.Device.content c.args.device.now) in
     let inv = c.loop-terminal.invariant in
     let done = c.in_ok-take-in-Some-Terminal.ensures in
@@ -101,8 +101,8 @@ loop-terminal-preserved-in-Continue-branch-2 g c =
     (λ k. IsBetween k node c.take.new.self)) inv.list done.takes in
     record {
       occurs = λ honest below. let k =
-          task_of c.args.grammar.now c.args.sentence.now honest (g.D.Device.content c.args.device.now) in
-          takes c.next_item.new.node honest below k.grammar k.prefix (c.start.ensures.accepted, c.requires.tokens)
+          task_of c.args.language.now.grammar.now c.args.sentence.now honest (g.D.Device.content c.args.device.now) in
+          takes c.next_item.new.node honest below k.grammar k.prefix (c.start-start.ensures.accepted, c.requires.tokens)
           (turn.faced k c.loop-terminal.node c.next_item.new.node c.in-Some-Terminal.field-0 c.in-Some-Terminal.ensures
           (item.Terminal c.in-Some-Terminal.terminal) c.in-Some-Terminal.field-0-is c.loop-terminal.parser
           (g.D.Device.content c.loop-terminal.device)
@@ -119,7 +119,7 @@ loop-terminal-preserved-in-Continue-branch-2 g c =
 pub returns-in_err-take-in-Some-Terminal-clause-refused : goal.returns-in_err-take-in-Some-Terminal-clause-refused
 returns-in_err-take-in-Some-Terminal-clause-refused g c =
     let k =
-    task_of c.args.grammar.now c.args.sentence.now (g.D.Device.is_honest c.take.new.device)
+    task_of c.args.language.now.grammar.now c.args.sentence.now (g.D.Device.is_honest c.take.new.device)
     (g.D.Device.content c.args.device.now) in
     let p =
     err_from_is_err_and c.from_residual-in_err-take-in-Some-Terminal.result
@@ -131,7 +131,7 @@ returns-in_err-take-in-Some-Terminal-clause-refused g c =
     (λ k. IsAtItem k (item.Terminal c.in-Some-Terminal.terminal) c.next_item.new.node c.loop-terminal.parser)
     c.in_err-take-in-Some-Terminal.field-0.0) inv.list
     (c.in_err-take-in-Some-Terminal.ensures.refuses c.next_item.new.node)) k.grammar k.honest k.prefix
-    (g.D.Device.content c.loop-terminal.device) (c.start.ensures.accepted, c.requires.tokens)
+    (g.D.Device.content c.loop-terminal.device) (c.start-start.ensures.accepted, c.requires.tokens)
     (turn.faced k c.loop-terminal.node c.next_item.new.node c.in-Some-Terminal.field-0 c.in-Some-Terminal.ensures
     (item.Terminal c.in-Some-Terminal.terminal) c.in-Some-Terminal.field-0-is c.loop-terminal.parser
     (g.D.Device.content c.loop-terminal.device)
@@ -141,7 +141,7 @@ returns-in_err-take-in-Some-Terminal-clause-refused g c =
 pub returns-in_err-node-in-Some-Symbol-clause-refused : goal.returns-in_err-node-in-Some-Symbol-clause-refused
 returns-in_err-node-in-Some-Symbol-clause-refused g c =
     let k =
-    task_of c.args.grammar.now c.args.sentence.now (g.D.Device.is_honest c.loop-terminal.device)
+    task_of c.args.language.now.grammar.now c.args.sentence.now (g.D.Device.is_honest c.loop-terminal.device)
     (g.D.Device.content c.args.device.now) in
     let p =
     err_from_is_err_and c.from_residual-in_err-node-in-Some-Symbol.result
@@ -149,11 +149,11 @@ returns-in_err-node-in-Some-Symbol-clause-refused g c =
     let inv = c.loop-terminal.invariant in
     rw (p.1, p.2)
     ((subst
-    (λ ts. Refuses (FitsTables c.args.tables.now) ts
+    (λ ts. Refuses (FitsTables c.args.language.now.tables.now) ts
     (λ k. IsAtSymbol k c.in-Some-Symbol.symbol c.next_item.new.node c.loop-terminal.parser)
     c.in_err-node-in-Some-Symbol.field-0.0) inv.list c.in_err-node-in-Some-Symbol.ensures.refuses) k.grammar
     k.honest k.prefix (g.D.Device.content c.loop-terminal.device)
-    (c.start.ensures.accepted, c.requires.tables) (at_symbol k c.in-Some-Symbol.symbol _ _ _ _
+    (c.start-start.ensures.accepted, c.requires.tables) (at_symbol k c.in-Some-Symbol.symbol _ _ _ _
     (turn.faced k c.loop-terminal.node c.next_item.new.node c.in-Some-Symbol.field-0 c.in-Some-Symbol.ensures
     (item.Symbol c.in-Some-Symbol.symbol) c.in-Some-Symbol.field-0-is c.loop-terminal.parser
     (g.D.Device.content c.loop-terminal.device) (inv.occurs k.honest (λ h. h)))))
@@ -161,20 +161,20 @@ returns-in_err-node-in-Some-Symbol-clause-refused g c =
 pub loop-terminal-preserved-in-Some-Symbol : goal.loop-terminal-preserved-in-Some-Symbol
 loop-terminal-preserved-in-Some-Symbol g c =
     let k =
-    task_of c.args.grammar.now c.args.sentence.now (g.D.Device.is_honest c.args.device.now)
+    task_of c.args.language.now.grammar.now c.args.sentence.now (g.D.Device.is_honest c.args.device.now)
     (g.D.Device.content c.args.device.now) in
     let inv = c.loop-terminal.invariant in
     let written = inv.written in
     let counted = c.in_ok-node-in-Some-Symbol.ensures.counted in
     record {
       occurs = λ honest below. let k =
-          task_of c.args.grammar.now c.args.sentence.now honest (g.D.Device.content c.args.device.now) in
+          task_of c.args.language.now.grammar.now c.args.sentence.now honest (g.D.Device.content c.args.device.now) in
           (subst
-          (λ ts. Leads (FitsTables c.args.tables.now) ts
+          (λ ts. Leads (FitsTables c.args.language.now.tables.now) ts
           (λ k. IsAtSymbol k c.in-Some-Symbol.symbol c.next_item.new.node c.loop-terminal.parser)
           (λ k. IsBetween k c.in_ok-node-in-Some-Symbol.node c.open.new.self)) inv.list
           c.in_ok-node-in-Some-Symbol.ensures.opens) k.grammar k.honest k.prefix
-          (g.D.Device.content c.loop-terminal.device) (c.start.ensures.accepted, c.requires.tables)
+          (g.D.Device.content c.loop-terminal.device) (c.start-start.ensures.accepted, c.requires.tables)
           (at_symbol k c.in-Some-Symbol.symbol _ _ _ _
           (turn.faced k c.loop-terminal.node c.next_item.new.node c.in-Some-Symbol.field-0
           c.in-Some-Symbol.ensures (item.Symbol c.in-Some-Symbol.symbol)
@@ -191,22 +191,22 @@ loop-terminal-preserved-in-Some-Symbol g c =
 pub texts_from-texts-requires : goal.texts_from-texts-requires
 texts_from-texts-requires g c =
     (turn.own_few
-    (task_of c.args.grammar.now c.args.sentence.now (g.D.Device.is_honest c.loop-terminal.device)
+    (task_of c.args.language.now.grammar.now c.args.sentence.now (g.D.Device.is_honest c.loop-terminal.device)
     (g.D.Device.content c.args.device.now)) c.loop-terminal.node c.next_item.new.node c.loop-terminal.parser
     (g.D.Device.content c.loop-terminal.device) c.in-None.ensures
     (c.loop-terminal.invariant.occurs (g.D.Device.is_honest c.loop-terminal.device) (λ h. h))
-    c.start.ensures.accepted).0
+    c.start-start.ensures.accepted).0
 
 pub put_node-requires-clause-few : goal.put_node-requires-clause-few
 put_node-requires-clause-few g c =
     let k =
-    task_of c.args.grammar.now c.args.sentence.now (g.D.Device.is_honest c.loop-terminal.device)
+    task_of c.args.language.now.grammar.now c.args.sentence.now (g.D.Device.is_honest c.loop-terminal.device)
     (g.D.Device.content c.args.device.now) in
     let few =
     (turn.own_few k c.loop-terminal.node c.next_item.new.node c.loop-terminal.parser
     (g.D.Device.content c.loop-terminal.device) c.in-None.ensures
     (c.loop-terminal.invariant.occurs (g.D.Device.is_honest c.loop-terminal.device) (λ h. h))
-    c.start.ensures.accepted).1 in
+    c.start-start.ensures.accepted).1 in
     subst (λ (texts : List Value). length texts ≤ version_two.max_values) (sym c.texts_from-texts.ensures) (omega (arith, few))
 
 pub put_node-requires-clause-room : goal.put_node-requires-clause-room
@@ -220,16 +220,16 @@ pub put_node-requires-clause-well : goal.put_node-requires-clause-well
 put_node-requires-clause-well g c =
     subst (λ (texts : List Value). All IsWell texts) (sym c.texts_from-texts.ensures)
     (turn.own_few
-    (task_of c.args.grammar.now c.args.sentence.now (g.D.Device.is_honest c.loop-terminal.device)
+    (task_of c.args.language.now.grammar.now c.args.sentence.now (g.D.Device.is_honest c.loop-terminal.device)
     (g.D.Device.content c.args.device.now)) c.loop-terminal.node c.next_item.new.node c.loop-terminal.parser
     (g.D.Device.content c.loop-terminal.device) c.in-None.ensures
     (c.loop-terminal.invariant.occurs (g.D.Device.is_honest c.loop-terminal.device) (λ h. h))
-    c.start.ensures.accepted).2
+    c.start-start.ensures.accepted).2
 
 pub loop-terminal-preserved : goal.loop-terminal-preserved
 loop-terminal-preserved g c =
     let k =
-    task_of c.args.grammar.now c.args.sentence.now (g.D.Device.is_honest c.args.device.now)
+    task_of c.args.language.now.grammar.now c.args.sentence.now (g.D.Device.is_honest c.args.device.now)
     (g.D.Device.content c.args.device.now) in
     let inv = c.loop-terminal.invariant in
     let put = c.in_ok-put_node-in-None.ensures in
@@ -238,7 +238,7 @@ loop-terminal-preserved g c =
     let sizes = c.in-Some.ensures.len in
     record {
       occurs = λ honest below. let k =
-          task_of c.args.grammar.now c.args.sentence.now honest (g.D.Device.content c.args.device.now) in
+          task_of c.args.language.now.grammar.now c.args.sentence.now honest (g.D.Device.content c.args.device.now) in
           subst
           (λ fs. Between k fs c.loop-terminal.parser.tokens.taken c.loop-terminal.parser.count
           (record { bytes = g.D.Device.content c.put_node.new.device; texts = c.truncate.new.self.items }))
@@ -263,7 +263,7 @@ loop-terminal-preserved g c =
 pub returns-then-is_some-clause-refused : goal.returns-then-is_some-clause-refused
 returns-then-is_some-clause-refused g c =
     let k =
-    task_of c.args.grammar.now c.args.sentence.now (g.D.Device.is_honest c.put_node.new.device)
+    task_of c.args.language.now.grammar.now c.args.sentence.now (g.D.Device.is_honest c.put_node.new.device)
     (g.D.Device.content c.args.device.now) in
     let inv = c.loop-terminal.invariant in
     let none_waits : length c.loop-terminal.parser.waiting.items ≡ 0 = omega (arith, c.in_default.ensures.cases) in
@@ -286,7 +286,7 @@ returns-then-is_some-clause-refused g c =
 pub returns-clause-parsed : goal.returns-clause-parsed
 returns-clause-parsed g c =
     let k =
-    task_of c.args.grammar.now c.args.sentence.now (g.D.Device.is_honest c.put_node.new.device)
+    task_of c.args.language.now.grammar.now c.args.sentence.now (g.D.Device.is_honest c.put_node.new.device)
     (g.D.Device.content c.args.device.now) in
     let inv = c.loop-terminal.invariant in
     let none_waits : length c.loop-terminal.parser.waiting.items ≡ 0 = omega (arith, c.in_default.ensures.cases) in
