@@ -23,6 +23,9 @@ const RESERVED: &str = "this word is reserved";
 /// What helps at a reserved word where a new name is expected.
 const RESERVED_NAME: &str = "this word is reserved, use another name";
 
+/// What helps at `symbol` after a production.
+const DECLARATION: &str = "declare all symbols before the first production";
+
 /// What helps at `if` or `let` where only an operand is expected.
 const PARENTHESES: &str = "put an `if` or a `let` in parentheses here";
 
@@ -131,6 +134,9 @@ impl<'a> Context<'a> {
         }
         if self.is_comment() {
             return COMMENT;
+        }
+        if expected.contains(&Expected::End) && matches!(self.found, Some("symbol")) {
+            return DECLARATION;
         }
         if expected.contains(&Expected::Name) || expected.contains(&Expected::Item) {
             return self.reserved_hint(RESERVED_NAME);
