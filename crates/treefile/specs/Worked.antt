@@ -115,8 +115,8 @@ file_of_iffy =
     ++ (0 ∷ 0 ∷ 0 ∷ 0 ∷ 0 ∷ 0 ∷ 3 ∷ [])
 
 -- the file of pass 0 of `1` in version 2: no child has a value to copy yet
-abbrev pub copies_0_of_one : List ℕ
-copies_0_of_one =
+abbrev pub pass_0_of_one_in_two : List ℕ
+pass_0_of_one_in_two =
     (65 ∷ 71 ∷ 84 ∷ 50 ∷ 0 ∷ 0 ∷ [])
     ++ (0 ∷ 0 ∷ 7 ∷ 0 ∷ 0 ∷ 0 ∷ 3 ∷ [])
     ++ (0 ∷ 0 ∷ 4 ∷ 0 ∷ 0 ∷ 0 ∷ 3 ∷ [])
@@ -127,8 +127,8 @@ copies_0_of_one =
 -- the files of passes 1 and 2 of `1` in version 2: L's record has copies of `bit` of B and of `p` of T, and of `v` of T in pass
 -- 2;
 -- and N's has one of `p` of L, and those of `v` of L and of Q in pass 2
-abbrev pub copies_1_of_one : List ℕ
-copies_1_of_one =
+abbrev pub pass_1_of_one_in_two : List ℕ
+pass_1_of_one_in_two =
     (65 ∷ 71 ∷ 84 ∷ 50 ∷ 0 ∷ 1 ∷ [])
     ++ (0 ∷ 0 ∷ 1 ∷ 0 ∷ 0 ∷ 0 ∷ 3 ∷ [])
     ++ (0 ∷ 0 ∷ 4 ∷ 0 ∷ 0 ∷ 0 ∷ 0 ∷ 0 ∷ 0 ∷ 1 ∷ 0 ∷ 0 ∷ 0 ∷ 0 ∷ 0 ∷ 12 ∷ [])
@@ -137,8 +137,8 @@ copies_1_of_one =
     ∷ 0 ∷ 0 ∷ 30 ∷ [])
     ++ (0 ∷ 0 ∷ 0 ∷ 0 ∷ 0 ∷ 0 ∷ 0 ∷ 0 ∷ 0 ∷ 1 ∷ 0 ∷ 0 ∷ 0 ∷ 0 ∷ 0 ∷ 12 ∷ [])
 
-abbrev pub copies_2_of_one : List ℕ
-copies_2_of_one =
+abbrev pub pass_2_of_one_in_two : List ℕ
+pass_2_of_one_in_two =
     (65 ∷ 71 ∷ 84 ∷ 50 ∷ 0 ∷ 2 ∷ [])
     ++ (0 ∷ 0 ∷ 7 ∷ 0 ∷ 0 ∷ 0 ∷ 0 ∷ 0 ∷ 0 ∷ 0 ∷ 0 ∷ 1 ∷ 0 ∷ 0 ∷ 0 ∷ 12 ∷ [])
     ++ (0 ∷ 0 ∷ 4 ∷ 0 ∷ 0 ∷ 0 ∷ 0 ∷ 0 ∷ 0 ∷ 1 ∷ 0 ∷ 0 ∷ 0 ∷ 0 ∷ 0 ∷ 0 ∷ 0 ∷ 0 ∷ 0 ∷ 0 ∷ 0 ∷ 0 ∷ 0 ∷ 0 ∷ 0 ∷ 0 ∷ 0 ∷ 0 ∷ 128 ∷ 0
@@ -151,8 +151,8 @@ copies_2_of_one =
     ∷ 0 ∷ 0 ∷ 0 ∷ 0 ∷ 0 ∷ 0 ∷ 0 ∷ 0 ∷ 0 ∷ 0 ∷ 0 ∷ 0 ∷ 0 ∷ 40 ∷ [])
 
 -- the file of pass 0 of `iffy if` in version 2: the root's record has a copy of the name
-abbrev pub copies_of_iffy : List ℕ
-copies_of_iffy =
+abbrev pub file_of_iffy_in_two : List ℕ
+file_of_iffy_in_two =
     (65 ∷ 71 ∷ 84 ∷ 50 ∷ 0 ∷ 0 ∷ [])
     ++ (1 ∷ 0 ∷ 0 ∷ 1 ∷ 0 ∷ 0 ∷ 0 ∷ 4 ∷ 105 ∷ 102 ∷ 102 ∷ 121 ∷ 0 ∷ 0 ∷ 0 ∷ 12 ∷ [])
     ++ (0 ∷ 0 ∷ 0 ∷ 1 ∷ 0 ∷ 0 ∷ 0 ∷ 4 ∷ 105 ∷ 102 ∷ 102 ∷ 121 ∷ 0 ∷ 0 ∷ 0 ∷ 12 ∷ [])

@@ -96,14 +96,14 @@ impl Device for SharedDevice {
             // without shared values, bodies are read in blocks, which is faster
             return None;
         }
-        body_between(&self.bytes, at)
+        body_before(&self.bytes, at)
     }
 }
 
 /// Lends the body of the frame that ends at offset `at` of a content. Returns `None` if no frame
 /// ends there.
 #[inline(never)]
-fn body_between(bytes: &SharedBytes, at: u64) -> Option<Body<'_>>
+fn body_before(bytes: &SharedBytes, at: u64) -> Option<Body<'_>>
     ensures body { IfSome result (λ body. body_before version_two bytes.now at ≡ Ok body) }
     ensures bytes { IfSome result
         (λ body. IsBytes (drop (at - length_bytes - length body) bytes.now)) }

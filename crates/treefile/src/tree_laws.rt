@@ -31,10 +31,10 @@ ghost use Rattle.treefile.specs.records.Orders.{BodyTree, MatchesArity, postfix,
 ghost use Rattle.treefile.specs.records.Records.{FitsVersion, IsFileOfTree, bodies_of, file_of_tree};
 ghost use Rattle.treefile.specs.Runs.{RunsPass, RunsPasses};
 ghost use Rattle.treefile.specs.records.TreeFile.{Version, file, header, version_one, version_two};
-ghost use Rattle.treefile.specs.Worked.{binary, binary_passes, bodies_of_one, copies_1_of_one};
-ghost use Rattle.treefile.specs.Worked.{copies_2_of_one, copies_of_iffy, file_of_iffy};
-ghost use Rattle.treefile.specs.Worked.{file_of_x_x, iffy_passes, pass_0_of_one, pass_1_of_one};
-ghost use Rattle.treefile.specs.Worked.{pass_2_of_one, production_of, record_of_iffy, record_of_n};
+ghost use Rattle.treefile.specs.Worked.{binary, binary_passes, bodies_of_one, file_of_iffy};
+ghost use Rattle.treefile.specs.Worked.{file_of_iffy_in_two, file_of_x_x, iffy_passes, pass_0_of_one};
+ghost use Rattle.treefile.specs.Worked.{pass_1_of_one, pass_1_of_one_in_two, pass_2_of_one};
+ghost use Rattle.treefile.specs.Worked.{pass_2_of_one_in_two, production_of, record_of_iffy, record_of_n};
 ghost use Rattle.treefile.specs.Worked.{record_of_t, spelled_number, tree_of_one, values_of_one};
 
 /// The reverse of the postfix list of a direction is the prefix list of the other direction.
@@ -85,11 +85,11 @@ pub fn worked_files()
     ensures token { (values : Valuation) →
         file_of_tree version_one token_sample iffy_passes 0 token_tree values ≡ file_of_iffy }
     ensures copied_second { file_of_tree version_two binary binary_passes 1 tree_of_one
-        values_of_one ≡ copies_1_of_one }
+        values_of_one ≡ pass_1_of_one_in_two }
     ensures copied_third { file_of_tree version_two binary binary_passes 2 tree_of_one
-        values_of_one ≡ copies_2_of_one }
+        values_of_one ≡ pass_2_of_one_in_two }
     ensures copied_token { (values : Valuation) →
-        file_of_tree version_two token_sample iffy_passes 0 token_tree values ≡ copies_of_iffy }
+        file_of_tree version_two token_sample iffy_passes 0 token_tree values ≡ file_of_iffy_in_two }
 {}
 
 /// A record determines its node's production and values. A list begins with the records of at most
