@@ -12,8 +12,9 @@ use shared_bytes::{Body, SharedBytes};
 use std::alloc::Global;
 use std::marker::Model;
 
-/// A device in memory that does not copy a shared value which is appended or lent, but becomes one more
-/// owner of it. Contracts see the bytes. It is honest, and never fails with `Failed`.
+/// A device in memory that becomes one more owner of each shared value that `append_parts` appends, and
+/// lends it without copying it. `append` and `read_at` copy bytes. Contracts see the bytes. It is honest,
+/// and never fails with `Failed`.
 #[derive(Drop)]
 pub struct SharedDevice {
     bytes: SharedBytes,
