@@ -106,8 +106,8 @@ pub fn records_determine_trees()
 {}
 
 /// A content is the file of a pass of at most one tree of the grammar, and of one valuation of it (the
-/// values of its nodes) up to the pass. Values that are the same up to the pass have the same file. Accepted grammars
-/// meet the conditions on grammar and version in versions 1 and 2.
+/// values of its nodes) up to the pass. Values that are the same up to the pass have the same file.
+/// Accepted grammars meet the conditions on grammar and version in versions 1 and 2.
 pub fn files_have_one_tree()
     ensures reading { OneReading }
     ensures same { SameFile }
@@ -191,10 +191,10 @@ pub fn worked_records()
     ensures missing { AreSpelled 2 (spelled_number ++ 9 ∷ []) → ⊥ }
 {}
 
-/// Reading the file of pass 0 of `1`, in version 1, from its end and from right to left. N is expected first, and
-/// after its record Q and then L, one level deeper. The bodies are those of a tree of three levels,
-/// and of none of two; nor is the file that of a tree of at most three nodes. A header alone is the
-/// file of no tree, nor is a file with only Q's record, nor is this one a file of pass 1.
+/// Reading the file of pass 0 of `1`, in version 1, from its end and from right to left. N is expected
+/// first, and after its record Q and then L, one level deeper. The bodies are those of a tree of three
+/// levels, and of none of two; nor is the file that of a tree of at most three nodes. A header alone is
+/// the file of no tree, nor is a file with only Q's record, nor is this one a file of pass 1.
 pub fn worked_reading()
     ensures one { IsRecordOf version_one binary binary_passes 1 (item.Symbol 3, None)
         record_of_t [] }
