@@ -1,2 +1,4 @@
 pub mod Carried
+pub mod Encoded
+pub mod SharedText
 pub mod Spelled

@@ -5,9 +5,10 @@ ghost use Rattle.std.specs.Prelude.{MatchOption, MatchResult, OnErr, OnOk, ℕ};
 ghost use Rattle.ag_value.specs.Measure.{weight_of};
 ghost use Rattle.ag_value.specs.Spelling.{spelling_of};
 ghost use Rattle.ag_value.specs.Well.{IsWell};
-ghost use Rattle.ag_value.specs.declared.value.Value.{Value as AttributeValue, Fault, Num};
+ghost use Rattle.ag_value.specs.declared.value.Value.{Value as AttributeValue, Fault, Num, Text as TextValue};
 
 use crate::encoded::Encoded;
+use crate::shared_text::SharedText;
 use crate::spelled::Spelled;
 use ag_value::{ErrorCode, NoMemory, Value, ValueFault, copy, decode, encode, same, weight};
 use std::alloc::Global;
@@ -30,10 +31,13 @@ enum Form {
     Inline(Value),
     /// A large value, shared beside its encoding.
     Shared(Rc<Spelled>),
+    /// A text whose bytes are shared.
+    Text(SharedText),
 }
 
-/// A value that is passed from node to node. Contracts see the value. `share` and `encode` of a
-/// large value neither copy nor walk it: owners share one value, which is stored beside its encoding.
+/// A value that is passed from node to node. Contracts see the value. `share` of a large value or a
+/// shared text neither copies nor walks it, and `encode` copies bytes: owners share one value, which is
+/// stored beside its encoding, or the bytes of one text.
 #[derive(Debug, Drop)]
 pub struct Carried {
     form: Form,
@@ -164,14 +168,34 @@ impl Carried {
         store_by_weight(alloc, value, weight)
     }
 
-    /// Returns the value, or `None` if it is a number, which is not stored as a `Value`; `to_value`
-    /// returns that.
+    /// Returns a shared text as a carried value. Takes no memory.
+    pub fn from_text(text: SharedText) -> Carried
+        ensures { result ≡ TextValue text }
+    {
+        Carried {
+            form: Form::Text(text),
+        }
+    }
+
+    /// Returns the shared text, or `None` if the value is stored otherwise.
+    #[inline(always)]
+    pub fn as_text(&self) -> Option<&SharedText>
+        ensures { IfSome result (λ t. self.now ≡ TextValue t.now) }
+    {
+        match &self.form {
+            Form::Text(text) => Some(text),
+            Form::Number(_) | Form::Inline(_) | Form::Shared(_) => None,
+        }
+    }
+
+    /// Returns the value, or `None` if it is a number or a shared text, which are not stored as a
+    /// `Value`; `to_value` returns those.
     #[inline(always)]
     pub fn as_value(&self) -> Option<&Value>
         ensures { IfSome result (λ v. v.now ≡ self.now) }
     {
         match &self.form {
-            Form::Number(_) => None,
+            Form::Number(_) | Form::Text(_) => None,
             Form::Inline(value) => Some(value),
             Form::Shared(shared) => Some(shared.value()),
         }
@@ -186,6 +210,7 @@ impl Carried {
             Form::Number(number) => Some(*number),
             Form::Inline(value) => number_in(value),
             Form::Shared(shared) => number_in(shared.value()),
+            Form::Text(_) => None,
         }
     }
 
@@ -220,9 +245,8 @@ impl Carried {
         match &self.form {
             Form::Number(number) => Ok(Carried::number(*number)),
             Form::Inline(value) => Ok(inline_value(copy(alloc, value)?)),
-            Form::Shared(shared) => Ok(Carried {
-                form: Form::Shared(shared.clone()?),
-            }),
+            Form::Shared(shared) => Ok(Carried::of_shared(shared.clone()?)),
+            Form::Text(text) => Ok(Carried::from_text(text.share()?)),
         }
     }
 
@@ -235,10 +259,10 @@ impl Carried {
         }
     }
 
-    /// Returns whether the value is shared beside its encoding, as a large one is.
+    /// Returns whether the value is shared: a large value, or a text that is a `SharedText`.
     #[inline(always)]
     pub fn is_shared(&self) -> bool {
-        matches!(&self.form, Form::Shared(_))
+        matches!(&self.form, Form::Shared(_) | Form::Text(_))
     }
 
     /// Returns the encoding of a shared value, as one more owner, or `None` if the value is stored
@@ -249,6 +273,7 @@ impl Carried {
     {
         match &self.form {
             Form::Shared(shared) => Ok(Some(Encoded::of(shared.clone()?))),
+            Form::Text(text) => Ok(Some(Encoded::of_text(text.share()?))),
             Form::Number(_) | Form::Inline(_) => Ok(None),
         }
     }
@@ -261,11 +286,12 @@ impl Carried {
             Form::Number(number) => Ok(Value::Num(*number)),
             Form::Inline(value) => copy(alloc, value),
             Form::Shared(shared) => copy(alloc, shared.value()),
+            Form::Text(text) => Ok(Value::Text(text.to_text(alloc)?)),
         }
     }
 
-    /// Returns the value. Takes memory, for a copy, only if the value has other owners. Fails with
-    /// NoMemory.
+    /// Returns the value. Takes memory, for a copy, only if the value has other owners or is a shared
+    /// text. Fails with NoMemory.
     pub fn into_value(self, alloc: Global) -> Result<Value, NoMemory>
         ensures { IfOk result (λ v. v ≡ self) }
     {
@@ -277,6 +303,7 @@ impl Carried {
                 Ok(spelled) => Ok(spelled.into_value()),
                 Err(shared) => copy(alloc, shared.value()),
             },
+            Form::Text(text) => Ok(Value::Text(text.to_text(alloc)?)),
         }
     }
 
@@ -303,6 +330,11 @@ impl Carried {
             (Form::Inline(one), Form::Inline(another)) => same(one, another),
             (Form::Inline(one), Form::Shared(another)) => same(one, another.value()),
             (Form::Shared(one), Form::Inline(another)) => same(one.value(), another),
+            (Form::Text(one), Form::Text(another)) => one.same(another),
+            (Form::Text(text), Form::Inline(value)) => text.is_value(value),
+            (Form::Text(text), Form::Shared(shared)) => text.is_value(shared.value()),
+            (Form::Inline(value), Form::Text(text)) => text.is_value(value),
+            (Form::Shared(shared), Form::Text(text)) => text.is_value(shared.value()),
         }
     }
 
@@ -331,6 +363,7 @@ impl Carried {
                 out.extend_from_slice(shared.bytes())?;
                 Ok(())
             }
+            Form::Text(text) => Ok(text.append_encoding(out)?),
         }
     }
 
@@ -363,13 +396,18 @@ impl Carried {
             (λ found. found ≡ (value, length (spelling_of value)))
             (λ e. e ≡ ValueFault.NoMemory) }
     {
-        if let Form::Shared(shared) = &self.form {
-            if let Some(len) = shared.prefix_of(input) {
-                let carried = Carried {
-                    form: Form::Shared(shared.clone()?),
-                };
-                return Ok((carried, len));
+        match &self.form {
+            Form::Shared(shared) => {
+                if let Some(len) = shared.prefix_of(input) {
+                    return Ok((Carried::of_shared(shared.clone()?), len));
+                }
             }
+            Form::Text(text) => {
+                if let Some(len) = text.prefix_of(input) {
+                    return Ok((Carried::from_text(text.share()?), len));
+                }
+            }
+            Form::Number(_) | Form::Inline(_) => {}
         }
         Carried::read(alloc, input)
     }

@@ -1,21 +1,33 @@
-//! The encoding of a large value, shared by its owners.
+//! The encoding of a large value or a shared text, shared by its owners.
 
 ghost use Rattle.std.specs.Prelude.{◌≡◌, ◌++◌, ◌+◌, ◌<◌, ◌≤◌, ℕ, drop, length, slice_index, take};
 ghost use Rattle.std.specs.Prelude.{IfOk, OnErr, OnOk};
 ghost use Rattle.ag_value.specs.Spelling.{spelling_of};
 ghost use Rattle.ag_value.specs.Well.{IsWell};
+ghost use Rattle.ag_value.specs.declared.value.Value.{Text as TextValue};
 
 use crate::carried::Carried;
+use crate::shared_text::SharedText;
 use crate::spelled::Spelled;
 use ag_value::NoMemory;
 use std::alloc::AllocError;
 use std::marker::Model;
 use std::rc::Rc;
 
-/// The encoding of a large value, which is an owner of that value too. Contracts see the bytes.
+/// The value whose encoding is shared.
+#[derive(Debug, Drop)]
+enum Source {
+    /// A large value, which is stored beside its encoding.
+    Spelled(Rc<Spelled>),
+    /// A text. The bytes of the encoding before it are computed from its length.
+    Text(SharedText),
+}
+
+/// The encoding of a large value or a shared text, which is an owner of that value too. Contracts see
+/// the bytes.
 #[derive(Debug, Drop)]
 pub struct Encoded {
-    shared: Rc<Spelled>,
+    source: Source,
 }
 
 impl Model for Encoded {
@@ -26,17 +38,28 @@ impl Model for Encoded {
 
     ghost coded = { Prim.hlevel codes };
 
-    ghost use Rattle.ag_value.specs.Spelling.{spelling_of};
+    ghost use Rattle.ag_carried.specs.Encoded.{source_encoding};
 
-    ghost view = { λ e. spelling_of e.shared.value };
+    ghost view = { λ e. source_encoding e.source };
 }
 
 impl Encoded {
-    /// Returns the encoding of a shared value.
+    /// Returns the encoding of a large value.
     pub(crate) fn of(shared: Rc<Spelled>) -> Encoded
         ensures { result ≡ spelling_of shared.value }
     {
-        Encoded { shared }
+        Encoded {
+            source: Source::Spelled(shared),
+        }
+    }
+
+    /// Returns the encoding of a shared text.
+    pub(crate) fn of_text(text: SharedText) -> Encoded
+        ensures { result ≡ spelling_of (TextValue text) }
+    {
+        Encoded {
+            source: Source::Text(text),
+        }
     }
 
     /// Returns the number of bytes. Takes no memory.
@@ -45,7 +68,10 @@ impl Encoded {
         ensures len { result ≡ length self.now }
         ensures bytes { (i : ℕ) → slice_index self.now i < 256 }
     {
-        byte_count(self.shared.bytes())
+        match &self.source {
+            Source::Spelled(shared) => byte_count(shared.bytes()),
+            Source::Text(text) => text.encoding_len(),
+        }
     }
 
     /// Fills `out` with the bytes from index `from` on. Takes no memory.
@@ -53,8 +79,13 @@ impl Encoded {
         requires { from + length out.old ≤ length self.now }
         ensures { out.new ≡ take (length out.old) (drop from self.now) }
     {
-        let count = out.len();
-        out.copy_from_slice(&self.shared.bytes()[from..from + count]);
+        match &self.source {
+            Source::Spelled(shared) => {
+                let count = out.len();
+                out.copy_from_slice(&shared.bytes()[from..from + count]);
+            }
+            Source::Text(text) => text.copy_encoding(from, out),
+        }
     }
 
     /// Appends a copy of the bytes to a vector. Fails with AllocError if memory runs out; the vector
@@ -63,7 +94,10 @@ impl Encoded {
         ensures ok { OnOk result (out.new.items ≡ out.old.items ++ self.now) }
         ensures err { OnErr result (out.new.items ≡ out.old.items) }
     {
-        out.extend_from_slice(self.shared.bytes())
+        match &self.source {
+            Source::Spelled(shared) => out.extend_from_slice(shared.bytes()),
+            Source::Text(text) => text.append_encoding(out),
+        }
     }
 
     /// Returns the encoding for one more owner. Takes no memory. Fails with AllocError if the value
@@ -71,9 +105,15 @@ impl Encoded {
     pub fn share(&self) -> Result<Encoded, AllocError>
         ensures { IfOk result (λ e. e ≡ self.now) }
     {
-        Ok(Encoded {
-            shared: self.shared.clone()?,
-        })
+        match &self.source {
+            Source::Spelled(shared) => Ok(Encoded::of(shared.clone()?)),
+            Source::Text(text) => {
+                let Ok(text) = text.share() else {
+                    return Err(AllocError);
+                };
+                Ok(Encoded::of_text(text))
+            }
+        }
     }
 
     /// Returns the well value that has this encoding, as one more owner. Takes no memory, and fails
@@ -82,15 +122,24 @@ impl Encoded {
         ensures well { IfOk result (λ c. IsWell c) }
         ensures encoding { IfOk result (λ c. spelling_of c ≡ self.now) }
     {
-        let well = self.shared.value();
-        let _ = well;
-        Ok(Carried::of_shared(self.shared.clone()?))
+        match &self.source {
+            Source::Spelled(shared) => {
+                let well = shared.value();
+                let _ = well;
+                Ok(Carried::of_shared(shared.clone()?))
+            }
+            Source::Text(text) => {
+                let well = text.len();
+                let _ = well;
+                Ok(Carried::from_text(text.share()?))
+            }
+        }
     }
 }
 
 /// Returns the number of bytes.
 #[inline(always)]
-fn byte_count(bytes: &[u8]) -> usize
+pub(crate) fn byte_count(bytes: &[u8]) -> usize
     ensures len { result ≡ length bytes.now }
     ensures bytes { (i : ℕ) → slice_index bytes.now i < 256 }
 {

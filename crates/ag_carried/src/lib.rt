@@ -3,7 +3,9 @@
 
 mod carried;
 mod encoded;
+mod shared_text;
 mod spelled;
 
 pub use carried::Carried;
 pub use encoded::Encoded;
+pub use shared_text::{MAX_FLAT_TEXT, SharedText};

@@ -13,6 +13,7 @@ mod sentence;
 mod starts;
 mod token;
 mod tokens;
+mod vocabulary;
 
 pub use ag_grammar::Terminal;
 pub use fault::ScanFault;

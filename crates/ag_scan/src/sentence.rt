@@ -7,10 +7,9 @@ ghost use Rattle.ag_scan.specs.TokenReader.{reader_at};
 ghost use Rattle.ag_scan.specs.Tokens.{AreTokensOf, FitAll, IsRefused, max_sentence_bytes};
 ghost use Rattle.ag_scan.specs.Words.{IsClean, vocabulary, vocabulary_of};
 
-use crate::cutting::after_token;
 use crate::fault::ScanFault;
-use crate::literals::Literals;
 use crate::tokens::Tokens;
+use crate::vocabulary::Vocabulary;
 use ag_grammar::Grammar;
 use ag_grammar::limits::MAX_TEXT_BYTES;
 use ag_tokens::skip_separators;
@@ -23,8 +22,7 @@ use std::marker::Model;
 /// the list of its tokens.
 #[derive(Drop)]
 pub struct Sentence<'s> {
-    literals: Literals<'s>,
-    classes: &'s [u16],
+    vocabulary: Vocabulary<'s>,
     text: &'s str,
 }
 
@@ -33,31 +31,29 @@ impl<'s> Model for Sentence<'s> {
     ghost use Rattle.ag_scan.specs.TokenReader.{IsScannable};
     ghost use Rattle.ag_scan.specs.Cutting.{tokens_in};
     ghost use Rattle.ag_scan.specs.Tokens.{Token};
-    ghost use Rattle.ag_scan.specs.Words.{vocabulary};
 
     ghost Value = { List Token };
 
-    ghost view = { λ s. tokens_in (vocabulary s.literals s.classes.now) s.text.now };
+    ghost view = { λ s. tokens_in s.vocabulary s.text.now };
 
-    ghost invariant = { λ s. IsScannable (vocabulary s.literals s.classes.now) s.text.now };
+    ghost invariant = { λ s. IsScannable s.vocabulary s.text.now };
 }
 
 /// Checks that a text of at most 1,048,576 bytes consists of tokens. Fails with S2 or S3 at the
 /// first offset where it does not.
 #[inline(never)]
-fn check_tokens(literals: &Literals<'_>, classes: &[u16], text: &str) -> Result<(), ScanFault>
+fn check_tokens(vocabulary: &Vocabulary<'_>, text: &str) -> Result<(), ScanFault>
     requires short { length text.now ≤ max_sentence_bytes }
-    requires clean { IsClean (vocabulary literals.now classes.now) }
-    ensures tokens { OnOk result (AreTokensOf (vocabulary literals.now classes.now) text.now
-        (tokens_in (vocabulary literals.now classes.now) text.now)) }
-    ensures fit { OnOk result (FitAll (vocabulary literals.now classes.now)
-        (tokens_in (vocabulary literals.now classes.now) text.now)) }
-    ensures refused { IfErr result (λ e. IsRefused (vocabulary literals.now classes.now) text.now e) }
+    requires clean { IsClean vocabulary.now }
+    ensures tokens { OnOk result (AreTokensOf vocabulary.now text.now
+        (tokens_in vocabulary.now text.now)) }
+    ensures fit { OnOk result (FitAll vocabulary.now (tokens_in vocabulary.now text.now)) }
+    ensures refused { IfErr result (λ e. IsRefused vocabulary.now text.now e) }
 {
     let mut rest = skip_separators(text);
     while !rest.is_empty() {
         let at = text.len() - rest.len();
-        let following = match after_token(literals, classes, rest, at) {
+        let following = match vocabulary.after_token(rest, at) {
             Ok(following) => following,
             Err(fault) => return Err(fault),
         };
@@ -88,9 +84,9 @@ fn scan_over<'s>(
         Ok(text) => text,
         Err(error) => return Err(ScanFault::BadUtf8(error.valid_up_to())),
     };
-    let literals = Literals::new(alloc, literals)?;
-    check_tokens(&literals, classes, text)?;
-    Ok(Sentence::new(literals, classes, text))
+    let vocabulary = Vocabulary::new(alloc, literals, classes)?;
+    check_tokens(&vocabulary, text)?;
+    Ok(Sentence::new(vocabulary, text))
 }
 
 /// Scans a sentence: checks that it consists of tokens, by longest match over the literals and the
@@ -114,23 +110,18 @@ pub fn scan<'s>(
 
 impl<'s> Sentence<'s> {
     /// Makes the sentence of a text that has tokens.
-    fn new(literals: Literals<'s>, classes: &'s [u16], text: &'s str) -> Sentence<'s>
-        requires clean { IsClean (vocabulary literals classes.now) }
-        requires tokens { AreTokensOf (vocabulary literals classes.now) text.now
-            (tokens_in (vocabulary literals classes.now) text.now) }
-        ensures { result ≡ tokens_in (vocabulary literals.entry classes.now) text.now }
+    fn new(vocabulary: Vocabulary<'s>, text: &'s str) -> Sentence<'s>
+        requires clean { IsClean vocabulary }
+        requires tokens { AreTokensOf vocabulary text.now (tokens_in vocabulary text.now) }
+        ensures { result ≡ tokens_in vocabulary.entry text.now }
     {
-        Sentence {
-            literals,
-            classes,
-            text,
-        }
+        Sentence { vocabulary, text }
     }
 
     /// Returns a reader of the tokens, positioned at the first one. Does not allocate.
     pub fn tokens(&self) -> Tokens<'_>
         ensures { result ≡ reader_at self.now 0 }
     {
-        Tokens::new(&self.literals, self.classes, self.text)
+        Tokens::new(&self.vocabulary, self.text)
     }
 }

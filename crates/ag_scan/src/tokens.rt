@@ -3,12 +3,10 @@
 ghost use Rattle.std.specs.Prelude.{◌≡◌, ◌+◌, ◌<◌, ◌≤◌, None, length, option_map, slice_get};
 ghost use Rattle.ag_scan.specs.Cutting.{leading_word_of, tokens_in};
 ghost use Rattle.ag_scan.specs.TokenReader.{IsScannable, IsNextWordFrom, reader_at, offset_at, token_of};
-ghost use Rattle.ag_scan.specs.Words.{vocabulary};
 
-use crate::cutting::leading_word;
-use crate::literals::Literals;
 use crate::prefix::LeadingWord;
 use crate::token::Token;
+use crate::vocabulary::Vocabulary;
 use ag_tokens::skip_separators;
 use std::marker::Model;
 
@@ -17,8 +15,7 @@ use std::marker::Model;
 /// those taken.
 #[derive(Drop)]
 pub struct Tokens<'t> {
-    literals: &'t Literals<'t>,
-    classes: &'t [u16],
+    vocabulary: &'t Vocabulary<'t>,
     text: &'t str,
     taken: usize,
     next: Option<LeadingWord<'t>>,
@@ -31,13 +28,12 @@ impl<'t> Model for Tokens<'t> {
     ghost use Rattle.std.specs.Prelude.{option_map};
     ghost use Rattle.ag_scan.specs.Cutting.{leading_word_of, tokens_in};
     ghost use Rattle.ag_scan.specs.TokenReader.{TokenReader, IsReaderState, reader_at};
-    ghost use Rattle.ag_scan.specs.Words.{vocabulary};
 
     ghost Value = { TokenReader };
 
-    ghost view = { λ t. reader_at (tokens_in (vocabulary t.literals.now t.classes.now) t.text.now) t.taken };
+    ghost view = { λ t. reader_at (tokens_in t.vocabulary.now t.text.now) t.taken };
 
-    ghost invariant = { λ t. IsReaderState (vocabulary t.literals.now t.classes.now) t.text.now t.taken
+    ghost invariant = { λ t. IsReaderState t.vocabulary.now t.text.now t.taken
         (option_map (λ f. leading_word_of f) t.next) t.at };
 }
 
@@ -46,20 +42,19 @@ impl<'t> Model for Tokens<'t> {
 /// `before`.
 #[inline(always)]
 fn next_word<'t>(
-    literals: &Literals<'_>,
-    classes: &[u16],
+    vocabulary: &Vocabulary<'_>,
     text: &str,
     following: &'t str,
     before: u32,
 ) -> (Option<LeadingWord<'t>>, u32)
-    requires has { IsScannable (vocabulary literals.now classes.now) text.now }
+    requires has { IsScannable vocabulary.now text.now }
     requires within { length following.now ≤ length text.now }
-    ensures next { IsNextWordFrom (vocabulary literals.now classes.now) text.now following.now
+    ensures next { IsNextWordFrom vocabulary.now text.now following.now
         (option_map (λ f. leading_word_of f) result.0) result.1 }
     ensures end { result.0 ≡ None → result.1 ≡ before }
 {
     let left = skip_separators(following);
-    match leading_word(literals, classes, left) {
+    match vocabulary.leading_word(left) {
         Some(next) => (Some(next), (text.len() - left.len()) as u32),
         None => (None, before),
     }
@@ -67,14 +62,13 @@ fn next_word<'t>(
 
 impl<'t> Tokens<'t> {
     /// Returns a reader at the first token of a text that has tokens.
-    pub(crate) fn new(literals: &'t Literals<'t>, classes: &'t [u16], text: &'t str) -> Tokens<'t>
-        requires { IsScannable (vocabulary literals.now classes.now) text.now }
-        ensures { result ≡ reader_at (tokens_in (vocabulary literals.now classes.now) text.now) 0 }
+    pub(crate) fn new(vocabulary: &'t Vocabulary<'t>, text: &'t str) -> Tokens<'t>
+        requires { IsScannable vocabulary.now text.now }
+        ensures { result ≡ reader_at (tokens_in vocabulary.now text.now) 0 }
     {
-        let (next, at) = next_word(literals, classes, text, text, 0);
+        let (next, at) = next_word(vocabulary, text, text, 0);
         Tokens {
-            literals,
-            classes,
+            vocabulary,
             text,
             taken: 0,
             next,
@@ -121,7 +115,7 @@ impl<'t> Tokens<'t> {
         if let Some(next) = self.next {
             // this call shows the prover that the text is UTF-8
             let _utf8 = next.rest.as_bytes();
-            let (next, at) = next_word(self.literals, self.classes, self.text, next.rest, self.at);
+            let (next, at) = next_word(self.vocabulary, self.text, next.rest, self.at);
             self.next = next;
             self.at = at;
             self.taken += 1;

@@ -33,7 +33,7 @@ use Rattle.roottext.specs.Roots.{IsRootText, MatchesRoot}
 use Rattle.passrun.specs.Rounds.{HasCounted, HasRunAll}
 use Rattle.ag_grammar.specs.grammars.Running.{IsLastPass}
 use Rattle.passrun.specs.passing.Ahead.{IsRunFault}
-use Rattle.planchecker.specs.courses.Settings.{setting_of}
+use Rattle.passcode.specs.Settings.{setting_of}
 use Rattle.aggen.specs.Translating.{AreLeft, IsFaultBeforeText, IsTranslationFault, LeavesFiles, TranslatesSentence}
 use Rattle.ag_grammar.proofs.grammars.Counting.{passes_have_all_rules}
 use Rattle.ag_grammar.proofs.grammars.Running.{run_is_the_solution}

@@ -10,8 +10,8 @@ kind_of zero = Some Node
 kind_of (suc zero) = Some Token
 kind_of (suc (suc byte)) = None
 
--- The arity of a body: the number of children of a node whose record has the body's kind and number. None if
--- there is no such node, or if the bytes do not begin with a kind and a number.
+-- The arity of a body: the number of children of a node whose record has the body's kind and number. None if no
+-- node has them, or if the bytes do not begin with a kind and a number.
 abbrev pub arity_of : (Kind → ℕ → Option ℕ) → List ℕ → Option ℕ
 arity_of children [] = None
 arity_of children (byte ∷ []) = None

@@ -34,7 +34,7 @@ sample_free p r x c =
     let less = c.earlier in
     omega arith
 
--- it is the least one, since there are no other two productions
+-- it is the least one, since the grammar has only these two productions
 pub left_recursion_least : IsLeastConflict left_recursive 0 0 1 (ahead.Terminal (Literal 0))
 unfolding left_recursion
 left_recursion_least = record {

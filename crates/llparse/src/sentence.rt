@@ -1,6 +1,7 @@
 //! Parsing a sentence by tables, and the look-aheads expected where one is rejected.
 
 pub mod expected;
+pub mod language;
 pub mod parse_fault;
 pub mod parser;
 pub mod parsing;

@@ -23,7 +23,7 @@ use crate::faults::rules::{
 use crate::faults::underivable::first_underivable;
 use crate::numbers::declared::Declared;
 use crate::numbers::moving::{move_symbols, name_at};
-use crate::numbers::numbering::{classes_of, literal_texts, names_of, productions_of, start_of};
+use crate::numbers::numbering::{Numbering, classes_of, literal_texts};
 use ag_grammar::{Grammar, Named, Production, RawGrammar, RawProduction, RawSymbol};
 use ag_value::{Items, NoMemory, Text};
 use closure::{Clause, Clauses, Edge};
@@ -197,10 +197,9 @@ fn number_productions(
         ≡ map (production_of (map symbol_of symbols.now) literals.now) productions) }
     ensures listed { IfOk result (λ r. All AreListedIn r.1) }
 {
-    let declared = Declared::new(alloc, symbols)?;
-    let names = names_of(alloc, literals)?;
-    let start = start_of(&declared, start.name.as_str());
-    let productions = productions_of(alloc, &declared, &names, productions)?;
+    let numbering = Numbering::new(alloc, symbols, literals)?;
+    let start = numbering.start_of(start.name.as_str());
+    let productions = numbering.productions_of(alloc, productions)?;
     Ok((start, productions))
 }
 

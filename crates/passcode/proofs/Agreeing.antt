@@ -20,8 +20,8 @@ use Rattle.passcode.specs.Agreement.{instruction_of}
 use Rattle.passcode.specs.Course as Course
 use Rattle.passcode.specs.Course.{Phase, State, Between, Got, Gone, Ended, MayCompute, MayRun, IsTurnOf, Runs, after, arity}
 use Rattle.passcode.specs.Course.{place_of, start, state_at}
-use Rattle.passcode.proofs.Marks.{not_after_end, end_mark, got_child, get_mark, go_mark, put_mark, read_is, rule_mark, run_stays, run_is, run_in}
-use Rattle.passcode.proofs.Marks.{read_in}
+use Rattle.passcode.proofs.Marks.{not_after_end, end_mark, got_child, get_mark, go_mark, put_mark, read_in, read_is}
+use Rattle.passcode.proofs.Marks.{rule_mark, run_in, run_is, run_stays}
 use Rattle.passcode.proofs.States.{IsMark, MayRunTo, kept, once, precedes, runs_by_index, occurs, state_next}
 use Rattle.passcode.proofs.Turns.{is_stored_child, turn_before, turn_of}
 
@@ -56,8 +56,7 @@ module _ (m : Passes) (q : Production) (k : ℕ) (xs : List Instr) (one : 1 ≤ 
   module _ (A : State → Type 0) (x : Instr) (mark : IsMark m q k A x) where
     before_it : (i j : ℕ) (y : Instr) → slice_get xs i ≡ Some x → slice_get xs j ≡ Some y → A (state j) → i < j
     before_it i j y a b =
-        precedes m q k xs (length xs) may_to A x mark i j (slice_get_within xs i x a) (slice_get_within xs j y b)
-        a
+        precedes m q k xs (length xs) may_to A x mark i j (slice_get_within xs i x a) (slice_get_within xs j y b) a
 
     there : A (state (length xs)) → Has xs x
     there a = let s = occurs m q k xs (length xs) may_to A x mark (length xs) (omega arith) a in (s.0, s.2)

@@ -131,9 +131,10 @@ module _ (m : Passes) (q : Production) (k : ℕ) (xs : List Instr) (one : 1 ≤ 
     was_given r u at passed = was (λ s. Has s.done r) (instruction_of u r) (rule_mark m q k r u at)
         ((list.computes.computed r u at).there passed)
 
-    turn_here : (p : Phase) (t j : ℕ) → t < arity q → j ≡ place_of q k t → (state n).phase ≡ p → t ≡ (state n).turn → IsTurnOf q k (state n) p j
-    turn_here p t j within place phase same = record
-        { phase_is = phase; within = subst (λ t. t < arity q) same within; place = place ∙ ap (place_of q k) same }
+    turn_here : (p : Phase) (t j : ℕ) → t < arity q → j ≡ place_of q k t → (state n).phase ≡ p → t ≡ (state n).turn
+        → IsTurnOf q k (state n) p j
+    turn_here p t j within place phase same =
+        record { phase_is = phase; within = subst (λ t. t < arity q) same within; place = place ∙ ap (place_of q k) same }
 
     -- what is at hand at the index is at hand in its state
     hand : (r : ℕ) (u : Rule) → IsRuleAt q r u → HasPass m q u.target k → (o : Target) → IsArgument u o
@@ -145,7 +146,8 @@ module _ (m : Passes) (q : Production) (k : ℕ) (xs : List Instr) (one : 1 ≤ 
         let go = h.1 in
         let child = (list.visits.gone o.place).only (go.0, go.2) in
         let turn = turn_of q k o.place (item.Symbol child.0, child.1) in
-        let run = seen (λ s. turn.0 < run_in s) (instr.Go o.place) (go_mark m q k turn.0 o.place turn.1 turn.2 child) go.0 go.1 go.2 in
+        let mark = go_mark m q k turn.0 o.place turn.1 turn.2 child in
+        let run = seen (λ s. turn.0 < run_in s) (instr.Go o.place) mark go.0 go.1 go.2 in
         (k, h.0, omega arith, inr (inr (turn.0, run, turn.2)))
 
     -- a rule's own instruction may give its value

@@ -18,8 +18,8 @@ use Rattle.treefile.proofs.framing.Files.{begins}
 use Rattle.treefile.proofs.records.Fitting.{fits_version_two, numbered}
 use Rattle.treefile.proofs.framing.Way.{no_file_has_no_tree, one_record, reading_begins, way_breaks, reading_continues}
 use Rattle.treefile.proofs.framing.Way.{reading_is_too_long}
-use Rattle.planchecker.specs.courses.Settings.{Setting}
-use Rattle.planchecker.specs.courses.Sound.{IsSound}
+use Rattle.passcode.specs.Settings.{Setting}
+use Rattle.passcode.specs.Sound.{IsSound}
 use Rattle.passrun.specs.declared.run_fault.RunFault.{RunFault}
 use Rattle.passrun.specs.declared.run_fault.RunFault.TheVariants as fault
 use Rattle.passrun.specs.Damage.{BreaksAt, ArrivesAt, ExceedsDepth, ExceedsNodes, HasTooManyNodes, IsDamaged, IsReadable}

@@ -27,7 +27,7 @@ use Rattle.treefile.specs.records.Records.{values_up_to}
 use Rattle.treefile.proofs.records.Spelled.{spelled_apart}
 use Rattle.treefile.proofs.records.Values.{count_of_values, values_well}
 use Rattle.treefile.specs.records.TreeFile.{body_from, kind_byte}
-use Rattle.planchecker.specs.courses.Settings.{Setting}
+use Rattle.passcode.specs.Settings.{Setting}
 use Rattle.passrun.specs.declared.reading.record.RecordFault.{RecordFault}
 use Rattle.passrun.specs.passing.Places.{Table, copied_passes, copies, row_passes}
 use Rattle.passrun.specs.reading.Reading.{AllWell, AreTaken, AreUntaken, IsNodeBody, IsNodeRead, IsNoNode, IsNoNodeBody, IsNoRow}

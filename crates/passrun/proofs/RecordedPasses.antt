@@ -10,7 +10,7 @@ use Rattle.ag_grammar.specs.grammars.Tree.{Tree, IsTreeOf, node_count, max_depth
 use Rattle.ag_grammar.proofs.grammars.EachNode.{same_weaker}
 use Rattle.passassign.specs.Rows.{passes_of}
 use Rattle.passcode.specs.Rows.{Lists}
-use Rattle.planchecker.specs.courses.Settings.{Setting, setting_of}
+use Rattle.passcode.specs.Settings.{Setting, setting_of}
 use Rattle.treefile.specs.framing.Ending.{version_two_usable}
 use Rattle.treefile.specs.records.Records.{IsFileOfTree}
 use Rattle.treefile.specs.Runs.{RanPass, RunsPass, RunsPasses}

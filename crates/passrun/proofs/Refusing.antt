@@ -20,8 +20,8 @@ use Rattle.treefile.specs.records.Records.{values_up_to}
 use Rattle.treefile.proofs.framing.Backward.{damage_is_there, never_no_file}
 use Rattle.backreader.specs.BackState.{BackState}
 use Rattle.passcode.specs.declared.instr.Instr.TheVariants as instr
-use Rattle.planchecker.specs.courses.Settings.{Setting, list_at}
-use Rattle.planchecker.specs.courses.Sound.{IsSound}
+use Rattle.passcode.specs.Settings.{Setting, list_at}
+use Rattle.passcode.specs.Sound.{IsSound}
 use Rattle.passrun.specs.declared.layouts.building.PlaceRow.{PlaceRow}
 use Rattle.passrun.specs.declared.passing.machine.Machine.{Machine}
 use Rattle.passrun.specs.declared.passing.open_node.OpenNode.{OpenNode}

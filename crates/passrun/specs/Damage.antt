@@ -11,7 +11,7 @@ use Rattle.treefile.specs.framing.Backward.{ReadsTo, next_before, pass_of}
 use Rattle.treefile.specs.framing.Ending.{is_tree_file}
 use Rattle.treefile.specs.records.TreeFile.{Version, version_two}
 use Rattle.treefile.specs.Worked.{binary, binary_passes}
-use Rattle.planchecker.specs.courses.Settings.{Setting}
+use Rattle.passcode.specs.Settings.{Setting}
 use Rattle.passrun.specs.declared.run_fault.RunFault.{RunFault}
 use Rattle.passrun.specs.declared.run_fault.RunFault.TheVariants as fault
 

@@ -11,7 +11,7 @@ use Rattle.treefile.specs.framing.Beginning.{LeavesBeginning}
 use Rattle.treefile.specs.records.Records.{IsFileOfTree}
 use Rattle.treefile.specs.Runs.{RunsPasses}
 use Rattle.treefile.specs.records.TreeFile.{version_two}
-use Rattle.planchecker.specs.courses.Settings.{Setting}
+use Rattle.passcode.specs.Settings.{Setting}
 use Rattle.passrun.specs.declared.passing.ends.Passed.{Passed}
 use Rattle.passrun.specs.declared.last.Last.{Last}
 use Rattle.passrun.specs.declared.last.Last.TheVariants.{A, B}

@@ -9,7 +9,7 @@ ghost use Rattle.passrun.specs.Rounds.{HasRunAll, IsPassedOn, LeavesAfterFailure
 ghost use Rattle.passrun.specs.Rounds.{LeavesSomeFile, last_content, other_content, other_last};
 ghost use Rattle.passrun.specs.Rounds.{one_more as added};
 ghost use Rattle.planchecker.specs.Plans.{IsPlan};
-ghost use Rattle.planchecker.specs.courses.Settings.{setting_of};
+ghost use Rattle.passcode.specs.Settings.{setting_of};
 ghost use Rattle.treefile.specs.framing.Beginning.{LeavesBeginning};
 ghost use Rattle.treefile.specs.devices.Device.{WhenHonest};
 ghost use Rattle.treefile.specs.devices.Several.{BothPersist};

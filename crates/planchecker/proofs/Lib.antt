@@ -1,9 +1,9 @@
 pub mod Checked
 pub mod Completing
-pub mod courses
 pub mod Lists
 pub mod Loops
 pub mod Marked
 pub mod Rows
+pub mod Sounding
 pub mod Strikes
 pub mod Taken

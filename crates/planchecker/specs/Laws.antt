@@ -9,8 +9,8 @@ use Rattle.passcode.specs.Rows.{Lists}
 use Rattle.passcode.specs.Shape.{HasLists}
 use Rattle.planchecker.specs.declared.plan.PlanFault.{PlanFault}
 use Rattle.planchecker.specs.Plans.{IsPlan, IsPlanFault}
-use Rattle.planchecker.specs.courses.Settings.{setting_of}
-use Rattle.planchecker.specs.courses.Sound.{IsSound}
+use Rattle.passcode.specs.Settings.{setting_of}
+use Rattle.passcode.specs.Sound.{IsSound}
 
 -- No fault of `check_plan` is true of a legal assignment and code that agrees with it, if no pass is above 8,192, there are at
 -- most as many rows as symbols, and there is a list for each production and pass. `assign` and `generate` return such ones.

@@ -1,5 +1,4 @@
 pub mod Agreeing
-pub mod courses
 pub mod First
 pub mod Following
 pub mod Laws

@@ -32,7 +32,7 @@ pub(crate) trait Candidates {
     ghost within: { (x : Self) (s a : ℕ) → later x s a → candidates x s a };
 }
 
-/// Returns whether an attribute of an item is struck. False if there is no item, or it is a terminal.
+/// Returns whether an attribute of an item is struck. False for `None` and for a terminal.
 fn is_item_struck(struck: &Marks, item: Option<Item>, attr: u16) -> bool
     ensures { IsTrue result ↔ IsOneOf (IsMarked struck.now) item attr }
 {
@@ -43,8 +43,7 @@ fn is_item_struck(struck: &Marks, item: Option<Item>, attr: u16) -> bool
     }
 }
 
-/// Returns whether an attribute of an item is a candidate. False if there is no item, or it is a
-/// terminal.
+/// Returns whether an attribute of an item is a candidate. False for `None` and for a terminal.
 fn is_item_candidate<C: Candidates>(candidates: &C, item: Option<Item>, attr: u16) -> bool
     ensures { IsTrue result ↔ IsOneOf (C.candidates candidates.now) item attr }
 {

@@ -17,7 +17,7 @@ use Rattle.passassign.specs.Rows.{AreAtMost, IsGreatest, passes_of}
 use Rattle.passcode.specs.Rows.{Lists}
 use Rattle.passcode.proofs.lists.Shaped.{greatest_most}
 use Rattle.planchecker.specs.Plans.{IsPlan}
-use Rattle.planchecker.specs.courses.Settings.{Setting, setting_of}
+use Rattle.passcode.specs.Settings.{Setting, setting_of}
 use Rattle.passrun.specs.reading.Reading.{IsNoNode, IsNodeRead}
 use Rattle.passrun.specs.passing.Places.{copies}
 use Rattle.passrun.proofs.course.Ahead.{no_record}

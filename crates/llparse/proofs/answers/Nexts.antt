@@ -1,10 +1,11 @@
 -- The remaining words, by the tokens.
 use Rattle.std.proofs.Common.{◌≡◌, ℕ, zero, suc, ◌+◌, ◌<◌, ◌≤◌, true, false, List, [], ◌∷◌, drop, length, slice_get, Option, Some}
-use Rattle.std.proofs.Common.{None, is_some, option_map, refl, ap, sym, ◌∙◌, add-one, arith}
+use Rattle.std.proofs.Common.{None, is_some, option_map, refl, ap, sym, ◌∙◌, add-one}
+use Rattle.std.proofs.lemmas.Option.{slice_get_within}
 use Rattle.ag_scan.specs.TokenReader.{token_of}
 use Rattle.ag_scan.specs.Tokens.{Token}
 use Rattle.ag_scan.specs.declared.token.Token as lent
-use Rattle.ag_scan.proofs.Lefts.{following, rest_at, rest_none, ended}
+use Rattle.ag_scan.proofs.Lefts.{rest_none, ended}
 use Rattle.ag_grammar.specs.declared.grammar.Terminal.{Terminal}
 use Rattle.llparse.specs.Ahead.{ahead_of}
 use Rattle.llparse.specs.declared.ahead.Ahead.TheVariants as ahead
@@ -37,16 +38,13 @@ pub none_is : (xs : List Token) (i : ℕ) (a : Terminal) → slice_get xs i ≡ 
 none_is xs i a none e = let bad : ahead.End ≡ ahead.Terminal a = sym (ap ahead_of (no_next xs i none)) ∙ e in cc
 
 -- whether tokens are left
-pub is_left : (xs : List Token) (i : ℕ) (x : Token) → slice_get xs i ≡ Some x → i < length xs
-is_left xs i x e = let more = (following xs i x (drop (i + 1) xs) (rest_at xs i x e)).1 in omega arith
-
 pub none_left : (xs : List Token) (i : ℕ) → slice_get xs i ≡ None → length xs ≤ i
 none_left xs i e = (ended xs i (rest_none xs i e)).1
 
 pub some_left : (xs : List Token) (i : ℕ) (o : Option lent.Token) → option_map (λ t. token_of t) o ≡ slice_get xs i
     → is_some o ≡ true → i < length xs
 some_left xs i None e is = absurd (cc)
-some_left xs i (Some t) e is = is_left xs i (token_of t) (sym e)
+some_left xs i (Some t) e is = slice_get_within xs i (token_of t) (sym e)
 
 pub all_taken : (xs : List Token) (i : ℕ) (o : Option lent.Token) → option_map (λ t. token_of t) o ≡ slice_get xs i
     → is_some o ≡ false → length xs ≤ i

@@ -108,13 +108,13 @@ next_first b n following (x ∷ xs) h = elim (or_cases (b x) (n x && can_start_i
       (next_first b n following xs (and_cases (n x) (can_start_in b n false xs) both).1))
 ]
 
-pub next_behind : (b n : Item → Bool) (following : Bool) (xs : List Item) → all_nullable n xs ≡ true → following ≡ true
+pub next_after : (b n : Item → Bool) (following : Bool) (xs : List Item) → all_nullable n xs ≡ true → following ≡ true
     → can_start_in b n following xs ≡ true
-next_behind b n following [] h k = k
-next_behind b n following (x ∷ xs) h k =
+next_after b n following [] h k = k
+next_after b n following (x ∷ xs) h k =
     let p = and_cases (n x) (all_nullable n xs) h in
     or_right (b x) (n x && can_start_in b n following xs)
-    (and_both (n x) (can_start_in b n following xs) p.0 (next_behind b n following xs p.1 k))
+    (and_both (n x) (can_start_in b n following xs) p.0 (next_after b n following xs p.1 k))
 
 module _ (g : Grammar) (n : ℕ → Bool) (known : (s : ℕ) → n s ≡ true ↔ IsNullable g s) where
   empty_nullable : (xs : List Item) → all_nullable (is_nullable_item n) xs ≡ true → AreNullable g xs

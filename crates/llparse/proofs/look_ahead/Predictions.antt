@@ -14,7 +14,7 @@ use Rattle.llparse.specs.table.Nodes.{node_of}
 use Rattle.llparse.specs.table.Nullable.{is_nullable_item}
 use Rattle.closure.specs.Following.{is_marked}
 use Rattle.llparse.specs.declared.ahead.Ahead.{Ahead}
-use Rattle.llparse.proofs.look_ahead.CanStart.{can_start_iff, next_behind, next_cases, next_first, nullable_iff}
+use Rattle.llparse.proofs.look_ahead.CanStart.{can_start_iff, next_after, next_cases, next_first, nullable_iff}
 use Rattle.closure.proofs.Positions.{element_at}
 use Rattle.llparse.proofs.look_ahead.Firsts.{left_in, named_in}
 
@@ -36,7 +36,7 @@ predicts_iff g ok n known x begins follows first follow p q e =
       ],
       λ h. elim h [
         | inl prefix ↦ next_first b (is_nullable_item n) (is_marked follows q.left) q.items (can_start.1 prefix)
-        | inr all ↦ next_behind b (is_nullable_item n) (is_marked follows q.left) q.items (empty.1 all.0) (after.1 all.1)
+        | inr all ↦ next_after b (is_nullable_item n) (is_marked follows q.left) q.items (empty.1 all.0) (after.1 all.1)
       ],
     )
 

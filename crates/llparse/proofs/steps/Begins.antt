@@ -1,6 +1,7 @@
 -- The open nodes can be completed, if each symbol has a tree.
 use Rattle.std.proofs.Common.{◌≡◌, ℕ, zero, suc, ◌<◌, List, [], ◌∷◌, ◌++◌, length, Some, slice_get, refl, ap, sym, ◌∙◌, subst}
 use Rattle.std.proofs.Common.{append_assoc, arith}
+use Rattle.std.proofs.lemmas.Option.{slice_get_within}
 use Rattle.std.proofs.lemmas.Str.{is_utf8-from_IsUtf8}
 use Rattle.ag_grammar.specs.declared.grammar.Item.TheVariants as item
 use Rattle.ag_grammar.specs.declared.grammar.Item.{Item}
@@ -19,11 +20,6 @@ use Rattle.llparse.proofs.steps.Steps as step
 here : {A : Type 0} (xs : List A) (x : A) (ys : List A) → slice_get (xs ++ x ∷ ys) (length xs) ≡ Some x
 here [] x ys = refl
 here (z ∷ xs) x ys = here xs x ys
-
-bound : {A : Type 0} (xs : List A) (i : ℕ) (x : A) → slice_get xs i ≡ Some x → i < length xs
-bound [] i x e = absurd (cc)
-bound (y ∷ ys) zero x e = omega arith
-bound (y ∷ ys) (suc i) x e = omega (arith, bound ys i x e)
 
 -- a token's text may be empty
 no_text : IsTokenText []
@@ -78,7 +74,7 @@ module _ (g : Grammar) (accepted : IsAccepted g) where
   some_tree : (os : List Open) (s : ℕ) → IsStack g os s → (t : Tree) × Fits g (item.Symbol s) t
   some_tree [] s is =
       subst (λ z. (t : Tree) × Fits g (item.Symbol z) t) (sym is)
-      (tree_of g.start (bound g.symbols g.start accepted.start.symbol accepted.start.declared))
+      (tree_of g.start (slice_get_within g.symbols g.start accepted.start.symbol accepted.start.declared))
   some_tree (o ∷ os) s (q, before, get, items, is) = symbol_tree o.production q get before o.rest s items
 
 module _ (k : Task) (accepted : IsAccepted k.grammar) where

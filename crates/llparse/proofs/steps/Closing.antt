@@ -1,7 +1,7 @@
 -- The invariants of closing a node, and the state at the end.
 use Rattle.std.proofs.Common.{◌≡◌, ℕ, zero, suc, ◌<◌, ◌≤◌, List, [], ◌∷◌, ◌++◌, length, take, drop, refl, ap, sym, ◌∙◌, subst}
 use Rattle.std.proofs.Common.{append_assoc, append-nil, arith}
-use Rattle.std.proofs.lemmas.List.{length-drop, take_all}
+use Rattle.std.proofs.lemmas.List.{drop_all, length-drop, take_all}
 use Rattle.ag_value.specs.declared.value.Value.{Value}
 use Rattle.ag_grammar.specs.declared.grammar.Item.TheVariants as item
 use Rattle.ag_grammar.specs.grammars.AttributeGrammar.{Grammar}
@@ -20,16 +20,10 @@ use Rattle.llparse.proofs.answers.Kept.{parted, texts-joined}
 use Rattle.llparse.proofs.steps.Sizes as size
 use Rattle.llparse.proofs.steps.Steps as step
 
--- there are no words if the look-ahead is the end
+-- the list of words is empty if its look-ahead is the end
 ends : (ws : List Lexeme) → ahead_of ws ≡ ahead.End → ws ≡ []
 ends [] e = refl
 ends (w ∷ ws) e = absurd (cc)
-
-drop_all : {A : Type 0} (i : ℕ) (xs : List A) → length xs ≤ i → drop i xs ≡ []
-drop_all zero [] le = refl
-drop_all (suc i) [] le = refl
-drop_all zero (x ∷ xs) le = absurd (omega arith)
-drop_all (suc i) (x ∷ xs) le = drop_all i xs (omega arith)
 
 module _ (k : Task) where
   abbrev g : Grammar

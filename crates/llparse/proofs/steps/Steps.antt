@@ -107,7 +107,7 @@ module _ (g : Grammar) where
           subst (λ r. Completes g (open_at k none r.items) os ws t) rule
           (subst (λ i. Completes g (open_at i none n.1.items) os ws t) one n.5)
 
-  -- and if it has none, there are no trees
+  -- and if it has none, no tree comes next
   pub no_rule : (tables : Choices) → FitsGrammar g tables → (os : List Open) (s : ℕ) (ws : List Lexeme) (t : Tree)
       → IsStack g os s → choice_of tables s (ahead_of ws) ≡ None → ContinuesWith g os s ws t → ⊥
   no_rule tables fits os s ws t is unnamed w =

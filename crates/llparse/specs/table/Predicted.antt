@@ -39,7 +39,7 @@ pub record AreEarliestFrom (qs : List Production) (marks : List Bool) (from : �
 abbrev pub AreConflicting : List Production → List Bool → ℕ → ℕ → Type 0
 AreConflicting qs marks a b = (a < b) × ((s : ℕ) × IsMarkedOf qs marks s a × IsMarkedOf qs marks s b)
 
--- a pair comes no later than another: its first is less, or that is the same and its second is no greater
+-- a pair comes at or before another: its first is less, or the firsts are the same and its second is at most the other's
 abbrev pub IsNoLater : Pair → ℕ → ℕ → Type 0
 IsNoLater p a b = (p.first < a) ⊎ ((p.first ≡ a) × (p.second ≤ b))
 

@@ -25,7 +25,7 @@ is_known literals (ahead.Terminal (Literal l)) = nat_lt l literals
 is_known literals (ahead.Terminal (Class c)) = nat_lt c class_count
 is_known literals ahead.End = true
 
--- the production of a symbol at a look-ahead, None if there is no such entry
+-- the production of a symbol at a look-ahead, None if the tables have no entry for them
 abbrev pub choice_of : Choices → ℕ → Ahead → Option ℕ
 choice_of t s x =
     if is_known t.literals x then slice_index_or (slice_index_or t.columns (index_of t.literals x) []) s None else None

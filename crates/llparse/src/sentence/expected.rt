@@ -6,6 +6,7 @@ ghost use Rattle.llparse.specs.table.Tables.{is_known};
 ghost use Rattle.llparse.specs.sentence.Turns.{Advances};
 
 use crate::ahead::Ahead;
+use crate::sentence::language::Language;
 use crate::sentence::parse_fault::ParseFault;
 use crate::sentence::parser::{OpenProduction, Parser, new_node, next_item, node_at};
 use crate::sentence::tokens::expect;
@@ -48,20 +49,19 @@ fn next_if_any(grammar: &Grammar, node: &mut OpenProduction) -> Option<Item>
 fn continue_until(
     parser: &mut Parser<'_>,
     innermost: OpenProduction,
-    grammar: &Grammar,
-    tables: &Tables,
+    language: &Language<'_>,
     until: usize,
 ) -> Result<Option<OpenProduction>, ParseFault> {
     let mut node = innermost;
     loop {
-        match next_if_any(grammar, &mut node) {
+        match next_if_any(language.grammar, &mut node) {
             Some(Item::Terminal(terminal)) => {
                 take_unwritten(parser, terminal)?;
                 if until <= parser.tokens.taken() {
                     return Ok(Some(node));
                 }
             }
-            Some(Item::Symbol(symbol)) => node = parser.open(tables, node, symbol)?,
+            Some(Item::Symbol(symbol)) => node = parser.open(language.tables, node, symbol)?,
             None => {
                 let Some(outer) = parser.waiting.pop() else {
                     return Ok(None);
@@ -76,12 +76,12 @@ fn continue_until(
 /// node, if any.
 fn start_until(
     parser: &mut Parser<'_>,
-    grammar: &Grammar,
-    tables: &Tables,
+    language: &Language<'_>,
     until: usize,
 ) -> Result<Option<OpenProduction>, ParseFault> {
-    let root = new_node(tables, &parser.tokens, grammar.start(), 0)?;
-    continue_until(parser, root, grammar, tables, until)
+    let start = language.grammar.start();
+    let root = new_node(language.tables, &parser.tokens, start, 0)?;
+    continue_until(parser, root, language, until)
 }
 
 /// Returns whether a terminal is the look-ahead, and the parser has room for its leaf, if it has
@@ -100,16 +100,15 @@ fn can_take(parser: &Parser<'_>, terminal: Terminal, ahead: Ahead) -> bool {
 fn can_accept(
     parser: &mut Parser<'_>,
     innermost: OpenProduction,
-    grammar: &Grammar,
-    tables: &Tables,
+    language: &Language<'_>,
     ahead: Ahead,
 ) -> Result<bool, NoMemory> {
     let mut node = innermost;
     loop {
-        match next_if_any(grammar, &mut node) {
+        match next_if_any(language.grammar, &mut node) {
             Some(Item::Terminal(terminal)) => return Ok(can_take(parser, terminal, ahead)),
             Some(Item::Symbol(symbol)) => {
-                let Some(inner) = node_at(tables, symbol, ahead, 0) else {
+                let Some(inner) = node_at(language.tables, symbol, ahead, 0) else {
                     return Ok(false);
                 };
                 let Ok(()) = parser.has_room() else {
@@ -129,48 +128,53 @@ fn can_accept(
     }
 }
 
-/// Returns whether a look-ahead can follow the tokens that a parser has taken, with its innermost
-/// open node, if any.
+/// A parser that has taken some tokens of a sentence, and its innermost open node. No node is open
+/// before the first token, since that token chooses the root's production, and after the root's end.
+#[derive(Drop)]
+struct Position<'t> {
+    parser: Parser<'t>,
+    innermost: Option<OpenProduction>,
+}
+
+/// Returns whether a look-ahead can follow the tokens before a position.
 fn can_follow(
     alloc: Global,
-    grammar: &Grammar,
-    tables: &Tables,
+    language: &Language<'_>,
     sentence: &Sentence<'_>,
-    before: &Parser<'_>,
-    innermost: Option<OpenProduction>,
+    position: &Position<'_>,
     ahead: Ahead,
 ) -> Result<bool, NoMemory> {
+    let before = &position.parser;
     let mut trial = Parser::new(alloc, sentence);
     trial.waiting = before.waiting.clone()?;
     trial.count = before.count;
-    let node = match innermost {
+    let start = language.grammar.start();
+    let node = match position.innermost {
         Some(node) => Some(node),
-        None if before.tokens.taken() == 0 => node_at(tables, grammar.start(), ahead, 0),
+        None if before.tokens.taken() == 0 => node_at(language.tables, start, ahead, 0),
         None => return Ok(ahead == Ahead::End),
     };
     match node {
-        Some(node) => can_accept(&mut trial, node, grammar, tables, ahead),
+        Some(node) => can_accept(&mut trial, node, language, ahead),
         None => Ok(false),
     }
 }
 
-/// Returns all look-aheads that can follow the tokens that a parser has taken, in their order.
+/// Returns all look-aheads that can follow the tokens before a position, in their order.
 fn expected_after(
     alloc: Global,
-    grammar: &Grammar,
-    tables: &Tables,
+    language: &Language<'_>,
     sentence: &Sentence<'_>,
-    before: &Parser<'_>,
-    innermost: Option<OpenProduction>,
+    position: &Position<'_>,
 ) -> Result<Vec<Ahead>, NoMemory>
-    ensures { IfOk result (λ aheads. All
-        (λ ahead. is_known (length grammar.now.literals) ahead ≡ true) aheads.items) }
+    ensures { IfOk result (λ aheads. All (λ ahead. is_known
+        (length language.now.grammar.now.literals) ahead ≡ true) aheads.items) }
 {
     let mut expected = Vec::new(alloc);
-    let sizes = Sizes::of(grammar);
+    let sizes = Sizes::of(language.grammar);
     for index in 0..sizes.aheads() {
         let ahead = sizes.ahead(index);
-        if can_follow(alloc, grammar, tables, sentence, before, innermost, ahead)? {
+        if can_follow(alloc, language, sentence, position, ahead)? {
             expected.push(ahead)?;
         }
     }
@@ -194,12 +198,11 @@ pub struct StuckPlace<'t> {
 /// `parse` fails with P1 there: the next token can't be taken, or the sentence can't end.
 fn run_until_stuck<'t>(
     alloc: Global,
-    grammar: &Grammar,
-    tables: &Tables,
+    language: &Language<'_>,
     sentence: &'t Sentence<'_>,
 ) -> Result<(Parser<'t>, bool), NoMemory> {
     let mut parser = Parser::new(alloc, sentence);
-    let refused = match start_until(&mut parser, grammar, tables, usize::MAX) {
+    let refused = match start_until(&mut parser, language, usize::MAX) {
         Ok(_) => parser.tokens.ahead().is_some(),
         Err(ParseFault::Unexpected(_)) => true,
         Err(ParseFault::NoMemory) => return Err(NoMemory::NoMemory),
@@ -208,22 +211,23 @@ fn run_until_stuck<'t>(
     Ok((parser, refused))
 }
 
-/// Runs a parser until it has taken `count` tokens, without looking at the next one. Returns it and
-/// its innermost open node; `None` before the first token, since the next one chooses the root's
-/// production.
-fn parser_after<'t>(
+/// Returns the position after the first `count` tokens, without looking at the next one. Fails as the
+/// parser does.
+fn position_after<'t>(
     alloc: Global,
-    grammar: &Grammar,
-    tables: &Tables,
+    language: &Language<'_>,
     sentence: &'t Sentence<'_>,
     count: usize,
-) -> Result<(Parser<'t>, Option<OpenProduction>), ParseFault> {
+) -> Result<Position<'t>, ParseFault> {
     let mut parser = Parser::new(alloc, sentence);
     if count == 0 {
-        return Ok((parser, None));
+        return Ok(Position {
+            parser,
+            innermost: None,
+        });
     }
-    let innermost = start_until(&mut parser, grammar, tables, count)?;
-    Ok((parser, innermost))
+    let innermost = start_until(&mut parser, language, count)?;
+    Ok(Position { parser, innermost })
 }
 
 /// Returns the place where `parse` rejects this sentence with P1, and the look-aheads expected
@@ -244,7 +248,8 @@ pub fn expected_at<'t>(
         (λ ahead. is_known (length grammar.now.literals) ahead ≡ true) stuck.expected.items) }
 {
     let expected = Vec::new(alloc);
-    let (parser, refused) = run_until_stuck(alloc, grammar, tables, sentence)?;
+    let language = Language { grammar, tables };
+    let (parser, refused) = run_until_stuck(alloc, &language, sentence)?;
     let index = parser.tokens.taken();
     let found = parser.tokens.ahead();
     if !refused {
@@ -254,8 +259,8 @@ pub fn expected_at<'t>(
             expected,
         });
     }
-    let (before, innermost) = match parser_after(alloc, grammar, tables, sentence, index) {
-        Ok(following) => following,
+    let position = match position_after(alloc, &language, sentence, index) {
+        Ok(position) => position,
         Err(ParseFault::NoMemory) => return Err(NoMemory::NoMemory),
         Err(_) => {
             return Ok(StuckPlace {
@@ -268,6 +273,6 @@ pub fn expected_at<'t>(
     Ok(StuckPlace {
         index,
         found,
-        expected: expected_after(alloc, grammar, tables, sentence, &before, innermost)?,
+        expected: expected_after(alloc, &language, sentence, &position)?,
     })
 }

@@ -104,23 +104,30 @@ pub(crate) fn new_node(
     }
 }
 
+/// A token of a class, which is a leaf of the tree: its class, and its text.
+#[derive(Clone, Copy)]
+struct Leaf<'t> {
+    class: u16,
+    lex: &'t str,
+}
+
 /// Appends the record of a leaf, and keeps its text after the others.
 #[inline(always)]
 fn put_leaf<D: Device>(
     alloc: Global,
-    class: u16,
-    lex: &str,
+    leaf: &Leaf<'_>,
     texts: &mut Vec<Value>,
     device: &mut D,
     writer: &mut Writer,
 ) -> Result<(), ParseFault>
-    requires text { IsTokenText lex.now }
+    requires text { IsTokenText leaf.now.lex.now }
     requires room { writer.old.written < max_nodes }
     requires fine { writer.old.is_broken ≡ false }
     ensures frame { OnOk result (WhenHonest (D.is_honest device.new)
-        (D.content device.new ≡ D.content device.old ++ leaf_frame class lex.now)) }
+        (D.content device.new ≡ D.content device.old
+        ++ leaf_frame leaf.now.class leaf.now.lex.now)) }
     ensures kept { OnOk result
-        (texts.new.items ≡ texts.old.items ++ Value.Text lex.now ∷ []) }
+        (texts.new.items ≡ texts.old.items ++ Value.Text leaf.now.lex.now ∷ []) }
     ensures counted { OnOk result
         (writer.new ≡ record writer.old { written = writer.old.written + 1 }) }
     ensures adds { WhenHonest (D.is_honest device.new)
@@ -129,8 +136,8 @@ fn put_leaf<D: Device>(
     ensures device { BreaksWriter D.is_honest D.failures device.old device.new
         writer.new.is_broken (IsErrOf result ParseFault.Device) }
 {
-    let values = [Value::Text(Text::from_str(alloc, lex)?)];
-    writer.put(device, Kind::Token, class, &values)?;
+    let values = [Value::Text(Text::from_str(alloc, leaf.lex)?)];
+    writer.put(device, Kind::Token, leaf.class, &values)?;
     let [text] = values;
     texts.push(text).map_err(|_| ParseFault::NoMemory)?;
     Ok(())
@@ -289,7 +296,8 @@ impl<'t> Parser<'t> {
         let lex = expect(&self.tokens, terminal)?;
         if let Terminal::Class(class) = terminal {
             self.has_room()?;
-            put_leaf(alloc, class, lex, &mut self.texts, device, writer)?;
+            let leaf = Leaf { class, lex };
+            put_leaf(alloc, &leaf, &mut self.texts, device, writer)?;
             self.count += 1;
         }
         self.tokens.advance();

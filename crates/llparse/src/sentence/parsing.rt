@@ -17,6 +17,7 @@ ghost use Rattle.llparse.specs.sentence.Sentences.{words_of, IsTreeWith};
 ghost use Rattle.llparse.specs.sentence.Sentences.{IsUnexpectedAt, LeavesOnlyDeeper, LeavesOnlyLarger};
 ghost use Rattle.llparse.specs.table.Tables.{FitsGrammar};
 
+use crate::sentence::language::Language;
 use crate::sentence::parse_fault::ParseFault;
 use crate::sentence::parser::{Parser, new_node, next_item, put_node};
 use crate::sentence::tokens::unexpected;
@@ -31,20 +32,19 @@ use treefile::{Device, Writer};
 #[inline(never)]
 fn run<D: Device>(
     alloc: Global,
-    grammar: &Grammar,
-    tables: &Tables,
+    language: &Language<'_>,
     sentence: &Sentence<'_>,
     device: &mut D,
     writer: &mut Writer,
 ) -> Result<u32, ParseFault>
-    requires tables { FitsGrammar grammar.now tables.now }
-    requires tokens { FitAll (vocabulary_of grammar.now) sentence.now }
+    requires tables { FitsGrammar language.now.grammar.now language.now.tables.now }
+    requires tokens { FitAll (vocabulary_of language.now.grammar.now) sentence.now }
     requires begun { writer.old ≡ record { written = 0; is_broken = false } }
-    ensures parsed { IfOk result (λ count. IsParsed (task_of grammar.now sentence.now
+    ensures parsed { IfOk result (λ count. IsParsed (task_of language.now.grammar.now sentence.now
         (D.is_honest device.new) (D.content device.old)) count (D.content device.new)) }
     ensures written { IfOk result (λ count. writer.new
         ≡ record { written = count; is_broken = false }) }
-    ensures refused { IfErr result (IsRefused (task_of grammar.now sentence.now
+    ensures refused { IfErr result (IsRefused (task_of language.now.grammar.now sentence.now
         (D.is_honest device.new) (D.content device.old)) (offset_at sentence.now)) }
     ensures left { IfErr result (λ fault. WhenHonest (D.is_honest device.new)
         (AddsFrames (D.content device.old) (D.content device.new) (Err fault))) }
@@ -52,13 +52,14 @@ fn run<D: Device>(
         writer.new.is_broken (IsErrOf result ParseFault.Device) }
 {
     let mut parser = Parser::new(alloc, sentence);
-    let mut node = new_node(tables, &parser.tokens, grammar.start(), 0)?;
+    let start = language.grammar.start();
+    let mut node = new_node(language.tables, &parser.tokens, start, 0)?;
     loop {
-        match next_item(grammar, &mut node) {
+        match next_item(language.grammar, &mut node) {
             Some(Item::Terminal(terminal)) => {
                 parser.take(alloc, terminal, device, writer)?;
             }
-            Some(Item::Symbol(symbol)) => node = parser.open(tables, node, symbol)?,
+            Some(Item::Symbol(symbol)) => node = parser.open(language.tables, node, symbol)?,
             None => {
                 let texts = parser.texts_from(node.base);
                 put_node(node.production, texts, device, writer)?;
@@ -138,5 +139,6 @@ pub fn parse<D: Device>(
     ensures device { BreaksWriter D.is_honest D.failures device.old device.new
         writer.new.is_broken (IsErrOf result ParseFault.Device) }
 {
-    run(alloc, grammar, tables, sentence, device, writer)
+    let language = Language { grammar, tables };
+    run(alloc, &language, sentence, device, writer)
 }

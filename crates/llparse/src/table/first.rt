@@ -1,21 +1,17 @@
-//! The items with a look-ahead in FIRST. The starting items of a right side are those up to the
-//! first that is not nullable, with that one. Edges go from each starting item to the left side.
-//! The marked nodes are those that edges reach from the look-ahead.
-ghost use Rattle.std.specs.Prelude.{◌≡◌, ◌≤◌, length, take, IfOk, OnOk};
+//! The edges for FIRST. The starting items of a right side are those up to the first that is not
+//! nullable, with that one. Edges go from each starting item to the left side, so that the nodes with a
+//! look-ahead in FIRST are those that edges reach from the look-ahead.
+ghost use Rattle.std.specs.Prelude.{◌≡◌, ◌≤◌, length, take, OnOk};
 ghost use Rattle.closure.specs.Following.{is_marked};
 ghost use Rattle.ag_grammar.specs.declared.grammar.Item.{Item as AnItem};
-ghost use Rattle.llparse.specs.table.Edges.{starting_items, AddsEdges, AreFirstMarks, AreFirstEdges};
-ghost use Rattle.llparse.specs.table.Edges.{IsEdge, IsKnownAhead, IsOver, OfSome};
-ghost use Rattle.llparse.specs.table.Nullable.{AreNullableMarks};
+ghost use Rattle.llparse.specs.table.Edges.{starting_items, AddsEdges, IsEdge, OfSome};
 ghost use Rattle.llparse.specs.table.Nodes.{node_by};
 
-use crate::ahead::Ahead;
 use crate::table::nodes::Sizes;
 use crate::table::nullable::is_nullable_item;
-use ag_grammar::{Grammar, Item};
+use ag_grammar::Item;
 use ag_value::NoMemory;
-use closure::{Clauses, Edge};
-use std::alloc::Global;
+use closure::Edge;
 
 /// Adds an edge from one node to another.
 pub(crate) fn add_edge(edges: &mut Vec<Edge>, from: usize, to: usize) -> Result<(), NoMemory>
@@ -52,24 +48,4 @@ pub(crate) fn add_first_edges(
         add_edge(edges, sizes.node(*item), left)?;
     }
     Ok(())
-}
-
-/// Returns the marks of the items with a look-ahead in FIRST (of a terminal, itself). Fails with
-/// `NoMemory` if memory is refused.
-pub(crate) fn first_marks(
-    alloc: Global,
-    grammar: &Grammar,
-    nullable: &[bool],
-    edges: &Clauses,
-    ahead: Ahead,
-) -> Result<Vec<bool>, NoMemory>
-    requires nullable { AreNullableMarks grammar.now nullable.now }
-    requires edges { IsOver grammar.now (AreFirstEdges grammar.now nullable.now) edges.now }
-    requires known { IsKnownAhead grammar.now ahead }
-    ensures { IfOk result (λ marks. AreFirstMarks grammar.now ahead marks.items) }
-{
-    let sizes = Sizes::of(grammar);
-    let node = sizes.symbols as usize + sizes.index(ahead);
-    let marks = edges.closure(alloc, &[node])?;
-    Ok(marks)
 }

@@ -1,12 +1,11 @@
-//! The symbols with a look-ahead in FOLLOW. Seeds are the items after which the look-ahead can come
-//! within a right side, and for the end the start symbol. Edges go from a left side to each item
-//! after which all items are nullable. The marked nodes are those that edges reach from the seeds.
-ghost use Rattle.std.specs.Prelude.{◌≡◌, ◌<◌, ◌↔◌, ◌&&◌, ◌||◌, true, false, length};
+//! The edges and the seeds for FOLLOW. Seeds are the items after which a look-ahead can come within a
+//! right side, and for the end the start symbol. Edges go from a left side to each item after which all
+//! items are nullable, so that the symbols with the look-ahead in FOLLOW are those that edges reach
+//! from the seeds.
+ghost use Rattle.std.specs.Prelude.{◌≡◌, ◌↔◌, ◌&&◌, ◌||◌, true};
 ghost use Rattle.std.specs.Prelude.{Contains, IfOk, OnOk};
-ghost use Rattle.llparse.specs.table.CanStart.{AreFollowMarks, AreFollowSeeds, AreFollowEdges, IsLastEdge};
-ghost use Rattle.llparse.specs.table.CanStart.{IsSeedNode};
-ghost use Rattle.llparse.specs.table.Edges.{Adds, AddsEdges, AreFirstMarks, IsEdge, IsOver};
-ghost use Rattle.llparse.specs.table.Nullable.{is_nullable_item, AreNullableMarks};
+ghost use Rattle.llparse.specs.table.CanStart.{AreFollowSeeds, IsLastEdge, IsSeedNode};
+ghost use Rattle.llparse.specs.table.Edges.{Adds, AddsEdges, IsEdge};
 ghost use Rattle.closure.specs.Following.{is_marked};
 ghost use Rattle.llparse.specs.declared.ahead.Ahead.TheVariants as look;
 
@@ -16,7 +15,7 @@ use crate::table::nodes::Sizes;
 use crate::table::nullable::is_nullable_item;
 use ag_grammar::{Grammar, Item};
 use ag_value::NoMemory;
-use closure::{Clauses, Edge};
+use closure::Edge;
 use std::alloc::Global;
 
 /// Returns whether a number has a mark; no number beyond the list has one.
@@ -66,7 +65,7 @@ pub(crate) fn add_follow_edges(
 }
 
 /// Adds a seed if `wanted`.
-fn add_seed_if(seeds: &mut Vec<usize>, seed: usize, wanted: bool) -> Result<(), NoMemory>
+pub(crate) fn add_seed_if(seeds: &mut Vec<usize>, seed: usize, wanted: bool) -> Result<(), NoMemory>
     ensures { OnOk result (Adds (λ t. (wanted ≡ true) × (t ≡ seed)) (Contains seeds.old.items)
         (Contains seeds.new.items)) }
 {
@@ -102,7 +101,7 @@ fn add_seeds(
 }
 
 /// Returns whether a look-ahead is the end.
-fn is_end(ahead: Ahead) -> bool
+pub(crate) fn is_end(ahead: Ahead) -> bool
     ensures { result ≡ true ↔ ahead ≡ look.End }
 {
     match ahead {
@@ -113,7 +112,7 @@ fn is_end(ahead: Ahead) -> bool
 
 /// Returns the nodes of all items after which the rest of a right side can start with the
 /// look-ahead whose FIRST marks are `in_first`.
-fn follow_seeds(
+pub(crate) fn follow_seeds(
     alloc: Global,
     grammar: &Grammar,
     nullable: &[bool],
@@ -135,25 +134,4 @@ fn follow_seeds(
         )?;
     }
     Ok(seeds)
-}
-
-/// Returns the marks of the symbols with a look-ahead in FOLLOW, from the marks of the nodes with
-/// it in FIRST. Fails with `NoMemory` if memory is refused.
-pub(crate) fn follow_marks(
-    alloc: Global,
-    grammar: &Grammar,
-    nullable: &[bool],
-    in_first: &[bool],
-    edges: &Clauses,
-    ahead: Ahead,
-) -> Result<Vec<bool>, NoMemory>
-    requires nullable { AreNullableMarks grammar.now nullable.now }
-    requires first { AreFirstMarks grammar.now ahead in_first.now }
-    requires edges { IsOver grammar.now (AreFollowEdges grammar.now nullable.now) edges.now }
-    ensures { IfOk result (λ marks. AreFollowMarks grammar.now ahead marks.items) }
-{
-    let mut seeds = follow_seeds(alloc, grammar, nullable, in_first)?;
-    add_seed_if(&mut seeds, grammar.start() as usize, is_end(ahead))?;
-    let marks = edges.closure(alloc, seeds.as_slice())?;
-    Ok(marks)
 }

@@ -1,12 +1,12 @@
 //! The productions that a look-ahead predicts.
 ghost use Rattle.std.specs.Prelude.{◌≡◌, length, IfOk};
-ghost use Rattle.llparse.specs.table.CanStart.{can_start_by, AreFollowEdges};
-ghost use Rattle.llparse.specs.table.Edges.{AreFirstEdges, IsKnownAhead};
+ghost use Rattle.llparse.specs.table.CanStart.{can_start_by, AreFollowEdges, AreFollowMarks};
+ghost use Rattle.llparse.specs.table.Edges.{AreFirstEdges, AreFirstMarks, IsKnownAhead};
 ghost use Rattle.llparse.specs.table.Predicted.{ArePredicted, AreSets};
 
 use crate::ahead::Ahead;
-use crate::table::first::{add_first_edges, first_marks, starting_items_len};
-use crate::table::follow::{add_follow_edges, follow_marks, is_marked};
+use crate::table::first::{add_first_edges, starting_items_len};
+use crate::table::follow::{add_follow_edges, add_seed_if, follow_seeds, is_end, is_marked};
 use crate::table::nodes::Sizes;
 use crate::table::nullable::{is_nullable_item, nullable};
 use ag_grammar::{Grammar, Item};
@@ -89,6 +89,44 @@ impl Sets {
         })
     }
 
+    /// Returns the marks of the nodes with a look-ahead in FIRST (of a terminal, itself). Fails with
+    /// `NoMemory` if memory is refused.
+    fn first_marks(
+        &self,
+        alloc: Global,
+        grammar: &Grammar,
+        ahead: Ahead,
+    ) -> Result<Vec<bool>, NoMemory>
+        requires sets { AreSets grammar.now self.now }
+        requires known { IsKnownAhead grammar.now ahead }
+        ensures { IfOk result (λ marks. AreFirstMarks grammar.now ahead marks.items) }
+    {
+        let sizes = Sizes::of(grammar);
+        let node = sizes.symbols as usize + sizes.index(ahead);
+        let marks = self.first.closure(alloc, &[node])?;
+        Ok(marks)
+    }
+
+    /// Returns the marks of the symbols with a look-ahead in FOLLOW, from the marks of the nodes with
+    /// it in FIRST. Fails with `NoMemory` if memory is refused.
+    fn follow_marks(
+        &self,
+        alloc: Global,
+        grammar: &Grammar,
+        in_first: &[bool],
+        ahead: Ahead,
+    ) -> Result<Vec<bool>, NoMemory>
+        requires sets { AreSets grammar.now self.now }
+        requires first { AreFirstMarks grammar.now ahead in_first.now }
+        ensures { IfOk result (λ marks. AreFollowMarks grammar.now ahead marks.items) }
+    {
+        let nullable = self.nullable.as_slice();
+        let mut seeds = follow_seeds(alloc, grammar, nullable, in_first)?;
+        add_seed_if(&mut seeds, grammar.start() as usize, is_end(ahead))?;
+        let marks = self.follow.closure(alloc, seeds.as_slice())?;
+        Ok(marks)
+    }
+
     /// Returns the marks of the productions that a look-ahead predicts, by their numbers. Fails with
     /// `NoMemory` if memory is refused.
     pub(crate) fn predicted(
@@ -104,9 +142,9 @@ impl Sets {
     {
         let sizes = Sizes::of(grammar);
         let nullable = self.nullable.as_slice();
-        let in_first = first_marks(alloc, grammar, nullable, &self.first, ahead)?;
+        let in_first = self.first_marks(alloc, grammar, ahead)?;
         let in_first = in_first.as_slice();
-        let in_follow = follow_marks(alloc, grammar, nullable, in_first, &self.follow, ahead)?;
+        let in_follow = self.follow_marks(alloc, grammar, in_first, ahead)?;
         let in_follow = in_follow.as_slice();
         let productions = grammar.productions();
         let mut marks = Vec::new(alloc);

@@ -154,18 +154,18 @@ impl<'a> DirectionStrikes<'a> {
 
     /// Writes the first rules of the strikes that wait for no other, at most `MAX_NAMED_RULES`.
     fn write_named(&self, out: &mut String, source: &Source<'_>) -> Result<(), AllocError> {
-        let mut named = 0usize;
+        let mut rules_written = 0usize;
         for strike in self.strikes {
             let Some(obstacle) = self.obstacle(*strike) else {
                 continue;
             };
-            if named == MAX_NAMED_RULES {
+            if rules_written == MAX_NAMED_RULES {
                 break;
             }
-            let separator = if named == 0 { "" } else { "; " };
+            let separator = if rules_written == 0 { "" } else { "; " };
             out.push_str(separator)?;
             obstacle.write(out, source)?;
-            named = named.saturating_add(1);
+            rules_written = rules_written.saturating_add(1);
         }
         Ok(())
     }

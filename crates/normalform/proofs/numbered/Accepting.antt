@@ -355,7 +355,7 @@ accepted raw readable listed none =
       limits = limits raw readable further.1;
     }
 
--- if it is accepted there is no fault
+-- a raw grammar whose numbered grammar is accepted has no fault
 pub no_fault : (raw : RawGrammar) → IsAccepted (numbered raw) → HasNoFault raw
 no_fault raw accepted =
     let ss = symbols raw in

@@ -155,7 +155,7 @@ impl<'t> Declared<'t> {
     }
 
     /// Returns the number of the attribute that an occurrence names, or the number of attributes at
-    /// its place if there is no such attribute.
+    /// its place if none of them has the name.
     pub fn attribute(&self, items: &[PlacedItem], occurrence: &Occ) -> usize
         ensures { result ≡ (target_of self.now (map item_placed items.now) occurrence.now).attr }
     {

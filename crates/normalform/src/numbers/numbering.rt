@@ -1,11 +1,10 @@
 //! Numbering a raw grammar that is within the limits, so that numbers have 16 bits. The functions
 //! that allocate fail with `NoMemory` if memory is refused.
-ghost use Rattle.std.specs.Prelude.{◌≡◌, ◌<◌, ◌≤◌, length, map, filter, All, IfOk};
+ghost use Rattle.std.specs.Prelude.{◌≡◌, ◌<◌, map, filter, All, IfOk};
 ghost use Rattle.std.specs.List.{list_any};
-ghost use Rattle.ag_grammar.specs.grammars.Accepted.{max_symbols};
 ghost use Rattle.normalform.specs.faults.Faults.{IsSmall, IsListed, AreListedIn};
 ghost use Rattle.normalform.specs.numbers.Numbers as spec;
-ghost use Rattle.normalform.specs.numbers.Numbers.{symbol_names};
+ghost use Rattle.normalform.specs.numbers.Numbers.{symbol_names, symbol_of};
 ghost use Rattle.normalform.specs.faults.PlacedItem.{item_placed};
 
 use crate::faults::limits::literals_of;
@@ -13,7 +12,8 @@ use crate::faults::placed::{PlacedItem, places_of};
 use crate::numbers::declared::Declared;
 use crate::numbers::names::Names;
 use ag_grammar::{
-    Item, Occ, Production, RawItem, RawProduction, RawRule, Rule, Target, Terminal, occurrences,
+    Item, Occ, Production, RawItem, RawProduction, RawRule, RawSymbol, Rule, Target, Terminal,
+    occurrences,
 };
 use ag_value::{Items, NoMemory, Text};
 use std::alloc::Global;
@@ -26,157 +26,155 @@ fn to_u16(number: usize) -> u16
     number as u16
 }
 
-/// Numbers an item.
-fn item_of(declared: &Declared<'_>, literals: &Names<'_>, item: &RawItem) -> Item
-    requires { IsSmall declared.now literals.now }
-    ensures { result ≡ spec.item_of (symbol_names declared.now) literals.now item.now }
-{
-    match item {
-        RawItem::Name(name) => Item::Symbol(to_u16(declared.number(name.name.as_str()))),
-        RawItem::Literal(text) => {
-            Item::Terminal(Terminal::Literal(to_u16(literals.number(text.as_str()))))
+/// The numbers of a grammar's symbols, of their attributes and of its literals, looked up by name. They
+/// are within the limits, so that numbers have 16 bits.
+#[derive(Drop)]
+pub struct Numbering<'t> {
+    declared: Declared<'t>,
+    literals: Names<'t>,
+    ghost small: { IsSmall declared literals },
+}
+
+impl<'t> Numbering<'t> {
+    /// Makes the numbering of declared symbols and of the texts of literals.
+    pub fn new(
+        alloc: Global,
+        symbols: &'t [RawSymbol],
+        literals: &'t [Text],
+    ) -> Result<Numbering<'t>, NoMemory>
+        requires { IsSmall (map symbol_of symbols.now) literals.now }
+        ensures declared { IfOk result (λ n. n.declared ≡ map symbol_of symbols.now) }
+        ensures literals { IfOk result (λ n. n.literals ≡ literals.now) }
+    {
+        let declared = Declared::new(alloc, symbols)?;
+        let literals = names_of(alloc, literals)?;
+        Ok(Numbering { declared, literals })
+    }
+
+    /// Numbers an item.
+    fn item_of(&self, item: &RawItem) -> Item
+        ensures { result ≡ spec.item_of (symbol_names self.now.declared) self.now.literals item.now }
+    {
+        match item {
+            RawItem::Name(name) => Item::Symbol(to_u16(self.declared.number(name.name.as_str()))),
+            RawItem::Literal(text) => {
+                Item::Terminal(Terminal::Literal(to_u16(self.literals.number(text.as_str()))))
+            }
+            RawItem::Class(class) => Item::Terminal(Terminal::Class(*class)),
         }
-        RawItem::Class(class) => Item::Terminal(Terminal::Class(*class)),
     }
-}
 
-/// Numbers items.
-fn items_of(
-    alloc: Global,
-    declared: &Declared<'_>,
-    literals: &Names<'_>,
-    items: &[RawItem],
-) -> Result<Items<Item>, NoMemory>
-    requires { IsSmall declared.now literals.now }
-    ensures { IfOk result (λ xs. xs
-        ≡ map (spec.item_of (symbol_names declared.now) literals.now) items.now) }
-{
-    let mut numbered = Vec::new(alloc);
-    for item in items {
-        numbered.push(item_of(declared, literals, item))?;
+    /// Numbers items.
+    fn items_of(&self, alloc: Global, items: &[RawItem]) -> Result<Items<Item>, NoMemory>
+        ensures { IfOk result (λ xs. xs
+            ≡ map (spec.item_of (symbol_names self.now.declared) self.now.literals) items.now) }
+    {
+        let mut numbered = Vec::new(alloc);
+        for item in items {
+            numbered.push(self.item_of(item))?;
+        }
+        Ok(Items::from_vec(numbered))
     }
-    Ok(Items::from_vec(numbered))
-}
 
-/// Returns the place and the number of the attribute that an occurrence names.
-fn target_of(
-    declared: &Declared<'_>,
-    literals: &Names<'_>,
-    items: &[PlacedItem],
-    occurrence: &Occ,
-) -> Target
-    requires { IsSmall declared.now literals.now }
-    ensures { result ≡ spec.target_of declared.now (map item_placed items.now) occurrence.now }
-{
-    Target {
-        place: occurrence.place,
-        attr: to_u16(declared.attribute(items, occurrence)),
+    /// Returns the place and the number of the attribute that an occurrence names.
+    fn target_of(&self, items: &[PlacedItem], occurrence: &Occ) -> Target
+        ensures { result
+            ≡ spec.target_of self.now.declared (map item_placed items.now) occurrence.now }
+    {
+        Target {
+            place: occurrence.place,
+            attr: to_u16(self.declared.attribute(items, occurrence)),
+        }
     }
-}
 
-/// Returns the places and the numbers of the attributes that occurrences name.
-fn targets_of(
-    alloc: Global,
-    declared: &Declared<'_>,
-    literals: &Names<'_>,
-    items: &[PlacedItem],
-    occurrences: &[Occ],
-) -> Result<Items<Target>, NoMemory>
-    requires { IsSmall declared.now literals.now }
-    ensures { IfOk result (λ ts. ts
-        ≡ map (spec.target_of declared.now (map item_placed items.now)) occurrences.now) }
-{
-    let mut targets = Vec::new(alloc);
-    for occurrence in occurrences {
-        targets.push(target_of(declared, literals, items, occurrence))?;
+    /// Returns the places and the numbers of the attributes that occurrences name.
+    fn targets_of(
+        &self,
+        alloc: Global,
+        items: &[PlacedItem],
+        occurrences: &[Occ],
+    ) -> Result<Items<Target>, NoMemory>
+        ensures { IfOk result (λ ts. ts ≡ map
+            (spec.target_of self.now.declared (map item_placed items.now)) occurrences.now) }
+    {
+        let mut targets = Vec::new(alloc);
+        for occurrence in occurrences {
+            targets.push(self.target_of(items, occurrence))?;
+        }
+        Ok(Items::from_vec(targets))
     }
-    Ok(Items::from_vec(targets))
-}
 
-/// Numbers the target and the arguments of a rule; the expression is moved.
-fn rule_of(
-    alloc: Global,
-    declared: &Declared<'_>,
-    literals: &Names<'_>,
-    items: &[PlacedItem],
-    rule: RawRule,
-) -> Result<Rule, NoMemory>
-    requires { IsSmall declared.now literals.now }
-    ensures numbered { IfOk result (λ r. r
-        ≡ spec.rule_of declared.now (map item_placed items.now) rule) }
-    ensures listed { IfOk result (λ r. IsListed r) }
-{
-    let RawRule { target, expr } = rule;
-    let args = targets_of(alloc, declared, literals, items, occurrences(&expr))?;
-    let target = target_of(declared, literals, items, &target);
-    Ok(Rule { target, expr, args })
-}
-
-/// Numbers rules; the expressions are moved.
-fn rules_of(
-    alloc: Global,
-    declared: &Declared<'_>,
-    literals: &Names<'_>,
-    items: &[PlacedItem],
-    rules: Items<RawRule>,
-) -> Result<Items<Rule>, NoMemory>
-    requires { IsSmall declared.now literals.now }
-    ensures numbered { IfOk result (λ rs. rs
-        ≡ map (spec.rule_of declared.now (map item_placed items.now)) rules) }
-    ensures listed { IfOk result (λ rs. All IsListed rs) }
-{
-    let mut numbered = Vec::new(alloc);
-    for rule in rules.into_vec() {
-        numbered.push(rule_of(alloc, declared, literals, items, rule)?)?;
+    /// Numbers the target and the arguments of a rule; the expression is moved.
+    fn rule_of(&self, alloc: Global, items: &[PlacedItem], rule: RawRule) -> Result<Rule, NoMemory>
+        ensures numbered { IfOk result (λ r. r
+            ≡ spec.rule_of self.now.declared (map item_placed items.now) rule) }
+        ensures listed { IfOk result (λ r. IsListed r) }
+    {
+        let RawRule { target, expr } = rule;
+        let args = self.targets_of(alloc, items, occurrences(&expr))?;
+        let target = self.target_of(items, &target);
+        Ok(Rule { target, expr, args })
     }
-    Ok(Items::from_vec(numbered))
-}
 
-/// Numbers a production; the expressions are moved.
-fn production_of(
-    alloc: Global,
-    declared: &Declared<'_>,
-    literals: &Names<'_>,
-    production: RawProduction,
-) -> Result<Production, NoMemory>
-    requires { IsSmall declared.now literals.now }
-    ensures numbered { IfOk result (λ q. q
-        ≡ spec.production_of declared.now literals.now production) }
-    ensures listed { IfOk result (λ q. AreListedIn q) }
-{
-    let places = places_of(alloc, declared, &production)?;
-    let RawProduction { left, items, rules } = production;
-    let left = to_u16(declared.number(left.name.as_str()));
-    let items = items_of(alloc, declared, literals, items.as_slice())?;
-    let rules = rules_of(alloc, declared, literals, places.as_slice(), rules)?;
-    Ok(Production { left, items, rules })
-}
-
-/// Numbers productions; the expressions are moved.
-pub fn productions_of(
-    alloc: Global,
-    declared: &Declared<'_>,
-    literals: &Names<'_>,
-    productions: Items<RawProduction>,
-) -> Result<Items<Production>, NoMemory>
-    requires { IsSmall declared.now literals.now }
-    ensures numbered { IfOk result (λ qs. qs
-        ≡ map (spec.production_of declared.now literals.now) productions) }
-    ensures listed { IfOk result (λ qs. All AreListedIn qs) }
-{
-    let mut numbered = Vec::new(alloc);
-    for production in productions.into_vec() {
-        numbered.push(production_of(alloc, declared, literals, production)?)?;
+    /// Numbers rules; the expressions are moved.
+    fn rules_of(
+        &self,
+        alloc: Global,
+        items: &[PlacedItem],
+        rules: Items<RawRule>,
+    ) -> Result<Items<Rule>, NoMemory>
+        ensures numbered { IfOk result (λ rs. rs
+            ≡ map (spec.rule_of self.now.declared (map item_placed items.now)) rules) }
+        ensures listed { IfOk result (λ rs. All IsListed rs) }
+    {
+        let mut numbered = Vec::new(alloc);
+        for rule in rules.into_vec() {
+            numbered.push(self.rule_of(alloc, items, rule)?)?;
+        }
+        Ok(Items::from_vec(numbered))
     }
-    Ok(Items::from_vec(numbered))
-}
 
-/// Returns the number of the start symbol.
-pub fn start_of(declared: &Declared<'_>, name: &str) -> u16
-    requires { length declared.now ≤ max_symbols }
-    ensures { result ≡ spec.number_in (symbol_names declared.now) name.now }
-{
-    to_u16(declared.number(name))
+    /// Numbers a production; the expressions are moved.
+    fn production_of(
+        &self,
+        alloc: Global,
+        production: RawProduction,
+    ) -> Result<Production, NoMemory>
+        ensures numbered { IfOk result (λ q. q
+            ≡ spec.production_of self.now.declared self.now.literals production) }
+        ensures listed { IfOk result (λ q. AreListedIn q) }
+    {
+        let places = places_of(alloc, &self.declared, &production)?;
+        let RawProduction { left, items, rules } = production;
+        let left = to_u16(self.declared.number(left.name.as_str()));
+        let items = self.items_of(alloc, items.as_slice())?;
+        let rules = self.rules_of(alloc, places.as_slice(), rules)?;
+        Ok(Production { left, items, rules })
+    }
+
+    /// Numbers productions; the expressions are moved.
+    pub fn productions_of(
+        &self,
+        alloc: Global,
+        productions: Items<RawProduction>,
+    ) -> Result<Items<Production>, NoMemory>
+        ensures numbered { IfOk result (λ qs. qs
+            ≡ map (spec.production_of self.now.declared self.now.literals) productions) }
+        ensures listed { IfOk result (λ qs. All AreListedIn qs) }
+    {
+        let mut numbered = Vec::new(alloc);
+        for production in productions.into_vec() {
+            numbered.push(self.production_of(alloc, production)?)?;
+        }
+        Ok(Items::from_vec(numbered))
+    }
+
+    /// Returns the number of the start symbol.
+    pub fn start_of(&self, name: &str) -> u16
+        ensures { result ≡ spec.number_in (symbol_names self.now.declared) name.now }
+    {
+        to_u16(self.declared.number(name))
+    }
 }
 
 /// Returns the literals of productions as owned texts.
@@ -192,7 +190,7 @@ pub fn literal_texts(alloc: Global, productions: &[RawProduction]) -> Result<Ite
 }
 
 /// Returns texts with their numbers.
-pub fn names_of<'t>(alloc: Global, texts: &'t [Text]) -> Result<Names<'t>, NoMemory>
+fn names_of<'t>(alloc: Global, texts: &'t [Text]) -> Result<Names<'t>, NoMemory>
     ensures { IfOk result (λ names. names ≡ texts.now) }
 {
     let mut names = Names::new(alloc);

@@ -27,8 +27,8 @@ use Rattle.treefile.proofs.records.Fitting.{fits_version_two}
 use Rattle.treefile.proofs.records.Spelled.{one_token, same_node}
 use Rattle.backreader.specs.BackState.{BackState}
 use Rattle.passcode.specs.Course.{arity, place_of}
-use Rattle.planchecker.specs.courses.Settings.{Setting, pass_direction}
-use Rattle.planchecker.specs.courses.Sound.{IsSound}
+use Rattle.passcode.specs.Settings.{Setting, pass_direction}
+use Rattle.passcode.specs.Sound.{IsSound}
 use Rattle.passrun.specs.declared.run_fault.RunFault.{RunFault}
 use Rattle.passrun.specs.declared.run_fault.RunFault.TheVariants as fault
 use Rattle.passrun.specs.passing.Ahead.{IsRunFault, following, children_of, pending_of_child}

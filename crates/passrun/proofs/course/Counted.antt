@@ -18,8 +18,8 @@ use Rattle.treefile.specs.records.TreeFile.{version_two}
 use Rattle.passcode.specs.declared.phase.Phase.{Phase}
 use Rattle.passcode.specs.declared.phase.Phase.TheVariants.{Between, Got, Gone, Ended}
 use Rattle.passcode.specs.Course.{State, place_of}
-use Rattle.planchecker.specs.courses.Settings.{Setting, pass_direction}
-use Rattle.planchecker.specs.courses.Sound.{IsSound}
+use Rattle.passcode.specs.Settings.{Setting, pass_direction}
+use Rattle.passcode.specs.Sound.{IsSound}
 use Rattle.passassign.proofs.slots.Few.{few_rules}
 use Rattle.passrun.specs.declared.passing.open_node.OpenNode.{OpenNode}
 use Rattle.passrun.specs.passing.RunInvariant.{Transcript, Expects, IsCurrent, RunInvariant, IsRootReady, IsOpenNode, below}

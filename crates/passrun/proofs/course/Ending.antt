@@ -24,8 +24,8 @@ use Rattle.treefile.proofs.records.Values.{values_well}
 use Rattle.backreader.specs.BackState.{HasRead, BackState, IsOver, lent_body, progress_after}
 use Rattle.backreader.proofs.EndingAt.{all_bytes}
 use Rattle.passcode.specs.declared.phase.Phase.TheVariants.{Between}
-use Rattle.planchecker.specs.courses.Settings.{Setting}
-use Rattle.planchecker.specs.courses.Sound.{IsSound}
+use Rattle.passcode.specs.Settings.{Setting}
+use Rattle.passcode.specs.Sound.{IsSound}
 use Rattle.passrun.specs.declared.passing.machine.Machine.{Machine}
 use Rattle.passrun.specs.declared.passing.open_node.OpenNode.{OpenNode}
 use Rattle.passrun.specs.Damage.{IsReadable, source}

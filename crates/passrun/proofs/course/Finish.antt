@@ -17,8 +17,8 @@ use Rattle.treefile.specs.records.TreeFile.{version_two, file, frame, header}
 use Rattle.treefile.proofs.framing.Backward.{back_is_file, reads_whole}
 use Rattle.treefile.proofs.records.Orders.{length-prefix, turned}
 use Rattle.treefile.proofs.records.Records.{bodies_count}
-use Rattle.planchecker.specs.courses.Settings.{Setting, pass_direction}
-use Rattle.planchecker.specs.courses.Sound.{IsSound}
+use Rattle.passcode.specs.Settings.{Setting, pass_direction}
+use Rattle.passcode.specs.Sound.{IsSound}
 use Rattle.passrun.specs.Passed.{IsPassed}
 use Rattle.treefile.specs.framing.ExpectedRecords.{Pending}
 use Rattle.passrun.specs.passing.RunInvariant.{Transcript, IsRootReady, below, root_body}

@@ -18,7 +18,7 @@ use Rattle.ag_grammar.specs.grammars.Counts.{pass_rule_count, rules_of_pass, tot
 use Rattle.treefile.specs.records.Orders.{prefix, prefix_all, postfix, postfix_all}
 use Rattle.treefile.specs.records.Records.{bodies_of, bodies_of_all}
 use Rattle.treefile.specs.records.TreeFile.{version_two}
-use Rattle.planchecker.specs.courses.Settings.{Setting}
+use Rattle.passcode.specs.Settings.{Setting}
 use Rattle.passrun.specs.passing.Places.{Table, visited, Roots}
 
 -- A forest with one more tree at the end.

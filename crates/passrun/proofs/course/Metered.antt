@@ -1,8 +1,8 @@
 -- A finished pass ran no more rules than its records allow, for any devices.
 use Rattle.std.proofs.Common.{ℕ, ◌+◌, ◌^◌, ◌≤◌, Bool, List, None, Result, Ok, Err, length, ap, arith}
 use Rattle.std.specs.Prelude.{IfErr, OnErr, OnOk}
-use Rattle.planchecker.specs.courses.Settings.{Setting, pass_direction}
-use Rattle.planchecker.specs.courses.Sound.{IsSound}
+use Rattle.passcode.specs.Settings.{Setting, pass_direction}
+use Rattle.passcode.specs.Sound.{IsSound}
 use Rattle.passrun.specs.declared.passing.ends.Passed.{Passed}
 use Rattle.passrun.specs.declared.passing.machine.Machine.{Machine}
 use Rattle.passrun.specs.declared.run_fault.RunFault.{RunFault}

@@ -10,7 +10,7 @@ use Rattle.ag_grammar.specs.grammars.Passes.{IsLegal, Passes}
 use Rattle.ag_grammar.specs.grammars.Tree.{node_count}
 use Rattle.passassign.specs.Rows.{IsGreatest, passes_of}
 use Rattle.passcode.specs.Rows.{Lists}
-use Rattle.planchecker.specs.courses.Settings.{Setting, setting_of}
+use Rattle.passcode.specs.Settings.{Setting, setting_of}
 use Rattle.treefile.specs.devices.Device.{HasRisen, Persists, WhenHonest}
 use Rattle.treefile.specs.framing.Beginning.{BeginsFile, LeavesBeginning}
 use Rattle.treefile.specs.Runs.{RunsPass, RunsPasses}

@@ -13,8 +13,8 @@ use Rattle.backreader.specs.BackState.{BackState}
 use Rattle.passcode.specs.declared.instr.Instr.{Instr}
 use Rattle.passcode.specs.declared.instr.Instr.TheVariants as instr
 use Rattle.passcode.specs.Rows.{Lists}
-use Rattle.planchecker.specs.courses.Settings.{Setting, list_at}
-use Rattle.planchecker.specs.courses.Sound.{IsSound}
+use Rattle.passcode.specs.Settings.{Setting, list_at}
+use Rattle.passcode.specs.Sound.{IsSound}
 use Rattle.passrun.specs.declared.passing.machine.Machine.{Machine}
 use Rattle.passrun.specs.declared.passing.open_node.OpenNode.{OpenNode}
 use Rattle.passrun.specs.passing.Ahead.{goes_next}

@@ -1,5 +1,5 @@
 -- A pass of a plan can run.
-use Rattle.planchecker.proofs.courses.Sounding.{plans_are_sound}
+use Rattle.planchecker.proofs.Sounding.{plans_are_sound}
 use Rattle.passrun.specs.Laws.{PlansCanRun}
 
 pub plans_can_run : PlansCanRun

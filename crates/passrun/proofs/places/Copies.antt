@@ -16,7 +16,7 @@ use Rattle.ag_grammar.specs.grammars.Tree.{Tree, Forest, leaf, node, none, more,
 use Rattle.treefile.specs.framing.ExpectedRecords.{Child, children_with_copies}
 use Rattle.treefile.specs.records.Records.{copies_of, copy_of, left_synthesized, synthesized_passes, values_up_to}
 use Rattle.treefile.proofs.records.Values.{count_of_values}
-use Rattle.planchecker.specs.courses.Settings.{Setting}
+use Rattle.passcode.specs.Settings.{Setting}
 use Rattle.passrun.specs.passing.Change.{set, with_row}
 use Rattle.passrun.specs.passing.Places.{IsReached, AgreesSoFar, Table, copied_passes, copies, in_children}
 use Rattle.passrun.specs.reading.Reading.{AgreeAt}

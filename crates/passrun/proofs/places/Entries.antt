@@ -9,7 +9,7 @@ use Rattle.ag_grammar.specs.declared.grammar.Production.{Production}
 use Rattle.ag_grammar.specs.declared.grammar.Rule.{Rule}
 use Rattle.ag_grammar.specs.declared.grammar.Target.{Target}
 use Rattle.ag_grammar.specs.grammars.AttributeGrammar.{IsProduction, item_at, stored_items}
-use Rattle.planchecker.specs.courses.Settings.{Setting}
+use Rattle.passcode.specs.Settings.{Setting}
 use Rattle.passrun.specs.declared.layouts.building.PlaceRow.{PlaceRow}
 use Rattle.passrun.specs.declared.layouts.building.ProductionRow.{ProductionRow}
 use Rattle.passrun.specs.declared.layouts.building.RuleSlots.{RuleSlots}

@@ -15,7 +15,7 @@ use Rattle.ag_grammar.specs.grammars.AttributeGrammar.{Inherited, Synthesized, i
 use Rattle.ag_grammar.specs.grammars.Passes.{item_passes}
 use Rattle.treefile.specs.records.Records.{synthesized_count, values_up_to}
 use Rattle.treefile.specs.records.Listed.{count_up_to}
-use Rattle.planchecker.specs.courses.Settings.{Setting}
+use Rattle.passcode.specs.Settings.{Setting}
 use Rattle.passrun.specs.passing.Places.{Table, copied_passes, copies, in_children, place_passes, stored}
 use Rattle.passrun.specs.layouts.Slots.{argument_slot, copied_all, copied_before, copy_start, rank, stored_width}
 use Rattle.passrun.proofs.places.Tables.{same_values}

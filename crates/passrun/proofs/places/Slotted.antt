@@ -14,7 +14,7 @@ use Rattle.ag_grammar.specs.grammars.AttributeGrammar.{item_at, places_of, store
 use Rattle.treefile.specs.records.Records.{synthesized_count}
 use Rattle.treefile.proofs.records.Values.{few_counted}
 use Rattle.passcode.specs.declared.instr.Instr.{Instr}
-use Rattle.planchecker.specs.courses.Settings.{Setting, list_at}
+use Rattle.passcode.specs.Settings.{Setting, list_at}
 use Rattle.passrun.specs.declared.layouts.building.ProductionRow.{ProductionRow}
 use Rattle.passrun.specs.declared.layouts.building.PlaceRow.{PlaceRow}
 use Rattle.passrun.specs.declared.layouts.building.RuleSlots.{RuleSlots}

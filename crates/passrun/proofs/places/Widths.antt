@@ -15,8 +15,8 @@ use Rattle.treefile.specs.records.Records.{max_copied, max_copies}
 use Rattle.treefile.specs.records.TreeFile.{version_two}
 use Rattle.treefile.proofs.records.Fitting.{few_passes, fits_version_two}
 use Rattle.treefile.proofs.records.Values.{few_counted}
-use Rattle.planchecker.specs.courses.Settings.{Setting}
-use Rattle.planchecker.specs.courses.Sound.{IsSound}
+use Rattle.passcode.specs.Settings.{Setting}
+use Rattle.passcode.specs.Sound.{IsSound}
 use Rattle.passrun.specs.passing.Places.{copied_passes}
 use Rattle.passrun.specs.layouts.Slots.{copied_all, copied_width, stored_width}
 use Rattle.passrun.specs.layouts.BuiltLayouts.{AreWithin}

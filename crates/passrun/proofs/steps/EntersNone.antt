@@ -5,7 +5,7 @@ use Rattle.passcode.specs.declared.instr.Instr.{Instr}
 use Rattle.passcode.specs.declared.instr.Instr.TheVariants as instr
 use Rattle.passcode.specs.declared.phase.Phase.TheVariants.{Got}
 use Rattle.passcode.specs.Course.{Runs, State, after}
-use Rattle.planchecker.specs.courses.Settings.{Setting}
+use Rattle.passcode.specs.Settings.{Setting}
 use Rattle.passrun.specs.passing.Ahead.{goes_next}
 
 -- If no record was read since the pass left a child, or since the node's own record was read, the pass enters

@@ -18,8 +18,8 @@ use Rattle.passcode.specs.declared.phase.Phase.{Phase}
 use Rattle.passcode.specs.declared.phase.Phase.TheVariants.{Between, Gone}
 use Rattle.passcode.specs.Course.{MayCompute, Runs, arity, place_of}
 use Rattle.passcode.proofs.Turns.{is_stored_child}
-use Rattle.planchecker.specs.courses.Settings.{Setting, list_at, pass_direction}
-use Rattle.planchecker.specs.courses.Sound.{IsSound}
+use Rattle.passcode.specs.Settings.{Setting, list_at, pass_direction}
+use Rattle.passcode.specs.Sound.{IsSound}
 use Rattle.passrun.specs.declared.passing.open_node.OpenNode.{OpenNode}
 use Rattle.passrun.specs.passing.Ahead.{goes_next}
 use Rattle.passrun.specs.passing.RunInvariant.{IsCurrent, Transcript, RunInvariant, state_of}

@@ -7,8 +7,8 @@ use Rattle.ag_grammar.specs.declared.grammar.Production.{Production}
 use Rattle.ag_grammar.specs.grammars.AttributeGrammar.{IsProduction}
 use Rattle.passcode.specs.declared.instr.Instr.TheVariants as instr
 use Rattle.passcode.specs.Course.{place_of}
-use Rattle.planchecker.specs.courses.Settings.{Setting, list_at}
-use Rattle.planchecker.specs.courses.Sound.{IsSound}
+use Rattle.passcode.specs.Settings.{Setting, list_at}
+use Rattle.passcode.specs.Sound.{IsSound}
 use Rattle.passrun.specs.declared.passing.open_node.OpenNode.{OpenNode}
 use Rattle.passrun.specs.passing.Nodes.{first_at, left_at}
 use Rattle.passrun.specs.passing.RunInvariant.{RunInvariant, IsConsistent, ContinuesAs}

@@ -26,8 +26,8 @@ use Rattle.treefile.specs.framing.Writing as writing
 use Rattle.backreader.specs.BackState.{BackState}
 use Rattle.passcode.specs.declared.instr.Instr.TheVariants as instr
 use Rattle.passcode.specs.Rows.{Lists}
-use Rattle.planchecker.specs.courses.Settings.{Setting, list_at, setting_of}
-use Rattle.planchecker.specs.courses.Sound.{IsSound}
+use Rattle.passcode.specs.Settings.{Setting, list_at, setting_of}
+use Rattle.passcode.specs.Sound.{IsSound}
 use Rattle.passrun.specs.declared.layouts.building.PlaceRow.{PlaceRow}
 use Rattle.passrun.specs.declared.layouts.building.RuleSlots.{RuleSlots}
 use Rattle.passrun.specs.declared.passing.machine.Machine.{Machine}

@@ -25,8 +25,8 @@ use Rattle.passcode.specs.declared.phase.Phase.{Phase}
 use Rattle.passcode.specs.declared.phase.Phase.TheVariants.{Between, Got, Gone}
 use Rattle.passcode.specs.Course.{AreDone, IsFinal, arity, place_of, read_count}
 use Rattle.passcode.proofs.Turns.{one_turn, turn_of}
-use Rattle.planchecker.specs.courses.Settings.{Setting, pass_direction}
-use Rattle.planchecker.specs.courses.Sound.{IsSound}
+use Rattle.passcode.specs.Settings.{Setting, pass_direction}
+use Rattle.passcode.specs.Sound.{IsSound}
 use Rattle.passrun.specs.passing.Change.{with_row}
 use Rattle.passrun.specs.passing.RunInvariant.{Transcript, Keeps, Visited, IsHeld, IsOpenNode, IsReady, IsGone, after_reading}
 use Rattle.passrun.specs.passing.RunInvariant.{root_body, state_of}

@@ -14,8 +14,8 @@ use Rattle.ag_grammar.specs.grammars.Solution.{Valuation, Holds, Supplies}
 use Rattle.ag_grammar.specs.grammars.Tree.{Forest}
 use Rattle.passcode.specs.declared.phase.Phase.TheVariants.{Got}
 use Rattle.passcode.specs.Course.{IsTurnOf, MayCompute, State, arity, place_of, read_count}
-use Rattle.planchecker.specs.courses.Settings.{Setting, pass_direction}
-use Rattle.planchecker.specs.courses.Sound.{IsSound}
+use Rattle.passcode.specs.Settings.{Setting, pass_direction}
+use Rattle.passcode.specs.Sound.{IsSound}
 use Rattle.passrun.specs.passing.Change.{set}
 use Rattle.passrun.specs.passing.RunInvariant.{Transcript, Keeps, Visited, IsHeld, AreHeld, IsOpenNode, after_reading}
 use Rattle.passrun.specs.passing.Places.{IsReached, Table, leftmost}

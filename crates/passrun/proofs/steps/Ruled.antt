@@ -26,8 +26,8 @@ use Rattle.passcode.specs.Counts.{is_computation}
 use Rattle.passcode.specs.declared.phase.Phase.{Phase}
 use Rattle.passcode.specs.declared.phase.Phase.TheVariants.{Between, Got, Gone, Ended}
 use Rattle.passcode.specs.Course.{IsAvailable, IsFinal, MayCompute, Runs, State, place_of, run_count}
-use Rattle.planchecker.specs.courses.Settings.{Setting, list_at}
-use Rattle.planchecker.specs.courses.Sound.{IsSound}
+use Rattle.passcode.specs.Settings.{Setting, list_at}
+use Rattle.passcode.specs.Sound.{IsSound}
 use Rattle.passrun.specs.declared.layouts.building.RuleSlots.{RuleSlots}
 use Rattle.passrun.specs.declared.passing.open_node.OpenNode.{OpenNode}
 use Rattle.passrun.specs.passing.Ahead.{pending, pending_of_child}

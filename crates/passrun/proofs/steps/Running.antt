@@ -23,8 +23,8 @@ use Rattle.treefile.proofs.framing.Backward.{reads_on}
 use Rattle.treefile.proofs.records.Values.{values_well}
 use Rattle.backreader.specs.BackState.{BackState, IsOver}
 use Rattle.passcode.specs.declared.instr.Instr.TheVariants as instr
-use Rattle.planchecker.specs.courses.Settings.{Setting, list_at}
-use Rattle.planchecker.specs.courses.Sound.{IsSound}
+use Rattle.passcode.specs.Settings.{Setting, list_at}
+use Rattle.passcode.specs.Sound.{IsSound}
 use Rattle.passrun.specs.declared.passing.open_node.OpenNode.{OpenNode}
 use Rattle.passrun.specs.Damage.{AreRecords, IsReadable, source}
 use Rattle.passrun.specs.reading.Fetching.{HasFetched}

@@ -32,8 +32,8 @@ use Rattle.passcode.specs.declared.phase.Phase.TheVariants.{Between, Got, Gone}
 use Rattle.passcode.specs.Course.{MayCompute, MayRun, Runs, after_get, arity, place_of}
 use Rattle.passcode.proofs.Agreeing.{agrees}
 use Rattle.passcode.proofs.lists.Counting.{lists_evaluate_rules}
-use Rattle.planchecker.specs.courses.Settings.{Setting, pass_direction, list_at}
-use Rattle.planchecker.specs.courses.Sound.{IsSound}
+use Rattle.passcode.specs.Settings.{Setting, pass_direction, list_at}
+use Rattle.passcode.specs.Sound.{IsSound}
 use Rattle.passrun.specs.declared.passing.open_node.OpenNode.{OpenNode}
 use Rattle.passrun.specs.passing.Ahead.{following, children_of, pending_of_child}
 use Rattle.passrun.specs.passing.Change.{node_table, with_row}

@@ -1,6 +1,6 @@
 -- The context of a pass, and when it can run. All definitions are this project's.
-use Rattle.planchecker.specs.courses.Settings.{Setting, setting_of}
-use Rattle.planchecker.specs.courses.Sound.{IsSound}
+use Rattle.passcode.specs.Settings.{Setting, setting_of}
+use Rattle.passcode.specs.Sound.{IsSound}
 use Rattle.passrun.specs.declared.layouts.context.PassContext.{PassContext}
 use Rattle.passrun.specs.layouts.Layouts.{IsLayout}
 

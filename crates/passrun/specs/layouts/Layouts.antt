@@ -4,7 +4,7 @@ use Rattle.ag_grammar.specs.declared.grammar.Production.{Production}
 use Rattle.ag_grammar.specs.declared.grammar.Rule.{Rule}
 use Rattle.ag_grammar.specs.Lists.{AreRelated}
 use Rattle.ag_grammar.specs.grammars.AttributeGrammar.{IsProduction}
-use Rattle.planchecker.specs.courses.Settings.{Setting, list_at}
+use Rattle.passcode.specs.Settings.{Setting, list_at}
 use Rattle.passrun.specs.declared.layouts.building.ProductionRow.{ProductionRow}
 use Rattle.passrun.specs.declared.layouts.building.RuleSlots.{RuleSlots}
 use Rattle.passrun.specs.layouts.BuiltLayouts.{place_rows}

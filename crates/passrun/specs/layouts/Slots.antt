@@ -4,7 +4,7 @@ use Rattle.ag_grammar.specs.declared.grammar.Item.{Item}
 use Rattle.ag_grammar.specs.declared.grammar.Production.{Production}
 use Rattle.ag_grammar.specs.grammars.AttributeGrammar.{stored_items}
 use Rattle.treefile.specs.records.Listed.{count_up_to}
-use Rattle.planchecker.specs.courses.Settings.{Setting}
+use Rattle.passcode.specs.Settings.{Setting}
 use Rattle.passrun.specs.passing.Places.{copied_passes, place_passes}
 
 -- The index of the value of attribute a in a row that has the values of passes up to k: the number of attributes

@@ -8,7 +8,7 @@ use Rattle.passcode.specs.declared.instr.Instr.{Instr}
 use Rattle.passcode.specs.declared.instr.Instr.TheVariants as instr
 use Rattle.passcode.specs.declared.phase.Phase.{Phase}
 use Rattle.passcode.specs.declared.phase.Phase.TheVariants.{Between, Got, Gone, Ended}
-use Rattle.planchecker.specs.courses.Settings.{Setting, pass_direction}
+use Rattle.passcode.specs.Settings.{Setting, pass_direction}
 use Rattle.passrun.specs.declared.run_fault.RunFault.{RunFault}
 use Rattle.passrun.specs.declared.run_fault.RunFault.TheVariants as fault
 use Rattle.passrun.specs.Damage.{HasTooManyNodes, IsDamaged, IsTooDeep, source}

@@ -1,6 +1,6 @@
 -- A pass that runs between two devices, for the beginning and the end. All definitions are this project's.
 use Rattle.std.specs.Prelude.{ℕ, Bool, List, Option}
-use Rattle.planchecker.specs.courses.Settings.{Setting}
+use Rattle.passcode.specs.Settings.{Setting}
 use Rattle.passrun.specs.declared.passing.machine.Machine.{Machine}
 use Rattle.passrun.specs.declared.passing.open_node.OpenNode.{OpenNode}
 use Rattle.passrun.specs.passing.Running.{Runs}

@@ -15,7 +15,7 @@ use Rattle.ag_grammar.specs.grammars.Solution.{Valuation}
 use Rattle.treefile.specs.records.Records.{synthesized_passes, values_up_to}
 use Rattle.passcode.specs.declared.instr.Instr.{Instr}
 use Rattle.passcode.specs.Course.{IsVisited}
-use Rattle.planchecker.specs.courses.Settings.{Setting, list_at}
+use Rattle.passcode.specs.Settings.{Setting, list_at}
 use Rattle.passrun.specs.declared.passing.open_node.OpenNode.{OpenNode}
 
 -- The remaining instructions of a node.

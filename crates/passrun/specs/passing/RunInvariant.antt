@@ -25,7 +25,7 @@ use Rattle.passcode.specs.Course as course
 use Rattle.passcode.specs.declared.phase.Phase.{Phase}
 use Rattle.passcode.specs.declared.phase.Phase.TheVariants.{Between, Got, Gone, Ended}
 use Rattle.passcode.specs.Course.{State, IsAvailable, arity, place_of, read_count, run_count}
-use Rattle.planchecker.specs.courses.Settings.{Setting, pass_direction}
+use Rattle.passcode.specs.Settings.{Setting, pass_direction}
 use Rattle.passrun.specs.declared.passing.open_node.OpenNode.{OpenNode}
 use Rattle.passrun.specs.passing.Ahead.{following, pending}
 use Rattle.passrun.specs.passing.Places.{visited, Table, copies, in_children, rest_of, stored, IsReached, AgreesSoFar, Roots}

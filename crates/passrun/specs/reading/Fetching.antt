@@ -8,7 +8,7 @@ use Rattle.treefile.specs.framing.Backward.{before_frame, next_before}
 use Rattle.treefile.specs.devices.Device.{WhenHonest}
 use Rattle.treefile.specs.records.TreeFile.{version_two}
 use Rattle.backreader.specs.BackState.{IsOver, BackState}
-use Rattle.planchecker.specs.courses.Settings.{Setting}
+use Rattle.passcode.specs.Settings.{Setting}
 use Rattle.passrun.specs.declared.run_fault.RunFault.{RunFault}
 use Rattle.passrun.specs.declared.run_fault.RunFault.TheVariants as fault
 use Rattle.passrun.specs.reading.Reading.{IsRead, IsNoRecord}

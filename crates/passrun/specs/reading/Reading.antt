@@ -13,7 +13,7 @@ use Rattle.ag_grammar.specs.grammars.Tree.{IsTokenText}
 use Rattle.treefile.specs.records.Records.{values_up_to, node_body, token_body}
 use Rattle.treefile.specs.records.TreeFile.{body_from, version_two}
 use Rattle.treefile.specs.declared.body.Kind.TheVariants.{Node}
-use Rattle.planchecker.specs.courses.Settings.{Setting}
+use Rattle.passcode.specs.Settings.{Setting}
 use Rattle.passrun.specs.passing.Places.{Table, copied_passes, copies}
 
 -- The value of an attribute of a pass, in a list of the values of passes up to k.

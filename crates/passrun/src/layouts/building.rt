@@ -14,7 +14,7 @@ ghost use Rattle.passrun.specs.layouts.BuiltLayouts.{production_row, rule_slots_
 ghost use Rattle.passrun.specs.layouts.Slots.{stored_width};
 ghost use Rattle.passrun.specs.layouts.Starts.{AreLow, AreSmall, max_width};
 ghost use Rattle.planchecker.specs.Plans.{IsPlan};
-ghost use Rattle.planchecker.specs.courses.Settings.{list_at, setting_of};
+ghost use Rattle.passcode.specs.Settings.{list_at, setting_of};
 
 use crate::layouts::hints::Hints;
 use crate::layouts::rows::{copied_width, known_width, passes_at, rank_of, row_length, row_passes};

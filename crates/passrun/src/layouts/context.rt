@@ -8,7 +8,7 @@ ghost use Rattle.passrun.specs.layouts.Layouts.{IsRowAt};
 ghost use Rattle.passrun.specs.layouts.BuiltLayouts.{place_rows};
 ghost use Rattle.passrun.specs.passing.Places.{copied_passes};
 ghost use Rattle.passrun.specs.layouts.Slots.{stored_width};
-ghost use Rattle.planchecker.specs.courses.Settings.{list_at};
+ghost use Rattle.passcode.specs.Settings.{list_at};
 
 use crate::layouts::building::{PlaceRow, ProductionRow};
 use crate::layouts::hints::Hints;

@@ -8,7 +8,7 @@ ghost use Rattle.passassign.specs.Rows.{passes_of};
 ghost use Rattle.passrun.specs.passing.Places.{copied_passes, row_passes};
 ghost use Rattle.passrun.specs.layouts.Slots.{copied_width, known_width, rank};
 ghost use Rattle.passrun.specs.layouts.Starts.{AreSmall};
-ghost use Rattle.planchecker.specs.courses.Settings.{setting_of};
+ghost use Rattle.passcode.specs.Settings.{setting_of};
 ghost use Rattle.treefile.specs.records.Listed.{count_up_to};
 ghost use Rattle.treefile.specs.records.Records.{synthesized_passes};
 

@@ -12,7 +12,7 @@ ghost use Rattle.passrun.specs.passing.Putting.{AddsFrames, LeavesFrames};
 ghost use Rattle.passrun.specs.passing.Running.{RunsRuleNext, Runs, RunsAt, RunsFrom, RunsSomehow, RunsTo};
 ghost use Rattle.passrun.specs.passing.Running.{Leads, LeadsAt, LeadsFrom, LeadsTo};
 ghost use Rattle.passrun.specs.passing.Working.{measure};
-ghost use Rattle.planchecker.specs.courses.Settings.{list_at};
+ghost use Rattle.passcode.specs.Settings.{list_at};
 ghost use Rattle.treefile.specs.devices.Device.{LeavesContent, Persists, WhenHonest};
 ghost use Rattle.treefile.specs.devices.Several.{BothPersist};
 

@@ -8,7 +8,7 @@ ghost use Rattle.passrun.specs.passing.Ahead.{IsRunFault};
 ghost use Rattle.passrun.specs.layouts.Contexts.{CanRun, setting};
 ghost use Rattle.passrun.specs.Laws.{CountsPass};
 ghost use Rattle.passrun.specs.Passed.{IsPassed};
-ghost use Rattle.planchecker.specs.courses.Settings.{setting_of};
+ghost use Rattle.passcode.specs.Settings.{setting_of};
 ghost use Rattle.planchecker.specs.Plans.{IsPlan};
 ghost use Rattle.treefile.specs.framing.Beginning.{BeginsFile, LeavesBeginning};
 ghost use Rattle.treefile.specs.devices.Device.{LeavesContent, WhenHonest};

@@ -10,7 +10,7 @@ ghost use Rattle.passrun.specs.reading.Reading.{AreTaken, AreUntaken, IsNoNodeBo
 ghost use Rattle.passrun.specs.reading.Reading.{IsTaken, IsUntaken, IsNodeRead, IsNoNode, PrependsTo};
 ghost use Rattle.passrun.specs.reading.Reading.{IsTextOf, IsTokenRead, IsNoToken, IsRead, IsNoRecord};
 ghost use Rattle.passrun.specs.Faults.{record_fault_of};
-ghost use Rattle.planchecker.specs.courses.Settings.{setting_of};
+ghost use Rattle.passcode.specs.Settings.{setting_of};
 
 use crate::layouts::context::PassContext;
 use crate::layouts::hints::{ChildLocation, Hints, RowLocation};

@@ -1,6 +1,5 @@
 use Rattle.std.proofs.Common.{None, Some, arith}
 use Rattle.ag_scan.specs.Cutting.{leading_word_of}
-use Rattle.ag_scan.specs.Words.{vocabulary}
 use Rattle.ag_scan.proofs.Supplying.{prefix_exact, no_longer}
 use Rattle.ag_scan.proofs.tokens.next_word.Goals as goal
 
@@ -18,13 +17,13 @@ overflow_cast-result c = omega (arith, c.requires.has.tokens.readable.short)
 
 pub returns-in-Some-clause-next : goal.returns-in-Some-clause-next
 returns-in-Some-clause-next c =
-    prefix_exact (vocabulary c.args.literals.now c.args.classes.now) c.args.text.now c.args.following.now
+    prefix_exact c.args.vocabulary.now c.args.text.now c.args.following.now
     c.skip_separators-left.result.now c.requires.has c.requires.within c.utf8.following c.skip_separators-left.utf8
     c.skip_separators-left.ensures
     (Some (leading_word_of c.in-Some.next)) c.in-Some.ensures
 
 pub returns-in-None-clause-next : goal.returns-in-None-clause-next
 returns-in-None-clause-next c =
-    prefix_exact (vocabulary c.args.literals.now c.args.classes.now) c.args.text.now c.args.following.now
+    prefix_exact c.args.vocabulary.now c.args.text.now c.args.following.now
     c.skip_separators-left.result.now c.requires.has c.requires.within c.utf8.following c.skip_separators-left.utf8
     c.skip_separators-left.ensures None c.in-None.ensures

@@ -2,7 +2,6 @@ use Rattle.std.proofs.Common.{◌≤◌, length, option_map, IsUtf8, refl, subst
 use Rattle.ag_tokens.proofs.Lexed.{width-chars}
 use Rattle.ag_scan.specs.Cutting.{leading_word_of}
 use Rattle.ag_scan.specs.TokenReader.{TokenReader}
-use Rattle.ag_scan.specs.Words.{vocabulary}
 use Rattle.ag_scan.proofs.Supplying.{goes_on, none_next, none_there, counted}
 use Rattle.ag_scan.proofs.tokens.Tokens.advance.Goals as goal
 
@@ -19,11 +18,10 @@ overflow_add-self c =
 
 pub invariant_of-self : goal.invariant_of-self
 invariant_of-self c =
-    let v = vocabulary c.self.inside.literals.now c.self.inside.classes.now in
     let at = rw c.in-Some.is at c.self.invariant in
     let utf8 = subst IsUtf8 c.as_bytes-utf8.ensures.value c.as_bytes-utf8.ensures.utf8 in
     let seen = c.next_word-at in
-    goes_on v c.self.inside.text.now c.self.invariant.has c.self.inside.taken
+    goes_on c.self.inside.vocabulary.now c.self.inside.text.now c.self.invariant.has c.self.inside.taken
     (leading_word_of c.in-Some.next) c.self.inside.at c.in-Some.next.rest.now at refl utf8
     (option_map (λ f. leading_word_of f) seen.result.0) seen.result.1
     seen.ensures.next (λ none. seen.ensures.end (none_there seen.result.0 none))

@@ -2,7 +2,7 @@ use Rattle.std.proofs.Common.{◌≡◌, ◌+◌, ◌-◌, ◌∙◌, inl, inr, 
 use Rattle.std.proofs.lemmas.Result.{err_from_is_err_and}
 use Rattle.ag_grammar.specs.grammars.AttributeGrammar.{Grammar}
 use Rattle.passassign.specs.Rows.{IsGreatest, passes_of}
-use Rattle.planchecker.specs.courses.Settings.{setting_of}
+use Rattle.passcode.specs.Settings.{setting_of}
 use Rattle.passrun.specs.passing.Ahead.{IsRunFault}
 use Rattle.passrun.specs.Passed.{IsPassed}
 use Rattle.passrun.specs.Rounds.{HasRunAll}

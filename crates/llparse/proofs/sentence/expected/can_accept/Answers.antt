@@ -8,7 +8,7 @@ use Rattle.llparse.proofs.sentence.expected.can_accept.Goals as goal
 -- a node that is entered counts against the limit
 pub loop-terminal-smaller-in-Some-Symbol : goal.loop-terminal-smaller-in-Some-Symbol
 loop-terminal-smaller-in-Some-Symbol c =
-    let g = c.args.grammar.now in
+    let g = c.args.language.now.grammar.now in
     let p = c.loop-terminal.parser in
     let under = reverse p.waiting.items in
     let passed = c.in-Some-Symbol.ensures in

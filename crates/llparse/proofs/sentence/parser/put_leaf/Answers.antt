@@ -15,11 +15,11 @@ pub returns-in_err-put-clause-adds : goal.returns-in_err-put-clause-adds
 returns-in_err-put-clause-adds g c h =
     let p = err_from_is_err_and c.from_residual-in_err-put.result c.from_residual-in_err-put.ensures.1 in
     let x = c.in_ok-from_str.field-0 in
-    let same : x ≡ c.args.lex.now = cc c.in_ok-from_str.ensures in
+    let same : x ≡ c.args.leaf.now.lex.now = cc c.in_ok-from_str.ensures in
     rw p.1
     (one_refused ParseFault (g.D.Device.content c.args.device.now) (g.D.Device.content c.put.new.device)
-    (token_body c.args.class x) c.in_err-put.field-0.0 p.0
-    (of_leaf c.args.class x (text_well x (subst IsTokenText (sym same) c.requires.text)))
+    (token_body c.args.leaf.now.class x) c.in_err-put.field-0.0 p.0
+    (of_leaf c.args.leaf.now.class x (text_well x (subst IsTokenText (sym same) c.requires.text)))
     (λ failed. c.in_err-put.ensures.device (ap Err failed) h)
     (λ resource. c.in_err-put.ensures.memory (ap Err resource) h))
 
@@ -27,14 +27,14 @@ pub returns-in_err-map_err-clause-adds : goal.returns-in_err-map_err-clause-adds
 returns-in_err-map_err-clause-adds g c h =
     let p = err_from_is_err_and c.from_residual-in_err-map_err.result c.from_residual-in_err-map_err.ensures.1 in
     let x = c.in_ok-from_str.field-0 in
-    let same : x ≡ c.args.lex.now = cc c.in_ok-from_str.ensures in
+    let same : x ≡ c.args.leaf.now.lex.now = cc c.in_ok-from_str.ensures in
     rw p.1 (stopped (g.D.Device.content c.args.device.now) (g.D.Device.content c.put.new.device) p.0
-    (one_added ParseFault (g.D.Device.content c.args.device.now) (g.D.Device.content c.put.new.device) (token_body c.args.class x)
-    (of_leaf c.args.class x (text_well x (subst IsTokenText (sym same) c.requires.text))) (c.in_ok-put.ensures.frame h)))
+    (one_added ParseFault (g.D.Device.content c.args.device.now) (g.D.Device.content c.put.new.device) (token_body c.args.leaf.now.class x)
+    (of_leaf c.args.leaf.now.class x (text_well x (subst IsTokenText (sym same) c.requires.text))) (c.in_ok-put.ensures.frame h)))
 
 pub returns-clause-adds : goal.returns-clause-adds
 returns-clause-adds g c h =
     let x = c.in_ok-from_str.field-0 in
-    let same : x ≡ c.args.lex.now = cc c.in_ok-from_str.ensures in
-    one_added ParseFault (g.D.Device.content c.args.device.now) (g.D.Device.content c.put.new.device) (token_body c.args.class x)
-    (of_leaf c.args.class x (text_well x (subst IsTokenText (sym same) c.requires.text))) (c.in_ok-put.ensures.frame h)
+    let same : x ≡ c.args.leaf.now.lex.now = cc c.in_ok-from_str.ensures in
+    one_added ParseFault (g.D.Device.content c.args.device.now) (g.D.Device.content c.put.new.device) (token_body c.args.leaf.now.class x)
+    (of_leaf c.args.leaf.now.class x (text_well x (subst IsTokenText (sym same) c.requires.text))) (c.in_ok-put.ensures.frame h)

@@ -29,7 +29,7 @@ use Rattle.llparse.proofs.sentence.parsing.run.Goals as goal
 pub returns-in_err-node-clause-refused : goal.returns-in_err-node-clause-refused
 returns-in_err-node-clause-refused g c =
     let k =
-    task_of c.args.grammar.now c.args.sentence.now (g.D.Device.is_honest c.args.device.now)
+    task_of c.args.language.now.grammar.now c.args.sentence.now (g.D.Device.is_honest c.args.device.now)
     (g.D.Device.content c.args.device.now) in
     let p = err_from_is_err_and c.from_residual.result c.from_residual.ensures.1 in
     let made = c.new-parser.ensures.tokens in
@@ -37,16 +37,13 @@ returns-in_err-node-clause-refused g c =
     (stuck k.grammar c.args.sentence.now k.honest k.prefix 0 c.in_err-node.field-0.0
     (subst (λ (h : TokenReader). c.in_err-node.field-0.0 ≡ Unexpected (offset_at h.list h.taken)) made
     c.in_err-node.ensures.offset)
-    (turn.not_begun k c.args.tables.now c.requires.tables c.start.result c.start.ensures.value c.start.ensures.accepted
+    (turn.not_begun k c.args.language.now.tables.now c.requires.tables c.start-start.result c.start-start.ensures.value c.start-start.ensures.accepted
     (subst
-    (λ (h : TokenReader). choice_of c.args.tables.now c.start.result (ahead_of (drop h.taken (words_of h.list))) ≡ None)
+    (λ (h : TokenReader). choice_of c.args.language.now.tables.now c.start-start.result (ahead_of (drop h.taken (words_of h.list))) ≡ None)
     made c.in_err-node.ensures.none)))
 
 pub loop-terminal-init : goal.loop-terminal-init
 loop-terminal-init g c =
-    let k =
-    task_of c.args.grammar.now c.args.sentence.now (g.D.Device.is_honest c.args.device.now)
-    (g.D.Device.content c.args.device.now) in
     let made = c.new-parser.ensures in
     let none_waits = ap length made.waiting in
     let none_written = ap (λ (w : Progress). w.written) c.requires.begun in
@@ -54,44 +51,38 @@ loop-terminal-init g c =
     record {
       occurs =
           λ honest below.
-          turn.begun (task_of c.args.grammar.now c.args.sentence.now honest (g.D.Device.content c.args.device.now))
-          c.args.tables.now c.requires.tables c.start.result c.start.ensures.value c.in_ok-node.node c.new-parser.result
+          turn.begun (task_of c.args.language.now.grammar.now c.args.sentence.now honest (g.D.Device.content c.args.device.now))
+          c.args.language.now.tables.now c.requires.tables c.start-start.result c.start-start.ensures.value c.in_ok-node.node c.new-parser.result
           (omega arith) (omega arith) made.waiting made.texts
           (ap (λ (h : TokenReader). h.taken) made.tokens) made.count c.in_ok-node.ensures.begins
           c.in_ok-node.ensures.base
           (subst
-          (λ (h : TokenReader). choice_of c.args.tables.now c.start.result
+          (λ (h : TokenReader). choice_of c.args.language.now.tables.now c.start-start.result
           (ahead_of (drop h.taken (words_of h.list)))
           ≡ Some c.in_ok-node.node.production) made.tokens c.in_ok-node.ensures.chosen);
       written = omega arith;
       list = ap (λ (h : TokenReader). h.list) made.tokens;
       fine = ap (λ (w : Progress). w.is_broken) c.requires.begun;
-      frames = λ h. none_added ParseFault k.prefix (Ok tt);
+      frames = λ h. none_added ParseFault _ (Ok tt);
       persists = record { honest = λ h. h; kept = omega arith; bounded = λ h. h; cause = λ h. absurd h };
     }
 
 pub next_item-requires : goal.next_item-requires
 next_item-requires g c =
-    turn.within
-    (task_of c.args.grammar.now c.args.sentence.now (g.D.Device.is_honest c.loop-terminal.device)
-    (g.D.Device.content c.args.device.now)) c.loop-terminal.node c.loop-terminal.parser
-    (g.D.Device.content c.loop-terminal.device)
+    turn.within _ c.loop-terminal.node c.loop-terminal.parser _
     (c.loop-terminal.invariant.occurs (g.D.Device.is_honest c.loop-terminal.device) (λ h. h))
 
 -- after a terminal
 pub loop-terminal-smaller-in-Continue-branch-2 : goal.loop-terminal-smaller-in-Continue-branch-2
 loop-terminal-smaller-in-Continue-branch-2 g c =
     turn.smaller
-    (task_of c.args.grammar.now c.args.sentence.now (g.D.Device.is_honest c.args.device.now)
+    (task_of c.args.language.now.grammar.now c.args.sentence.now (g.D.Device.is_honest c.args.device.now)
     (g.D.Device.content c.args.device.now)) c.loop-terminal.node c.next_item.new.node c.in-Some-Terminal.field-0
     c.in-Some-Terminal.ensures c.loop-terminal.parser c.take.new.self c.in_ok-take-in-Some-Terminal.ensures.waiting
     c.in_ok-take-in-Some-Terminal.ensures.count
 
 pub loop-terminal-preserved-in-Continue-branch-2 : goal.loop-terminal-preserved-in-Continue-branch-2
 loop-terminal-preserved-in-Continue-branch-2 g c =
-    let k =
-    task_of c.args.grammar.now c.args.sentence.now (g.D.Device.is_honest c.args.device.now)
-    (g.D.Device.content c.args.device.now) in
     let inv = c.loop-terminal.invariant in
     let done = c.in_ok-take-in-Some-Terminal.ensures in
     let takes =
@@ -100,27 +91,21 @@ loop-terminal-preserved-in-Continue-branch-2 g c =
     (λ k. IsAtItem k (item.Terminal c.in-Some-Terminal.terminal) node c.loop-terminal.parser)
     (λ k. IsBetween k node c.take.new.self)) inv.list done.takes in
     record {
-      occurs = λ honest below. let k =
-          task_of c.args.grammar.now c.args.sentence.now honest (g.D.Device.content c.args.device.now) in
-          takes c.next_item.new.node honest below k.grammar k.prefix (c.start.ensures.accepted, c.requires.tokens)
-          (turn.faced k c.loop-terminal.node c.next_item.new.node c.in-Some-Terminal.field-0 c.in-Some-Terminal.ensures
-          (item.Terminal c.in-Some-Terminal.terminal) c.in-Some-Terminal.field-0-is c.loop-terminal.parser
-          (g.D.Device.content c.loop-terminal.device)
+      occurs =
+          λ honest below. takes c.next_item.new.node honest below _ _ (c.start-start.ensures.accepted, c.requires.tokens)
+          (turn.faced _ c.loop-terminal.node c.next_item.new.node c.in-Some-Terminal.field-0 c.in-Some-Terminal.ensures _
+          c.in-Some-Terminal.field-0-is c.loop-terminal.parser _
           (inv.occurs honest (λ h. done.device.persists.honest (below h))));
       written = done.written;
       list = done.list ∙ inv.list;
       fine = done.fine;
       frames =
-          λ h. added ParseFault k.prefix (g.D.Device.content c.loop-terminal.device) (g.D.Device.content c.take.new.device)
-          (Ok tt) (inv.frames (done.device.persists.honest h)) (done.adds h);
+          λ h. added ParseFault _ _ _ (Ok tt) (inv.frames (done.device.persists.honest h)) (done.adds h);
       persists = turn.persists_on _ _ _ _ _ _ inv.persists done.device.persists;
     }
 
 pub returns-in_err-take-in-Some-Terminal-clause-refused : goal.returns-in_err-take-in-Some-Terminal-clause-refused
 returns-in_err-take-in-Some-Terminal-clause-refused g c =
-    let k =
-    task_of c.args.grammar.now c.args.sentence.now (g.D.Device.is_honest c.take.new.device)
-    (g.D.Device.content c.args.device.now) in
     let p =
     err_from_is_err_and c.from_residual-in_err-take-in-Some-Terminal.result
     c.from_residual-in_err-take-in-Some-Terminal.ensures.1 in
@@ -130,56 +115,45 @@ returns-in_err-take-in-Some-Terminal-clause-refused g c =
     (λ ts. Refuses (FitsTokens ts) ts
     (λ k. IsAtItem k (item.Terminal c.in-Some-Terminal.terminal) c.next_item.new.node c.loop-terminal.parser)
     c.in_err-take-in-Some-Terminal.field-0.0) inv.list
-    (c.in_err-take-in-Some-Terminal.ensures.refuses c.next_item.new.node)) k.grammar k.honest k.prefix
-    (g.D.Device.content c.loop-terminal.device) (c.start.ensures.accepted, c.requires.tokens)
-    (turn.faced k c.loop-terminal.node c.next_item.new.node c.in-Some-Terminal.field-0 c.in-Some-Terminal.ensures
-    (item.Terminal c.in-Some-Terminal.terminal) c.in-Some-Terminal.field-0-is c.loop-terminal.parser
-    (g.D.Device.content c.loop-terminal.device)
-    (inv.occurs k.honest (λ h. c.in_err-take-in-Some-Terminal.ensures.device.persists.honest h))))
+    (c.in_err-take-in-Some-Terminal.ensures.refuses c.next_item.new.node)) _ _ _ _
+    (c.start-start.ensures.accepted, c.requires.tokens)
+    (turn.faced _ c.loop-terminal.node c.next_item.new.node c.in-Some-Terminal.field-0 c.in-Some-Terminal.ensures _
+    c.in-Some-Terminal.field-0-is c.loop-terminal.parser _
+    (inv.occurs (g.D.Device.is_honest c.take.new.device)
+    (λ h. c.in_err-take-in-Some-Terminal.ensures.device.persists.honest h))))
 
 -- after a symbol
 pub returns-in_err-node-in-Some-Symbol-clause-refused : goal.returns-in_err-node-in-Some-Symbol-clause-refused
 returns-in_err-node-in-Some-Symbol-clause-refused g c =
-    let k =
-    task_of c.args.grammar.now c.args.sentence.now (g.D.Device.is_honest c.loop-terminal.device)
-    (g.D.Device.content c.args.device.now) in
     let p =
     err_from_is_err_and c.from_residual-in_err-node-in-Some-Symbol.result
     c.from_residual-in_err-node-in-Some-Symbol.ensures.1 in
     let inv = c.loop-terminal.invariant in
     rw (p.1, p.2)
     ((subst
-    (λ ts. Refuses (FitsTables c.args.tables.now) ts
+    (λ ts. Refuses (FitsTables c.args.language.now.tables.now) ts
     (λ k. IsAtSymbol k c.in-Some-Symbol.symbol c.next_item.new.node c.loop-terminal.parser)
-    c.in_err-node-in-Some-Symbol.field-0.0) inv.list c.in_err-node-in-Some-Symbol.ensures.refuses) k.grammar
-    k.honest k.prefix (g.D.Device.content c.loop-terminal.device)
-    (c.start.ensures.accepted, c.requires.tables) (at_symbol k c.in-Some-Symbol.symbol _ _ _ _
-    (turn.faced k c.loop-terminal.node c.next_item.new.node c.in-Some-Symbol.field-0 c.in-Some-Symbol.ensures
-    (item.Symbol c.in-Some-Symbol.symbol) c.in-Some-Symbol.field-0-is c.loop-terminal.parser
-    (g.D.Device.content c.loop-terminal.device) (inv.occurs k.honest (λ h. h)))))
+    c.in_err-node-in-Some-Symbol.field-0.0) inv.list c.in_err-node-in-Some-Symbol.ensures.refuses) _ _ _ _
+    (c.start-start.ensures.accepted, c.requires.tables) (at_symbol _ c.in-Some-Symbol.symbol _ _ _ _
+    (turn.faced _ c.loop-terminal.node c.next_item.new.node c.in-Some-Symbol.field-0 c.in-Some-Symbol.ensures _
+    c.in-Some-Symbol.field-0-is c.loop-terminal.parser _
+    (inv.occurs (g.D.Device.is_honest c.loop-terminal.device) (λ h. h)))))
 
 pub loop-terminal-preserved-in-Some-Symbol : goal.loop-terminal-preserved-in-Some-Symbol
 loop-terminal-preserved-in-Some-Symbol g c =
-    let k =
-    task_of c.args.grammar.now c.args.sentence.now (g.D.Device.is_honest c.args.device.now)
-    (g.D.Device.content c.args.device.now) in
     let inv = c.loop-terminal.invariant in
     let written = inv.written in
     let counted = c.in_ok-node-in-Some-Symbol.ensures.counted in
     record {
-      occurs = λ honest below. let k =
-          task_of c.args.grammar.now c.args.sentence.now honest (g.D.Device.content c.args.device.now) in
-          (subst
-          (λ ts. Leads (FitsTables c.args.tables.now) ts
+      occurs =
+          λ honest below. (subst
+          (λ ts. Leads (FitsTables c.args.language.now.tables.now) ts
           (λ k. IsAtSymbol k c.in-Some-Symbol.symbol c.next_item.new.node c.loop-terminal.parser)
           (λ k. IsBetween k c.in_ok-node-in-Some-Symbol.node c.open.new.self)) inv.list
-          c.in_ok-node-in-Some-Symbol.ensures.opens) k.grammar k.honest k.prefix
-          (g.D.Device.content c.loop-terminal.device) (c.start.ensures.accepted, c.requires.tables)
-          (at_symbol k c.in-Some-Symbol.symbol _ _ _ _
-          (turn.faced k c.loop-terminal.node c.next_item.new.node c.in-Some-Symbol.field-0
-          c.in-Some-Symbol.ensures (item.Symbol c.in-Some-Symbol.symbol)
-          c.in-Some-Symbol.field-0-is c.loop-terminal.parser
-          (g.D.Device.content c.loop-terminal.device) (inv.occurs honest below)));
+          c.in_ok-node-in-Some-Symbol.ensures.opens) _ _ _ _ (c.start-start.ensures.accepted, c.requires.tables)
+          (at_symbol _ c.in-Some-Symbol.symbol _ _ _ _
+          (turn.faced _ c.loop-terminal.node c.next_item.new.node c.in-Some-Symbol.field-0
+          c.in-Some-Symbol.ensures _ c.in-Some-Symbol.field-0-is c.loop-terminal.parser _ (inv.occurs honest below)));
       written = omega arith;
       list = ap (λ (h : TokenReader). h.list) c.in_ok-node-in-Some-Symbol.ensures.tokens ∙ inv.list;
       fine = inv.fine;
@@ -190,23 +164,14 @@ loop-terminal-preserved-in-Some-Symbol g c =
 -- at a node's end
 pub texts_from-texts-requires : goal.texts_from-texts-requires
 texts_from-texts-requires g c =
-    (turn.own_few
-    (task_of c.args.grammar.now c.args.sentence.now (g.D.Device.is_honest c.loop-terminal.device)
-    (g.D.Device.content c.args.device.now)) c.loop-terminal.node c.next_item.new.node c.loop-terminal.parser
-    (g.D.Device.content c.loop-terminal.device) c.in-None.ensures
-    (c.loop-terminal.invariant.occurs (g.D.Device.is_honest c.loop-terminal.device) (λ h. h))
-    c.start.ensures.accepted).0
+    (turn.own_few _ c.loop-terminal.node c.next_item.new.node c.loop-terminal.parser _ c.in-None.ensures
+    (c.loop-terminal.invariant.occurs (g.D.Device.is_honest c.loop-terminal.device) (λ h. h)) c.start-start.ensures.accepted).0
 
 pub put_node-requires-clause-few : goal.put_node-requires-clause-few
 put_node-requires-clause-few g c =
-    let k =
-    task_of c.args.grammar.now c.args.sentence.now (g.D.Device.is_honest c.loop-terminal.device)
-    (g.D.Device.content c.args.device.now) in
     let few =
-    (turn.own_few k c.loop-terminal.node c.next_item.new.node c.loop-terminal.parser
-    (g.D.Device.content c.loop-terminal.device) c.in-None.ensures
-    (c.loop-terminal.invariant.occurs (g.D.Device.is_honest c.loop-terminal.device) (λ h. h))
-    c.start.ensures.accepted).1 in
+    (turn.own_few _ c.loop-terminal.node c.next_item.new.node c.loop-terminal.parser _ c.in-None.ensures
+    (c.loop-terminal.invariant.occurs (g.D.Device.is_honest c.loop-terminal.device) (λ h. h)) c.start-start.ensures.accepted).1 in
     subst (λ (texts : List Value). length texts ≤ version_two.max_values) (sym c.texts_from-texts.ensures) (omega (arith, few))
 
 pub put_node-requires-clause-room : goal.put_node-requires-clause-room
@@ -219,52 +184,37 @@ put_node-requires-clause-room g c =
 pub put_node-requires-clause-well : goal.put_node-requires-clause-well
 put_node-requires-clause-well g c =
     subst (λ (texts : List Value). All IsWell texts) (sym c.texts_from-texts.ensures)
-    (turn.own_few
-    (task_of c.args.grammar.now c.args.sentence.now (g.D.Device.is_honest c.loop-terminal.device)
-    (g.D.Device.content c.args.device.now)) c.loop-terminal.node c.next_item.new.node c.loop-terminal.parser
-    (g.D.Device.content c.loop-terminal.device) c.in-None.ensures
-    (c.loop-terminal.invariant.occurs (g.D.Device.is_honest c.loop-terminal.device) (λ h. h))
-    c.start.ensures.accepted).2
+    (turn.own_few _ c.loop-terminal.node c.next_item.new.node c.loop-terminal.parser _ c.in-None.ensures
+    (c.loop-terminal.invariant.occurs (g.D.Device.is_honest c.loop-terminal.device) (λ h. h)) c.start-start.ensures.accepted).2
 
 pub loop-terminal-preserved : goal.loop-terminal-preserved
 loop-terminal-preserved g c =
-    let k =
-    task_of c.args.grammar.now c.args.sentence.now (g.D.Device.is_honest c.args.device.now)
-    (g.D.Device.content c.args.device.now) in
     let inv = c.loop-terminal.invariant in
     let put = c.in_ok-put_node-in-None.ensures in
     let written = inv.written in
     let more = ap (λ (w : Progress). w.written) put.counted in
     let sizes = c.in-Some.ensures.len in
     record {
-      occurs = λ honest below. let k =
-          task_of c.args.grammar.now c.args.sentence.now honest (g.D.Device.content c.args.device.now) in
-          subst
-          (λ fs. Between k fs c.loop-terminal.parser.tokens.taken c.loop-terminal.parser.count
+      occurs =
+          λ honest below. subst
+          (λ fs. Between (task_of c.args.language.now.grammar.now c.args.sentence.now honest (g.D.Device.content c.args.device.now)) fs c.loop-terminal.parser.tokens.taken c.loop-terminal.parser.count
           (record { bytes = g.D.Device.content c.put_node.new.device; texts = c.truncate.new.self.items }))
           (on_top c.pop.new.self.items c.loop-terminal.parser.waiting.items c.in-Some.outer
           c.in-Some.ensures.items)
-          (turn.ended k c.loop-terminal.node c.next_item.new.node c.loop-terminal.parser
-          (g.D.Device.content c.loop-terminal.device) c.in-None.ensures
-          (inv.occurs honest (λ h. put.device.persists.honest (below h)))
-          (g.D.Device.content c.put_node.new.device) c.texts_from-texts.result.now
-          c.truncate.new.self.items c.texts_from-texts.ensures c.truncate.ensures.items
-          (λ h. put.frame (below h)));
+          (turn.ended _ c.loop-terminal.node c.next_item.new.node c.loop-terminal.parser _ c.in-None.ensures
+          (inv.occurs honest (λ h. put.device.persists.honest (below h))) _ _ _ c.texts_from-texts.ensures
+          c.truncate.ensures.items (λ h. put.frame (below h)));
       written = omega arith;
       list = inv.list;
       fine = ap (λ (w : Progress). w.is_broken) put.counted ∙ inv.fine;
       frames =
-          λ h. added ParseFault k.prefix (g.D.Device.content c.loop-terminal.device) (g.D.Device.content c.put_node.new.device)
-          (Ok tt) (inv.frames (put.device.persists.honest h)) (put.adds h);
+          λ h. added ParseFault _ _ _ (Ok tt) (inv.frames (put.device.persists.honest h)) (put.adds h);
       persists = turn.persists_on _ _ _ _ _ _ inv.persists put.device.persists;
     }
 
 -- at the end of the root
 pub returns-then-is_some-clause-refused : goal.returns-then-is_some-clause-refused
 returns-then-is_some-clause-refused g c =
-    let k =
-    task_of c.args.grammar.now c.args.sentence.now (g.D.Device.is_honest c.put_node.new.device)
-    (g.D.Device.content c.args.device.now) in
     let inv = c.loop-terminal.invariant in
     let none_waits : length c.loop-terminal.parser.waiting.items ≡ 0 = omega (arith, c.in_default.ensures.cases) in
     let tokens = c.loop-terminal.parser.tokens in
@@ -273,35 +223,27 @@ returns-then-is_some-clause-refused g c =
     (some_left tokens.list tokens.taken c.ahead.result c.ahead.ensures (sym c.is_some.ensures ∙ c.if-is_some.true)) in
     let exact : c.unexpected.result ≡ Unexpected (offset_at c.args.sentence.now tokens.taken) =
     subst (λ ts. c.unexpected.result ≡ Unexpected (offset_at ts tokens.taken)) inv.list c.unexpected.ensures in
-    stuck k.grammar c.args.sentence.now k.honest k.prefix tokens.taken c.unexpected.result exact
-    (turn.some_left k.grammar c.args.sentence.now k.honest k.prefix c.loop-terminal.parser
-    (g.D.Device.content c.put_node.new.device) c.truncate.new.self.items none_waits
-    (turn.ended k c.loop-terminal.node c.next_item.new.node c.loop-terminal.parser
-    (g.D.Device.content c.loop-terminal.device) c.in-None.ensures
-    (inv.occurs k.honest (λ h. c.in_ok-put_node-in-None.ensures.device.persists.honest h))
-    (g.D.Device.content c.put_node.new.device) c.texts_from-texts.result.now c.truncate.new.self.items
-    c.texts_from-texts.ensures c.truncate.ensures.items
-    (λ h. c.in_ok-put_node-in-None.ensures.frame h)) some)
+    stuck _ c.args.sentence.now (g.D.Device.is_honest c.put_node.new.device) (g.D.Device.content c.args.device.now) tokens.taken
+    c.unexpected.result exact
+    (turn.some_left _ c.args.sentence.now _ _ c.loop-terminal.parser _ _ none_waits
+    (turn.ended _ c.loop-terminal.node c.next_item.new.node c.loop-terminal.parser _ c.in-None.ensures
+    (inv.occurs (g.D.Device.is_honest c.put_node.new.device)
+    (λ h. c.in_ok-put_node-in-None.ensures.device.persists.honest h)) _ _ _
+    c.texts_from-texts.ensures c.truncate.ensures.items (λ h. c.in_ok-put_node-in-None.ensures.frame h)) some)
 
 pub returns-clause-parsed : goal.returns-clause-parsed
 returns-clause-parsed g c =
-    let k =
-    task_of c.args.grammar.now c.args.sentence.now (g.D.Device.is_honest c.put_node.new.device)
-    (g.D.Device.content c.args.device.now) in
     let inv = c.loop-terminal.invariant in
     let none_waits : length c.loop-terminal.parser.waiting.items ≡ 0 = omega (arith, c.in_default.ensures.cases) in
     let tokens = c.loop-terminal.parser.tokens in
     let all : length c.args.sentence.now ≤ tokens.taken =
     subst (λ (ts : List Token). length ts ≤ tokens.taken) inv.list
     (all_taken tokens.list tokens.taken c.ahead.result c.ahead.ensures (sym c.is_some.ensures ∙ c.if-is_some.false)) in
-    turn.all_taken k.grammar c.args.sentence.now k.honest k.prefix c.loop-terminal.parser
-    (g.D.Device.content c.put_node.new.device) c.truncate.new.self.items none_waits
-    (turn.ended k c.loop-terminal.node c.next_item.new.node c.loop-terminal.parser
-    (g.D.Device.content c.loop-terminal.device) c.in-None.ensures
-    (inv.occurs k.honest (λ h. c.in_ok-put_node-in-None.ensures.device.persists.honest h))
-    (g.D.Device.content c.put_node.new.device) c.texts_from-texts.result.now c.truncate.new.self.items
-    c.texts_from-texts.ensures c.truncate.ensures.items
-    (λ h. c.in_ok-put_node-in-None.ensures.frame h)) all
+    turn.all_taken _ c.args.sentence.now _ _ c.loop-terminal.parser _ _ none_waits
+    (turn.ended _ c.loop-terminal.node c.next_item.new.node c.loop-terminal.parser _ c.in-None.ensures
+    (inv.occurs (g.D.Device.is_honest c.put_node.new.device)
+    (λ h. c.in_ok-put_node-in-None.ensures.device.persists.honest h)) _ _ _
+    c.texts_from-texts.ensures c.truncate.ensures.items (λ h. c.in_ok-put_node-in-None.ensures.frame h)) all
 
 -- the content after a fault: the records so far, or these and a prefix of a frame
 pub returns-in_err-take-in-Some-Terminal-clause-left : goal.returns-in_err-take-in-Some-Terminal-clause-left
@@ -309,8 +251,7 @@ returns-in_err-take-in-Some-Terminal-clause-left g c =
     let inv = c.loop-terminal.invariant in
     rw (err_from_is_err_and c.from_residual-in_err-take-in-Some-Terminal.result
     c.from_residual-in_err-take-in-Some-Terminal.ensures.1).1
-    (λ h. added ParseFault (g.D.Device.content c.args.device.now) (g.D.Device.content c.loop-terminal.device)
-    (g.D.Device.content c.take.new.device) (Err c.in_err-take-in-Some-Terminal.field-0.0)
+    (λ h. added ParseFault _ _ _ (Err c.in_err-take-in-Some-Terminal.field-0.0)
     (inv.frames (c.in_err-take-in-Some-Terminal.ensures.device.persists.honest h))
     (c.in_err-take-in-Some-Terminal.ensures.adds h))
 
@@ -318,23 +259,20 @@ pub returns-in_err-node-in-Some-Symbol-clause-left : goal.returns-in_err-node-in
 returns-in_err-node-in-Some-Symbol-clause-left g c =
     rw (err_from_is_err_and c.from_residual-in_err-node-in-Some-Symbol.result
     c.from_residual-in_err-node-in-Some-Symbol.ensures.1).1
-    (λ h. stopped (g.D.Device.content c.args.device.now)
-    (g.D.Device.content c.loop-terminal.device) c.in_err-node-in-Some-Symbol.field-0.0
+    (λ h. stopped _ _ c.in_err-node-in-Some-Symbol.field-0.0
     (c.loop-terminal.invariant.frames h))
 
 pub returns-in_err-put_node-in-None-clause-left : goal.returns-in_err-put_node-in-None-clause-left
 returns-in_err-put_node-in-None-clause-left g c =
     let inv = c.loop-terminal.invariant in
     rw (err_from_is_err_and c.from_residual-in_err-put_node-in-None.result c.from_residual-in_err-put_node-in-None.ensures.1).1
-    (λ h. added ParseFault (g.D.Device.content c.args.device.now) (g.D.Device.content c.loop-terminal.device)
-    (g.D.Device.content c.put_node.new.device) (Err c.in_err-put_node-in-None.field-0.0)
+    (λ h. added ParseFault _ _ _ (Err c.in_err-put_node-in-None.field-0.0)
     (inv.frames (c.in_err-put_node-in-None.ensures.device.persists.honest h))
     (c.in_err-put_node-in-None.ensures.adds h))
 
 pub returns-then-is_some-clause-left : goal.returns-then-is_some-clause-left
 returns-then-is_some-clause-left g c = λ h.
     let inv = c.loop-terminal.invariant in
-    stopped (g.D.Device.content c.args.device.now) (g.D.Device.content c.put_node.new.device) c.unexpected.result
-    (added ParseFault (g.D.Device.content c.args.device.now) (g.D.Device.content c.loop-terminal.device)
-    (g.D.Device.content c.put_node.new.device) (Ok tt)
+    stopped _ _ c.unexpected.result
+    (added ParseFault _ _ _ (Ok tt)
     (inv.frames (c.in_ok-put_node-in-None.ensures.device.persists.honest h)) (c.in_ok-put_node-in-None.ensures.adds h))

@@ -9,7 +9,7 @@ use Rattle.llparse.proofs.sentence.parsing.run.Given as goal
 abbrev pub invariant-loop-terminal : goal.invariant-loop-terminal
 invariant-loop-terminal g l = record {
   occurs : (honest : Bool) → (honest ≡ true → g.D.Device.is_honest l.device ≡ true)
-      → IsBetween (task_of l.grammar l.fn.sentence honest (g.D.Device.content l.initial.device)) l.node l.parser
+      → IsBetween (task_of l.language.grammar.now l.fn.sentence honest (g.D.Device.content l.initial.device)) l.node l.parser
       (g.D.Device.content l.device);
   written : l.writer.written + length l.parser.waiting.items + 1 ≡ l.parser.count;
   list : l.parser.tokens.list ≡ l.fn.sentence;
@@ -21,4 +21,4 @@ invariant-loop-terminal g l = record {
 }
 
 abbrev pub decreases-loop-terminal : goal.decreases-loop-terminal
-decreases-loop-terminal g l = left_of l.grammar l.node l.parser
+decreases-loop-terminal g l = left_of l.language.grammar.now l.node l.parser

@@ -1,9 +1,10 @@
 use Rattle.std.proofs.Common.{◌+◌, ◌∷◌, drop, sym, ap, subst, ◌∙◌}
 use Rattle.std.proofs.lemmas.Bool.{false≢true}
+use Rattle.std.proofs.lemmas.Option.{slice_get_within}
 use Rattle.ag_scan.specs.TokenReader.{token_of}
 use Rattle.ag_scan.specs.Tokens.{IsTokenOf}
 use Rattle.llparse.specs.sentence.Sentences.{words_of}
-use Rattle.llparse.proofs.answers.Nexts.{next_is, none_is, other_next, is_left}
+use Rattle.llparse.proofs.answers.Nexts.{next_is, none_is, other_next}
 use Rattle.llparse.proofs.sentence.tokens.expect.Goals as goal
 
 pub returns-in_default-clause-other : goal.returns-in_default-clause-other
@@ -22,7 +23,7 @@ returns-clause-taken c =
 
 pub returns-clause-within : goal.returns-clause-within
 returns-clause-within c =
-    is_left c.args.tokens.now.list c.args.tokens.now.taken (token_of c.in-Some.token) (sym c.in-Some.ensures)
+    slice_get_within c.args.tokens.now.list c.args.tokens.now.taken (token_of c.in-Some.token) (sym c.in-Some.ensures)
 
 pub returns-clause-fits : goal.returns-clause-fits
 returns-clause-fits c =

@@ -1,5 +1,5 @@
 use Rattle.std.proofs.Common.{◌≡◌, ◌++◌, drop}
-use Rattle.planchecker.specs.courses.Settings.{setting_of}
+use Rattle.passcode.specs.Settings.{setting_of}
 use Rattle.passrun.specs.layouts.BuiltLayouts.{layout_of, rows_from}
 use Rattle.passrun.proofs.layouts.building.build_layout.Given as goal
 

@@ -1,7 +1,7 @@
 use Rattle.std.proofs.Common.{◌≡◌, ℕ, List, ap, ◌∙◌, length, sym, subst}
 use Rattle.ag_grammar.specs.declared.grammar.Rule.{Rule}
 use Rattle.ag_grammar.specs.grammars.AttributeGrammar.{places_of}
-use Rattle.planchecker.specs.courses.Settings.{list_at, setting_of}
+use Rattle.passcode.specs.Settings.{list_at, setting_of}
 use Rattle.passrun.specs.declared.layouts.building.PlaceRow.{PlaceRow}
 use Rattle.passrun.specs.layouts.BuiltLayouts.{AreWithin, production_slots, rule_slots_by}
 use Rattle.passrun.specs.layouts.Starts.{AreLow}

@@ -1,6 +1,6 @@
 use Rattle.std.proofs.Common.{◌≡◌, ◌+◌, ◌*◌, ◌≤◌, ◌++◌, drop}
 use Rattle.ag_grammar.specs.grammars.AttributeGrammar.{stored_items}
-use Rattle.planchecker.specs.courses.Settings.{setting_of}
+use Rattle.passcode.specs.Settings.{setting_of}
 use Rattle.passrun.specs.layouts.BuiltLayouts.{place_rows, rows_after}
 use Rattle.passrun.specs.layouts.Slots.{copied_all, stored_width}
 use Rattle.passrun.proofs.layouts.building.rows_of_places.Given as goal

@@ -1,5 +1,5 @@
 use Rattle.std.proofs.Common.{ap, length, arith}
-use Rattle.planchecker.specs.courses.Settings.{setting_of}
+use Rattle.passcode.specs.Settings.{setting_of}
 use Rattle.passrun.proofs.places.Slotted.{copied_few}
 use Rattle.passrun.proofs.layouts.rows.known_width.Goals as goal
 

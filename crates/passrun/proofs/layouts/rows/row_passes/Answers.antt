@@ -2,7 +2,7 @@ use Rattle.std.proofs.Common.{ℕ, ◌≡◌, ◌+◌, ◌++◌, ◌∙◌, ap, 
 use Rattle.std.specs.List.{flat_map}
 use Rattle.ag_grammar.specs.declared.grammar.Item.{Item}
 use Rattle.ag_grammar.specs.declared.grammar.Item.TheVariants as item
-use Rattle.planchecker.specs.courses.Settings.{setting_of}
+use Rattle.passcode.specs.Settings.{setting_of}
 use Rattle.passrun.specs.passing.Places.{copied_passes, row_passes}
 use Rattle.passrun.proofs.Recorded.{passes_more, passes_whole}
 use Rattle.passrun.proofs.layouts.rows.row_passes.Goals as goal

@@ -1,7 +1,7 @@
 use Rattle.std.proofs.Common.{◌∙◌, ◌-◌, List, sym, subst}
 use Rattle.std.proofs.lemmas.Result.{IfOk-weaker}
 use Rattle.passassign.specs.Rows.{passes_of}
-use Rattle.planchecker.specs.courses.Settings.{setting_of}
+use Rattle.passcode.specs.Settings.{setting_of}
 use Rattle.passrun.specs.declared.layouts.building.ProductionRow.{ProductionRow}
 use Rattle.passrun.specs.layouts.Layouts.{IsLayout}
 use Rattle.passrun.specs.declared.passing.ends.Passed.{Passed}

@@ -1,7 +1,7 @@
 use Rattle.std.proofs.Common.{◌-◌, ◌∙◌, List, ℕ, [], ap, length, subst, arith}
 use Rattle.std.proofs.lemmas.Option.{slice_get_within}
 use Rattle.std.proofs.lemmas.Result.{err_from_is_err_and}
-use Rattle.planchecker.specs.courses.Settings.{setting_of}
+use Rattle.passcode.specs.Settings.{setting_of}
 use Rattle.passrun.specs.passing.Places.{row_passes}
 use Rattle.passrun.specs.reading.Reading.{AreTaken, IsNoRow}
 use Rattle.passrun.proofs.Recorded.{no_node, no_node_read, node_read, production_is, same_err}

@@ -5,12 +5,6 @@ use Rattle.closure.specs.Following.{is_marked}
 use Rattle.llparse.proofs.look_ahead.Predictions.{predicted_more, predicts_at}
 use Rattle.llparse.proofs.table.predict.Sets.predicted.Goals as goal
 
-pub first_marks-requires-clause-edges : goal.first_marks-requires-clause-edges
-first_marks-requires-clause-edges c = rw c.as_slice-nullable.ensures.value c.requires.sets.first_exact
-
-pub follow_marks-requires-clause-edges : goal.follow_marks-requires-clause-edges
-follow_marks-requires-clause-edges c = rw c.as_slice-nullable.ensures.value c.requires.sets.follow_exact
-
 pub loop-at-preserved : goal.loop-at-preserved
 loop-at-preserved c =
     let g = c.args.grammar.now in

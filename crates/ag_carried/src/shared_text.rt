@@ -1,0 +1,191 @@
+//! Texts that are joined without a copy of their bytes.
+
+ghost use Rattle.std.specs.Prelude.{◌≡◌, ◌++◌, ◌↔◌, ◌+◌, ◌<◌, ◌≤◌, drop, length, slice_index, take};
+ghost use Rattle.std.specs.Prelude.{IfNone, IfOk, IfSome, IsTrue, List, OnErr, OnOk, ℕ};
+ghost use Rattle.ag_value.specs.Measure.{max_weight, weight_of};
+ghost use Rattle.ag_value.specs.Spelling.{spelling_of};
+ghost use Rattle.ag_value.specs.Well.{IsWell};
+ghost use Rattle.ag_value.specs.declared.value.Value.{Value as AttributeValue, Text as TextValue};
+
+use crate::encoded::byte_count;
+use ag_value::{MAX_WEIGHT, NoMemory, Text, Value};
+use rope::Rope;
+use std::alloc::{AllocError, Global};
+use std::marker::Model;
+
+/// The greatest length in bytes of a text that operations make flat. A longer one that `++` makes is a
+/// `SharedText`.
+pub const MAX_FLAT_TEXT: usize = 256;
+
+/// The number of bytes before those of a text in its encoding: the kind and the length.
+const HEADER_LENGTH: usize = 5;
+
+/// The greatest length in bytes of a text within the limits.
+const MAX_LENGTH: usize = MAX_WEIGHT as usize - HEADER_LENGTH;
+
+/// A well text with several owners, which share its bytes. Contracts see the bytes.
+#[derive(Debug, Drop)]
+pub struct SharedText {
+    rope: Rope,
+}
+
+impl Model for SharedText {
+    ghost use Rattle.std.specs.Prelude.{List, ℕ};
+    ghost use Rattle.ag_carried.specs.SharedText.{IsShortText};
+
+    ghost Value = { List ℕ };
+
+    ghost view = { λ t. t.rope };
+
+    ghost invariant = { λ t. IsShortText t.rope };
+}
+
+impl SharedText {
+    /// Makes a shared text of a well one, whose bytes are moved. Fails with NoMemory.
+    pub fn new(alloc: Global, text: Text) -> Result<SharedText, NoMemory>
+        requires { IsWell (TextValue text) }
+        ensures { IfOk result (λ shared. shared ≡ text) }
+    {
+        let string = text.into_string(alloc)?;
+        let rope = Rope::from_vec(alloc, string.into_bytes())?;
+        Ok(SharedText { rope })
+    }
+
+    /// Returns the number of bytes. Takes no memory.
+    pub fn len(&self) -> usize
+        ensures len { result ≡ length self.now }
+        ensures limit { 5 + result ≤ max_weight }
+        ensures well { IsWell (TextValue self.now) }
+    {
+        self.rope.len()
+    }
+
+    /// Returns the text for one more owner. Takes no memory. Fails with NoMemory if the text has
+    /// 2^64 - 1 owners.
+    pub fn share(&self) -> Result<SharedText, NoMemory>
+        ensures { IfOk result (λ shared. shared ≡ self.now) }
+    {
+        let rope = self.rope.share()?;
+        Ok(SharedText { rope })
+    }
+
+    /// Joins two texts in constant time, or returns `None` if the result would be too heavy. A short
+    /// text becomes part of the last or first piece of the other one. Fails with NoMemory.
+    pub fn join(
+        alloc: Global,
+        left: SharedText,
+        right: SharedText,
+    ) -> Result<Option<SharedText>, NoMemory>
+        ensures some { IfOk result (λ joined. IfSome joined (λ text. (text ≡ left ++ right)
+            × (weight_of (TextValue (left ++ right)) ≤ max_weight))) }
+        ensures none { IfOk result (λ joined. IfNone joined
+            (max_weight < weight_of (TextValue (left ++ right)))) }
+    {
+        if left.len() + right.len() > MAX_LENGTH {
+            return Ok(None);
+        }
+        let SharedText { rope: left } = left;
+        let SharedText { rope: right } = right;
+        let rope = Rope::join(alloc, left, right)?;
+        Ok(Some(SharedText { rope }))
+    }
+
+    /// Returns a flat copy of the text. Fails with NoMemory.
+    pub fn to_text(&self, alloc: Global) -> Result<Text, NoMemory>
+        ensures { IfOk result (λ text. text ≡ self.now) }
+    {
+        let mut bytes = Vec::with_capacity(alloc, self.len())?;
+        self.rope.append_to(&mut bytes)?;
+        let Ok(string) = String::from_utf8(bytes) else {
+            unreachable!()
+        };
+        Ok(Text::from_string(string))
+    }
+
+    /// Returns whether two texts are equal. Takes no memory.
+    pub fn same(&self, other: &SharedText) -> bool
+        ensures { IsTrue result ↔ (self.now ≡ other.now) }
+    {
+        self.rope.same(&other.rope)
+    }
+
+    /// Returns whether a value is this text. Takes no memory.
+    pub(crate) fn is_value(&self, value: &Value) -> bool
+        ensures { IsTrue result ↔ (TextValue self.now ≡ value.now) }
+    {
+        match value {
+            Value::Text(text) => self.rope.has_bytes(text.as_str().as_bytes()),
+            _ => false,
+        }
+    }
+
+    /// Returns the bytes of the encoding that come before those of the text.
+    #[tactic(auto, using(crate::proofs::Texts::header_is))]
+    fn header(&self) -> [u8; HEADER_LENGTH]
+        ensures { spelling_of (TextValue self.now) ≡ result ++ self.now }
+    {
+        let len = (self.len() as u32).to_be_bytes();
+        [1, len[0], len[1], len[2], len[3]]
+    }
+
+    /// Returns the length of the encoding in bytes.
+    pub(crate) fn encoding_len(&self) -> usize
+        ensures len { result ≡ length (spelling_of (TextValue self.now)) }
+        ensures bytes { (i : ℕ) → slice_index (spelling_of (TextValue self.now)) i < 256 }
+    {
+        let header = self.header();
+        byte_count(&header) + self.rope.len()
+    }
+
+    /// Fills `out` with the bytes of the encoding from index `from` on. Takes no memory.
+    pub(crate) fn copy_encoding(&self, from: usize, out: &mut [u8])
+        requires { from + length out.old ≤ length (spelling_of (TextValue self.now)) }
+        ensures { out.new ≡ take (length out.old) (drop from (spelling_of (TextValue self.now))) }
+    {
+        let header = self.header();
+        if from >= HEADER_LENGTH {
+            self.rope.copy_part(from - HEADER_LENGTH, out);
+            return;
+        }
+        let count = (HEADER_LENGTH - from).min(out.len());
+        let (first, rest) = out.split_at_mut(count);
+        first.copy_from_slice(&header[from..from + count]);
+        self.rope.copy_part(0, rest);
+    }
+
+    /// Appends the encoding to a vector. Fails with AllocError; the vector is then unchanged.
+    pub(crate) fn append_encoding(&self, out: &mut Vec<u8>) -> Result<(), AllocError>
+        ensures ok { OnOk result (out.new.items ≡ out.old.items ++ spelling_of (TextValue self.now)) }
+        ensures err { OnErr result (out.new.items ≡ out.old.items) }
+    {
+        let start = out.len();
+        out.extend_from_slice(&self.header())?;
+        let Ok(()) = self.rope.append_to(out) else {
+            out.truncate(start);
+            return Err(AllocError);
+        };
+        Ok(())
+    }
+
+    /// Returns the length of the encoding in bytes, if the input begins with it. Takes no memory.
+    #[tactic(auto, using(crate::proofs::Encodings::encodings))]
+    pub(crate) fn prefix_of(&self, input: &[u8]) -> Option<usize>
+        ensures within { IfSome result (λ len. len ≤ length input.now) }
+        ensures spelled { IfSome result (λ len. take len input.now ≡ spelling_of (TextValue self.now)) }
+        ensures well { IfSome result (λ _. IsWell (TextValue self.now)) }
+        ensures only { IfSome result (λ len. (value : AttributeValue) (rest : List ℕ) → IsWell value
+            → input.now ≡ spelling_of value ++ rest
+            → (TextValue self.now ≡ value) × (len ≡ length (spelling_of value))) }
+    {
+        let header = self.header();
+        let len = HEADER_LENGTH + self.len();
+        if input.len() < len {
+            return None;
+        }
+        let (prefix, text) = input[..len].split_at(HEADER_LENGTH);
+        if prefix == &header[..] && self.rope.has_bytes(text) {
+            return Some(len);
+        }
+        None
+    }
+}

@@ -1,0 +1,11 @@
+//! A grammar and its tables, by which sentences are parsed.
+
+use crate::table::lookup::Tables;
+use ag_grammar::Grammar;
+
+/// A grammar, and tables that choose the productions of a parse. For `parse` they are the grammar's.
+#[derive(Clone, Copy)]
+pub(crate) struct Language<'g> {
+    pub(crate) grammar: &'g Grammar,
+    pub(crate) tables: &'g Tables,
+}

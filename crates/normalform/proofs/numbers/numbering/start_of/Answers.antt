@@ -1,6 +1,0 @@
--- The remaining goals of `start_of`.
-use Rattle.normalform.proofs.numbered.Small.{symbol_small}
-use Rattle.normalform.proofs.numbers.numbering.start_of.Goals as goal
-
-pub to_u16-requires : goal.to_u16-requires
-to_u16-requires c = rw (c.number.ensures) (symbol_small c.args.declared.now c.args.name.now c.requires)

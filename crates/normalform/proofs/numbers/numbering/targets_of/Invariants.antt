@@ -1,9 +1,0 @@
--- The invariant of the loop of `targets_of`.
-use Rattle.std.proofs.Common.{◌≡◌, take, map}
-use Rattle.normalform.specs.numbers.Numbers.{target_of}
-use Rattle.normalform.specs.faults.PlacedItem.{item_placed}
-use Rattle.normalform.proofs.numbers.numbering.targets_of.Given as goal
-
-abbrev pub invariant-loop-occurrence : goal.invariant-loop-occurrence
-invariant-loop-occurrence l =
-    l.targets.items ≡ map (target_of l.declared (map item_placed l.items)) (take l.occurrence-index l.occurrences)

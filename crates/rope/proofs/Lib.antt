@@ -1,0 +1,2 @@
+pub mod PartCopies
+pub mod Sides

@@ -1,0 +1,77 @@
+-- Comparison of two lists that are cut at the same place.
+use Rattle.std.proofs.Common.{◌≡◌, ◌↔◌, ◌≤◌, ◌+◌, ℕ, List, ◌++◌, length, take, drop, refl, sym, ap, ◌∙◌, arith, length-append}
+use Rattle.std.proofs.lemmas.List.{take-append-drop, take-take, take_at, drop_at, drop-take}
+
+same_left : (l r l' r' : List ℕ) → l ++ r ≡ l' ++ r' → length l ≡ length l' → l ≡ l'
+same_left l r l' r' e n =
+    sym (take_at l r (length l) refl) ∙ (ap (λ (t : List ℕ). take (length l) t) e ∙ take_at l' r' (length l) (sym n))
+
+same_right : (l r l' r' : List ℕ) → l ++ r ≡ l' ++ r' → length l ≡ length l' → r ≡ r'
+same_right l r l' r' e n =
+    sym (drop_at l r (length l) refl) ∙ (ap (λ (t : List ℕ). drop (length l) t) e ∙ drop_at l' r' (length l) (sym n))
+
+-- two lists have the same length, and are equal exactly if two other lists, of which they are parts, are
+pub record IsComparing (self other one another : List ℕ) : Type 0 where
+  pub answer : (one ≡ another) ↔ (self ≡ other)
+  pub len : length one ≡ length another
+  pub fewer : length one ≤ length self
+
+-- two lists, each cut into a left and a right side, and both left sides have the same length
+pub record AreCut (one another l r l' r' : List ℕ) : Type 0 where
+  pub first : one ≡ l ++ r
+  pub second : another ≡ l' ++ r'
+  pub len : length l ≡ length l'
+
+-- the left sides are equal
+pub left_same : (self other one another l r l' r' : List ℕ) → IsComparing self other one another → AreCut one another l r l' r'
+    → l ≡ l' → IsComparing self other r r'
+left_same self other one another l r l' r' h c e =
+    let sizes : length one ≡ length l + length r = ap length c.first ∙ length-append l r in
+    let others : length another ≡ length l' + length r' = ap length c.second ∙ length-append l' r' in
+    record {
+      answer = (
+        λ f. h.answer.0 (cc (c.first, c.second, e, f)),
+        λ f. same_right l r l' r' (sym c.first ∙ h.answer.1 f ∙ c.second) c.len,
+      );
+      len = omega (arith, h.len, c.len);
+      fewer = omega (arith, h.fewer);
+    }
+
+-- the right sides are equal
+pub right_same : (self other one another l r l' r' : List ℕ) → IsComparing self other one another → AreCut one another l r l' r'
+    → r ≡ r' → IsComparing self other l l'
+right_same self other one another l r l' r' h c e =
+    let sizes : length one ≡ length l + length r = ap length c.first ∙ length-append l r in
+    record {
+      answer = (
+        λ f. h.answer.0 (cc (c.first, c.second, e, f)),
+        λ f. same_left l r l' r' (sym c.first ∙ h.answer.1 f ∙ c.second) c.len,
+      );
+      len = c.len;
+      fewer = omega (arith, h.fewer);
+    }
+
+-- the left sides are equal if the lists are
+pub left_of_same : (self other one another l r l' r' : List ℕ) → IsComparing self other one another
+    → AreCut one another l r l' r' → self ≡ other → l ≡ l'
+left_of_same self other one another l r l' r' h c e = same_left l r l' r' (sym c.first ∙ h.answer.1 e ∙ c.second) c.len
+
+-- the right sides are equal if the lists are
+pub right_of_same : (self other one another l r l' r' : List ℕ) → IsComparing self other one another
+    → AreCut one another l r l' r' → self ≡ other → r ≡ r'
+right_of_same self other one another l r l' r' h c e = same_right l r l' r' (sym c.first ∙ h.answer.1 e ∙ c.second) c.len
+
+pub ruleset sides = (left_same, right_same, left_of_same, right_of_same)
+
+sum_taken : (n m : ℕ) (xs : List ℕ) → take (n + m) xs ≡ take n xs ++ take m (drop n xs)
+sum_taken n m xs =
+    sym (take-append-drop n (take (n + m) xs))
+    ∙ (ap (λ (t : List ℕ). t ++ drop n (take (n + m) xs)) (take-take n (n + m) xs (omega arith))
+    ∙ ap (λ (t : List ℕ). take n xs ++ t) (drop-take n m xs))
+
+-- one more block is equal
+pub more_same : (n m : ℕ) (xs ys : List ℕ) → take n xs ≡ take n ys → take m (drop n xs) ≡ take m (drop n ys)
+    → take (n + m) xs ≡ take (n + m) ys
+more_same n m xs ys e f =
+    sum_taken n m xs
+    ∙ (ap (λ (t : List ℕ). t ++ take m (drop n xs)) e ∙ (ap (λ (t : List ℕ). take n ys ++ t) f ∙ sym (sum_taken n m ys)))

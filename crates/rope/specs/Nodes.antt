@@ -1,0 +1,20 @@
+-- The nodes of a rope. All of this is this project's.
+use Rattle.std.specs.Prelude.{slice_index, ◌≡◌, ℕ, ◌+◌, ◌<◌, List, ◌++◌, length}
+use Rattle.rope.specs.declared.rope.Node.{Node}
+use Rattle.rope.specs.declared.rope.Node.TheVariants.{Joined, Piece}
+
+-- the bytes of a piece, or those of two ropes one after the other
+abbrev pub bytes_of : Node → List ℕ
+bytes_of (Piece piece) = piece.value.items
+bytes_of (Joined pair) = pair.value.left ++ pair.value.right
+
+-- each number of a list is a byte
+abbrev pub AreBytes : List ℕ → Type 0
+AreBytes bytes = (i : ℕ) → slice_index bytes i < 256
+
+-- neither of two ropes is empty, and the length stored beside them is that of both
+abbrev pub IsNode : Node → Type 0
+IsNode (Piece piece) = AreBytes piece.value.items
+IsNode (Joined pair) =
+    (pair.value.len ≡ length pair.value.left + length pair.value.right) × (0 < length pair.value.left)
+    × (0 < length pair.value.right) × AreBytes (pair.value.left ++ pair.value.right)

@@ -1,0 +1,75 @@
+//! Copies of the bytes of a rope.
+
+ghost use Rattle.std.specs.Prelude.{◌≡◌, ◌++◌, ◌+◌, ◌≤◌, drop, length, take, OnErr, OnOk};
+
+use crate::rope::{Node, Rope};
+use std::alloc::AllocError;
+
+impl Rope {
+    /// Fills a slice of the rope's length with its bytes. Takes no memory.
+    pub fn copy_to(&self, out: &mut [u8])
+        requires { length out.old ≡ length self.now }
+        ensures { out.new ≡ self.now }
+    {
+        self.copy_part(0, out);
+    }
+
+    /// Fills `out` with the bytes from index `from` on. Takes no memory. Of two sides, the one with
+    /// fewer bytes to copy is copied by recursion and the other one in the loop.
+    pub fn copy_part(&self, from: usize, out: &mut [u8])
+        requires { from + length out.old ≤ length self.now }
+        ensures { out.new ≡ take (length out.old) (drop from self.now) }
+    {
+        let mut rope = self;
+        let mut from = from;
+        let mut at = 0;
+        let mut end = out.len();
+        while let Node::Joined(pair) = &rope.node {
+            let pair = pair.as_ref();
+            let (left, right) = (&pair.left, &pair.right);
+            let len = left.len();
+            if len <= from {
+                from -= len;
+                rope = right;
+                continue;
+            }
+            if end - at <= len - from {
+                rope = left;
+                continue;
+            }
+            let middle = at + (len - from);
+            if middle - at <= end - middle {
+                left.copy_part(from, &mut out[at..middle]);
+                at = middle;
+                from = 0;
+                rope = right;
+            } else {
+                right.copy_part(0, &mut out[middle..end]);
+                end = middle;
+                rope = left;
+            }
+        }
+        let Node::Piece(piece) = &rope.node else {
+            unreachable!()
+        };
+        let last = from + (end - at);
+        out[at..end].copy_from_slice(&piece.as_slice()[from..last]);
+    }
+
+    /// Appends a copy of the bytes to a vector. Fails with AllocError; the vector is then unchanged.
+    pub fn append_to(&self, out: &mut Vec<u8>) -> Result<(), AllocError>
+        ensures ok { OnOk result (out.new.items ≡ out.old.items ++ self.now) }
+        ensures err { OnErr result (out.new.items ≡ out.old.items) }
+    {
+        if let Node::Piece(piece) = &self.node {
+            return out.extend_from_slice(piece.as_slice());
+        }
+        let start = out.len();
+        let Some(end) = start.checked_add(self.len()) else {
+            return Err(AllocError);
+        };
+        out.resize(end, 0)?;
+        self.copy_to(&mut out[start..]);
+        Ok(())
+    }
+}

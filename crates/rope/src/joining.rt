@@ -1,0 +1,100 @@
+//! One rope after another.
+
+ghost use Rattle.std.specs.Prelude.{◌≡◌, ◌++◌, ◌+◌, ◌<◌, ◌^◌, length, IfOk, IfSome};
+
+use crate::rope::{Node, Rope};
+use std::alloc::{AllocError, Global};
+
+/// The greatest length in bytes of a piece that is made of two.
+const MAX_PIECE: usize = 256;
+
+/// The greatest number of nodes between the root and a piece that is extended. The last piece of a text
+/// that grows at both ends is one node below its root, and the first piece two.
+const MAX_LEVELS: u32 = 2;
+
+impl Rope {
+    /// Joins two ropes in constant time. A short piece becomes part of the piece that it meets in the
+    /// other rope, if that is at most two nodes down and has room. Fails with AllocError.
+    pub fn join(alloc: Global, left: Rope, right: Rope) -> Result<Rope, AllocError>
+        requires { length left + length right < 2 ^ 64 }
+        ensures { IfOk result (λ rope. rope ≡ left ++ right) }
+    {
+        if let Node::Piece(piece) = &left.node {
+            if let Some(joined) = extend_first(alloc, piece.as_slice(), &right, MAX_LEVELS)? {
+                return Ok(joined);
+            }
+        }
+        if let Node::Piece(piece) = &right.node {
+            if let Some(joined) = extend_last(alloc, &left, piece.as_slice(), MAX_LEVELS)? {
+                return Ok(joined);
+            }
+        }
+        Rope::pair(alloc, left, right)
+    }
+}
+
+/// Returns the rope with bytes before its first piece, or `None` if that is more than `levels` nodes
+/// down or has no room for them. Fails with AllocError.
+fn extend_first(
+    alloc: Global,
+    bytes: &[u8],
+    rope: &Rope,
+    levels: u32,
+) -> Result<Option<Rope>, AllocError>
+    requires { length bytes.now + length rope.now < 2 ^ 64 }
+    ensures { IfOk result (λ found. IfSome found (λ joined. joined ≡ bytes.now ++ rope.now)) }
+{
+    match &rope.node {
+        Node::Piece(piece) => joined_piece(alloc, bytes, piece.as_slice()),
+        Node::Joined(pair) => {
+            if levels == 0 {
+                return Ok(None);
+            }
+            let pair = pair.as_ref();
+            let Some(left) = extend_first(alloc, bytes, &pair.left, levels - 1)? else {
+                return Ok(None);
+            };
+            Ok(Some(Rope::pair(alloc, left, pair.right.share()?)?))
+        }
+    }
+}
+
+/// Returns the rope with bytes after its last piece, or `None` if that is more than `levels` nodes down
+/// or has no room for them. Fails with AllocError.
+fn extend_last(
+    alloc: Global,
+    rope: &Rope,
+    bytes: &[u8],
+    levels: u32,
+) -> Result<Option<Rope>, AllocError>
+    requires { length rope.now + length bytes.now < 2 ^ 64 }
+    ensures { IfOk result (λ found. IfSome found (λ joined. joined ≡ rope.now ++ bytes.now)) }
+{
+    match &rope.node {
+        Node::Piece(piece) => joined_piece(alloc, piece.as_slice(), bytes),
+        Node::Joined(pair) => {
+            if levels == 0 {
+                return Ok(None);
+            }
+            let pair = pair.as_ref();
+            let Some(right) = extend_last(alloc, &pair.right, bytes, levels - 1)? else {
+                return Ok(None);
+            };
+            Ok(Some(Rope::pair(alloc, pair.left.share()?, right)?))
+        }
+    }
+}
+
+/// Returns two parts as a rope of one piece, or `None` if they are too long together. Fails with
+/// AllocError.
+fn joined_piece(alloc: Global, first: &[u8], second: &[u8]) -> Result<Option<Rope>, AllocError>
+    ensures { IfOk result (λ found. IfSome found (λ joined. joined ≡ first.now ++ second.now)) }
+{
+    if first.len() > MAX_PIECE || second.len() > MAX_PIECE - first.len() {
+        return Ok(None);
+    }
+    let mut piece = Vec::with_capacity(alloc, first.len() + second.len())?;
+    piece.extend_from_slice(first)?;
+    piece.extend_from_slice(second)?;
+    Ok(Some(Rope::from_vec(alloc, piece)?))
+}

@@ -1,0 +1,137 @@
+//! A tree of pieces of bytes.
+
+ghost use Rattle.std.specs.Prelude.{◌≡◌, ◌++◌, ◌+◌, ◌<◌, ◌^◌, length, IfOk};
+ghost use Rattle.rope.specs.Nodes.{AreBytes};
+
+use std::alloc::{AllocError, Global};
+use std::fmt;
+use std::marker::Model;
+use std::rc::Rc;
+
+/// Bytes with several owners: one piece, or two ropes one after the other. `share` copies no
+/// byte, and `join` at most 256. The tree is not balanced: every function recurses into the side with fewer bytes and loops
+/// over the other one, so the depth of recursion is at most the number of bits of the length.
+#[cycle(rope)]
+pub struct Rope {
+    pub(crate) node: Node,
+}
+
+/// The root of a rope.
+#[cycle(rope)]
+pub(crate) enum Node {
+    /// Bytes in one vector.
+    Piece(Rc<Vec<u8>>),
+    /// Two ropes.
+    Joined(Rc<Pair>),
+}
+
+/// Two ropes, both not empty, one after the other.
+#[cycle(rope)]
+#[derive(Drop)]
+pub(crate) struct Pair {
+    pub(crate) left: Rope,
+    pub(crate) right: Rope,
+    /// The number of bytes of both.
+    pub(crate) len: usize,
+}
+
+impl Model for Rope {
+    ghost use Rattle.std.specs.Prelude.{List, ℕ, length};
+
+    ghost Value = { List ℕ };
+
+    ghost use Rattle.rope.specs.Nodes.{IsNode, bytes_of};
+
+    ghost view = { λ r. bytes_of r.node };
+
+    ghost invariant = { λ r. IsNode r.node };
+
+    ghost size = { length };
+
+    ghost use Rattle.std.proofs.Common.{arith, length-append};
+
+    ghost size_decreases = { λ r h. Prim.grind (arith, length-append) };
+}
+
+impl fmt::Debug for Rope {
+    fn fmt<W: fmt::Write>(&self, f: &mut fmt::Formatter<W>) -> fmt::Result {
+        f.debug_struct("Rope").field("len", &self.len()).finish()
+    }
+}
+
+impl Drop for Rope {
+    /// Drops the shorter side by recursion and the longer one in the loop.
+    fn drop(mut self) {
+        loop {
+            let Rope { node } = self;
+            let pair = match node {
+                Node::Piece(_) => return,
+                Node::Joined(pair) => pair,
+            };
+            let Some(pair) = Rc::into_inner(pair) else {
+                return;
+            };
+            let Pair { left, right, .. } = pair;
+            if left.len() <= right.len() {
+                drop(left);
+                self = right;
+            } else {
+                drop(right);
+                self = left;
+            }
+        }
+    }
+}
+
+impl Rope {
+    /// Makes a rope of one piece. Fails with AllocError.
+    pub fn from_vec(alloc: Global, bytes: Vec<u8>) -> Result<Rope, AllocError>
+        ensures { IfOk result (λ rope. rope ≡ bytes.items) }
+    {
+        let piece = Rc::new(alloc, bytes)?;
+        Ok(Rope {
+            node: Node::Piece(piece),
+        })
+    }
+
+    /// Returns the number of bytes. Takes no memory.
+    pub fn len(&self) -> usize
+        ensures len { result ≡ length self.now }
+        ensures bytes { AreBytes self.now }
+    {
+        match &self.node {
+            Node::Piece(piece) => piece.len(),
+            Node::Joined(pair) => pair.len,
+        }
+    }
+
+    /// Returns the rope for one more owner. Takes no memory. Fails with AllocError if the rope has
+    /// 2^64 - 1 owners.
+    pub fn share(&self) -> Result<Rope, AllocError>
+        ensures { IfOk result (λ rope. rope ≡ self.now) }
+    {
+        let node = match &self.node {
+            Node::Piece(piece) => Node::Piece(piece.clone()?),
+            Node::Joined(pair) => Node::Joined(pair.clone()?),
+        };
+        Ok(Rope { node })
+    }
+
+    /// Returns two ropes, one after the other, as a node with two sides. Fails with AllocError.
+    pub(crate) fn pair(alloc: Global, left: Rope, right: Rope) -> Result<Rope, AllocError>
+        requires { length left + length right < 2 ^ 64 }
+        ensures { IfOk result (λ rope. rope ≡ left ++ right) }
+    {
+        if left.len() == 0 {
+            return Ok(right);
+        }
+        if right.len() == 0 {
+            return Ok(left);
+        }
+        let len = left.len() + right.len();
+        let pair = Rc::new(alloc, Pair { left, right, len })?;
+        Ok(Rope {
+            node: Node::Joined(pair),
+        })
+    }
+}

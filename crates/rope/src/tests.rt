@@ -1,0 +1,85 @@
+//! Deep ropes: no clause says how deep a recursion is.
+
+use crate::rope::Rope;
+use std::alloc::{AllocError, Global};
+use std::test::Fail;
+
+/// The number of nodes of a deep rope, none of which is balanced. A recursion over them would need
+/// tens of megabytes of stack.
+const NODES: u32 = 200_000;
+
+/// Returns the byte at an index of the text of `grown_at_end` and `grown_at_front`.
+fn byte_at(index: u32) -> u8 {
+    (index % 251) as u8
+}
+
+/// Returns a rope of one byte.
+fn single(alloc: Global, byte: u8) -> Result<Rope, AllocError> {
+    Rope::from_vec(alloc, [byte].to_vec(alloc)?)
+}
+
+/// Returns a node over two ropes. Fails with AllocError if one of them is long.
+fn pair(alloc: Global, left: Rope, right: Rope) -> Result<Rope, AllocError> {
+    if left.len() > 1_000_000 || right.len() > 1_000_000 {
+        return Err(AllocError);
+    }
+    Rope::pair(alloc, left, right)
+}
+
+/// Joins two ropes. Fails with AllocError if one of them is long.
+fn join(alloc: Global, left: Rope, right: Rope) -> Result<Rope, AllocError> {
+    if left.len() > 1_000_000 || right.len() > 1_000_000 {
+        return Err(AllocError);
+    }
+    Rope::join(alloc, left, right)
+}
+
+/// Returns the text as a rope of which each right side is one byte.
+fn grown_at_end(alloc: Global) -> Result<Rope, AllocError> {
+    let mut rope = single(alloc, byte_at(0))?;
+    for count in 0..NODES {
+        rope = pair(alloc, rope, single(alloc, byte_at(count + 1))?)?;
+    }
+    Ok(rope)
+}
+
+/// Returns the text as a rope of which each left side is one byte.
+fn grown_at_front(alloc: Global) -> Result<Rope, AllocError> {
+    let mut rope = single(alloc, byte_at(NODES))?;
+    for count in 0..NODES {
+        rope = pair(alloc, single(alloc, byte_at(NODES - 1 - count))?, rope)?;
+    }
+    Ok(rope)
+}
+
+#[test]
+fn deep_ropes(rt: HostRuntime) -> Result<(), Fail> {
+    let end = grown_at_end(rt.alloc())?;
+    let front = grown_at_front(rt.alloc())?;
+    assert!(rt; end.same(&front));
+    let mut bytes = Vec::new(rt.alloc());
+    end.append_to(&mut bytes)?;
+    assert_eq!(rt; bytes.len(), 200_001);
+    assert_eq!(rt; bytes.get(200_000).copied(), Some(204));
+    assert!(rt; front.has_bytes(bytes.as_slice()));
+    let shared = end.share()?;
+    drop(end);
+    assert!(rt; shared.same(&front));
+    Ok(())
+}
+
+#[test]
+fn text_that_grows_at_both_ends(rt: HostRuntime) -> Result<(), Fail> {
+    let mut rope = single(rt.alloc(), b'-')?;
+    for count in 0..1_000 {
+        rope = join(rt.alloc(), single(rt.alloc(), byte_at(count))?, rope)?;
+        rope = join(rt.alloc(), rope, single(rt.alloc(), byte_at(count))?)?;
+    }
+    let mut bytes = Vec::new(rt.alloc());
+    rope.append_to(&mut bytes)?;
+    assert_eq!(rt; bytes.len(), 2_001);
+    assert_eq!(rt; bytes.get(0).copied(), Some(246));
+    assert_eq!(rt; bytes.get(1_000).copied(), Some(b'-'));
+    assert_eq!(rt; bytes.get(2_000).copied(), Some(246));
+    Ok(())
+}
