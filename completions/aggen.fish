@@ -98,7 +98,7 @@ complete -c aggen -n "__aggen_is_at 'explain'" -l color -x -a 'auto always never
 complete -c aggen -n "__aggen_is_at 'explain'" -l node -x -d 'The node at this path: `/2/1` is the first child of the root\'s second child, `/1*9` nine times the first'
 complete -c aggen -n "__aggen_is_at 'explain'" -s q -l quiet -d 'Prints no message of a refusal, so that only the status shows it'
 complete -c aggen -n "__aggen_is_at 'explain'" -l sentence -r -F -d 'The file with the sentence of the tree, `-` for standard input'
-complete -c aggen -n "__aggen_is_at 'explain'" -l at -x -d 'The innermost node whose tokens are at this place of the sentence, counted from 1'
+complete -c aggen -n "__aggen_is_at 'explain'" -l at -x -d 'The innermost node of a symbol (not of a token) at this place of the sentence, counted from 1'
 complete -c aggen -n "__aggen_is_at 'explain'" -l errors -d 'Prints the rules of the whole tree in which errors arise, and their number'
 complete -c aggen -n "__aggen_is_at 'explain'" -s h -l help -d 'Print help'
 complete -c aggen -n '__aggen_is_at explain 0' -k -a '(__fish_complete_suffix .ag)'

@@ -75,7 +75,7 @@ fn before_semicolon(next_token: Option<GrammarToken<'_>>) -> Option<GrammarToken
     }
 }
 
-/// Returns whether an expression can begin with the name: a keyword, a call, or a name in scope.
+/// Returns whether an expression can begin with the name: `let`, `if`, a call, or a name in scope.
 fn begins_with(scope: &Scope<'_>, name: &str) -> bool
     ensures { result ≡ state.begins_here scope.now (tokens.Name name.now) }
 {

@@ -23,7 +23,7 @@ pub record IsTreeOfSentence (g : Grammar) (sentence : List ℕ) (t : Tree) : Typ
 abbrev pub HasNoTree : Grammar → List ℕ → Type 0
 HasNoTree g sentence = (t : Tree) → IsTreeOfSentence g sentence t → ⊥
 
--- S1 to S4: the sentence has no tokens, for this reason, and so no tree; NoMemory is not S
+-- S1 to S4: the sentence can't be cut into tokens, for this reason, and so has no tree; NoMemory is not S
 pub record IsScanFaultOf (g : Grammar) (sentence : List ℕ) (f : ScanFault) : Type 0 where
   pub reason : IsRefused (vocabulary_of g) sentence f
   pub of_sentence : f ≢ scan.NoMemory

@@ -130,9 +130,10 @@ impl Translator {
     /// Clears the device, and writes the file of pass 0 of the sentence's one tree to it. Returns
     /// the number of its nodes.
     ///
-    /// Fails with S1 to S4 if the sentence has no tokens, before the device is used; with P1 if it
-    /// has tokens and no tree; with P2 or P3 if each tree of its tokens is beyond the limits; and with D1 if the
-    /// device failed. After a fault the device has its old content, or a prefix of a file of pass 0.
+    /// Fails with S1 to S4, before the device is used, if the sentence is too long, is not UTF-8 or
+    /// can't be cut into tokens; with P1 if its tokens have no tree; with P2 or P3 if each tree of them is
+    /// beyond the limits; and with D1 if the device failed. After a fault the device has its old content,
+    /// or a prefix of a file of pass 0.
     pub fn parse_tree<D: Device>(&self, sentence: &[u8], device: &mut D) -> Result<u32, Fault>
         // Ok: there is one tree, it is within the limits, and its file is written.
         ensures tree { IfOk result (λ _. (t : Tree) × IsTreeOfSentence self.now sentence.now t) }

@@ -144,7 +144,7 @@ impl Back {
         ensures memory { self.old.progress.fault ≡ None → WhenHonest (D.is_honest device.new)
             (IsErrOf result FrameFault.NoMemory →
             IsLarge (next_before self.old.progress.version (D.content device.old) self.old.progress.at)) }
-        // On any device: the body may be in a frame, and its frame fits before the offset.
+        // On any device: the body's length is within the limits, and its frame fits before the offset.
         ensures body { IfOk result (λ found. IfSome found
             (λ body. IsBody self.old.progress.version body.now)) }
         ensures room { IfOk result (λ found. IfSome found
@@ -190,7 +190,7 @@ impl Back {
         ensures exact { IfSome result (λ body. WhenHonest (D.is_honest device.now)
             (next_before self.old.progress.version (D.content device.now) self.old.progress.at
             ≡ Ok (Some body))) }
-        // On any device: the body may be in a frame, and its frame fits before the offset.
+        // On any device: the body's length is within the limits, and its frame fits before the offset.
         ensures body { IfSome result (λ body. IsBody self.old.progress.version body) }
         ensures room { IfSome result
             (λ body. length body + length_bytes ≤ self.old.progress.at) }

@@ -90,7 +90,9 @@ pub fn at<'a>(alloc: Global) -> Result<Arg<'a>, AllocError> {
     Arg::new(alloc, AT)
         .long(AT)
         .value_name("LINE:COLUMN")
-        .help("The innermost node whose tokens are at this place of the sentence, counted from 1")
+        .help(
+            "The innermost node of a symbol (not of a token) at this place of the sentence, counted from 1",
+        )
         .requires_arg(OF_SENTENCE)?
         .conflicts_with(NODE)?
         .conflicts_with(ERRORS)

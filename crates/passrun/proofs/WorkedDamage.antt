@@ -11,7 +11,7 @@ use Rattle.treefile.specs.framing.ExpectedRecords.{Breaks, IsNoRecord, IsNodeRec
 use Rattle.treefile.specs.framing.Backward.{next_before}
 use Rattle.treefile.specs.framing.Ending.{body_before, fits_before, is_tree_file}
 use Rattle.treefile.specs.records.TreeFile.{file, header, version_two}
-use Rattle.treefile.specs.Worked.{binary, binary_passes, copies_1_of_one, production_of}
+use Rattle.treefile.specs.Worked.{binary, binary_passes, pass_1_of_one_in_two, production_of}
 use Rattle.treefile.proofs.records.Spelled.{same_node}
 use Rattle.treefile.proofs.WorkedRecords.{binary_numbered, well_number}
 use Rattle.passrun.specs.Damage.{ExceedsDepth, ExceedsNodes, ShowsAt, fractions, fractions_within}
@@ -20,11 +20,11 @@ pub empty : ShowsAt (fractions 0) [] 0
 unfolding is_tree_file
 empty = inl (refl, refl)
 
-one_begins : is_tree_file version_two copies_1_of_one ≡ true
+one_begins : is_tree_file version_two pass_1_of_one_in_two ≡ true
 unfolding is_tree_file
 one_begins = refl
 
-pub other_pass : ShowsAt (fractions 0) copies_1_of_one 4
+pub other_pass : ShowsAt (fractions 0) pass_1_of_one_in_two 4
 other_pass = inr (inl (one_begins, (λ is. let bad : ◌≡◌ {A = ℕ} 1 0 = is in omega (arith, bad)), refl))
 
 header_begins : is_tree_file version_two (header version_two 0) ≡ true

@@ -107,7 +107,8 @@ pass_2_of_one =
     ++ (0 ∷ 0 ∷ 1 ∷ 0 ∷ 0 ∷ 0 ∷ 0 ∷ 0 ∷ 0 ∷ 0 ∷ 0 ∷ 0 ∷ 0 ∷ 0 ∷ 0 ∷ 12 ∷ [])
     ++ (0 ∷ 0 ∷ 0 ∷ 1 ∷ 0 ∷ 0 ∷ 0 ∷ 5 ∷ 54 ∷ 53 ∷ 53 ∷ 51 ∷ 54 ∷ 0 ∷ 0 ∷ 0 ∷ 13 ∷ [])
 
--- the file of pass 0 of `iffy if` in the sample grammar with a token: its header, a frame for the name and one for the root
+-- the file of pass 0 of `iffy if` in the sample grammar with a token (`examples/words.ag`): its header, a frame for the name and
+-- one for the root
 abbrev pub file_of_iffy : List ℕ
 file_of_iffy =
     (65 ∷ 71 ∷ 84 ∷ 49 ∷ 0 ∷ 0 ∷ [])
@@ -115,8 +116,8 @@ file_of_iffy =
     ++ (0 ∷ 0 ∷ 0 ∷ 0 ∷ 0 ∷ 0 ∷ 3 ∷ [])
 
 -- the file of pass 0 of `1` in version 2: no child has a value to copy yet
-abbrev pub copies_0_of_one : List ℕ
-copies_0_of_one =
+abbrev pub pass_0_of_one_in_two : List ℕ
+pass_0_of_one_in_two =
     (65 ∷ 71 ∷ 84 ∷ 50 ∷ 0 ∷ 0 ∷ [])
     ++ (0 ∷ 0 ∷ 7 ∷ 0 ∷ 0 ∷ 0 ∷ 3 ∷ [])
     ++ (0 ∷ 0 ∷ 4 ∷ 0 ∷ 0 ∷ 0 ∷ 3 ∷ [])
@@ -124,11 +125,9 @@ copies_0_of_one =
     ++ (0 ∷ 0 ∷ 1 ∷ 0 ∷ 0 ∷ 0 ∷ 3 ∷ [])
     ++ (0 ∷ 0 ∷ 0 ∷ 0 ∷ 0 ∷ 0 ∷ 3 ∷ [])
 
--- the files of passes 1 and 2 of `1` in version 2: L's record has copies of `bit` of B and of `p` of T, and of `v` of T in pass
--- 2;
--- and N's has one of `p` of L, and those of `v` of L and of Q in pass 2
-abbrev pub copies_1_of_one : List ℕ
-copies_1_of_one =
+-- the file of pass 1 of `1` in version 2: L's record has copies of `bit` of B and of `p` of T, and N's one of `p` of L
+abbrev pub pass_1_of_one_in_two : List ℕ
+pass_1_of_one_in_two =
     (65 ∷ 71 ∷ 84 ∷ 50 ∷ 0 ∷ 1 ∷ [])
     ++ (0 ∷ 0 ∷ 1 ∷ 0 ∷ 0 ∷ 0 ∷ 3 ∷ [])
     ++ (0 ∷ 0 ∷ 4 ∷ 0 ∷ 0 ∷ 0 ∷ 0 ∷ 0 ∷ 0 ∷ 1 ∷ 0 ∷ 0 ∷ 0 ∷ 0 ∷ 0 ∷ 12 ∷ [])
@@ -137,8 +136,9 @@ copies_1_of_one =
     ∷ 0 ∷ 0 ∷ 30 ∷ [])
     ++ (0 ∷ 0 ∷ 0 ∷ 0 ∷ 0 ∷ 0 ∷ 0 ∷ 0 ∷ 0 ∷ 1 ∷ 0 ∷ 0 ∷ 0 ∷ 0 ∷ 0 ∷ 12 ∷ [])
 
-abbrev pub copies_2_of_one : List ℕ
-copies_2_of_one =
+-- the file of pass 2 of `1` in version 2: L's record has one more copy, of `v` of T, and N's two more, of `v` of L and of Q
+abbrev pub pass_2_of_one_in_two : List ℕ
+pass_2_of_one_in_two =
     (65 ∷ 71 ∷ 84 ∷ 50 ∷ 0 ∷ 2 ∷ [])
     ++ (0 ∷ 0 ∷ 7 ∷ 0 ∷ 0 ∷ 0 ∷ 0 ∷ 0 ∷ 0 ∷ 0 ∷ 0 ∷ 1 ∷ 0 ∷ 0 ∷ 0 ∷ 12 ∷ [])
     ++ (0 ∷ 0 ∷ 4 ∷ 0 ∷ 0 ∷ 0 ∷ 0 ∷ 0 ∷ 0 ∷ 1 ∷ 0 ∷ 0 ∷ 0 ∷ 0 ∷ 0 ∷ 0 ∷ 0 ∷ 0 ∷ 0 ∷ 0 ∷ 0 ∷ 0 ∷ 0 ∷ 0 ∷ 0 ∷ 0 ∷ 0 ∷ 0 ∷ 128 ∷ 0
@@ -151,13 +151,13 @@ copies_2_of_one =
     ∷ 0 ∷ 0 ∷ 0 ∷ 0 ∷ 0 ∷ 0 ∷ 0 ∷ 0 ∷ 0 ∷ 0 ∷ 0 ∷ 0 ∷ 0 ∷ 40 ∷ [])
 
 -- the file of pass 0 of `iffy if` in version 2: the root's record has a copy of the name
-abbrev pub copies_of_iffy : List ℕ
-copies_of_iffy =
+abbrev pub file_of_iffy_in_two : List ℕ
+file_of_iffy_in_two =
     (65 ∷ 71 ∷ 84 ∷ 50 ∷ 0 ∷ 0 ∷ [])
     ++ (1 ∷ 0 ∷ 0 ∷ 1 ∷ 0 ∷ 0 ∷ 0 ∷ 4 ∷ 105 ∷ 102 ∷ 102 ∷ 121 ∷ 0 ∷ 0 ∷ 0 ∷ 12 ∷ [])
     ++ (0 ∷ 0 ∷ 0 ∷ 1 ∷ 0 ∷ 0 ∷ 0 ∷ 4 ∷ 105 ∷ 102 ∷ 102 ∷ 121 ∷ 0 ∷ 0 ∷ 0 ∷ 12 ∷ [])
 
--- all attributes of the sample grammar with a token are of pass 1
+-- all attributes of the sample grammar with a token (`examples/words.ag`) are of pass 1
 abbrev pub iffy_passes : Passes
 iffy_passes s = 1 ∷ []
 
@@ -181,6 +181,7 @@ record_of_n = 0 ∷ 0 ∷ 0 ∷ 1 ∷ 0 ∷ 0 ∷ 0 ∷ 5 ∷ 54 ∷ 53 ∷ 53 �
 abbrev pub record_of_iffy : List ℕ
 record_of_iffy = 1 ∷ 0 ∷ 0 ∷ 1 ∷ 0 ∷ 0 ∷ 0 ∷ 4 ∷ 105 ∷ 102 ∷ 102 ∷ 121 ∷ []
 
--- the file of a pass of `x x` in the sample grammar without a token, with 2 for `out`
+-- the file of a pass of `x x` in the sample grammar without a token (`examples/swapped-attributes.ag` without its `text(..)`),
+-- with 2 for `out`
 abbrev pub file_of_x_x : ℕ → List ℕ
 file_of_x_x k = file_of_tree version_one sample sample_passes k sample_tree (sample_values 2)

@@ -1,4 +1,4 @@
--- Devices with a file: the effects of their calls, and their failures.
+-- Devices: the effects of their calls, and their failures.
 pub mod Appending
 pub mod Device
 pub mod Faults

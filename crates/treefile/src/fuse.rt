@@ -9,9 +9,11 @@ ghost use Rattle.treefile.specs.devices.Fuse.{FuseEffect, Fuse, FusePersists, fa
 use crate::device::{Device, DeviceFault};
 use std::marker::Model;
 
-/// A device that forwards its calls to another one, `inner`, except one of them: that call fails and
-/// does nothing. It is honest if `inner` is. `left` is the number of calls up to the failing one (1: the
-/// next; 0: none fails), and `failed` the number of failed calls that were not forwarded.
+/// A device that forwards the calls of `len`, `append`, `read_at` and `clear` to another one, `inner`,
+/// except one of them: that call fails and does nothing. Only these calls count. `append_parts` copies
+/// the parts and calls `append` of this device, and `lend_before` always returns `None`. The device is
+/// honest if `inner` is. `left` is the number of calls up to the failing one (1: the next; 0: none
+/// fails), and `failed` the number of failed calls that were not forwarded.
 #[derive(Drop)]
 pub struct FuseDevice<D> {
     inner: D,
@@ -28,7 +30,7 @@ impl<D> Model for FuseDevice<D> {
 }
 
 impl<D: Device> FuseDevice<D> {
-    /// Makes a device whose k-th call from now on fails, counted from 1. With 0 no call fails.
+    /// Makes a device whose k-th counted call from now on fails (1: the next). With 0 no call fails.
     /// Content and honesty are those of `inner`. Takes no memory.
     pub fn new(inner: D, k: u64) -> FuseDevice<D>
         ensures inner { result.inner ≡ inner }
@@ -43,7 +45,7 @@ impl<D: Device> FuseDevice<D> {
         }
     }
 
-    /// Lends the device that gets the calls.
+    /// Lends the device to which the calls are forwarded.
     pub fn inner(&self) -> &D
         ensures { result.now ≡ self.now.inner }
     {

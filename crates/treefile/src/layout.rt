@@ -16,8 +16,8 @@ pub const LENGTH_BYTES: u64 = 4;
 /// The least number of bytes of a body: one of the kind, and two of the number.
 pub const LEAST_BODY: u64 = 3;
 
-/// The greatest number of values of a record: those of all attributes of its symbol, and as many
-/// for each child.
+/// The greatest number of values of a record: those of all attributes of its symbol, and at most as many
+/// copies for each child.
 pub const MAX_VALUES: usize = MAX_ATTRIBUTES + MAX_CHILDREN * MAX_ATTRIBUTES;
 
 /// The greatest number of bytes of a body of version 1: the least body, and the greatest values of
@@ -33,8 +33,9 @@ const GREATEST_BODY: u64 = LEAST_BODY + MAX_VALUES as u64 * MAX_WEIGHT;
 pub enum FileVersion {
     /// Version 1: its files begin with `AGT1`, and the record of a node has only its own values.
     One,
-    /// Version 2: its files begin with `AGT2`, and the record of a node has copies of its
-    /// children's values after its own. All files that are written have this version.
+    /// Version 2: its files begin with `AGT2`, and the record of a node has, after its own values,
+    /// copies of its children's synthesized ones (of a token its `lex`). All files that are written
+    /// have this version.
     Two,
 }
 

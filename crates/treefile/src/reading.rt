@@ -1,4 +1,5 @@
-//! Reading the last record of a tree file. The length of the last body is at the end of the file.
+//! Reading a tree file: the pass in its header, the record before an offset, and the last record. The
+//! length of a body comes after it, so that reading can begin at the end of the file.
 
 ghost use Rattle.std.specs.Prelude.{◌≡◌, ◌+◌, ◌<◌, ◌≤◌, ◌⊎◌, ◌^◌, length, take, IfErr, IfOk};
 ghost use Rattle.std.specs.Prelude.{IsErrOf, IsTrue, OnOk, nat_eq, slice_range};
@@ -108,6 +109,8 @@ fn number_before<D: Device>(device: &mut D, at: u64) -> Result<u32, DeviceFault>
 
 /// Returns whether a frame with a body of `length` bytes may end at offset `at` in a file of a
 /// version. Takes no memory.
+///
+/// Requires a length below 2^32.
 #[tactic(auto, unfolding(crate::specs::framing::Ending::fits_before))]
 pub fn fits_before(version: FileVersion, at: u64, length: u64) -> bool
     requires { length < 2 ^ 32 }
@@ -162,7 +165,8 @@ pub fn read_body<D: Device>(device: &mut D, at: u64, body: &mut Vec<u8>) -> Resu
     // The body and B2 agree with the content.
     ensures exact { WhenHonest (D.is_honest device.new)
         (ReadsAs (λ _. body.new.items) result (body_before version_two (D.content device.old) at)) }
-    // On any device: the body may be in a frame, and its frame fits before the offset.
+    // On any device: the length of the body is within the limits of version 2, and its frame fits
+    // before the offset.
     ensures body { OnOk result (IsBody version_two body.new.items) }
     ensures room { OnOk result (header_bytes + length body.new.items + length_bytes ≤ at) }
     ensures content { LeavesContent (D.is_honest device.new)

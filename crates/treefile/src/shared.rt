@@ -12,8 +12,9 @@ use shared_bytes::{Body, SharedBytes};
 use std::alloc::Global;
 use std::marker::Model;
 
-/// A device in memory that does not copy a shared value which is appended or lent, but becomes one more
-/// owner of it. Contracts see the bytes. It is honest, and never fails with `Failed`.
+/// A device in memory that becomes one more owner of each shared value that `append_parts` appends, and
+/// lends it without copying it. `append` and `read_at` copy bytes. Contracts see the bytes. It is honest,
+/// and never fails with `Failed`.
 #[derive(Drop)]
 pub struct SharedDevice {
     bytes: SharedBytes,
@@ -96,14 +97,14 @@ impl Device for SharedDevice {
             // without shared values, bodies are read in blocks, which is faster
             return None;
         }
-        body_between(&self.bytes, at)
+        body_before(&self.bytes, at)
     }
 }
 
 /// Lends the body of the frame that ends at offset `at` of a content. Returns `None` if no frame
 /// ends there.
 #[inline(never)]
-fn body_between(bytes: &SharedBytes, at: u64) -> Option<Body<'_>>
+fn body_before(bytes: &SharedBytes, at: u64) -> Option<Body<'_>>
     ensures body { IfSome result (λ body. body_before version_two bytes.now at ≡ Ok body) }
     ensures bytes { IfSome result
         (λ body. IsBytes (drop (at - length_bytes - length body) bytes.now)) }

@@ -1,5 +1,7 @@
 //! Laws about the definitions of trees of bodies and of their files. Each is the contract of a function with an
-//! empty body. `binary` is the grammar of binary fractions in `specs/Worked.antt`.
+//! empty body. `binary` is the grammar of binary fractions in `specs/Worked.antt`. Two grammars are those of
+//! `Sample.antt` of `ag_grammar`: `token_sample` (`examples/words.ag`), with the sentence `iffy if`, and `sample`
+//! (`examples/swapped-attributes.ag` without its `text(..)`), with the sentence `x x`.
 
 ghost use Rattle.std.specs.Prelude.{◌≡◌, ◌≤◌, ◌++◌, ◌∷◌, ℕ, List, [], Option, None, All, Ok, length, pos};
 ghost use Rattle.std.specs.Prelude.{reverse};
@@ -31,10 +33,10 @@ ghost use Rattle.treefile.specs.records.Orders.{BodyTree, MatchesArity, postfix,
 ghost use Rattle.treefile.specs.records.Records.{FitsVersion, IsFileOfTree, bodies_of, file_of_tree};
 ghost use Rattle.treefile.specs.Runs.{RunsPass, RunsPasses};
 ghost use Rattle.treefile.specs.records.TreeFile.{Version, file, header, version_one, version_two};
-ghost use Rattle.treefile.specs.Worked.{binary, binary_passes, bodies_of_one, copies_1_of_one};
-ghost use Rattle.treefile.specs.Worked.{copies_2_of_one, copies_of_iffy, file_of_iffy};
-ghost use Rattle.treefile.specs.Worked.{file_of_x_x, iffy_passes, pass_0_of_one, pass_1_of_one};
-ghost use Rattle.treefile.specs.Worked.{pass_2_of_one, production_of, record_of_iffy, record_of_n};
+ghost use Rattle.treefile.specs.Worked.{binary, binary_passes, bodies_of_one, file_of_iffy};
+ghost use Rattle.treefile.specs.Worked.{file_of_iffy_in_two, file_of_x_x, iffy_passes, pass_0_of_one};
+ghost use Rattle.treefile.specs.Worked.{pass_1_of_one, pass_1_of_one_in_two, pass_2_of_one};
+ghost use Rattle.treefile.specs.Worked.{pass_2_of_one_in_two, production_of, record_of_iffy, record_of_n};
 ghost use Rattle.treefile.specs.Worked.{record_of_t, spelled_number, tree_of_one, values_of_one};
 
 /// The reverse of the postfix list of a direction is the prefix list of the other direction.
@@ -57,8 +59,8 @@ pub fn lists_determine_trees()
         (tree ≡ another) × (leading ≡ others) }
 {}
 
-/// Each record of a tree's file has the length of a body, and the file is read back as the tree's
-/// prefix list in the other direction: each node before its children.
+/// The length of each record of a tree's file is within the limits of the version. In a usable version the
+/// file is read back as the tree's prefix list in the other direction: each node before its children.
 pub fn trees_are_read_back()
     ensures bodies { (version : Version) (grammar : Grammar) (passes : Passes) (pass : ℕ)
         (tree : Tree) (values : Valuation) (content : List ℕ) →
@@ -73,8 +75,9 @@ pub fn trees_are_read_back()
         (prefix (other (direction_of pass)) (bodies_of version grammar passes pass tree values)) }
 {}
 
-/// The files of `1` in the grammar of binary fractions, byte for byte, and the one of `iffy if`. In
-/// pass 0 the only values are the texts of tokens. In version 2 a record has copies too.
+/// The files of `1` in the grammar of binary fractions, byte for byte, and the file of pass 0 of `iffy if`
+/// in `token_sample`. In pass 0 the only values are the texts of tokens. In version 2 a record has
+/// copies too.
 pub fn worked_files()
     ensures first { (values : Valuation) →
         file_of_tree version_one binary binary_passes 0 tree_of_one values ≡ pass_0_of_one }
@@ -85,25 +88,26 @@ pub fn worked_files()
     ensures token { (values : Valuation) →
         file_of_tree version_one token_sample iffy_passes 0 token_tree values ≡ file_of_iffy }
     ensures copied_second { file_of_tree version_two binary binary_passes 1 tree_of_one
-        values_of_one ≡ copies_1_of_one }
+        values_of_one ≡ pass_1_of_one_in_two }
     ensures copied_third { file_of_tree version_two binary binary_passes 2 tree_of_one
-        values_of_one ≡ copies_2_of_one }
+        values_of_one ≡ pass_2_of_one_in_two }
     ensures copied_token { (values : Valuation) →
-        file_of_tree version_two token_sample iffy_passes 0 token_tree values ≡ copies_of_iffy }
+        file_of_tree version_two token_sample iffy_passes 0 token_tree values ≡ file_of_iffy_in_two }
 {}
 
-/// A record determines its node's production and values. A list begins with the records of at most
-/// one tree of an item, and of one valuation of it, each node before its children; and it ends with
-/// those of at most one, each node after its children.
+/// A record determines its node's production and values. A list begins with the records of at most one
+/// tree of an item (a member of a right side: a symbol, a class or a literal), and of one valuation of it
+/// (the values of its nodes) up to the pass, each node before its children; and it ends with those of at
+/// most one, each node after its children.
 pub fn records_determine_trees()
     ensures node { OneNode }
     ensures leading { OneTreeBefore }
     ensures end { OneTreeAtEnd }
 {}
 
-/// A content is the file of a pass of at most one tree of the grammar, and of one valuation of it
-/// up to the pass. Values that are the same up to the pass have the same file. Accepted grammars
-/// meet the conditions on grammar and version in versions 1 and 2.
+/// A content is the file of a pass of at most one tree of the grammar, and of one valuation of it (the
+/// values of its nodes) up to the pass. Values that are the same up to the pass have the same file.
+/// Accepted grammars meet the conditions on grammar and version in versions 1 and 2.
 pub fn files_have_one_tree()
     ensures reading { OneReading }
     ensures same { SameFile }
@@ -161,8 +165,8 @@ pub fn root_is_last()
 
 /// The tree of `1` with its values can be recorded, and so can that of `iffy if`, but not with an
 /// empty text for the name. The file of pass 2 of `1` is that of no other tree, and its last record
-/// is that of N. Pass 1 ran from the file of pass 0 of `x x` to that of pass 1, and so did the
-/// passes from 1 to 1. T's record in pass 1 has the number 65536, which is spelled in nine bytes. A
+/// is that of N. Pass 1 ran from the file of pass 0 of `x x` in `sample` to that of pass 1, and so did
+/// the passes from 1 to 1. T's record in pass 1 has the number 65536, which is spelled in nine bytes. A
 /// following byte 9 begins no value, so there are not two.
 pub fn worked_records()
     ensures numbered { IsNumbered binary }
@@ -187,10 +191,10 @@ pub fn worked_records()
     ensures missing { AreSpelled 2 (spelled_number ++ 9 ∷ []) → ⊥ }
 {}
 
-/// Reading the file of pass 0 of `1` from its end, from right to left. N is expected first, and
-/// after its record Q and then L, one level deeper. The bodies are those of a tree of three levels,
-/// and of none of two; nor is the file that of a tree of at most three nodes. A header alone is the
-/// file of no tree, nor is a file with only Q's record, nor is this one a file of pass 1.
+/// Reading the file of pass 0 of `1`, in version 1, from its end and from right to left. N is expected
+/// first, and after its record Q and then L, one level deeper. The bodies are those of a tree of three
+/// levels, and of none of two; nor is the file that of a tree of at most three nodes. A header alone is
+/// the file of no tree, nor is a file with only Q's record, nor is this one a file of pass 1.
 pub fn worked_reading()
     ensures one { IsRecordOf version_one binary binary_passes 1 (item.Symbol 3, None)
         record_of_t [] }

@@ -203,7 +203,8 @@ impl Writer {
     }
 
     /// Appends the frame of a record of carried values by one call of the device: `append_parts` if
-    /// some of the values are shared, else `append`. Does not count it. Fails as the device does.
+    /// some of the values are shared, else `append`. Does not count it. Fails with NoMemory, before any
+    /// call of the device, if memory to fill the buffer or `parts` is refused; else as the device does.
     #[inline(always)]
     fn append_record<D: Device>(
         &mut self,

@@ -37,7 +37,7 @@ abbrev pub IsRefused : List ℕ → ExprFault → Type 0
 IsRefused text fault.NoMemory = Unit {0}
 IsRefused text e = ReadsAsNone text
 
--- an expression can begin with a name that is not reserved, a keyword of a form, or the name of a call,
+-- an expression can begin with a name that is not reserved, `let`, `if`, or the name of a call,
 abbrev pub begins_with : List ℕ → Bool
 begins_with name =
     not (is_reserved name) || (bytes_eq name (codes "let") || (bytes_eq name (codes "if") || is_some (call_of name)))

@@ -118,7 +118,8 @@ atom_of (token.Punctuation m) = marked_atom m
 atom_of (token.Name name) = cond (is_call (token.Name name)) atom.Call atom.Operand
 atom_of _ = atom.Operand
 
--- the next token begins an atom of this form, and of no earlier one
+-- The next token begins an atom of this form, and of no earlier one. For `Operand`: it begins none of the other forms. It may
+-- begin no atom at all then, and there may be no next token.
 abbrev pub BeginsAtom : Atom → Input → Type 0
 BeginsAtom atom.Parenthesized i = sees (is_sign (mark punctuation.Open)) i ≡ true
 BeginsAtom atom.List i =

@@ -1,5 +1,5 @@
--- Tokens, numbers and trees for worked examples.
-use Rattle.std.specs.Prelude.{ℕ, List, [], ◌∷◌, ℤ, pos, negsuc, codes}
+-- Tokens and trees for worked examples.
+use Rattle.std.specs.Prelude.{ℕ, List, [], ◌∷◌, pos, codes}
 use Rattle.ag_tokens.specs.declared.token.Punctuation.TheVariants as punctuation
 use Rattle.ag_tokens.specs.PlacedToken.{PlacedToken}
 use Rattle.ag_tokens.specs.GrammarToken.{GrammarToken}
@@ -8,10 +8,6 @@ use Rattle.ag_grammar.specs.declared.syntax.node.Operator.TheVariants as operato
 use Rattle.ag_grammar.specs.declared.syntax.node.Node.{Node}
 use Rattle.ag_grammar.specs.declared.syntax.node.Node.TheVariants as node
 use Rattle.ag_value.specs.declared.value.Value.TheVariants as value
-
--- the smallest number
-abbrev pub least : ℤ
-least = negsuc 9223372036854775807
 
 -- a token at an offset
 abbrev pub placed : ℕ → GrammarToken → PlacedToken
@@ -31,21 +27,6 @@ sum_and_product =
       operator.Add,
       node.Chain (node.Literal (value.Num (pos 3))) ((operator.Multiply, node.Literal (value.Num (pos 4))) ∷ []),
     ) ∷ [])
-
--- `10 - 3 - 2`
-abbrev pub two_differences : Node
-two_differences =
-    node.Chain (node.Literal (value.Num (pos 10)))
-    ((operator.Subtract, node.Literal (value.Num (pos 3))) ∷ (operator.Subtract, node.Literal (value.Num (pos 2))) ∷ [])
-
--- `9223372036854775807 + 1`
-abbrev pub past_the_greatest : Node
-past_the_greatest =
-    node.Chain (node.Literal (value.Num (pos 9223372036854775807))) ((operator.Add, node.Literal (value.Num (pos 1))) ∷ [])
-
--- `1 div 0`
-abbrev pub by_zero : Node
-by_zero = node.Chain (node.Literal (value.Num (pos 1))) ((operator.Divide, node.Literal (value.Num (pos 0))) ∷ [])
 
 -- the tokens of `let x = 1 in x < 2`, with their offsets, and its tree
 abbrev pub let_and_compare : List PlacedToken

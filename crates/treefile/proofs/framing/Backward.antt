@@ -227,7 +227,7 @@ module _ (version : Version) (content : List ℕ) where
       ap (λ (bs : List (List ℕ)). body ∷ bs) (reads_same bodies others (before_frame at body) first.1 later)
       ∙ ap (λ (b : List ℕ). b ∷ others) (sym same)
 
-  -- each body that is read may be in a frame
+  -- the length of each body that is read is within the limits
   pub read_bodies : IsBytes content → (bodies : List (List ℕ)) (at start : ℕ) → at ≤ length content
       → ReadsTo version content at bodies start → All (IsBody version) bodies
   read_bodies bytes [] at start within read = All-nil (IsBody version)

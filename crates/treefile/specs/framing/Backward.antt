@@ -11,7 +11,7 @@ use Rattle.treefile.specs.records.TreeFile.{Version, file_of_fourteen, version_o
 abbrev pub pass_of : List ℕ → ℕ
 pass_of content = from_be_bytes w16 (slice_range content 4 header_bytes)
 
--- The pass of a tree file of a version, or B1 if the content is none.
+-- The pass in the header of a content that begins as a tree file of a version, or B1 if it doesn't.
 abbrev pub pass_in : Version → List ℕ → Result ℕ FrameFault
 pass_in version content = if is_tree_file version content then Ok (pass_of content) else Err NotATreeFile
 

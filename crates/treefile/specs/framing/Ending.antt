@@ -26,7 +26,7 @@ least_body = 3
 abbrev pub greatest_body : Version → ℕ
 greatest_body version = least_body + version.max_values * max_weight
 
--- A body may be in a frame: its length is within the limits.
+-- The length of a body is within the limits of a version.
 pub record IsBody (version : Version) (body : List ℕ) : Type 0 where
   pub least : least_body ≤ length body
   pub greatest : length body ≤ greatest_body version
@@ -51,7 +51,8 @@ pub record IsBodyBefore (version : Version) (content : List ℕ) (at : ℕ) (bod
 abbrev pub IsBytes : List ℕ → Type 0
 IsBytes bytes = (i : ℕ) → slice_index bytes i < 256
 
--- there is room for a header, and the first bytes are those of the version
+-- A content begins as a tree file of a version: it has room for a header, and its first bytes are those of the version. What
+-- follows the header is not looked at.
 unfoldable pub is_tree_file : Version → List ℕ → Bool
 is_tree_file version content = nat_le header_bytes (length content) && starts_with nat_eq content version.magic
 
@@ -75,7 +76,7 @@ body_before version content at =
     else if fits_before version at len then Ok (slice_range content from (from + len))
     else Err (Damaged at)
 
--- in a tree file, the body of the frame that ends at the end of the content
+-- the body of the frame that ends at the end of the content, or B1 if it doesn't begin as a tree file
 unfoldable pub last_body_of : Version → List ℕ → Result (List ℕ) FrameFault
 last_body_of version content =
     if is_tree_file version content then body_before version content (length content) else Err NotATreeFile

@@ -25,14 +25,14 @@ use Rattle.treefile.specs.records.Records.{values_up_to}
 use Rattle.treefile.specs.records.TreeFile.{Version}
 use Rattle.treefile.specs.declared.reading.FrameFault.{FrameFault}
 
--- Some values are the copies in a node's record: as many well ones as the copies of its children have; none
--- if the version has no copies.
+-- Some values are the copies in the record of a node with children of these items: `copies_count` well values; none if
+-- the version has no copies.
 abbrev pub AreCopies : Bool → Grammar → Passes → ℕ → List Item → List Value → Type 0
 AreCopies false g m k xs copies = copies ≡ []
 AreCopies true g m k xs copies = (length copies ≡ copies_count g m k xs) × All IsWell copies
 
 -- A body is the record of a node of symbol s in the file of pass k: of a production of the symbol, with well
--- values up to the pass, and with the copies of its children's.
+-- values up to the pass, and, in a version with copies, with copies of its children's synthesized ones.
 pub record IsNodeRecord (version : Version) (g : Grammar) (m : Passes) (k s : ℕ) (body : List ℕ) (p : ℕ) (q : Production)
     (e : ℕ → Value) : Type 0 where
   pub production : IsProduction g p q

@@ -54,7 +54,7 @@ with_copies false own copies = own
 with_copies true own copies = own ++ copies
 
 -- The record of a node: its production, the values of those of its symbol's attributes whose pass is at most
--- k, and, in a version with copies, copies of its children's.
+-- k, and, in a version with copies, copies of its children's synthesized ones (`copies_of`).
 abbrev pub node_body : Version → Grammar → Passes → ℕ → ℕ → (ℕ → Value) → List Value → List ℕ
 node_body version g m k p values copies =
     body_of Node p (with_copies version.has_copies (values_up_to k (left_passes m (slice_get g.productions p)) values) copies)

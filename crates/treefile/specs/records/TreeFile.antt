@@ -16,7 +16,7 @@ use Rattle.treefile.specs.declared.layout.FileVersion.{FileVersion}
 use Rattle.treefile.specs.declared.layout.FileVersion.TheVariants.{One, Two}
 
 -- a version of tree files: the bytes with which each of its files begins, the greatest number of values of a
--- record, and whether the record of a node has copies of its children's
+-- record, and whether the record of a node has copies of its children's synthesized values
 pub record Version : Type 0 where
   pub magic : List ℕ
   pub max_values : ℕ
@@ -26,7 +26,7 @@ pub record Version : Type 0 where
 abbrev pub version_one : Version
 version_one = record { magic = 65 ∷ 71 ∷ 84 ∷ 49 ∷ []; max_values = MAX_ATTRIBUTES; has_copies = false }
 
--- version 2: AGT2, and as many values more for each child
+-- version 2: AGT2, and at most as many values again for each child
 abbrev pub version_two : Version
 version_two =
     record { magic = 65 ∷ 71 ∷ 84 ∷ 50 ∷ []; max_values = MAX_ATTRIBUTES + MAX_CHILDREN * MAX_ATTRIBUTES; has_copies = true }
@@ -36,7 +36,7 @@ abbrev pub version_of : FileVersion → Version
 version_of One = version_one
 version_of Two = version_two
 
--- the first bytes of a file: those of its version, and the number of the pass that wrote it in two
+-- the first bytes of a file: those of its version, and in two bytes the number of the pass that wrote it (0: the parser)
 abbrev pub header : Version → ℕ → List ℕ
 header version pass = version.magic ++ to_be_bytes w16 pass
 

@@ -3,7 +3,7 @@ use Rattle.std.specs.Int.{w32, from_be_bytes}
 use Rattle.treefile.specs.framing.Ending.{fits_before, header_bytes, length_bytes}
 use Rattle.treefile.specs.records.TreeFile.{version_two}
 use Rattle.treefile.proofs.Lending.{cut_out, dropped_bytes}
-use Rattle.treefile.proofs.shared.body_between.Goals as goal
+use Rattle.treefile.proofs.shared.body_before.Goals as goal
 
 pub returns-clause-body : goal.returns-clause-body
 returns-clause-body c =
