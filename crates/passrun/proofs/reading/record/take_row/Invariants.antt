@@ -1,4 +1,4 @@
-use Rattle.std.proofs.Common.{ℕ, ◌-◌, List, [], drop, length, vec_capacity, vec_len, ◌+◌, ◌≤◌}
+use Rattle.std.proofs.Common.{◌-◌, List, [], drop, length, vec_capacity, vec_len, ◌+◌, ◌≤◌}
 use Rattle.ag_value.specs.declared.value.Value.{Value}
 use Rattle.passrun.specs.reading.Reading.{AreTaken, IsNoRow, PrependsTo}
 use Rattle.passrun.proofs.reading.record.take_row.Given as goal
