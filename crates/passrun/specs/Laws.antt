@@ -19,17 +19,17 @@ use Rattle.passrun.specs.declared.layouts.context.PassContext.{PassContext}
 use Rattle.passrun.specs.declared.last.Last.{Last}
 use Rattle.passrun.specs.declared.run_fault.RunFault.{RunFault}
 use Rattle.passrun.specs.Damage.{Shows, Source}
-use Rattle.passrun.specs.layouts.Contexts.{CanRun}
+use Rattle.passrun.specs.layouts.Contexts.{CanRun, setting}
 use Rattle.passrun.specs.layouts.Layouts.{IsLayout}
 use Rattle.passrun.specs.Passed.{IsPassed}
 use Rattle.passrun.specs.Rounds.{HasRunAll}
 
 -- A pass of a plan of an accepted grammar can run, in a context that has the layout of each production.
 abbrev pub PlansCanRun : Type 0
-PlansCanRun = (context : PassContext) (passes : ℕ) → IsAccepted context.grammar.now
-    → IsPlan context.grammar.now context.plan.now.0 context.plan.now.1 → IsGreatest passes context.plan.now.0 → 1 ≤ context.pass
-    → context.pass ≤ passes
-    → IsLayout (setting_of context.grammar.now context.plan.now context.pass) context.rows.now → CanRun context
+PlansCanRun = (context : PassContext) (passes : ℕ) → IsAccepted context.setting.grammar.now
+    → IsPlan context.setting.grammar.now context.setting.plan.now.0 context.setting.plan.now.1
+    → IsGreatest passes context.setting.plan.now.0 → 1 ≤ context.setting.pass → context.setting.pass ≤ passes
+    → IsLayout (setting context) context.rows.now → CanRun context
 
 -- At most one of R1 with an offset, P2 and P3 shows in a content.
 abbrev pub ShowsOnce : Type 0

@@ -6,6 +6,7 @@
 //!
 //! Words of this crate, in pass k:
 //!
+//! - *Setting*: what a pass runs with, which is a grammar, a plan for it, and k.
 //! - *Node*: what has a record, so a node of a symbol or a token of a class. Literals have none.
 //! - *Place*: 0 for the left side of a production, and 1, 2, .. for the children, which are the
 //!   symbols and classes of its right side (a literal has no record).
@@ -31,6 +32,7 @@ mod passes;
 mod passing;
 mod reading;
 mod run_fault;
+mod setting;
 mod upgrading;
 
 pub use last::Last;

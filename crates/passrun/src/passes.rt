@@ -4,6 +4,7 @@ ghost use Rattle.std.specs.Prelude.{◌≡◌, ◌+◌, ◌-◌, ◌^◌, ◌<�
 ghost use Rattle.std.specs.Prelude.{OnErr, OnOk};
 ghost use Rattle.ag_grammar.specs.grammars.Tree.{max_nodes};
 ghost use Rattle.passassign.specs.Rows.{IsGreatest, passes_of};
+ghost use Rattle.passrun.specs.Settings.{pass_setting};
 ghost use Rattle.passrun.specs.passing.Ahead.{IsRunFault};
 ghost use Rattle.passrun.specs.Rounds.{HasRunAll, IsPassedOn, LeavesAfterFailure, LeavesSolutions};
 ghost use Rattle.passrun.specs.Rounds.{LeavesSomeFile, last_content, other_content, other_last};
@@ -18,6 +19,7 @@ use crate::last::Last;
 use crate::passing::ends::Passed;
 use crate::passing::pass::run_pass;
 use crate::run_fault::RunFault;
+use crate::setting::Setting;
 use ag_eval::Meter;
 use ag_grammar::Grammar;
 use planchecker::Plan;
@@ -41,34 +43,33 @@ fn last_pass(plan: &Plan) -> u16
     plan.assignment().passes()
 }
 
-/// Runs the pass after pass `done`, from the device with the last file to the other one. Fails as
+/// Runs the pass of a setting, from the device with the last file to the other one. Fails as
 /// `run_pass` does.
 fn next_pass<D: Device>(
     alloc: Global,
-    grammar: &Grammar,
-    plan: &Plan,
-    done: u16,
+    setting: &Setting<'_>,
     last: Last,
     a: &mut D,
     b: &mut D,
     meter: &mut Meter,
 ) -> Result<Passed, RunFault>
-    requires plan { IsPlan grammar.now plan.now.0 plan.now.1 }
-    requires following { (passes : ℕ) × IsGreatest passes plan.now.0 × (done + 1 ≤ passes) }
-    requires room { done < 65535 }
+    requires plan { IsPlan setting.now.grammar.now setting.now.plan.now.0 setting.now.plan.now.1 }
+    requires first { 1 ≤ setting.now.pass }
+    requires last { (passes : ℕ) × IsGreatest passes setting.now.plan.now.0
+        × (setting.now.pass ≤ passes) }
     requires meter { meter.old ≤ 2 ^ 63 }
     ensures passed { WhenHonest (D.is_honest a.new) (WhenHonest (D.is_honest b.new)
-        (IfOk result (λ p. IsPassedOn (setting_of grammar.now plan.now (done + 1)) last
+        (IfOk result (λ p. IsPassedOn (pass_setting setting.now) last
         (D.content a.old) (D.content b.old) (D.content a.new) (D.content b.new)
         p.nodes (meter.new - meter.old)))) }
     ensures refused { IfErr result (λ f. WhenHonest (D.is_honest a.new)
-        (WhenHonest (D.is_honest b.new) (IsRunFault (setting_of grammar.now plan.now (done + 1))
+        (WhenHonest (D.is_honest b.new) (IsRunFault (pass_setting setting.now)
         (last_content last (D.content a.old) (D.content b.old)) f))) }
     ensures kept { WhenHonest (D.is_honest a.new) (WhenHonest (D.is_honest b.new)
         (last_content last (D.content a.new) (D.content b.new)
         ≡ last_content last (D.content a.old) (D.content b.old))) }
     ensures left { OnErr result (WhenHonest (D.is_honest a.new) (WhenHonest (D.is_honest b.new)
-        (LeavesBeginning (done + 1) (other_content last (D.content a.old) (D.content b.old))
+        (LeavesBeginning setting.now.pass (other_content last (D.content a.old) (D.content b.old))
         (other_content last (D.content a.new) (D.content b.new))))) }
     ensures a_left { WhenHonest (D.is_honest a.new)
         (LeavesSomeFile (D.content a.old) (D.content a.new)) }
@@ -82,9 +83,14 @@ fn next_pass<D: Device>(
     ensures devices { BothPersist D.is_honest D.failures a.old a.new
         D.is_honest D.failures b.old b.new (IsErrOf result RunFault.Device) }
 {
+    let Setting {
+        grammar,
+        plan,
+        pass,
+    } = *setting;
     match last {
-        Last::A => run_pass(alloc, grammar, plan, done + 1, a, b, meter),
-        Last::B => run_pass(alloc, grammar, plan, done + 1, b, a, meter),
+        Last::A => run_pass(alloc, grammar, plan, pass, a, b, meter),
+        Last::B => run_pass(alloc, grammar, plan, pass, b, a, meter),
     }
 }
 
@@ -180,7 +186,12 @@ pub fn run_all<D: Device>(
         written: 0,
     };
     for done in first - 1..passes {
-        let passed = next_pass(alloc, grammar, plan, done, last, a, b, meter)?;
+        let setting = Setting {
+            grammar,
+            plan,
+            pass: done + 1,
+        };
+        let passed = next_pass(alloc, &setting, last, a, b, meter)?;
         last = other(last);
         sum = one_more(sum, passed);
     }

@@ -1,7 +1,7 @@
 //! Converts a tree file of version 1 to version 2.
 
-ghost use Rattle.std.specs.Prelude.{◌≡◌, ◌+◌, ◌-◌, ◌<◌, ◌≤◌, ◌^◌, All, false, length, Bool, IfErr, IfOk, IfSome, IsErrOf, List};
-ghost use Rattle.std.specs.Prelude.{OnErr, OnOk, [], ◌∷◌, ◌++◌, ℕ};
+ghost use Rattle.std.specs.Prelude.{◌≡◌, ◌+◌, ◌-◌, ◌<◌, ◌≤◌, ◌^◌, All, false, length, Bool, IfErr, IfOk};
+ghost use Rattle.std.specs.Prelude.{IfSome, IsErrOf, List, OnErr, OnOk, [], ◌∷◌, ◌++◌, ℕ};
 ghost use Rattle.ag_value.specs.Well.{IsWell};
 ghost use Rattle.ag_grammar.specs.grammars.Accepted.{IsAccepted};
 ghost use Rattle.ag_grammar.specs.grammars.AttributeGrammar.{stored_items};
@@ -37,39 +37,46 @@ const BETWEEN: u16 = 1;
 /// Reads a tree file of version 1 backward, and writes the records of version 2 of the same tree.
 #[derive(Drop)]
 struct Upgrading {
+    alloc: Global,
     back: Back,
     writer: Writer,
 }
 
+/// A subtree that is expected: the item of its root, and the root's level.
+#[derive(Clone, Copy)]
+struct Subtree {
+    item: Item,
+    level: u16,
+}
+
 impl Upgrading {
-    /// Reads the record of an item whose subtree is at depth `level`: the record before the one
-    /// read last. Fails with P2 if the level exceeds `MAX_REVERSED_LEVELS`, with P3 if
-    /// `MAX_REVERSED_RECORDS` records were read already, and with R1 and the offset at which the
-    /// record should end if a record of the item does not end there. Fails with D1 if the device
-    /// fails, and with `NoMemory` if memory cannot be allocated.
+    /// Reads the record of a subtree's root: the record before the one read last. Fails with P2 if
+    /// its level exceeds `MAX_REVERSED_LEVELS`, with P3 if `MAX_REVERSED_RECORDS` records were read
+    /// already, and with R1 and the offset at which the record should end if a record of the item
+    /// does not end there. Fails with D1 if the device fails, and with `NoMemory` if memory cannot
+    /// be allocated.
     fn record<D: Device>(
         &mut self,
-        alloc: Global,
         grammar: &Grammar,
-        item: Item,
-        level: u16,
+        subtree: Subtree,
         from: &mut D,
     ) -> Result<OldRecord, RunFault>
         requires accepted { IsAccepted grammar.now }
         requires ready { IsUpgrading (D.is_honest from.old) (D.content from.old)
             self.old.back self.old.writer }
-        requires place { stored_items (item ∷ []) ≡ item ∷ [] }
-        ensures taken { IfOk result (λ r. HasTaken grammar.now item level (D.is_honest from.new)
-            (D.content from.old) self.old.back self.new.back r) }
+        requires place { stored_items (subtree.item ∷ []) ≡ subtree.item ∷ [] }
+        ensures taken { IfOk result (λ r. HasTaken grammar.now subtree.item subtree.level
+            (D.is_honest from.new) (D.content from.old) self.old.back self.new.back r) }
         ensures writer { self.new.writer ≡ self.old.writer }
         ensures refused { IfErr result (λ f. WhenHonest (D.is_honest from.new)
-            (IsUnconverted grammar.now (D.content from.old) (item ∷ []) level
+            (IsUnconverted grammar.now (D.content from.old) (subtree.item ∷ []) subtree.level
             self.old.back.progress f)) }
         ensures content { LeavesContent (D.is_honest from.new)
             (D.content from.old) (D.content from.new) }
         ensures persists { Persists (D.is_honest from.old) (D.is_honest from.new)
             (D.failures from.old) (D.failures from.new) (IsErrOf result RunFault.Device) }
     {
+        let Subtree { item, level } = subtree;
         if MAX_REVERSED_LEVELS < level {
             return Err(RunFault::TooDeep);
         }
@@ -80,22 +87,19 @@ impl Upgrading {
         let Some(body) = self.back.back(from)? else {
             return Err(RunFault::Damaged(end));
         };
-        match old_record(alloc, grammar, item, body) {
+        match old_record(self.alloc, grammar, item, body) {
             Ok(record) => Ok(record),
             Err(RecordFault::Damaged) => Err(RunFault::Damaged(end)),
             Err(RecordFault::NoMemory) => Err(RunFault::NoMemory),
         }
     }
 
-    /// Converts the subtree of `item` at depth `level`, if the item is a child: reads its records
-    /// and writes them in postfix order. Returns the text if it is a token. Fails as `upgrade` does
-    /// for the first device.
+    /// Converts a subtree, if its item is a child: reads its records and writes them in postfix
+    /// order. Returns the text if it is a token. Fails as `upgrade` does for the first device.
     fn tree<D: Device, E: Device>(
         &mut self,
-        alloc: Global,
         grammar: &Grammar,
-        item: Item,
-        level: u16,
+        subtree: Subtree,
         from: &mut D,
         to: &mut E,
     ) -> Result<Option<Value>, RunFault>
@@ -103,11 +107,11 @@ impl Upgrading {
         requires ready { IsUpgrading (D.is_honest from.old) (D.content from.old)
             self.old.back self.old.writer }
         ensures converted { IfOk result (λ text. WhenHonest (D.is_honest from.new)
-            (Converted grammar.now (D.content from.old) [] (item ∷ []) level
+            (Converted grammar.now (D.content from.old) [] (subtree.item ∷ []) subtree.level
             self.old.back.progress self.new.back.progress
             (E.is_honest to.new) (E.content to.old) (E.content to.new) (text_list text))) }
         ensures refused { IfErr result (λ f. WhenHonest (D.is_honest from.new)
-            (IsUnconverted grammar.now (D.content from.old) (item ∷ []) level
+            (IsUnconverted grammar.now (D.content from.old) (subtree.item ∷ []) subtree.level
             self.old.back.progress f)) }
         ensures ready { OnOk result (IsUpgrading (D.is_honest from.new) (D.content from.old)
             self.new.back self.new.writer) }
@@ -126,10 +130,11 @@ impl Upgrading {
         ensures devices { BothPersist D.is_honest D.failures from.old from.new
             E.is_honest E.failures to.old to.new (IsErrOf result RunFault.Device) }
     {
+        let Subtree { item, level } = subtree;
         if !item.is_stored_child() {
             return Ok(None);
         }
-        let production = match self.record(alloc, grammar, item, level, from)? {
+        let production = match self.record(grammar, subtree, from)? {
             OldRecord::Node(production) => production,
             OldRecord::Token(class, text) => {
                 put_record(
@@ -143,9 +148,13 @@ impl Upgrading {
             }
         };
         let items = grammar.productions()[production as usize].items.as_slice();
-        let mut texts = Vec::new(alloc);
+        let mut texts = Vec::new(self.alloc);
         for at in (0..items.len()).rev() {
-            let text = self.tree(alloc, grammar, items[at], level + 1, from, to)?;
+            let child = Subtree {
+                item: items[at],
+                level: level + 1,
+            };
+            let text = self.tree(grammar, child, from, to)?;
             add_text(&mut texts, text)?;
         }
         texts.as_mut_slice().reverse();
@@ -197,8 +206,16 @@ fn convert<D: Device, E: Device>(
         return Err(RunFault::Damaged(PASS_OFFSET));
     }
     let writer = Writer::begin(alloc, to, BETWEEN)?;
-    let mut upgrading = Upgrading { back, writer };
-    upgrading.tree(alloc, grammar, root, 1, from, to)?;
+    let mut upgrading = Upgrading {
+        alloc,
+        back,
+        writer,
+    };
+    let whole = Subtree {
+        item: root,
+        level: 1,
+    };
+    upgrading.tree(grammar, whole, from, to)?;
     let end = upgrading.back.end();
     if upgrading.back.back(from)?.is_some() {
         return Err(RunFault::Damaged(end));

@@ -1,12 +1,13 @@
 -- The context of a pass, and when it can run. All definitions are this project's.
-use Rattle.passcode.specs.Settings.{Setting, setting_of}
+use Rattle.passcode.specs.Settings.{Setting}
 use Rattle.passcode.specs.Sound.{IsSound}
 use Rattle.passrun.specs.declared.layouts.context.PassContext.{PassContext}
+use Rattle.passrun.specs.Settings.{pass_setting}
 use Rattle.passrun.specs.layouts.Layouts.{IsLayout}
 
--- The setting of a context: its grammar, its plan and its pass.
+-- The setting of a context.
 abbrev pub setting : PassContext → Setting
-setting context = setting_of context.grammar.now context.plan.now context.pass
+setting context = pass_setting context.setting
 
 -- The pass of a context can run: its setting is sound, and its rows are the layouts of the productions.
 pub record CanRun (context : PassContext) : Type 0 where

@@ -6,22 +6,23 @@ ghost use Rattle.std.specs.Prelude.{slice_index_or};
 ghost use Rattle.ag_grammar.specs.Lists.{Each};
 ghost use Rattle.ag_grammar.specs.declared.grammar.Target.{Target as TheTarget};
 ghost use Rattle.ag_grammar.specs.grammars.Accepted.{IsAccepted, max_children};
-ghost use Rattle.ag_grammar.specs.grammars.AttributeGrammar.{Grammar as Plain, places_of};
+ghost use Rattle.ag_grammar.specs.grammars.AttributeGrammar.{places_of};
 ghost use Rattle.passassign.specs.Rows.{passes_of};
 ghost use Rattle.passcode.specs.Rows.{row_of};
+ghost use Rattle.passrun.specs.Settings.{pass_setting};
 ghost use Rattle.passrun.specs.layouts.BuiltLayouts.{AreWithin, argument_slot_by, layout_of, place_rows};
 ghost use Rattle.passrun.specs.layouts.BuiltLayouts.{production_row, rule_slots_by, start_in, target_slot_by};
 ghost use Rattle.passrun.specs.layouts.Slots.{stored_width};
 ghost use Rattle.passrun.specs.layouts.Starts.{AreLow, AreSmall, max_width};
 ghost use Rattle.planchecker.specs.Plans.{IsPlan};
-ghost use Rattle.passcode.specs.Settings.{list_at, setting_of};
+ghost use Rattle.passcode.specs.Settings.{list_at};
 
 use crate::layouts::hints::Hints;
 use crate::layouts::rows::{copied_width, known_width, passes_at, rank_of, row_length, row_passes};
-use ag_grammar::{Grammar, Item, Production, Rule, Target};
+use crate::setting::Setting;
+use ag_grammar::{Item, Production, Rule, Target};
 use ag_value::{Items, NoMemory};
 use passcode::Instr;
-use planchecker::Plan;
 use std::alloc::Global;
 
 /// The slots of a rule: indices among the stored values, counted from the first value of the node's
@@ -68,23 +69,21 @@ pub(crate) struct Layout {
     pub(crate) hints: Hints,
 }
 
-/// Returns the rows of the places of a production in pass k, and the number of values in the row of
+/// Returns the rows of the places of a production in a pass, and the number of values in the row of
 /// its nodes.
 /// Fails with `NoMemory` if memory cannot be allocated.
 fn rows_of_places(
     alloc: Global,
-    grammar: &Grammar,
-    plan: &Plan,
-    k: u16,
+    setting: &Setting<'_>,
     production: &Production,
 ) -> Result<(Items<PlaceRow>, u16), NoMemory>
-    requires first { 1 ≤ k }
-    requires small { AreSmall (passes_of plan.now.0) }
+    requires first { 1 ≤ setting.now.pass }
+    requires small { AreSmall (passes_of setting.now.plan.now.0) }
     requires few { length (places_of production.now) ≤ max_children + 1 }
     ensures rows { IfOk result (λ found. found.0
-        ≡ place_rows (setting_of grammar.now plan.now k) production.now) }
+        ≡ place_rows (pass_setting setting.now) production.now) }
     ensures width { IfOk result (λ found. found.1
-        ≡ stored_width (setting_of grammar.now plan.now k) production.now) }
+        ≡ stored_width (pass_setting setting.now) production.now) }
     ensures room { IfOk result (λ found. found.1 ≤ max_width) }
 {
     let places = production.places(alloc)?;
@@ -96,42 +95,44 @@ fn rows_of_places(
         width: 0,
         known: 0,
     })?;
-    let mut start = row_length(passes_at(plan, production.left), k) as u16;
+    let mut start = row_length(passes_at(setting.plan, production.left), setting.pass) as u16;
     for item in &places.as_slice()[1..] {
-        let width = copied_width(grammar, plan, k, *item) as u16;
+        let width = copied_width(setting, *item) as u16;
         rows.push(PlaceRow {
             item: *item,
             start,
             width,
-            known: known_width(grammar, plan, k, *item) as u16,
+            known: known_width(setting, *item) as u16,
         })?;
         start += width;
     }
     Ok((Items::from_vec(rows), start))
 }
 
-/// Returns the slot of an argument in pass k: among the node's own values, or among the copies.
+/// Returns the slot of an argument in a pass: among the node's own values, or among the copies.
 #[tactic(auto, using(crate::proofs::places::Found::item_found, crate::proofs::places::Found::start_found))]
-fn argument_slot(plan: &Plan, k: u16, places: &[PlaceRow], argument: Target) -> u16
-    requires small { AreSmall (passes_of plan.now.0) }
+fn argument_slot(setting: &Setting<'_>, places: &[PlaceRow], argument: Target) -> u16
+    requires small { AreSmall (passes_of setting.now.plan.now.0) }
     requires starts { start_in places.now argument.place ≤ max_width }
     requires place { argument.place < length places.now }
-    ensures { result ≡ argument_slot_by (passes_of plan.now.0) k places.now argument }
+    ensures { result ≡ argument_slot_by (passes_of setting.now.plan.now.0) setting.now.pass
+        places.now argument }
 {
     let row = places[argument.place as usize];
-    row.start + rank_of(plan, k, row.item, argument.attr)
+    row.start + rank_of(setting, row.item, argument.attr)
 }
 
-/// Returns the slot of a target in pass k. The row of a node has `width` values; the row of a child
+/// Returns the slot of a target in a pass. The row of a node has `width` values; the row of a child
 /// begins after them.
 #[tactic(auto, using(crate::proofs::places::Found::item_found))]
-fn target_slot(plan: &Plan, k: u16, width: u16, places: &[PlaceRow], target: Target) -> u16
-    requires small { AreSmall (passes_of plan.now.0) }
+fn target_slot(setting: &Setting<'_>, width: u16, places: &[PlaceRow], target: Target) -> u16
+    requires small { AreSmall (passes_of setting.now.plan.now.0) }
     requires width { width ≤ max_width }
     requires place { target.place < length places.now }
-    ensures { result ≡ target_slot_by (passes_of plan.now.0) k width places.now target }
+    ensures { result ≡ target_slot_by (passes_of setting.now.plan.now.0) setting.now.pass width
+        places.now target }
 {
-    let rank = rank_of(plan, k, places[target.place as usize].item, target.attr);
+    let rank = rank_of(setting, places[target.place as usize].item, target.attr);
     if target.place == 0 {
         return rank;
     }
@@ -141,20 +142,20 @@ fn target_slot(plan: &Plan, k: u16, width: u16, places: &[PlaceRow], target: Tar
 /// Returns the slots of a rule's arguments. Fails with `NoMemory` if memory cannot be allocated.
 fn argument_slots(
     alloc: Global,
-    plan: &Plan,
-    k: u16,
+    setting: &Setting<'_>,
     places: &[PlaceRow],
     arguments: &[Target],
 ) -> Result<Items<u16>, NoMemory>
-    requires small { AreSmall (passes_of plan.now.0) }
+    requires small { AreSmall (passes_of setting.now.plan.now.0) }
     requires starts { AreLow places.now }
     requires within { Each (λ (o : TheTarget). o.place < length places.now) arguments.now }
     ensures { IfOk result (λ slots. slots
-        ≡ map (argument_slot_by (passes_of plan.now.0) k places.now) arguments.now) }
+        ≡ map (argument_slot_by (passes_of setting.now.plan.now.0) setting.now.pass places.now)
+        arguments.now) }
 {
     let mut slots = Vec::new(alloc);
     for argument in arguments {
-        slots.push(argument_slot(plan, k, places, *argument))?;
+        slots.push(argument_slot(setting, places, *argument))?;
     }
     Ok(Items::from_vec(slots))
 }
@@ -162,23 +163,23 @@ fn argument_slots(
 /// Returns the slots of each rule. Fails with `NoMemory` if memory cannot be allocated.
 fn slots_of_rules(
     alloc: Global,
-    plan: &Plan,
-    k: u16,
+    setting: &Setting<'_>,
     width: u16,
     places: &[PlaceRow],
     rules: &[Rule],
 ) -> Result<Items<RuleSlots>, NoMemory>
-    requires small { AreSmall (passes_of plan.now.0) }
+    requires small { AreSmall (passes_of setting.now.plan.now.0) }
     requires width { width ≤ max_width }
     requires starts { AreLow places.now }
     requires within { AreWithin (length places.now) rules.now }
     ensures { IfOk result (λ slots. slots
-        ≡ map (rule_slots_by (passes_of plan.now.0) k width places.now) rules.now) }
+        ≡ map (rule_slots_by (passes_of setting.now.plan.now.0) setting.now.pass width places.now)
+        rules.now) }
 {
     let mut slots = Vec::new(alloc);
     for rule in rules {
-        let target = target_slot(plan, k, width, places, rule.target);
-        let args = argument_slots(alloc, plan, k, places, rule.args.as_slice())?;
+        let target = target_slot(setting, width, places, rule.target);
+        let args = argument_slots(alloc, setting, places, rule.args.as_slice())?;
         slots.push(RuleSlots { target, args })?;
     }
     Ok(Items::from_vec(slots))
@@ -196,14 +197,14 @@ fn list_of_row(row: &[Vec<Instr>], k: u16) -> &[Instr]
     &[]
 }
 
-/// Returns the instructions of pass k for a production; empty if there are none.
-fn list_of(plan: &Plan, k: u16, production: usize) -> &[Instr]
-    requires { 1 ≤ k }
-    ensures { (g : Plain) → result.now ≡ list_at (setting_of g plan.now k) production }
+/// Returns the instructions of a pass for a production; empty if there are none.
+fn list_of<'r>(setting: &'r Setting<'_>, production: usize) -> &'r [Instr]
+    requires { 1 ≤ setting.now.pass }
+    ensures { result.now ≡ list_at (pass_setting setting.now) production }
 {
-    let rows = plan.code().rows();
+    let rows = setting.plan.code().rows();
     if production < rows.len() {
-        return list_of_row(rows[production].as_slice(), k);
+        return list_of_row(rows[production].as_slice(), setting.pass);
     }
     &[]
 }
@@ -212,31 +213,28 @@ fn list_of(plan: &Plan, k: u16, production: usize) -> &[Instr]
 /// allocated.
 fn row_of_production(
     alloc: Global,
-    grammar: &Grammar,
-    plan: &Plan,
-    k: u16,
+    setting: &Setting<'_>,
     number: usize,
     production: &Production,
 ) -> Result<ProductionRow, NoMemory>
-    requires first { 1 ≤ k }
-    requires small { AreSmall (passes_of plan.now.0) }
+    requires first { 1 ≤ setting.now.pass }
+    requires small { AreSmall (passes_of setting.now.plan.now.0) }
     requires few { length (places_of production.now) ≤ max_children + 1 }
     requires within { AreWithin (length (places_of production.now)) production.now.rules }
     ensures { IfOk result (λ row. row
-        ≡ production_row (setting_of grammar.now plan.now k) number production.now) }
+        ≡ production_row (pass_setting setting.now) number production.now) }
 {
-    let passes = row_passes(alloc, grammar, plan, production)?;
-    let (places, width) = rows_of_places(alloc, grammar, plan, k, production)?;
+    let passes = row_passes(alloc, setting, production)?;
+    let (places, width) = rows_of_places(alloc, setting, production)?;
     let rules = slots_of_rules(
         alloc,
-        plan,
-        k,
+        setting,
         width,
         places.as_slice(),
         production.rules.as_slice(),
     )?;
     Ok(ProductionRow {
-        list: Items::from_vec(list_of(plan, k, number).to_vec(alloc)?),
+        list: Items::from_vec(list_of(setting, number).to_vec(alloc)?),
         width,
         passes,
         places,
@@ -244,28 +242,22 @@ fn row_of_production(
     })
 }
 
-/// Returns the layout of each production of a grammar in pass k of a plan.
+/// Returns the layout of each production of a grammar in a pass of a plan.
 ///
 /// Fails with `NoMemory` if memory cannot be allocated. Visits each place of a production once and,
 /// for each target and argument of its rules, the passes of one symbol's attributes, which are at
 /// most 16.
-pub(crate) fn build_layout(
-    alloc: Global,
-    grammar: &Grammar,
-    plan: &Plan,
-    k: u16,
-) -> Result<Layout, NoMemory>
-    requires plan { IsPlan grammar.now plan.now.0 plan.now.1 }
-    requires first { 1 ≤ k }
-    ensures layouts { IfOk result
-        (λ l. l.productions ≡ layout_of (setting_of grammar.now plan.now k)) }
-    ensures accepted { IsAccepted grammar.now }
+pub(crate) fn build_layout(alloc: Global, setting: &Setting<'_>) -> Result<Layout, NoMemory>
+    requires plan { IsPlan setting.now.grammar.now setting.now.plan.now.0 setting.now.plan.now.1 }
+    requires first { 1 ≤ setting.now.pass }
+    ensures layouts { IfOk result (λ l. l.productions ≡ layout_of (pass_setting setting.now)) }
+    ensures accepted { IsAccepted setting.now.grammar.now }
 {
     let mut rows = Vec::new(alloc);
-    for (number, production) in grammar.productions().iter().enumerate() {
-        rows.push(row_of_production(alloc, grammar, plan, k, number, production)?)?;
+    for (number, production) in setting.grammar.productions().iter().enumerate() {
+        rows.push(row_of_production(alloc, setting, number, production)?)?;
     }
-    let hints = Hints::new(alloc, grammar, plan, k, rows.as_slice())?;
+    let hints = Hints::new(alloc, setting, rows.as_slice())?;
     Ok(Layout {
         productions: Items::from_vec(rows),
         hints,

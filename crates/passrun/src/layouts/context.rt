@@ -14,34 +14,34 @@ use crate::layouts::building::{PlaceRow, ProductionRow};
 use crate::layouts::hints::Hints;
 use crate::layouts::rows::copied_passes;
 use crate::passing::open_node::OpenNode;
-use ag_grammar::{Grammar, Item};
+use crate::setting::Setting;
+use ag_grammar::Item;
 use passcode::Instr;
-use planchecker::Plan;
+use std::alloc::Global;
 
-/// The context of a pass: a grammar, a plan for it, the layout of each production by its number,
-/// hints for reading, and the number of the pass (from 1).
+/// The context of a pass: the allocator, the setting, the layout of each production by its number,
+/// and hints for reading.
 #[derive(Clone, Copy)]
 pub(crate) struct PassContext<'a> {
-    pub(crate) grammar: &'a Grammar,
-    pub(crate) plan: &'a Plan,
+    pub(crate) alloc: Global,
+    pub(crate) setting: Setting<'a>,
     pub(crate) rows: &'a [ProductionRow],
     pub(crate) hints: &'a Hints,
-    pub(crate) pass: u16,
 }
 
 impl PassContext<'_> {
     /// Returns the number of the previous pass, whose file is read.
     pub(crate) fn file_pass(&self) -> u16
-        requires { 1 ≤ self.now.pass }
-        ensures { result ≡ self.now.pass - 1 }
+        requires { 1 ≤ self.now.setting.pass }
+        ensures { result ≡ self.now.setting.pass - 1 }
     {
-        self.pass - 1
+        self.setting.pass - 1
     }
 
     /// Returns the layout of a production.
     pub(crate) fn row(&self, production: u16) -> &ProductionRow
         requires context { CanRun self.now }
-        requires there { production < length self.now.grammar.now.productions }
+        requires there { production < length self.now.setting.grammar.now.productions }
         ensures { IsRowAt (setting self.now) production result.now }
     {
         &self.rows[production as usize]
@@ -50,7 +50,7 @@ impl PassContext<'_> {
     /// Returns the instructions of the pass for an open node, whose production has this layout.
     fn list<'r>(&self, layout: &'r ProductionRow, node: OpenNode) -> &'r [Instr]
         requires layout { IsRowAt (setting self.now) node.production layout.now }
-        requires there { node.production < length self.now.grammar.now.productions }
+        requires there { node.production < length self.now.setting.grammar.now.productions }
         ensures { result.now ≡ list_at (setting self.now) node.production }
     {
         layout.list.as_slice()
@@ -59,7 +59,7 @@ impl PassContext<'_> {
     /// Returns the next instruction of an open node, whose production has this layout.
     pub(crate) fn instruction(&self, layout: &ProductionRow, node: OpenNode) -> Instr
         requires layout { IsRowAt (setting self.now) node.production layout.now }
-        requires there { node.production < length self.now.grammar.now.productions }
+        requires there { node.production < length self.now.setting.grammar.now.productions }
         requires next { node.at < length (list_at (setting self.now) node.production) }
         ensures there { slice_get (list_at (setting self.now) node.production) node.at
             ≡ Some result }
@@ -81,7 +81,7 @@ impl PassContext<'_> {
         place: u16,
     ) -> Option<PlaceRow>
         requires layout { IsRowAt (setting self.now) node.production layout.now }
-        ensures { (q : Production) → IsProduction self.now.grammar.now node.production q →
+        ensures { (q : Production) → IsProduction self.now.setting.grammar.now node.production q →
             result ≡ slice_get (place_rows (setting self.now) q) place }
     {
         layout.places.as_slice().get(place as usize).copied()
@@ -90,8 +90,8 @@ impl PassContext<'_> {
     /// Returns the number of values in the row of a production's node.
     pub(crate) fn width(&self, production: u16) -> usize
         requires context { CanRun self.now }
-        requires there { production < length self.now.grammar.now.productions }
-        ensures { (q : Production) → IsProduction self.now.grammar.now production q →
+        requires there { production < length self.now.setting.grammar.now.productions }
+        ensures { (q : Production) → IsProduction self.now.setting.grammar.now production q →
             result ≡ stored_width (setting self.now) q }
     {
         self.row(production).width as usize
@@ -101,6 +101,6 @@ impl PassContext<'_> {
     pub(crate) fn copied_passes(&self, item: Item) -> &[u16]
         ensures { result.now ≡ copied_passes (setting self.now) item }
     {
-        copied_passes(self.grammar, self.plan, item)
+        copied_passes(&self.setting, item)
     }
 }

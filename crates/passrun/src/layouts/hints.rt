@@ -11,7 +11,7 @@
 //! | own inherited `a` | in the parent's row: `$i.b`, if the rule of `$j.a` is `$i.b` | always |
 //! | other own inherited `a` | in its own row: `b`, if a rule is `$0.b = $0.a` | always |
 //! | copy of `$i.b` | in its own row: `a`, if a rule is `$0.a = $i.b` | always |
-//! | other copy of `$i.b` | in its own row: the value that a rule assigns to an attribute of `$i` | if `$i` returns it as `b` |
+//! | other copy of `$i.b` | in its own row: the value of a rule for an attribute of `$i` | if `$i` returns it as `b` |
 //!
 //! A rule also counts as `$i.b` if its expression is a `let`, an `if` or an `orelse` that may
 //! return that occurrence. Only rules of passes before k count: their values are in the file.
@@ -20,12 +20,12 @@
 //! are read: a wrong hint costs a comparison and changes nothing. Numbers and errors are read
 //! without one.
 
-use crate::layouts::building::{Layout, PlaceRow, ProductionRow, RuleSlots};
+use crate::layouts::building::{PlaceRow, ProductionRow, RuleSlots};
 use crate::layouts::rows::{passes_at, row_length};
+use crate::setting::Setting;
 use ag_carried::Carried;
-use ag_grammar::{BinaryCall, Grammar, Item, Node, Production, Rule, Target};
+use ag_grammar::{BinaryCall, Item, Node, Production, Rule, Target};
 use ag_value::NoMemory;
-use planchecker::Plan;
 use std::alloc::Global;
 
 /// The hints for the records of a production's nodes. Slots count from the first value of a row.
@@ -38,12 +38,11 @@ pub(crate) struct RowHints {
 }
 
 impl RowHints {
-    /// Returns the hints for a production in pass k. Fails with `NoMemory` if memory cannot be
+    /// Returns the hints for a production in a pass. Fails with `NoMemory` if memory cannot be
     /// allocated.
     pub(crate) fn new(
         alloc: Global,
-        plan: &Plan,
-        k: u16,
+        setting: &Setting<'_>,
         production: &Production,
         row: &ProductionRow,
     ) -> Result<RowHints, NoMemory> {
@@ -53,7 +52,7 @@ impl RowHints {
         }
         let mut children = Vec::new(alloc);
         for place in row.places.as_slice() {
-            children.push(hints_of_copies(alloc, plan, k, *place)?)?;
+            children.push(hints_of_copies(alloc, setting, *place)?)?;
         }
         let mut hints = RowHints { own, children };
         for (rule, slots) in production
@@ -62,14 +61,14 @@ impl RowHints {
             .iter()
             .zip(row.rules.as_slice().iter())
         {
-            if is_earlier(plan, k, row, rule.target) {
+            if is_earlier(setting, row, rule.target) {
                 hints.add_rule(rule, slots, row);
             }
         }
         Ok(hints)
     }
 
-    /// Adds the hints of a rule of a pass before k, if its value may be that of an occurrence.
+    /// Adds the hints of a rule of an earlier pass, if its value may be that of an occurrence.
     fn add_rule(&mut self, rule: &Rule, slots: &RuleSlots, row: &ProductionRow) {
         let Some(place) = row.places.as_slice().get(rule.target.place as usize) else {
             return;
@@ -125,18 +124,16 @@ impl Hints {
         }
     }
 
-    /// Returns the hints for each production of a grammar in pass k, by the layouts of the
+    /// Returns the hints for each production of a grammar in a pass, by the layouts of the
     /// productions. Fails with `NoMemory` if memory cannot be allocated.
     pub(crate) fn new(
         alloc: Global,
-        grammar: &Grammar,
-        plan: &Plan,
-        k: u16,
+        setting: &Setting<'_>,
         rows: &[ProductionRow],
     ) -> Result<Hints, NoMemory> {
         let mut hints = Vec::new(alloc);
-        for (production, row) in grammar.productions().iter().zip(rows.iter()) {
-            hints.push(RowHints::new(alloc, plan, k, production, row)?)?;
+        for (production, row) in setting.grammar.productions().iter().zip(rows.iter()) {
+            hints.push(RowHints::new(alloc, setting, production, row)?)?;
         }
         Ok(Hints { rows: hints })
     }
@@ -165,15 +162,14 @@ impl Hints {
 /// Returns the hints for the slots of a child's row: the copies of its values, and none for others.
 fn hints_of_copies(
     alloc: Global,
-    plan: &Plan,
-    k: u16,
+    setting: &Setting<'_>,
     place: PlaceRow,
 ) -> Result<Vec<Option<usize>>, NoMemory> {
     let mut hints = Vec::new(alloc);
     let Item::Symbol(symbol) = place.item else {
         return Ok(hints);
     };
-    for slot in 0..row_length(passes_at(plan, symbol), k) {
+    for slot in 0..row_length(passes_at(setting.plan, symbol), setting.pass) {
         if slot < place.width as usize {
             hints.push((place.start as usize).checked_add(slot))?;
         } else {
@@ -183,16 +179,16 @@ fn hints_of_copies(
     Ok(hints)
 }
 
-/// Returns whether the target of a rule is an attribute of a pass before k.
-fn is_earlier(plan: &Plan, k: u16, row: &ProductionRow, target: Target) -> bool {
+/// Returns whether the target of a rule is an attribute of an earlier pass.
+fn is_earlier(setting: &Setting<'_>, row: &ProductionRow, target: Target) -> bool {
     let Some(place) = row.places.as_slice().get(target.place as usize) else {
         return false;
     };
     let Item::Symbol(symbol) = place.item else {
         return false;
     };
-    match passes_at(plan, symbol).get(target.attr as usize) {
-        Some(pass) => *pass < k,
+    match passes_at(setting.plan, symbol).get(target.attr as usize) {
+        Some(pass) => *pass < setting.pass,
         None => false,
     }
 }
@@ -233,14 +229,16 @@ pub(crate) struct ChildLocation {
     pub(crate) place: u16,
 }
 
-/// The row that a record is read into: that of a node of a production, whose record is read at the
-/// location `parent`. It begins at index `start` of all stored values, and the row of the parent
-/// comes directly before.
+/// The row that a record is read into by a pass: that of a node of a production, whose record is
+/// read at the location `parent`. It begins at index `start` of all stored values, and the row of
+/// the parent comes directly before.
 #[derive(Clone, Copy)]
 pub(crate) struct RowLocation<'a> {
     /// The hints. This is a reference to a reference, so that it costs a load only where a hint is
     /// looked up.
     pub(crate) hints: &'a &'a Hints,
+    /// The number of the pass.
+    pub(crate) pass: u16,
     pub(crate) production: u16,
     pub(crate) parent: ChildLocation,
     pub(crate) start: usize,

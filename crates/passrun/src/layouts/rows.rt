@@ -1,17 +1,18 @@
 //! The rows of values of nodes: which attributes have a value there, and at which index. Attributes
 //! are represented by the list of their passes, in the order of their numbers.
 
-ghost use Rattle.std.specs.Prelude.{◌≡◌, ◌≤◌, ℕ, IfOk, Some, length};
+ghost use Rattle.std.specs.Prelude.{◌≡◌, ◌≤◌, IfOk, Some, length};
 ghost use Rattle.ag_grammar.specs.grammars.Accepted.{max_attributes};
 ghost use Rattle.ag_grammar.specs.grammars.Passes.{item_passes};
 ghost use Rattle.passassign.specs.Rows.{passes_of};
+ghost use Rattle.passrun.specs.Settings.{pass_setting};
 ghost use Rattle.passrun.specs.passing.Places.{copied_passes, row_passes};
 ghost use Rattle.passrun.specs.layouts.Slots.{copied_width, known_width, rank};
 ghost use Rattle.passrun.specs.layouts.Starts.{AreSmall};
-ghost use Rattle.passcode.specs.Settings.{setting_of};
 ghost use Rattle.treefile.specs.records.Listed.{count_up_to};
 ghost use Rattle.treefile.specs.records.Records.{synthesized_passes};
 
+use crate::setting::Setting;
 use ag_grammar::{Grammar, Item, Production, Terminal};
 use ag_value::{Items, NoMemory};
 use planchecker::Plan;
@@ -85,11 +86,11 @@ fn rank(passes: &[u16], k: u16, attr: u16) -> u16
 
 /// Returns the passes of the values at an item that the parent's row has copies of: of a symbol's
 /// synthesized attributes, and of a token's text. A literal has no copies.
-pub(crate) fn copied_passes<'a>(grammar: &Grammar, plan: &'a Plan, item: Item) -> &'a [u16]
-    ensures { (k : ℕ) → result.now ≡ copied_passes (setting_of grammar.now plan.now k) item }
+pub(crate) fn copied_passes<'r>(setting: &'r Setting<'_>, item: Item) -> &'r [u16]
+    ensures { result.now ≡ copied_passes (pass_setting setting.now) item }
 {
     match item {
-        Item::Symbol(symbol) => synthesized_at(grammar, plan, symbol),
+        Item::Symbol(symbol) => synthesized_at(setting.grammar, setting.plan, symbol),
         Item::Terminal(Terminal::Class(_)) => &[0],
         Item::Terminal(Terminal::Literal(_)) => &[],
     }
@@ -100,45 +101,45 @@ pub(crate) fn copied_passes<'a>(grammar: &Grammar, plan: &'a Plan, item: Item) -
 /// `NoMemory` if memory cannot be allocated.
 pub(crate) fn row_passes(
     alloc: Global,
-    grammar: &Grammar,
-    plan: &Plan,
+    setting: &Setting<'_>,
     production: &Production,
 ) -> Result<Items<u16>, NoMemory>
-    ensures { IfOk result (λ passes. (k : ℕ)
-        → passes ≡ row_passes (setting_of grammar.now plan.now k) production.now) }
+    ensures { IfOk result (λ passes. passes
+        ≡ row_passes (pass_setting setting.now) production.now) }
 {
-    let mut passes = passes_at(plan, production.left).to_vec(alloc)?;
+    let mut passes = passes_at(setting.plan, production.left).to_vec(alloc)?;
     for item in production.items.as_slice() {
-        passes.extend_from_slice(copied_passes(grammar, plan, *item))?;
+        passes.extend_from_slice(copied_passes(setting, *item))?;
     }
     Ok(Items::from_vec(passes))
 }
 
-/// Returns the number of copies that the parent's row has in pass k of the values at an item.
-pub(crate) fn copied_width(grammar: &Grammar, plan: &Plan, k: u16, item: Item) -> usize
-    ensures width { result ≡ copied_width (setting_of grammar.now plan.now k) item }
-    ensures room { AreSmall (passes_of plan.now.0) → result ≤ max_attributes }
+/// Returns the number of copies that the parent's row has in a pass of the values at an item.
+pub(crate) fn copied_width(setting: &Setting<'_>, item: Item) -> usize
+    ensures width { result ≡ copied_width (pass_setting setting.now) item }
+    ensures room { AreSmall (passes_of setting.now.plan.now.0) → result ≤ max_attributes }
 {
-    row_length(copied_passes(grammar, plan, item), k)
+    row_length(copied_passes(setting, item), setting.pass)
 }
 
-/// Returns the number of these copies that a pass before k computed.
-pub(crate) fn known_width(grammar: &Grammar, plan: &Plan, k: u16, item: Item) -> usize
-    requires { 1 ≤ k }
-    ensures width { result ≡ known_width (setting_of grammar.now plan.now k) item }
-    ensures room { AreSmall (passes_of plan.now.0) → result ≤ max_attributes }
+/// Returns the number of these copies that an earlier pass computed.
+pub(crate) fn known_width(setting: &Setting<'_>, item: Item) -> usize
+    requires { 1 ≤ setting.now.pass }
+    ensures width { result ≡ known_width (pass_setting setting.now) item }
+    ensures room { AreSmall (passes_of setting.now.plan.now.0) → result ≤ max_attributes }
 {
-    row_length(copied_passes(grammar, plan, item), k - 1)
+    row_length(copied_passes(setting, item), setting.pass - 1)
 }
 
-/// Returns the index of an attribute's value in the row, in pass k, of an item's node or token.
-pub(crate) fn rank_of(plan: &Plan, k: u16, item: Item, attr: u16) -> u16
-    requires small { AreSmall (passes_of plan.now.0) }
-    ensures rank { result ≡ rank k (item_passes (passes_of plan.now.0) (Some item)) attr }
+/// Returns the index of an attribute's value in the row, in a pass, of an item's node or token.
+pub(crate) fn rank_of(setting: &Setting<'_>, item: Item, attr: u16) -> u16
+    requires small { AreSmall (passes_of setting.now.plan.now.0) }
+    ensures rank { result ≡ rank setting.now.pass
+        (item_passes (passes_of setting.now.plan.now.0) (Some item)) attr }
     ensures room { result ≤ max_attributes }
 {
     match item {
-        Item::Symbol(symbol) => rank(passes_at(plan, symbol), k, attr),
+        Item::Symbol(symbol) => rank(passes_at(setting.plan, symbol), setting.pass, attr),
         Item::Terminal(Terminal::Class(_)) => if attr == 0 { 0 } else { 1 },
         Item::Terminal(Terminal::Literal(_)) => 0,
     }

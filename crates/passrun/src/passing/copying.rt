@@ -55,7 +55,7 @@ pub(crate) fn matches_copy(
     copied: usize,
     start: usize,
 ) -> bool
-    requires first { 1 ≤ context.now.pass }
+    requires first { 1 ≤ context.now.setting.pass }
     requires known { row.known ≡ known_width (setting context.now) row.item }
     requires copied { copied ≤ length values.now }
     requires start { start ≤ length values.now }
@@ -66,7 +66,12 @@ pub(crate) fn matches_copy(
         return true;
     }
     let passes = context.copied_passes(row.item);
-    agree(passes, context.pass, &values[copied..], &values[start..])
+    agree(
+        passes,
+        context.setting.pass,
+        &values[copied..],
+        &values[start..],
+    )
 }
 
 /// Returns the values from an index on.

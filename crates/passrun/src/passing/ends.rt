@@ -20,12 +20,11 @@ use crate::layouts::hints::ChildLocation;
 use crate::passing::machine::Machine;
 use crate::passing::open_node::OpenNode;
 use crate::passing::putting::put_record;
-use crate::reading::fetching::fetch;
+use crate::reading::fetching::{Expected, fetch};
 use crate::run_fault::RunFault;
 use ag_eval::Meter;
 use ag_grammar::Item;
 use backreader::Back;
-use std::alloc::Global;
 use treefile::{Device, Kind, Writer};
 
 /// The offset of the pass number in a header, in bytes.
@@ -47,7 +46,6 @@ pub struct Passed {
 /// and offset 0 if it does not begin as a tree file, with D1 if a device fails, and as `fetch`
 /// does.
 pub(crate) fn begin<D: Device, E: Device>(
-    alloc: Global,
     context: &PassContext<'_>,
     from: &mut D,
     to: &mut E,
@@ -72,28 +70,24 @@ pub(crate) fn begin<D: Device, E: Device>(
     ensures devices { BothPersist D.is_honest D.failures from.old from.new
         E.is_honest E.failures to.old to.new (IsErrOf result RunFault.Device) }
 {
-    let mut back = Back::start(alloc, from)?;
+    let mut back = Back::start(context.alloc, from)?;
     if back.pass() != context.file_pass() {
         return Err(RunFault::Damaged(PASS_OFFSET));
     }
-    let writer = Writer::begin(alloc, to, context.pass)?;
-    let mut values = Vec::new(alloc);
-    let start = Item::Symbol(context.grammar.start());
-    let root = fetch(
-        alloc,
-        context,
-        start,
-        ChildLocation::default(),
-        0,
-        &mut back,
-        &mut values,
-        from,
-    )?;
+    let writer = Writer::begin(context.alloc, to, context.setting.pass)?;
+    let mut values = Vec::new(context.alloc);
+    let start = Item::Symbol(context.setting.grammar.start());
+    let expected = Expected {
+        item: start,
+        location: ChildLocation::default(),
+        open_count: 0,
+    };
+    let root = fetch(context, expected, &mut back, &mut values, from)?;
     Ok(Machine {
         back,
         writer,
         values,
-        waiting: Vec::new(alloc),
+        waiting: Vec::new(context.alloc),
         root,
         begun: meter.count(),
     })

@@ -39,28 +39,39 @@ impl<'a> CarriedEnvironment for Lender<'a> {
     }
 }
 
-/// Computes the value of a rule and puts it into the slot of its target. The slots count from the
-/// row that begins at index `base`. Fails with `NoMemory` if memory cannot be allocated.
+/// The rule that is run at a node.
+#[derive(Clone, Copy)]
+pub(crate) struct NodeRule<'a> {
+    pub(crate) rule: &'a Rule,
+    /// Its slots, which count from the first value of the node's row.
+    pub(crate) slots: &'a RuleSlots,
+    /// The index at which the node's row begins.
+    pub(crate) base: usize,
+}
+
+/// Computes the value of a rule and puts it into the slot of its target. Fails with `NoMemory` if
+/// memory cannot be allocated.
 #[inline(always)]
 pub(crate) fn put_rule_value(
     alloc: Global,
-    rule: &Rule,
-    slots: &RuleSlots,
-    base: usize,
+    at: &NodeRule<'_>,
     values: &mut Vec<Carried>,
     meter: &mut Meter,
 ) -> Result<(), NoMemory>
-    requires slots { length slots.now.args ≡ length rule.now.expr.1 }
+    requires slots { length at.now.slots.now.args ≡ length at.now.rule.now.expr.1 }
     requires well { All IsWell values.old.items }
-    requires target { base + slots.now.target < length values.old.items }
+    requires target { at.now.base + at.now.slots.now.target < length values.old.items }
     requires not_full { meter.old < 2 ^ 64 - 1 }
     ensures value { OnOk result (values.new.items
-        ≡ set values.old.items (base + slots.now.target) (value_of rule.now.expr.0
-        (λ k. get_or (drop base values.old.items) (slice_index slots.now.args k) (Num (pos 0))))) }
-    ensures well { OnOk result (IsWell (value_of rule.now.expr.0
-        (λ k. get_or (drop base values.old.items) (slice_index slots.now.args k) (Num (pos 0))))) }
+        ≡ set values.old.items (at.now.base + at.now.slots.now.target)
+        (value_of at.now.rule.now.expr.0 (λ k. get_or (drop at.now.base values.old.items)
+        (slice_index at.now.slots.now.args k) (Num (pos 0))))) }
+    ensures well { OnOk result (IsWell
+        (value_of at.now.rule.now.expr.0 (λ k. get_or (drop at.now.base values.old.items)
+        (slice_index at.now.slots.now.args k) (Num (pos 0))))) }
     ensures counted { meter.new ≡ meter.old + 1 }
 {
+    let NodeRule { rule, slots, base } = *at;
     if let Some(number) = eval_number(&rule.expr, meter) {
         put_scalar(values, base + slots.target as usize, Scalar::Number(number));
         return Ok(());

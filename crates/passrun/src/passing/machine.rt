@@ -6,7 +6,6 @@ ghost use Rattle.passcode.specs.declared.instr.Instr.TheVariants as instr;
 ghost use Rattle.passrun.specs.passing.RunInvariant.{IsConsistent, ContinuesAs};
 ghost use Rattle.passrun.specs.passing.Ahead.{IsRunFault, IsResourceFault};
 ghost use Rattle.passrun.specs.layouts.Contexts.{CanRun, setting};
-ghost use Rattle.passrun.specs.layouts.Layouts.{IsRowAt};
 ghost use Rattle.passrun.specs.passing.Nodes.{left_at};
 ghost use Rattle.passrun.specs.passing.Putting.{AddsFrames, LeavesFrames};
 ghost use Rattle.passrun.specs.passing.Running.{RunsRuleNext, Runs, RunsAt, RunsFrom, RunsSomehow, RunsTo};
@@ -16,14 +15,13 @@ ghost use Rattle.passcode.specs.Settings.{list_at};
 ghost use Rattle.treefile.specs.devices.Device.{LeavesContent, Persists, WhenHonest};
 ghost use Rattle.treefile.specs.devices.Several.{BothPersist};
 
-use crate::layouts::building::ProductionRow;
 use crate::layouts::context::PassContext;
 use crate::layouts::hints::ChildLocation;
 use crate::passing::copying::{following, matches_copy, move_copies, single_value, truncate_row};
-use crate::passing::evaluating::put_rule_value;
+use crate::passing::evaluating::{NodeRule, put_rule_value};
 use crate::passing::open_node::OpenNode;
 use crate::passing::putting::put_record;
-use crate::reading::fetching::fetch;
+use crate::reading::fetching::{Expected, fetch};
 use crate::run_fault::RunFault;
 use ag_carried::Carried;
 use ag_eval::Meter;
@@ -31,7 +29,6 @@ use ag_grammar::Item;
 use ag_value::NoMemory;
 use backreader::Back;
 use passcode::Instr;
-use std::alloc::Global;
 use treefile::{Device, Kind, Writer};
 
 /// The state of a running pass: the reader, the writer, the stored values (the rows of all open
@@ -83,15 +80,12 @@ impl Machine {
     #[inline(always)]
     pub(crate) fn get<D: Device>(
         &mut self,
-        alloc: Global,
         context: &PassContext<'_>,
-        layout: &ProductionRow,
         node: OpenNode,
         place: u16,
         from: &mut D,
     ) -> Result<OpenNode, RunFault>
         requires context { CanRun context.now }
-        requires layout { IsRowAt (setting context.now) node.production layout.now }
         requires runs { RunsFrom (setting context.now) (D.is_honest from.old) (D.content from.old)
             self.old (Some node) }
         requires next { slice_get (list_at (setting context.now) node.production) node.at
@@ -112,6 +106,7 @@ impl Machine {
         ensures persists { Persists (D.is_honest from.old) (D.is_honest from.new)
             (D.failures from.old) (D.failures from.new) (IsErrOf result RunFault.Device) }
     {
+        let layout = context.row(node.production);
         let Some(row) = context.place(layout, node, place) else {
             unreachable!();
         };
@@ -122,16 +117,12 @@ impl Machine {
             production: node.production,
             place,
         };
-        let number = fetch(
-            alloc,
-            context,
-            row.item,
+        let expected = Expected {
+            item: row.item,
             location,
             open_count,
-            &mut self.back,
-            &mut self.values,
-            from,
-        )?;
+        };
+        let number = fetch(context, expected, &mut self.back, &mut self.values, from)?;
         let copied = node.base + row.start as usize;
         if !matches_copy(context, row, self.values.as_slice(), copied, start) {
             return Err(RunFault::Damaged(end));
@@ -148,13 +139,11 @@ impl Machine {
     pub(crate) fn put<E: Device>(
         &mut self,
         context: &PassContext<'_>,
-        layout: &ProductionRow,
         node: OpenNode,
         place: u16,
         to: &mut E,
     ) -> Result<OpenNode, RunFault>
         requires context { CanRun context.now }
-        requires layout { IsRowAt (setting context.now) node.production layout.now }
         requires runs { RunsSomehow (setting context.now) self.old (Some node) }
         requires next { slice_get (list_at (setting context.now) node.production) node.at
             ≡ Some (instr.Put place) }
@@ -174,6 +163,7 @@ impl Machine {
         ensures persists { Persists (E.is_honest to.old) (E.is_honest to.new)
             (E.failures to.old) (E.failures to.new) (IsErrOf result RunFault.Device) }
     {
+        let layout = context.row(node.production);
         let Some(row) = context.place(layout, node, place) else {
             unreachable!();
         };
@@ -191,15 +181,12 @@ impl Machine {
     #[inline(always)]
     pub(crate) fn run_rule(
         &mut self,
-        alloc: Global,
         context: &PassContext<'_>,
-        layout: &ProductionRow,
         node: OpenNode,
         rule: u16,
         meter: &mut Meter,
     ) -> Result<OpenNode, NoMemory>
         requires context { CanRun context.now }
-        requires layout { IsRowAt (setting context.now) node.production layout.now }
         requires runs { RunsAt (setting context.now) meter.old self.old (Some node) }
         requires next { RunsRuleNext (setting context.now) node rule }
         requires room { node.at + 1 < 2 ^ 64 }
@@ -212,10 +199,16 @@ impl Machine {
             < measure (setting context.now) self.old (Some node)) }
         ensures begun { self.new.begun ≡ self.old.begun }
     {
-        let production = &context.grammar.productions()[node.production as usize];
+        let layout = context.row(node.production);
+        let production = &context.setting.grammar.productions()[node.production as usize];
         let semantic = &production.rules.as_slice()[rule as usize];
         let slots = &layout.rules.as_slice()[rule as usize];
-        put_rule_value(alloc, semantic, slots, node.base, &mut self.values, meter)?;
+        let at = NodeRule {
+            rule: semantic,
+            slots,
+            base: node.base,
+        };
+        put_rule_value(context.alloc, &at, &mut self.values, meter)?;
         Ok(node.after_step(node.child))
     }
 
@@ -388,7 +381,6 @@ impl Machine {
     #[inline(always)]
     pub(crate) fn step<D: Device, E: Device>(
         &mut self,
-        alloc: Global,
         context: &PassContext<'_>,
         node: OpenNode,
         from: &mut D,
@@ -421,19 +413,17 @@ impl Machine {
         let layout = context.row(node.production);
         let ended = match context.instruction(layout, node) {
             Instr::Get(place) => {
-                let after_step = self.get(alloc, context, layout, node, place, from)?;
+                let after_step = self.get(context, node, place, from)?;
                 return Ok(Some(self.enter_if_next(context, after_step)?));
             }
             Instr::Set {
                 place: _,
                 attr: _,
                 rule,
-            } => return Ok(Some(self.run_rule(alloc, context, layout, node, rule, meter)?)),
-            Instr::Def { attr: _, rule } => self.run_rule(
-                alloc, context, layout, node, rule, meter,
-            )?,
+            } => return Ok(Some(self.run_rule(context, node, rule, meter)?)),
+            Instr::Def { attr: _, rule } => self.run_rule(context, node, rule, meter)?,
             Instr::Go(place) => return Ok(Some(self.enter_child(context, node, place)?)),
-            Instr::Put(place) => return Ok(Some(self.put(context, layout, node, place, to)?)),
+            Instr::Put(place) => return Ok(Some(self.put(context, node, place, to)?)),
             Instr::End => node,
         };
         self.finish_if_ended(context, ended, to)

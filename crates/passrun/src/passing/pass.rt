@@ -19,9 +19,9 @@ ghost use Rattle.treefile.specs.records.TreeFile.{version_two};
 use crate::layouts::building::build_layout;
 use crate::layouts::context::PassContext;
 use crate::passing::ends::{Passed, begin, finish};
-use crate::passing::open_node::OpenNode;
 use crate::passing::run::run;
 use crate::run_fault::RunFault;
+use crate::setting::Setting;
 use ag_eval::Meter;
 use ag_grammar::Grammar;
 use planchecker::Plan;
@@ -31,7 +31,6 @@ use treefile::Device;
 /// Runs the pass of a context: reads the file of the previous pass backward, and writes the file of
 /// the pass.
 pub(crate) fn run_in_context<D: Device, E: Device>(
-    alloc: Global,
     context: &PassContext<'_>,
     from: &mut D,
     to: &mut E,
@@ -63,9 +62,8 @@ pub(crate) fn run_in_context<D: Device, E: Device>(
     ensures devices { BothPersist D.is_honest D.failures from.old from.new
         E.is_honest E.failures to.old to.new (IsErrOf result RunFault.Device) }
 {
-    let mut machine = begin(alloc, context, from, to, &*meter)?;
-    let root = OpenNode::first(machine.root);
-    run(alloc, context, &mut machine, root, from, to, meter)?;
+    let mut machine = begin(context, from, to, &*meter)?;
+    run(context, &mut machine, from, to, meter)?;
     finish(context, &mut machine, from, to)
 }
 
@@ -130,13 +128,17 @@ pub fn run_pass<D: Device, E: Device>(
     ensures devices { BothPersist D.is_honest D.failures from.old from.new
         E.is_honest E.failures to.old to.new (IsErrOf result RunFault.Device) }
 {
-    let layout = build_layout(alloc, grammar, plan, pass)?;
-    let context = PassContext {
+    let setting = Setting {
         grammar,
         plan,
-        rows: layout.productions.as_slice(),
-        hints: &layout.hints,
         pass,
     };
-    run_in_context(alloc, &context, from, to, meter)
+    let layout = build_layout(alloc, &setting)?;
+    let context = PassContext {
+        alloc,
+        setting,
+        rows: layout.productions.as_slice(),
+        hints: &layout.hints,
+    };
+    run_in_context(&context, from, to, meter)
 }

@@ -3,6 +3,7 @@
 ghost use Rattle.std.specs.Prelude.{◌≡◌, ◌≤◌, None, Some, IfErr, IsErrOf, OnOk};
 ghost use Rattle.passrun.specs.passing.Ahead.{IsRunFault};
 ghost use Rattle.passrun.specs.layouts.Contexts.{CanRun, setting};
+ghost use Rattle.passrun.specs.passing.Nodes.{first_at};
 ghost use Rattle.passrun.specs.passing.Putting.{AddsFrames, LeavesFrames};
 ghost use Rattle.passrun.specs.passing.Running.{Runs};
 ghost use Rattle.treefile.specs.devices.Device.{LeavesContent, WhenHonest};
@@ -13,22 +14,21 @@ use crate::passing::machine::Machine;
 use crate::passing::open_node::OpenNode;
 use crate::run_fault::RunFault;
 use ag_eval::Meter;
-use std::alloc::Global;
 use treefile::Device;
 
-/// Runs a pass from the node of its root until the root is done. Fails as `Machine::step` does.
+/// Runs a pass from its root, whose record was read, until the root is done. Fails as
+/// `Machine::step` does.
 pub(crate) fn run<D: Device, E: Device>(
-    alloc: Global,
     context: &PassContext<'_>,
     machine: &mut Machine,
-    root: OpenNode,
     from: &mut D,
     to: &mut E,
     meter: &mut Meter,
 ) -> Result<(), RunFault>
     requires context { CanRun context.now }
     requires runs { Runs (setting context.now) (D.is_honest from.old) (D.content from.old)
-        (E.is_honest to.old) (E.content to.old) meter.old machine.old (Some root) }
+        (E.is_honest to.old) (E.content to.old) meter.old machine.old
+        (Some (first_at machine.old.root 0)) }
     ensures runs { OnOk result (Runs (setting context.now) (D.is_honest from.new) (D.content from.new)
         (E.is_honest to.new) (E.content to.new) meter.new machine.new None) }
     ensures added { OnOk result (AddsFrames (E.is_honest to.new)
@@ -45,9 +45,10 @@ pub(crate) fn run<D: Device, E: Device>(
     ensures devices { BothPersist D.is_honest D.failures from.old from.new
         E.is_honest E.failures to.old to.new (IsErrOf result RunFault.Device) }
 {
+    let root = OpenNode::first(machine.root);
     let mut next = Some(root);
     while let Some(node) = next {
-        next = machine.step(alloc, context, node, from, to, meter)?;
+        next = machine.step(context, node, from, to, meter)?;
     }
     Ok(())
 }

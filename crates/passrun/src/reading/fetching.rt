@@ -16,12 +16,21 @@ use ag_carried::Carried;
 use ag_grammar::Item;
 use ag_grammar::limits::{MAX_DEPTH, MAX_NODES};
 use backreader::Back;
-use std::alloc::Global;
 use treefile::Device;
 
-/// Reads the next record as that of an item below `open_count` open nodes, and appends its row to
-/// the values. Returns the number in the record: that of the production, or that of the token's
-/// class.
+/// The record that a pass expects next.
+#[derive(Clone, Copy)]
+pub(crate) struct Expected {
+    /// The item whose record it is.
+    pub(crate) item: Item,
+    /// The place at which it is read.
+    pub(crate) location: ChildLocation,
+    /// The number of open nodes above it.
+    pub(crate) open_count: usize,
+}
+
+/// Reads the next record as the expected one, and appends its row to the values. Returns the number
+/// in the record: that of the production, or that of the token's class.
 ///
 /// Fails with P2 if the record would be deeper than `MAX_DEPTH` levels, and with P3 if
 /// `MAX_NODES` records were read already. Fails with R1 and the offset at which the record should
@@ -29,11 +38,8 @@ use treefile::Device;
 /// fails, and with `NoMemory` if memory cannot be allocated.
 #[inline(always)]
 pub(crate) fn fetch<D: Device>(
-    alloc: Global,
     context: &PassContext<'_>,
-    item: Item,
-    location: ChildLocation,
-    open_count: usize,
+    expected: Expected,
     back: &mut Back,
     values: &mut Vec<Carried>,
     from: &mut D,
@@ -42,17 +48,18 @@ pub(crate) fn fetch<D: Device>(
     requires over { WhenHonest (D.is_honest from.old) (IsOver (D.content from.old) back.old) }
     requires version { back.old.progress.version ≡ version_two }
     requires unbroken { back.old.progress.fault ≡ None }
-    ensures fetched { IfOk result (λ p. HasFetched (setting context.now) item p open_count
-        (D.is_honest from.new) (D.content from.old) back.old back.new
+    ensures fetched { IfOk result (λ p. HasFetched (setting context.now) expected.item p
+        expected.open_count (D.is_honest from.new) (D.content from.old) back.old back.new
         values.old.items values.new.items) }
     ensures refused { IfErr result (λ f. WhenHonest (D.is_honest from.new)
-        (IsUnfetched (setting context.now) item open_count (D.content from.old) back.old f)) }
+        (IsUnfetched (setting context.now) expected.item expected.open_count
+        (D.content from.old) back.old f)) }
     ensures content { LeavesContent (D.is_honest from.new)
         (D.content from.old) (D.content from.new) }
     ensures persists { Persists (D.is_honest from.old) (D.is_honest from.new)
         (D.failures from.old) (D.failures from.new) (IsErrOf result RunFault.Device) }
 {
-    if open_count >= MAX_DEPTH {
+    if expected.open_count >= MAX_DEPTH {
         return Err(RunFault::TooDeep);
     }
     if back.records() >= u64::from(MAX_NODES) {
@@ -60,7 +67,7 @@ pub(crate) fn fetch<D: Device>(
     }
     let end = back.end();
     if let Some(body) = back.lend_back(from) {
-        return match read_lent(alloc, context, item, location, body, values) {
+        return match read_lent(context, expected.item, expected.location, body, values) {
             Ok(number) => Ok(number),
             Err(RecordFault::Damaged) => Err(RunFault::Damaged(end)),
             Err(RecordFault::NoMemory) => Err(RunFault::NoMemory),
@@ -69,7 +76,7 @@ pub(crate) fn fetch<D: Device>(
     let Some(body) = back.back(from)? else {
         return Err(RunFault::Damaged(end));
     };
-    match read_record(alloc, context, item, location, body, values) {
+    match read_record(context, expected.item, expected.location, body, values) {
         Ok(number) => Ok(number),
         Err(RecordFault::Damaged) => Err(RunFault::Damaged(end)),
         Err(RecordFault::NoMemory) => Err(RunFault::NoMemory),

@@ -90,7 +90,6 @@ fn node_of<'b>(grammar: &Grammar, symbol: u16, body: Body<'b>) -> Option<(u16, B
 /// the node's production, or `None` if it can be read only from a copy of the body (or not at all);
 /// some values may have been appended then. Fails with `NoMemory` if memory cannot be allocated.
 fn read_node(
-    alloc: Global,
     context: &PassContext<'_>,
     symbol: u16,
     body: Body<'_>,
@@ -101,11 +100,17 @@ fn read_node(
         body.entry values.old.items values.new.items)) }
     ensures prefix { PrependsTo values.old.items values.new.items }
 {
-    let Some((number, rest)) = node_of(context.grammar, symbol, body) else {
+    let Some((number, rest)) = node_of(context.setting.grammar, symbol, body) else {
         return Ok(None);
     };
     let row = context.row(number);
-    if take_row(alloc, row.passes.as_slice(), context.pass, rest, values)? {
+    if take_row(
+        context.alloc,
+        row.passes.as_slice(),
+        context.setting.pass,
+        rest,
+        values,
+    )? {
         return Ok(Some(number));
     }
     Ok(None)
@@ -113,7 +118,6 @@ fn read_node(
 
 /// Reads the record of an item from a copy of a body, as `read_record` does.
 fn read_copy(
-    alloc: Global,
     context: &PassContext<'_>,
     item: Item,
     location: ChildLocation,
@@ -125,16 +129,15 @@ fn read_copy(
         body.now values.old.items values.new.items) }
     ensures none { IsErrOf result RecordFault.Damaged → IsNoRecord (setting context.now) item body.now }
 {
-    let mut bytes = Vec::new(alloc);
+    let mut bytes = Vec::new(context.alloc);
     let Ok(()) = body.append_to(&mut bytes) else {
         return Err(RecordFault::NoMemory);
     };
-    read_record(alloc, context, item, location, bytes.as_slice(), values)
+    read_record(context, item, location, bytes.as_slice(), values)
 }
 
 /// Reads the body of a node of a symbol in which values are shared, as `read_record` does.
 fn read_shared_node(
-    alloc: Global,
     context: &PassContext<'_>,
     symbol: u16,
     location: ChildLocation,
@@ -148,26 +151,18 @@ fn read_shared_node(
         → IsNoRecord (setting context.now) (item.Symbol symbol) body.entry }
 {
     let start = values.len();
-    let Ok(found) = read_node(alloc, context, symbol, body.again(), values) else {
+    let Ok(found) = read_node(context, symbol, body.again(), values) else {
         return Err(RecordFault::NoMemory);
     };
     if let Some(number) = found {
         return Ok(number);
     }
     values.truncate(start);
-    read_copy(
-        alloc,
-        context,
-        Item::Symbol(symbol),
-        location,
-        &body,
-        values,
-    )
+    read_copy(context, Item::Symbol(symbol), location, &body, values)
 }
 
 /// Reads a body in which values are shared, as `read_record` does.
 fn read_shared(
-    alloc: Global,
     context: &PassContext<'_>,
     item: Item,
     location: ChildLocation,
@@ -181,15 +176,14 @@ fn read_shared(
         → IsNoRecord (setting context.now) item body.entry }
 {
     match item {
-        Item::Symbol(symbol) => read_shared_node(alloc, context, symbol, location, body, values),
-        Item::Terminal(_) => read_copy(alloc, context, item, location, &body, values),
+        Item::Symbol(symbol) => read_shared_node(context, symbol, location, body, values),
+        Item::Terminal(_) => read_copy(context, item, location, &body, values),
     }
 }
 
 /// Reads the record of an item from a body that a device lends, as `read_record` does from bytes.
 #[inline(never)]
 pub(crate) fn read_lent(
-    alloc: Global,
     context: &PassContext<'_>,
     item: Item,
     location: ChildLocation,
@@ -203,7 +197,7 @@ pub(crate) fn read_lent(
         → IsNoRecord (setting context.now) item body.entry }
 {
     match body.as_slice() {
-        Some(bytes) => read_record(alloc, context, item, location, bytes, values),
-        None => read_shared(alloc, context, item, location, body, values),
+        Some(bytes) => read_record(context, item, location, bytes, values),
+        None => read_shared(context, item, location, body, values),
     }
 }

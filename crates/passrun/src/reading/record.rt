@@ -15,6 +15,7 @@ ghost use Rattle.passcode.specs.Settings.{setting_of};
 use crate::layouts::context::PassContext;
 use crate::layouts::hints::{ChildLocation, Hints, RowLocation};
 use crate::layouts::rows::row_passes;
+use crate::setting::Setting;
 use ag_carried::Carried;
 use ag_grammar::limits::MAX_TOKEN_BYTES;
 use ag_grammar::{Grammar, Item, Terminal};
@@ -129,15 +130,15 @@ fn is_error(bytes: &[u8]) -> bool {
 fn read_value<'b>(
     alloc: Global,
     pass: u16,
-    k: u16,
     bytes: &'b [u8],
     values: &mut Vec<Carried>,
     row: &RowLocation<'_>,
 ) -> Result<&'b [u8], RecordFault>
-    requires known { pass < k }
-    ensures taken { IfOk result (λ rest. IsTaken (k - 1) k pass bytes.now rest.now
-        values.old.items values.new.items) }
-    ensures untaken { IsErrOf result RecordFault.Damaged → IsUntaken (k - 1) pass bytes.now }
+    requires known { pass < row.now.pass }
+    ensures taken { IfOk result (λ rest. IsTaken (row.now.pass - 1) row.now.pass pass
+        bytes.now rest.now values.old.items values.new.items) }
+    ensures untaken { IsErrOf result RecordFault.Damaged
+        → IsUntaken (row.now.pass - 1) pass bytes.now }
     ensures prefix { PrependsTo values.old.items values.new.items }
 {
     let candidate = if is_error(bytes) {
@@ -153,28 +154,28 @@ fn read_value<'b>(
 }
 
 /// Takes the value of an attribute, and appends it to the values: from the bytes if its pass is
-/// before k, and 0 as a placeholder if its pass is k. Appends nothing for a later pass. Returns the
-/// rest of the bytes. Fails as `read_value` does.
+/// before that of the row, and 0 as a placeholder if its pass is that of the row. Appends nothing
+/// for a later pass. Returns the rest of the bytes. Fails as `read_value` does.
 fn take_value<'b>(
     alloc: Global,
     pass: u16,
-    k: u16,
     bytes: &'b [u8],
     values: &mut Vec<Carried>,
     row: &RowLocation<'_>,
 ) -> Result<&'b [u8], RecordFault>
-    requires { 1 ≤ k }
-    ensures taken { IfOk result (λ rest. IsTaken (k - 1) k pass bytes.now rest.now
-        values.old.items values.new.items) }
-    ensures untaken { IsErrOf result RecordFault.Damaged → IsUntaken (k - 1) pass bytes.now }
+    requires { 1 ≤ row.now.pass }
+    ensures taken { IfOk result (λ rest. IsTaken (row.now.pass - 1) row.now.pass pass
+        bytes.now rest.now values.old.items values.new.items) }
+    ensures untaken { IsErrOf result RecordFault.Damaged
+        → IsUntaken (row.now.pass - 1) pass bytes.now }
     ensures prefix { PrependsTo values.old.items values.new.items }
 {
     let Ok(()) = values.reserve(1) else {
         return Err(RecordFault::NoMemory);
     };
-    match take_number(pass, k, bytes, values) {
+    match take_number(pass, row.pass, bytes, values) {
         Some(rest) => Ok(rest),
-        None => read_value(alloc, pass, k, bytes, values, row),
+        None => read_value(alloc, pass, bytes, values, row),
     }
 }
 
@@ -196,20 +197,20 @@ fn check_end(rest: &[u8]) -> Result<(), RecordFault>
 fn take_values(
     alloc: Global,
     passes: &[u16],
-    k: u16,
     bytes: &[u8],
     values: &mut Vec<Carried>,
-    row: RowLocation<'_>,
+    row: &RowLocation<'_>,
 ) -> Result<(), RecordFault>
-    requires { 1 ≤ k }
-    ensures taken { OnOk result (AreTaken (k - 1) k passes.now bytes.now []
+    requires { 1 ≤ row.now.pass }
+    ensures taken { OnOk result (AreTaken (row.now.pass - 1) row.now.pass passes.now bytes.now []
         values.old.items values.new.items) }
-    ensures none { IsErrOf result RecordFault.Damaged → IsNoRow (k - 1) passes.now bytes.now }
+    ensures none { IsErrOf result RecordFault.Damaged
+        → IsNoRow (row.now.pass - 1) passes.now bytes.now }
     ensures prefix { PrependsTo values.old.items values.new.items }
 {
     let mut rest = bytes;
     for pass in passes {
-        rest = take_value(alloc, *pass, k, rest, values, &row)?;
+        rest = take_value(alloc, *pass, rest, values, row)?;
     }
     check_end(rest)
 }
@@ -220,15 +221,15 @@ fn take_values(
 fn take_row(
     alloc: Global,
     passes: &[u16],
-    k: u16,
     bytes: &[u8],
     values: &mut Vec<Carried>,
-    row: RowLocation<'_>,
+    row: &RowLocation<'_>,
 ) -> Result<(), RecordFault>
-    requires { 1 ≤ k }
-    ensures taken { OnOk result (AreTaken (k - 1) k passes.now bytes.now []
+    requires { 1 ≤ row.now.pass }
+    ensures taken { OnOk result (AreTaken (row.now.pass - 1) row.now.pass passes.now bytes.now []
         values.old.items values.new.items) }
-    ensures none { IsErrOf result RecordFault.Damaged → IsNoRow (k - 1) passes.now bytes.now }
+    ensures none { IsErrOf result RecordFault.Damaged
+        → IsNoRow (row.now.pass - 1) passes.now bytes.now }
     ensures prefix { PrependsTo values.old.items values.new.items }
 {
     let Ok(()) = values.reserve(passes.len()) else {
@@ -236,8 +237,8 @@ fn take_row(
     };
     let mut rest = bytes;
     for (index, pass) in passes.iter().enumerate() {
-        let Some(after) = take_number(*pass, k, rest, values) else {
-            return take_values(alloc, &passes[index..], k, rest, values, row);
+        let Some(after) = take_number(*pass, row.pass, rest, values) else {
+            return take_values(alloc, &passes[index..], rest, values, row);
         };
         rest = after;
     }
@@ -293,17 +294,23 @@ pub fn read_node(
         return Err(RecordFault::Damaged);
     };
     let production = &grammar.productions()[number as usize];
-    let Ok(passes) = row_passes(alloc, grammar, plan, production) else {
+    let setting = Setting {
+        grammar,
+        plan,
+        pass: k,
+    };
+    let Ok(passes) = row_passes(alloc, &setting, production) else {
         return Err(RecordFault::NoMemory);
     };
     let hints = Hints::none(alloc);
     let row = RowLocation {
         hints: &&hints,
+        pass: k,
         production: number,
         parent: ChildLocation::default(),
         start: values.len(),
     };
-    take_row(alloc, passes.as_slice(), k, spellings, values, row)?;
+    take_row(alloc, passes.as_slice(), spellings, values, &row)?;
     Ok(number)
 }
 
@@ -311,7 +318,6 @@ pub fn read_node(
 /// its production, and with hints for the values.
 #[inline(always)]
 fn read_node_by_layout(
-    alloc: Global,
     context: &PassContext<'_>,
     symbol: u16,
     location: ChildLocation,
@@ -323,23 +329,23 @@ fn read_node_by_layout(
         body.now values.old.items values.new.items) }
     ensures none { IsErrOf result RecordFault.Damaged → IsNoNode (setting context.now) symbol body.now }
 {
-    let Some((number, spellings)) = node_in(context.grammar, symbol, body) else {
+    let Some((number, spellings)) = node_in(context.setting.grammar, symbol, body) else {
         return Err(RecordFault::Damaged);
     };
     let layout = context.row(number);
     let row = RowLocation {
         hints: &context.hints,
+        pass: context.setting.pass,
         production: number,
         parent: location,
         start: values.len(),
     };
     take_row(
-        alloc,
+        context.alloc,
         layout.passes.as_slice(),
-        context.pass,
         spellings,
         values,
-        row,
+        &row,
     )?;
     Ok(number)
 }
@@ -395,7 +401,6 @@ fn read_token(
 /// is not a record of the item, and with `NoMemory` if memory cannot be allocated.
 #[inline(always)]
 pub(crate) fn read_record(
-    alloc: Global,
     context: &PassContext<'_>,
     item: Item,
     location: ChildLocation,
@@ -408,9 +413,9 @@ pub(crate) fn read_record(
     ensures none { IsErrOf result RecordFault.Damaged → IsNoRecord (setting context.now) item body.now }
 {
     match item {
-        Item::Symbol(symbol) => read_node_by_layout(alloc, context, symbol, location, body, values),
+        Item::Symbol(symbol) => read_node_by_layout(context, symbol, location, body, values),
         Item::Terminal(Terminal::Class(class)) => {
-            read_token(alloc, class, body, values)?;
+            read_token(context.alloc, class, body, values)?;
             Ok(class)
         }
         Item::Terminal(Terminal::Literal(_)) => Err(RecordFault::Damaged),

@@ -5,5 +5,6 @@ use Rattle.passrun.proofs.layouts.building.argument_slots.Given as goal
 
 abbrev pub invariant-loop-argument : goal.invariant-loop-argument
 invariant-loop-argument l =
-    l.slots.items ++ map (argument_slot_by (passes_of l.plan.0) l.k l.places) (drop l.argument-index l.arguments) ≡ map
-    (argument_slot_by (passes_of l.plan.0) l.k l.places) l.arguments
+    l.slots.items
+    ++ map (argument_slot_by (passes_of l.setting.plan.now.0) l.setting.pass l.places) (drop l.argument-index l.arguments)
+    ≡ map (argument_slot_by (passes_of l.setting.plan.now.0) l.setting.pass l.places) l.arguments

@@ -5,17 +5,19 @@ use Rattle.passrun.proofs.layouts.building.build_layout.Goals as goal
 
 pub row_of_production-requires-clause-small : goal.row_of_production-requires-clause-small
 row_of_production-requires-clause-small c =
-    are_small c.args.grammar.now (passes_of c.args.plan.now.0) c.productions-production-items.ensures.accepted
-    c.requires.plan.legal
+    are_small c.args.setting.now.grammar.now (passes_of c.args.setting.now.plan.now.0)
+    c.productions-production-items.ensures.accepted c.requires.plan.legal
 
 pub row_of_production-requires-clause-few : goal.row_of_production-requires-clause-few
 row_of_production-requires-clause-few c =
-    few_places c.args.grammar.now c.loop-number.number c.production-item.result c.productions-production-items.ensures.accepted
-    (read_at c.args.grammar.now.productions c.productions-production-items.result.now c.loop-number.number
+    let g = c.args.setting.now.grammar.now in
+    few_places g c.loop-number.number c.production-item.result c.productions-production-items.ensures.accepted
+    (read_at g.productions c.productions-production-items.result.now c.loop-number.number
     c.production-item.result c.productions-production-items.ensures.lent c.loop-number-test.true c.production-item.is)
 
 pub row_of_production-requires-clause-within : goal.row_of_production-requires-clause-within
 row_of_production-requires-clause-within c =
-    are_within c.args.grammar.now c.loop-number.number c.production-item.result c.productions-production-items.ensures.accepted
-    (read_at c.args.grammar.now.productions c.productions-production-items.result.now c.loop-number.number
+    let g = c.args.setting.now.grammar.now in
+    are_within g c.loop-number.number c.production-item.result c.productions-production-items.ensures.accepted
+    (read_at g.productions c.productions-production-items.result.now c.loop-number.number
     c.production-item.result c.productions-production-items.ensures.lent c.loop-number-test.true c.production-item.is)

@@ -1,15 +1,15 @@
 use Rattle.std.proofs.Common.{◌≡◌, ◌+◌, ◌*◌, ◌≤◌, ◌++◌, drop}
 use Rattle.ag_grammar.specs.grammars.AttributeGrammar.{stored_items}
-use Rattle.passcode.specs.Settings.{setting_of}
+use Rattle.passrun.specs.Settings.{pass_setting}
 use Rattle.passrun.specs.layouts.BuiltLayouts.{place_rows, rows_after}
 use Rattle.passrun.specs.layouts.Slots.{copied_all, stored_width}
 use Rattle.passrun.proofs.layouts.building.rows_of_places.Given as goal
 
 abbrev pub invariant-loop-item : goal.invariant-loop-item
 invariant-loop-item l = record {
-  rows : l.rows.items ++ rows_after (setting_of l.grammar l.plan l.k) l.start
-      (drop l.item-index (stored_items l.production.items)) ≡ place_rows (setting_of l.grammar l.plan l.k) l.production;
-  width : l.start + copied_all (setting_of l.grammar l.plan l.k) (drop l.item-index (stored_items l.production.items))
-      ≡ stored_width (setting_of l.grammar l.plan l.k) l.production;
+  rows : l.rows.items ++ rows_after (pass_setting l.setting) l.start
+      (drop l.item-index (stored_items l.production.items)) ≡ place_rows (pass_setting l.setting) l.production;
+  width : l.start + copied_all (pass_setting l.setting) (drop l.item-index (stored_items l.production.items))
+      ≡ stored_width (pass_setting l.setting) l.production;
   low : l.start ≤ 16 * (l.item-index + 1);
 }

@@ -61,7 +61,7 @@ returns-in_err-root-clause-refused g c =
 
 pub returns-then-pass-file_pass-clause-refused : goal.returns-then-pass-file_pass-clause-refused
 returns-then-pass-file_pass-clause-refused g c = λ honest.
-    let small : c.args.context.now.pass - 1 < 65536 = omega (arith, c.file_pass.ensures, c.file_pass.type_inv) in
+    let small : c.args.context.now.setting.pass - 1 < 65536 = omega (arith, c.file_pass.ensures, c.file_pass.type_inv) in
     other_pass (source (setting c.args.context.now)) (decidable (setting c.args.context.now) c.requires.context.sound)
     (g.D.Device.content c.args.from.now) c.in_ok-back.back.progress.pass small (c.in_ok-back.ensures.exact honest)
     (λ same. c.if-pass-file_pass.true (c.pass.ensures ∙ same ∙ sym c.file_pass.ensures))
@@ -70,7 +70,7 @@ pub returns-in_err-writer-clause-left : goal.returns-in_err-writer-clause-left
 returns-in_err-writer-clause-left g c =
     let p = err_from_is_err_and c.from_residual-in_err-writer.result c.from_residual-in_err-writer.ensures.1 in
     rw p.1
-    (λ h. not_begun c.args.context.now.pass (g.E.Device.content c.args.to.now)
+    (λ h. not_begun c.args.context.now.setting.pass (g.E.Device.content c.args.to.now)
     (g.E.Device.content c.begin.new.device) c.in_err-writer.field-0.0
     (λ failed. c.in_err-writer.ensures.device (ap Err failed) h)
     (λ resource. c.in_err-writer.ensures.memory (ap Err resource) h))
@@ -82,5 +82,5 @@ returns-in_err-root-clause-left g c =
     rw p.1
     (λ h.
     inr
-    (frames_begin RunFault c.args.context.now.pass to to (Ok tt) (c.in_ok-writer.ensures.header h)
+    (frames_begin RunFault c.args.context.now.setting.pass to to (Ok tt) (c.in_ok-writer.ensures.header h)
     (none_added RunFault to (Ok tt))))

@@ -11,7 +11,7 @@ width-width-requires-clause-there c =
     let h =
     child_of (setting c.args.context.now) c.requires.context.sound c.args.node
     (reverse c.args.waiting.now.items) c.args.values.now c.args.place c.requires.next c.requires.passing in
-    slice_get_within c.args.context.now.grammar.now.productions c.args.node.child h.production h.there
+    slice_get_within c.args.context.now.setting.grammar.now.productions c.args.node.child h.production h.there
 
 pub overflow_sub-values : goal.overflow_sub-values
 overflow_sub-values c =

@@ -27,7 +27,7 @@ returns-in_err-run-clause-left g c =
     rw p.1
     (λ h.
     inr
-    (frames_begin RunFault c.args.context.now.pass (g.E.Device.content c.begin.new.to)
+    (frames_begin RunFault c.args.context.now.setting.pass (g.E.Device.content c.begin.new.to)
     (g.E.Device.content c.run.new.to) (Err p.0) (begun.header (c.in_err-run.ensures.devices.second.honest h))
     (c.in_err-run.ensures.left h)))
 
@@ -41,7 +41,7 @@ returns-clause-begins g c =
     on_ok_more (AddsFrames (g.E.Device.is_honest c.finish.new.to) between now) _ c.finish.result
     (λ put h.
     let is = c.finish.ensures.devices.second.honest h in
-    frames_begin RunFault c.args.context.now.pass from now (Ok tt) (begun.header (ran.devices.second.honest is))
+    frames_begin RunFault c.args.context.now.setting.pass from now (Ok tt) (begun.header (ran.devices.second.honest is))
     (added RunFault from between now (Ok tt) (ran.added is) (put h)))
     c.finish.ensures.added
 
@@ -56,6 +56,6 @@ returns-clause-left g c =
     (λ f left h.
     let is = c.finish.ensures.devices.second.honest h in
     inr
-    (frames_begin RunFault c.args.context.now.pass from now (Err f) (begun.header (ran.devices.second.honest is))
+    (frames_begin RunFault c.args.context.now.setting.pass from now (Err f) (begun.header (ran.devices.second.honest is))
     (added RunFault from between now (Err f) (ran.added is) (left h))))
     c.finish.ensures.left

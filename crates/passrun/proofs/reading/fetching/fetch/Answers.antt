@@ -10,9 +10,9 @@ pub returns-in_err-body-clause-refused : goal.returns-in_err-body-clause-refused
 returns-in_err-body-clause-refused g c =
     let p = err_from_is_err_and c.from_residual.result c.from_residual.ensures.1 in
     rw (p.1, p.2)
-    (λ honest. frame_unfetched (setting c.args.context.now) c.args.item c.args.open_count
+    (λ honest. frame_unfetched (setting c.args.context.now) c.args.expected.item c.args.expected.open_count
     (g.D.Device.content c.args.from.now) c.args.back.now
-    (option_map (λ (body : Bor (List ℕ)). body.now)) c.in_err-body.field-0.0 c.if-open_count-ge-MAX_DEPTH.false
+    (option_map (λ (body : Bor (List ℕ)). body.now)) c.in_err-body.field-0.0 c.if-expected-ge-MAX_DEPTH.false
     (omega (arith, c.records.ensures))
     (rw c.requires.version at
     (rw c.in_default.ensures.none at

@@ -1,4 +1,4 @@
-use Rattle.std.proofs.Common.{ℕ, ◌≡◌, ◌+◌, ◌-◌, ◌∷◌, ◌∙◌, List, [], arith, drop, get_or, length, refl, subst, sym}
+use Rattle.std.proofs.Common.{ℕ, ◌≡◌, ◌+◌, ◌-◌, ◌∷◌, List, [], arith, drop, get_or, refl, subst, sym}
 use Rattle.std.proofs.lemmas.Bool.{eqb-true}
 use Rattle.passrun.specs.reading.Reading.{AreTaken}
 use Rattle.passrun.proofs.Recorded.{empty_is, more_taken, none_taken, no_passes_from, passes_from, occur_on}

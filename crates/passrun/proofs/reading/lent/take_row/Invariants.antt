@@ -1,4 +1,4 @@
-use Rattle.std.proofs.Common.{ℕ, ◌-◌, List, [], drop}
+use Rattle.std.proofs.Common.{◌-◌, List, [], drop}
 use Rattle.ag_value.specs.declared.value.Value.{Value}
 use Rattle.passrun.specs.reading.Reading.{AreTaken, PrependsTo}
 use Rattle.passrun.proofs.reading.lent.take_row.Given as goal

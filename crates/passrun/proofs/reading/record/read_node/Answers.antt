@@ -30,7 +30,7 @@ returns-in_err-take_row-clause-none c =
     rw (p.1, p.2)
     (λ is. no_node_read context c.args.symbol c.in-Some.number c.args.body.now c.in-Some.spellings.now c.in-Some.ensures.few b
     (subst (λ (ps : List ℕ). IsNoRow (c.args.k - 1) ps c.in-Some.spellings.now)
-    (c.as_slice.ensures ∙ c.in-Ok.ensures c.args.k ∙ ap (row_passes context) one)
+    (c.as_slice.ensures ∙ c.in-Ok.ensures ∙ ap (row_passes context) one)
     (c.in_err-take_row.ensures.none (same_err _ _ is))))
 
 pub returns-clause-read : goal.returns-clause-read
@@ -45,4 +45,4 @@ returns-clause-read c =
     (subst
     (λ (ps : List ℕ). AreTaken (c.args.k - 1) c.args.k ps c.in-Some.spellings.now
     [] c.args.values.now.items c.take_row.new.values.items)
-    (c.as_slice.ensures ∙ c.in-Ok.ensures c.args.k ∙ ap (row_passes context) one) c.in_ok-take_row.ensures.taken)
+    (c.as_slice.ensures ∙ c.in-Ok.ensures ∙ ap (row_passes context) one) c.in_ok-take_row.ensures.taken)

@@ -13,7 +13,7 @@ returns-in_default-clause-none c =
 
 pub row-layout-requires-clause-there : goal.row-layout-requires-clause-there
 row-layout-requires-clause-there c = let b = c.in-Some.ensures.some in
-    slice_get_within c.args.context.now.grammar.now.productions c.in-Some.number b.production b.there
+    slice_get_within c.args.context.now.setting.grammar.now.productions c.in-Some.number b.production b.there
 
 pub returns-in_err-take_row-clause-none : goal.returns-in_err-take_row-clause-none
 returns-in_err-take_row-clause-none c =
@@ -23,8 +23,8 @@ returns-in_err-take_row-clause-none c =
     rw (p.1, p.2)
     (λ is. no_node_read (setting c.args.context.now) c.args.symbol c.in-Some.number c.args.body.now c.in-Some.spellings.now
     c.in-Some.ensures.few b
-    (subst (λ (ps : List ℕ). IsNoRow (c.args.context.now.pass - 1) ps c.in-Some.spellings.now) (c.as_slice.ensures ∙ row.passes)
-    (c.in_err-take_row.ensures.none (same_err _ _ is))))
+    (subst (λ (ps : List ℕ). IsNoRow (c.args.context.now.setting.pass - 1) ps c.in-Some.spellings.now)
+    (c.as_slice.ensures ∙ row.passes) (c.in_err-take_row.ensures.none (same_err _ _ is))))
 
 pub returns-clause-read : goal.returns-clause-read
 returns-clause-read c =
@@ -33,6 +33,6 @@ returns-clause-read c =
     node_read (setting c.args.context.now) c.args.symbol c.in-Some.number c.args.body.now c.in-Some.spellings.now
     c.args.values.now.items c.take_row.new.values.items b
     (subst
-    (λ (ps : List ℕ). AreTaken (c.args.context.now.pass - 1) c.args.context.now.pass ps c.in-Some.spellings.now
+    (λ (ps : List ℕ). AreTaken (c.args.context.now.setting.pass - 1) c.args.context.now.setting.pass ps c.in-Some.spellings.now
     [] c.args.values.now.items c.take_row.new.values.items)
     (c.as_slice.ensures ∙ row.passes) c.in_ok-take_row.ensures.taken)

@@ -26,7 +26,7 @@ use Rattle.passrun.proofs.upgrading.Upgrading.+tree.Goals as goal
 pub returns-then-not-is_stored_child-clause-converted : goal.returns-then-not-is_stored_child-clause-converted
 returns-then-not-is_stored_child-clause-converted g t c honest =
     none_converted c.args.grammar.now c.requires.accepted (g.D.Device.content c.args.from.now) []
-    (c.args.item ∷ []) c.args.level c.args.self.now.back.progress (g.E.Device.is_honest c.args.to.now)
+    (c.args.subtree.item ∷ []) c.args.subtree.level c.args.self.now.back.progress (g.E.Device.is_honest c.args.to.now)
     (g.E.Device.content c.args.to.now) (c.if-not-is_stored_child.ensures [])
 
 pub record-requires-clause-place : goal.record-requires-clause-place
@@ -37,11 +37,11 @@ pub returns-in-Token-clause-converted : goal.returns-in-Token-clause-converted
 returns-in-Token-clause-converted g t c honest =
     let h =
     subst
-    (HasTaken c.args.grammar.now c.args.item c.args.level (g.D.Device.is_honest c.record.new.from)
+    (HasTaken c.args.grammar.now c.args.subtree.item c.args.subtree.level (g.D.Device.is_honest c.record.new.from)
     (g.D.Device.content c.args.from.now) c.args.self.now.back c.record.new.self.back) c.in-Token.is
     c.in_ok-production.ensures.taken in
     token_converted c.args.grammar.now c.requires.accepted
-    (g.D.Device.content c.args.from.now) c.args.item c.args.level c.in-Token.class c.in-Token.text
+    (g.D.Device.content c.args.from.now) c.args.subtree.item c.args.subtree.level c.in-Token.class c.in-Token.text
     c.args.self.now.back.progress c.record.new.self.back.progress (g.E.Device.is_honest c.put_record.new.to)
     (g.E.Device.content c.args.to.now) (g.E.Device.content c.put_record.new.to)
     (c.if-not-is_stored_child.ensures []) h.is h.deep h.few (h.found honest) (ap (λ (p : Progress). p.at) h.progress)
@@ -54,8 +54,8 @@ returns-in-Token-clause-converted g t c honest =
 pub bounds-productions-production : goal.bounds-productions-production
 bounds-productions-production g t c =
     let node =
-    node_of c.args.grammar.now c.args.item c.in-Node.production
-    (subst (IsOf c.args.grammar.now c.args.item) c.in-Node.is c.in_ok-production.ensures.taken.is) in
+    node_of c.args.grammar.now c.args.subtree.item c.in-Node.production
+    (subst (IsOf c.args.grammar.now c.args.subtree.item) c.in-Node.is c.in_ok-production.ensures.taken.is) in
     let within = slice_get_within c.args.grammar.now.productions c.in-Node.production node.0 node.1 in
     omega (arith, within, ap (λ (qs : List Production). length qs) c.productions.ensures.lent)
 
@@ -78,12 +78,13 @@ loop-at-init g t c =
       converted = λ honest.
           subst
           (λ texts. Converted c.args.grammar.now (g.D.Device.content c.args.from.now) (take (length items) items)
-          (drop (length items) items) (suc c.args.level) c.record.new.self.back.progress c.record.new.self.back.progress
+          (drop (length items) items) (suc c.args.subtree.level) c.record.new.self.back.progress c.record.new.self.back.progress
           (g.E.Device.is_honest c.args.to.now) (g.E.Device.content c.args.to.now)
           (g.E.Device.content c.args.to.now) texts) (sym c.new-texts.ensures.items)
           (none_converted c.args.grammar.now c.requires.accepted (g.D.Device.content c.args.from.now) (take (length items) items)
-          (drop (length items) items) (suc c.args.level) c.record.new.self.back.progress (g.E.Device.is_honest c.args.to.now)
-          (g.E.Device.content c.args.to.now) (ap stored_items (drop_all (length items) items many)));
+          (drop (length items) items) (suc c.args.subtree.level) c.record.new.self.back.progress
+          (g.E.Device.is_honest c.args.to.now) (g.E.Device.content c.args.to.now)
+          (ap stored_items (drop_all (length items) items many)));
     }
 
 -- The items of a node are those of its production.
@@ -102,10 +103,10 @@ returns-in_err-text-clause-refused g t c =
     let items = c.as_slice-items.result.now in
     let now = c.loop-at.self.back.progress in
     let f = c.in_err-text.field-0.0 in
-    let level : c.args.level + 1 ≡ suc c.args.level = omega arith in
+    let level : c.args.subtree.level + 1 ≡ suc c.args.subtree.level = omega arith in
     let h =
     subst
-    (HasTaken grammar c.args.item c.args.level
+    (HasTaken grammar c.args.subtree.item c.args.subtree.level
     (g.D.Device.is_honest c.record.new.from) content c.args.self.now.back c.record.new.self.back) c.in-Node.is
     c.in_ok-production.ensures.taken in
     rw (p.1, p.2) (λ honest.
@@ -113,9 +114,10 @@ returns-in_err-text-clause-refused g t c =
     let refused =
     subst
     (λ (bytes : List ℕ). IsUnconverted grammar bytes (get_or items (c.loop-at.at - 1) (item.Symbol 0) ∷ [])
-    (c.args.level + 1) now f) (so_far.content is) (c.in_err-text.ensures.refused honest) in
-    next_refused grammar c.requires.accepted content c.args.item c.in-Node.production items c.loop-at.at c.args.level
-    (item.Symbol 0) c.args.self.now.back.progress c.record.new.self.back.progress now h.is (g.E.Device.is_honest c.loop-at.to)
+    (c.args.subtree.level + 1) now f) (so_far.content is) (c.in_err-text.ensures.refused honest) in
+    next_refused grammar c.requires.accepted content c.args.subtree.item c.in-Node.production items c.loop-at.at
+    c.args.subtree.level (item.Symbol 0) c.args.self.now.back.progress c.record.new.self.back.progress now h.is
+    (g.E.Device.is_honest c.loop-at.to)
     (g.E.Device.content c.args.to.now) (g.E.Device.content c.loop-at.to) c.loop-at.texts.items f
     (c.if-not-is_stored_child.ensures []) h.deep h.few (h.found (so_far.since is)) (ap (λ (p : Progress). p.at) h.progress)
     (ap (λ (p : Progress). p.records) h.progress)
@@ -137,7 +139,7 @@ loop-at-preserved g t c =
     let out_between = g.E.Device.content c.loop-at.to in
     let out_now = g.E.Device.content c.tree.new.to in
     let more : c.add_text.new.texts.items ≡ c.loop-at.texts.items ++ text_list text = c.in_ok-add_text.ensures in
-    let level : c.args.level + 1 ≡ suc c.args.level = omega arith in
+    let level : c.args.subtree.level + 1 ≡ suc c.args.subtree.level = omega arith in
     record {
       content = λ h. c.in_ok-text.ensures.content h ∙ so_far.content (c.in_ok-text.ensures.devices.first.honest h);
       from_persists = search rules;
@@ -167,9 +169,9 @@ loop-at-preserved g t c =
           let next =
           subst
           (λ (bytes : List ℕ). Converted grammar bytes [] (child ∷ [])
-          (c.args.level + 1) between now to out_between out_now (text_list text)) (so_far.content is)
+          (c.args.subtree.level + 1) between now to out_between out_now (text_list text)) (so_far.content is)
           (c.in_ok-text.ensures.converted honest) in
-          next_converted grammar c.requires.accepted content items c.loop-at.at (suc c.args.level)
+          next_converted grammar c.requires.accepted content items c.loop-at.at (suc c.args.subtree.level)
           (item.Symbol 0) c.record.new.self.back.progress between now to
           (g.E.Device.content c.args.to.now) out_between out_now c.loop-at.texts.items
           (text_list text) c.add_text.new.texts.items
@@ -195,8 +197,8 @@ put_record-requires-2-clause-few g t c =
     (c.reverse.ensures.after ∙ ap reverse c.as_mut_slice.ensures.value)
     (omega (arith, texts.ok.0)) c.as_slice.ensures.value in
     let node =
-    node_of c.args.grammar.now c.args.item c.in-Node.production
-    (subst (IsOf c.args.grammar.now c.args.item) c.in-Node.is c.in_ok-production.ensures.taken.is) in
+    node_of c.args.grammar.now c.args.subtree.item c.in-Node.production
+    (subst (IsOf c.args.grammar.now c.args.subtree.item) c.in-Node.is c.in_ok-production.ensures.taken.is) in
     let items =
     items_are c.args.grammar.now c.in-Node.production c.productions.result.now c.index-productions-production.result
     c.as_slice-items.result.now c.productions.ensures.lent c.as_slice-items.ensures node.0 node.1 in
@@ -232,7 +234,7 @@ returns-clause-converted g t c honest =
     let out_now = g.E.Device.content c.put_record-2.new.to in
     let h =
     subst
-    (HasTaken grammar c.args.item c.args.level
+    (HasTaken grammar c.args.subtree.item c.args.subtree.level
     (g.D.Device.is_honest c.record.new.from) content c.args.self.now.back c.record.new.self.back) c.in-Node.is
     c.in_ok-production.ensures.taken in
     let same =
@@ -243,14 +245,14 @@ returns-clause-converted g t c honest =
     let whole =
     subst
     (λ n. Converted grammar content (take n items) (drop n items)
-    (suc c.args.level) c.record.new.self.back.progress c.loop-at.self.back.progress to
+    (suc c.args.subtree.level) c.record.new.self.back.progress c.loop-at.self.back.progress to
     (g.E.Device.content c.args.to.now) out_between texts.items) none
     (converted_supposed grammar c.requires.accepted content _ _ _ _ c.loop-at.self.back.progress to
     (g.E.Device.is_honest c.loop-at.to)
     (g.E.Device.content c.args.to.now) out_between texts.items c.in_ok-put_record.ensures.persists.honest
     (so_far.converted honest)) in
-    node_converted grammar c.requires.accepted content c.args.item c.args.level c.in-Node.production c.args.self.now.back.progress
-    c.record.new.self.back.progress c.loop-at.self.back.progress to
+    node_converted grammar c.requires.accepted content c.args.subtree.item c.args.subtree.level c.in-Node.production
+    c.args.self.now.back.progress c.record.new.self.back.progress c.loop-at.self.back.progress to
     (g.E.Device.content c.args.to.now) out_between out_now texts.items
     (c.if-not-is_stored_child.ensures []) h.is h.deep h.few (h.found (so_far.since honest))
     (ap (λ (p : Progress). p.at) h.progress) (ap (λ (p : Progress). p.records) h.progress) items

@@ -6,7 +6,7 @@ use Rattle.treefile.specs.devices.Device.{LeavesContent, Persists, WhenHonest}
 use Rattle.passrun.proofs.upgrading.Upgrading.+tree.Given as goal
 
 abbrev pub decreases-tree : goal.decreases-tree
-decreases-tree g l = 257 - l.level
+decreases-tree g l = 257 - l.subtree.level
 
 -- The trees of the last items were converted since the record of their parent was read, and the number of
 -- records written is the number of records read.

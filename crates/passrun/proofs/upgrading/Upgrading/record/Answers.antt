@@ -7,13 +7,13 @@ use Rattle.passrun.proofs.upgrading.Upgrading.record.Goals as goal
 pub returns-then-level-gt-MAX_REVERSED_LEVELS-clause-refused : goal.returns-then-level-gt-MAX_REVERSED_LEVELS-clause-refused
 returns-then-level-gt-MAX_REVERSED_LEVELS-clause-refused g c honest =
     one_too_deep c.args.grammar.now c.requires.accepted
-    (g.D.Device.content c.args.from.now) c.args.item c.args.level c.args.self.now.back.progress c.requires.place
+    (g.D.Device.content c.args.from.now) c.args.subtree.item c.args.subtree.level c.args.self.now.back.progress c.requires.place
     (omega (arith, c.if-level-gt-MAX_REVERSED_LEVELS.true))
 
 pub returns-then-records-ge-MAX_REVERSED_RECORDS-clause-refused : goal.returns-then-records-ge-MAX_REVERSED_RECORDS-clause-refused
 returns-then-records-ge-MAX_REVERSED_RECORDS-clause-refused g c honest =
     one_too_many c.args.grammar.now c.requires.accepted
-    (g.D.Device.content c.args.from.now) c.args.item c.args.level c.args.self.now.back.progress c.requires.place
+    (g.D.Device.content c.args.from.now) c.args.subtree.item c.args.subtree.level c.args.self.now.back.progress c.requires.place
     (omega (arith, c.if-level-gt-MAX_REVERSED_LEVELS.false))
     (omega (arith, c.if-records-ge-MAX_REVERSED_RECORDS.true, c.records.ensures))
 
@@ -22,7 +22,7 @@ returns-in_err-body-clause-refused g c =
     let p = err_from_is_err_and c.from_residual.result c.from_residual.ensures.1 in
     rw (p.1, p.2)
     (λ honest. one_fault c.args.grammar.now c.requires.accepted
-    (g.D.Device.content c.args.from.now) c.args.item c.args.level c.args.self.now.back.progress c.requires.place
+    (g.D.Device.content c.args.from.now) c.args.subtree.item c.args.subtree.level c.args.self.now.back.progress c.requires.place
     (omega (arith, c.if-level-gt-MAX_REVERSED_LEVELS.false))
     (omega (arith, c.if-records-ge-MAX_REVERSED_RECORDS.false, c.records.ensures))
     (option_map (λ (body : Bor (List ℕ)). body.now)) c.in_err-body.field-0.0
@@ -32,7 +32,7 @@ pub returns-in_default-clause-refused : goal.returns-in_default-clause-refused
 returns-in_default-clause-refused g c honest =
     let exact = rw (c.in_default.is, c.requires.ready.version) at (c.in_ok-body.ensures.exact c.requires.ready.unbroken honest) in
     one_missing c.args.grammar.now c.requires.accepted
-    (g.D.Device.content c.args.from.now) c.args.item c.args.level c.args.self.now.back.progress c.requires.place
+    (g.D.Device.content c.args.from.now) c.args.subtree.item c.args.subtree.level c.args.self.now.back.progress c.requires.place
     (omega (arith, c.if-level-gt-MAX_REVERSED_LEVELS.false))
     (omega (arith, c.if-records-ge-MAX_REVERSED_RECORDS.false, c.records.ensures)) c.end-end.result c.end-end.ensures
     exact
@@ -41,7 +41,7 @@ pub returns-in-Err-Damaged-clause-refused : goal.returns-in-Err-Damaged-clause-r
 returns-in-Err-Damaged-clause-refused g c honest =
     let exact = rw (c.in-Some.is, c.requires.ready.version) at (c.in_ok-body.ensures.exact c.requires.ready.unbroken honest) in
     one_wrong c.args.grammar.now c.requires.accepted
-    (g.D.Device.content c.args.from.now) c.args.item c.args.level c.args.self.now.back.progress c.requires.place
+    (g.D.Device.content c.args.from.now) c.args.subtree.item c.args.subtree.level c.args.self.now.back.progress c.requires.place
     (omega (arith, c.if-level-gt-MAX_REVERSED_LEVELS.false))
     (omega (arith, c.if-records-ge-MAX_REVERSED_RECORDS.false, c.records.ensures)) c.end-end.result c.in-Some.body.now
     c.end-end.ensures exact (c.in-Err-Damaged.ensures.none (ap Err c.in-Err-Damaged.field-0-is))

@@ -47,7 +47,7 @@ row-layout-requires-clause-there g c =
     let h =
     waited_for (setting c.args.context.now) c.requires.context.sound c.args.self.now c.pop.new.self.items c.args.node
     c.in-Some.outer c.requires.runs c.requires.next c.in-Some.ensures.items in
-    slice_get_within c.args.context.now.grammar.now.productions c.in-Some.outer.production h.production h.there
+    slice_get_within c.args.context.now.setting.grammar.now.productions c.in-Some.outer.production h.production h.there
 
 pub unreachable-requires : goal.unreachable-requires
 unreachable-requires g c =

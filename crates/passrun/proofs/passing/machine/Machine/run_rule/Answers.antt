@@ -21,8 +21,8 @@ bounds-as_slice-rule-2 c =
     c.index-productions-node.result c.as_slice.result.now c.index-as_slice-rule.result c.productions.ensures.lent
     c.index-productions-node.is c.as_slice.ensures c.index-as_slice-rule.is c.requires.runs c.requires.next in
     slots_less context c.args.node.production c.args.rule c.index-productions-node.result c.index-as_slice-rule.result
-    c.args.layout.now c.as_slice-2.result.now
-    (c.requires.layout c.index-productions-node.result h.there) h.numbered c.as_slice-2.ensures
+    c.row-layout.result.now c.as_slice-2.result.now
+    (c.row-layout.ensures c.index-productions-node.result h.there) h.numbered c.as_slice-2.ensures
 
 pub put_rule_value-requires-clause-slots : goal.put_rule_value-requires-clause-slots
 put_rule_value-requires-clause-slots c =
@@ -33,8 +33,8 @@ put_rule_value-requires-clause-slots c =
     c.index-productions-node.is c.as_slice.ensures c.index-as_slice-rule.is c.requires.runs c.requires.next in
     let are =
     slots_found context c.args.node.production c.args.rule c.index-productions-node.result c.index-as_slice-rule.result
-    c.args.layout.now c.as_slice-2.result.now c.index-as_slice-rule-2.result
-    (c.requires.layout c.index-productions-node.result h.there) h.numbered c.as_slice-2.ensures
+    c.row-layout.result.now c.as_slice-2.result.now c.index-as_slice-rule-2.result
+    (c.row-layout.ensures c.index-productions-node.result h.there) h.numbered c.as_slice-2.ensures
     c.index-as_slice-rule-2.is in
     sym are.args.equally_long ∙ sym h.occurrences
 
@@ -56,8 +56,8 @@ put_rule_value-requires-clause-target c =
     c.index-productions-node.is c.as_slice.ensures c.index-as_slice-rule.is c.requires.runs c.requires.next in
     let are =
     slots_found context c.args.node.production c.args.rule c.index-productions-node.result c.index-as_slice-rule.result
-    c.args.layout.now c.as_slice-2.result.now c.index-as_slice-rule-2.result
-    (c.requires.layout c.index-productions-node.result h.there) h.numbered c.as_slice-2.ensures
+    c.row-layout.result.now c.as_slice-2.result.now c.index-as_slice-rule-2.result
+    (c.row-layout.ensures c.index-productions-node.result h.there) h.numbered c.as_slice-2.ensures
     c.index-as_slice-rule-2.is in
     let target = are.target in
     let within = h.within in
@@ -75,8 +75,8 @@ returns-clause-runs c =
     let slots = c.index-as_slice-rule-2.result in
     let are =
     slots_found context c.args.node.production c.args.rule c.index-productions-node.result c.index-as_slice-rule.result
-    c.args.layout.now c.as_slice-2.result.now c.index-as_slice-rule-2.result
-    (c.requires.layout c.index-productions-node.result h.there) h.numbered c.as_slice-2.ensures
+    c.row-layout.result.now c.as_slice-2.result.now c.index-as_slice-rule-2.result
+    (c.row-layout.ensures c.index-productions-node.result h.there) h.numbered c.as_slice-2.ensures
     c.index-as_slice-rule-2.is in
     let v =
     value_of c.index-as_slice-rule.result.expr.0
