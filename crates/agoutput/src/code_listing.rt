@@ -19,6 +19,14 @@ use planchecker::Plan;
 use std::alloc::{AllocError, Global};
 use std::io::Write;
 
+/// A production of a grammar, with its number.
+#[derive(Clone, Copy)]
+struct NumberedProduction<'g> {
+    grammar: &'g Grammar,
+    number: usize,
+    production: &'g Production,
+}
+
 /// Appends the name of an instruction and a place in decimal. Fails if memory is refused, as all `show_`
 /// functions do.
 fn show_place(alloc: Global, out: &mut String, name: &str, place: u16) -> Result<(), AllocError>
@@ -29,21 +37,17 @@ fn show_place(alloc: Global, out: &mut String, name: &str, place: u16) -> Result
     show_number(alloc, out, place as usize)
 }
 
-/// Appends the name of the attribute `attr` at a place, and the number of the rule that computes it, as in
-/// `s rule 2`.
+/// Appends the name of an attribute, and the number of the rule that computes it, as in `s rule 2`.
 fn show_attribute_and_rule(
     alloc: Global,
     out: &mut String,
-    grammar: &Grammar,
-    production: &Production,
-    place: u16,
-    attr: u16,
+    name: &str,
     rule: u16,
 ) -> Result<(), AllocError>
     ensures { OnOk result (string_bytes out.new ≡ string_bytes out.old
-        ++ (name_at grammar.now production.now place attr ++ codes " rule " ++ decimal rule)) }
+        ++ (name.now ++ codes " rule " ++ decimal rule)) }
 {
-    out.push_str(attribute_name(grammar, production, place, attr))?;
+    out.push_str(name)?;
     out.push_str(" rule ")?;
     show_number(alloc, out, rule as usize)
 }
@@ -64,13 +68,15 @@ fn show_instruction(
         Instr::Set { place, attr, rule } => {
             show_place(alloc, out, "set ", place)?;
             out.push_str(".")?;
-            show_attribute_and_rule(alloc, out, grammar, production, place, attr, rule)?;
+            let name = attribute_name(grammar, production, place, attr);
+            show_attribute_and_rule(alloc, out, name, rule)?;
         }
         Instr::Go(place) => show_place(alloc, out, "go ", place)?,
         Instr::Put(place) => show_place(alloc, out, "put ", place)?,
         Instr::Def { attr, rule } => {
             out.push_str("def ")?;
-            show_attribute_and_rule(alloc, out, grammar, production, 0, attr, rule)?;
+            let name = attribute_name(grammar, production, 0, attr);
+            show_attribute_and_rule(alloc, out, name, rule)?;
         }
         Instr::End => out.push_str("end")?,
     }
@@ -103,20 +109,18 @@ fn show_list(
 fn show_line(
     alloc: Global,
     out: &mut String,
-    grammar: &Grammar,
-    number: usize,
-    production: &Production,
+    numbered: &NumberedProduction<'_>,
     pass: usize,
     list: &[Instr],
 ) -> Result<(), AllocError>
-    ensures { OnOk result (string_bytes out.new ≡ string_bytes out.old
-        ++ code_line grammar.now number production.now (pass, list.now)) }
+    ensures { let of = numbered.now in OnOk result (string_bytes out.new ≡ string_bytes out.old
+        ++ code_line of.grammar.now of.number of.production.now (pass, list.now)) }
 {
-    show_number(alloc, out, number)?;
+    show_number(alloc, out, numbered.number)?;
     out.push_str(" pass ")?;
     show_number(alloc, out, pass)?;
     out.push_str(": ")?;
-    show_list(alloc, out, grammar, production, list)?;
+    show_list(alloc, out, numbered.grammar, numbered.production, list)?;
     out.push_str("\n")?;
     Ok(())
 }
@@ -125,24 +129,14 @@ fn show_line(
 fn show_production(
     alloc: Global,
     out: &mut String,
-    grammar: &Grammar,
-    number: usize,
-    production: &Production,
+    numbered: &NumberedProduction<'_>,
     lists: &[Vec<Instr>],
 ) -> Result<(), AllocError>
-    ensures { OnOk result (string_bytes out.new ≡ string_bytes out.old
-        ++ production_text grammar.now ((number, production.now), row_of lists.now)) }
+    ensures { let of = numbered.now in OnOk result (string_bytes out.new ≡ string_bytes out.old
+        ++ production_text of.grammar.now ((of.number, of.production.now), row_of lists.now)) }
 {
     for (before, list) in lists.iter().enumerate() {
-        show_line(
-            alloc,
-            out,
-            grammar,
-            number,
-            production,
-            before + 1,
-            list.as_slice(),
-        )?;
+        show_line(alloc, out, numbered, before + 1, list.as_slice())?;
     }
     Ok(())
 }
@@ -154,14 +148,12 @@ fn code_lines(alloc: Global, grammar: &Grammar, code: &Code) -> Result<String, A
     let mut out = String::new(alloc);
     let productions = grammar.productions().iter().enumerate();
     for ((number, production), lists) in productions.zip(code.rows().iter()) {
-        show_production(
-            alloc,
-            &mut out,
+        let numbered = NumberedProduction {
             grammar,
             number,
             production,
-            lists.as_slice(),
-        )?;
+        };
+        show_production(alloc, &mut out, &numbered, lists.as_slice())?;
     }
     Ok(out)
 }

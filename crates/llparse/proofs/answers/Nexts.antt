@@ -38,6 +38,9 @@ pub none_is : (xs : List Token) (i : ℕ) (a : Terminal) → slice_get xs i ≡ 
 none_is xs i a none e = let bad : ahead.End ≡ ahead.Terminal a = sym (ap ahead_of (no_next xs i none)) ∙ e in cc
 
 -- whether tokens are left
+pub is_left : (xs : List Token) (i : ℕ) (x : Token) → slice_get xs i ≡ Some x → i < length xs
+is_left xs i x e = slice_get_within xs i x e
+
 pub none_left : (xs : List Token) (i : ℕ) → slice_get xs i ≡ None → length xs ≤ i
 none_left xs i e = (ended xs i (rest_none xs i e)).1
 

@@ -10,7 +10,7 @@ use Rattle.ag_scan.specs.Tokens.{Token}
 use Rattle.llparse.specs.sentence.Parsing.{task_of, IsRefused}
 use Rattle.ag_scan.specs.TokenReader.{offset_at}
 use Rattle.llparse.specs.sentence.Sentences.{words_of, IsStuckAt}
-use Rattle.llparse.specs.sentence.Turns.{IsAtSymbol, IsAtItem, IsFull, output_of}
+use Rattle.llparse.specs.sentence.Turns.{IsAtSymbol, IsAtItem, IsFull}
 use Rattle.llparse.specs.declared.sentence.parse_fault.ParseFault.{ParseFault}
 use Rattle.llparse.specs.declared.sentence.parse_fault.ParseFault.TheVariants as fault
 use Rattle.llparse.specs.declared.sentence.parser.OpenProduction.{OpenProduction}
@@ -26,11 +26,9 @@ module _ (g : Grammar) (tokens : List Token) (honest : Bool) (prefix : List ℕ)
   full_node accepted node p s bytes (fault.Unexpected at) full a = absurd full
   full_node accepted node p s bytes fault.TooDeep full a =
       let deep : max_depth ≤ length (node ∷ reverse p.waiting.items) = omega (arith, length-reverse p.waiting.items) in
-      starts.deep_node (task_of g tokens honest prefix) accepted s (node ∷ reverse p.waiting.items) p.tokens.taken p.count
-      (output_of p bytes) deep a
+      starts.deep_node (task_of g tokens honest prefix) accepted deep a
   full_node accepted node p s bytes fault.TooManyNodes full a =
-      starts.large_node (task_of g tokens honest prefix) accepted s (node ∷ reverse p.waiting.items) p.tokens.taken p.count
-      (output_of p bytes) full a
+      starts.large_node (task_of g tokens honest prefix) accepted full a
   full_node accepted node p s bytes fault.Device full a = absurd full
   full_node accepted node p s bytes fault.NoMemory full a = absurd full
 
@@ -41,11 +39,9 @@ module _ (g : Grammar) (tokens : List Token) (honest : Bool) (prefix : List ℕ)
   full_leaf accepted node p c bytes (fault.Unexpected at) full b = absurd full
   full_leaf accepted node p c bytes fault.TooDeep full b =
       let deep : max_depth ≤ length (node ∷ reverse p.waiting.items) = omega (arith, length-reverse p.waiting.items) in
-      stacks.deep_leaf (task_of g tokens honest prefix) accepted c (node ∷ reverse p.waiting.items) p.tokens.taken p.count
-      (output_of p bytes) deep b
+      stacks.deep_leaf (task_of g tokens honest prefix) accepted c (node ∷ reverse p.waiting.items) _ _ _ deep b
   full_leaf accepted node p c bytes fault.TooManyNodes full b =
-      stacks.large_leaf (task_of g tokens honest prefix) accepted c (node ∷ reverse p.waiting.items) p.tokens.taken p.count
-      (output_of p bytes) full b
+      stacks.large_leaf (task_of g tokens honest prefix) accepted c (node ∷ reverse p.waiting.items) _ _ _ full b
   full_leaf accepted node p c bytes fault.Device full b = absurd full
   full_leaf accepted node p c bytes fault.NoMemory full b = absurd full
 

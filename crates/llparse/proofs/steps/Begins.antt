@@ -1,5 +1,5 @@
 -- The open nodes can be completed, if each symbol has a tree.
-use Rattle.std.proofs.Common.{◌≡◌, ℕ, zero, suc, ◌<◌, List, [], ◌∷◌, ◌++◌, length, Some, slice_get, refl, ap, sym, ◌∙◌, subst}
+use Rattle.std.proofs.Common.{◌≡◌, ℕ, ◌<◌, List, [], ◌∷◌, ◌++◌, length, Some, slice_get, refl, ap, sym, ◌∙◌, subst}
 use Rattle.std.proofs.Common.{append_assoc, arith}
 use Rattle.std.proofs.lemmas.Option.{slice_get_within}
 use Rattle.std.proofs.lemmas.Str.{is_utf8-from_IsUtf8}
@@ -78,9 +78,9 @@ module _ (g : Grammar) (accepted : IsAccepted g) where
   some_tree (o ∷ os) s (q, before, get, items, is) = symbol_tree o.production q get before o.rest s items
 
 module _ (k : Task) (accepted : IsAccepted k.grammar) where
-  pub begins_reading : (p base : ℕ) (ys : List Item) (fs : List OpenProduction) (i n : ℕ) (rs : Output)
+  pub begins_reading : {p base : ℕ} {ys : List Item} {fs : List OpenProduction} {i n : ℕ} {rs : Output}
       → Reading k p base ys fs i n rs → (rest : List Lexeme) × (t : Tree) × IsTreeAfter k i rest t
-  begins_reading p base ys fs i n rs r =
+  begins_reading {p = p} {ys = ys} r =
       let s = r.occurs in
       let own = columns_of k.grammar accepted p s.0 s.2 s.1 ys s.3 in
       let outer = finish k.grammar accepted r.under s.0.left s.4 (node p (joined r.done own.0)) in (
@@ -89,9 +89,9 @@ module _ (k : Task) (accepted : IsAccepted k.grammar) where
         r.sound (yield_along k.grammar ys own.0 ++ outer.0) outer.1 (own.0, outer.0, own.1, refl, outer.2),
       )
 
-  pub begins_symbol : (s : ℕ) (fs : List OpenProduction) (i n : ℕ) (rs : Output) (a : AtSymbol k s fs i n rs)
+  pub begins_symbol : {s : ℕ} {fs : List OpenProduction} {i n : ℕ} {rs : Output} (a : AtSymbol k s fs i n rs)
       → (rest : List Lexeme) × (t : Tree) × IsTreeAfter k i rest t × IsCutAt k.grammar a.under rest t
-  begins_symbol s fs i n rs a =
+  begins_symbol {s = s} a =
       let c = some_tree k.grammar accepted a.under s a.occurs in
       let outer = finish k.grammar accepted a.under s a.occurs c.0 in
       let rest = yield_of k.grammar c.0 ++ outer.0 in (
@@ -110,10 +110,10 @@ module _ (k : Task) (accepted : IsAccepted k.grammar) where
       )
 
   -- the next item is a leaf
-  pub begins_leaf : (p base c : ℕ) (ys : List Item) (fs : List OpenProduction) (i n : ℕ) (rs : Output)
+  pub begins_leaf : {p base c : ℕ} {ys : List Item} {fs : List OpenProduction} {i n : ℕ} {rs : Output}
       (r : Reading k p base (item.Terminal (Class c) ∷ ys) fs i n rs)
       → (rest : List Lexeme) × (t : Tree) × IsTreeAfter k i rest t × IsCutAt k.grammar (open_at p r.done ys ∷ r.under) rest t
-  begins_leaf p base c ys fs i n rs r =
+  begins_leaf {p = p} {c = c} {ys = ys} r =
       let s = r.occurs in
       let own =
       columns_of k.grammar accepted p s.0 s.2 (s.1 ++ item.Terminal (Class c) ∷ []) ys

@@ -1,5 +1,5 @@
 -- The invariants of closing a node, and the state at the end.
-use Rattle.std.proofs.Common.{◌≡◌, ℕ, zero, suc, ◌<◌, ◌≤◌, List, [], ◌∷◌, ◌++◌, length, take, drop, refl, ap, sym, ◌∙◌, subst}
+use Rattle.std.proofs.Common.{◌≡◌, ℕ, ◌<◌, ◌≤◌, List, [], ◌∷◌, ◌++◌, length, take, drop, refl, ap, sym, ◌∙◌, subst}
 use Rattle.std.proofs.Common.{append_assoc, append-nil, arith}
 use Rattle.std.proofs.lemmas.List.{drop_all, length-drop, take_all}
 use Rattle.ag_value.specs.declared.value.Value.{Value}
@@ -30,10 +30,10 @@ module _ (k : Task) where
   g = k.grammar
 
   -- the node around it continues
-  pub on_close : (p base : ℕ) (f : OpenProduction) (fs : List OpenProduction) (i n : ℕ) (rs out : Output)
+  pub on_close : {p base : ℕ} {f : OpenProduction} {fs : List OpenProduction} {i n : ℕ} {rs : Output} (out : Output)
       → WhenHonest k.honest (out.bytes ≡ rs.bytes ++ node_frame p (drop base rs.texts)) → out.texts ≡ take base rs.texts
       → Reading k p base [] (f ∷ fs) i n rs → Between k (f ∷ fs) i n out
-  on_close p base f fs i n rs out put cut r = go r.under r.shows r.begins r.held r.occurs r.sound r.complete
+  on_close {p = p} {base = base} {f = f} {fs = fs} {i = i} {n = n} {rs = rs} out put cut r = go r.under r.shows r.begins r.held r.occurs r.sound r.complete
     where
       go : (os : List Open) → Shows g os (f ∷ fs) → base ≡ length (kept os) → Agrees k (open_at p r.done [] ∷ os) i n rs
           → FitsStack k.grammar (open_at p r.done []) os
@@ -96,10 +96,10 @@ module _ (k : Task) where
           (subst (λ x. Reading k x f.base o.rest fs i n out) shows.0 whole)
 
   -- the last node was closed
-  pub on_root : (p base i n : ℕ) (rs out : Output)
+  pub on_root : {p base i n : ℕ} {rs : Output} (out : Output)
       → WhenHonest k.honest (out.bytes ≡ rs.bytes ++ node_frame p (drop base rs.texts)) → Reading k p base [] [] i n rs
       → Finished k i n out.bytes
-  on_root p base i n rs out put r = go r.under r.shows r.begins r.held r.sound r.complete
+  on_root {p = p} {base = base} {i = i} {n = n} {rs = rs} out put r = go r.under r.shows r.begins r.held r.sound r.complete
     where
       go : (os : List Open) → Shows g os [] → base ≡ length (kept os) → Agrees k (open_at p r.done [] ∷ os) i n rs
           → ((rest : List Lexeme) (t : Tree) → Completes k.grammar (open_at p r.done []) os rest t → IsTreeAfter k i rest t)

@@ -29,12 +29,12 @@ module _ (k : Task) where
   abbrev g : Grammar
   g = k.grammar
 
-  pub on_class : (p base c : ℕ) (x : List ℕ) (ys : List Item) (fs : List OpenProduction) (i n : ℕ) (rs out : Output)
-      (rest : List Lexeme) → drop i k.words ≡ (Class c, x) ∷ rest → IsTokenText x
+  pub on_class : {p base c : ℕ} {x : List ℕ} {ys : List Item} {fs : List OpenProduction} {i n : ℕ} {rs out : Output}
+      {rest : List Lexeme} → drop i k.words ≡ (Class c, x) ∷ rest → IsTokenText x
       → WhenHonest k.honest (out.bytes ≡ rs.bytes ++ leaf_frame c x) → out.texts ≡ rs.texts ++ Text x ∷ [] → n < k.nodes
       → suc (length fs) < k.depth
       → Reading k p base (item.Terminal (Class c) ∷ ys) fs i n rs → Reading k p base ys fs (i + 1) (n + 1) out
-  on_class p base c x ys fs i n rs out rest next text put grown more_nodes more_levels r =
+  on_class {p = p} {c = c} {x = x} {ys = ys} {fs = fs} {i = i} {out = out} {rest = rest} next text put grown more_nodes more_levels r =
       let after = following k.words i (Class c, x) rest next in
       let s = r.occurs in
       let same = length-shows g r.under fs r.shows in
@@ -75,12 +75,12 @@ module _ (k : Task) where
             (subst (λ ws. IsTreeWith k.grammar ws t) (one_more k.words i (Class c, x) rest others next) w));
       }
 
-  pub no_class : IsAccepted k.grammar → (p base c : ℕ) (ys : List Item) (fs : List OpenProduction) (i n : ℕ) (rs : Output)
+  pub no_class : {p base c : ℕ} {ys : List Item} {fs : List OpenProduction} {i n : ℕ} {rs : Output} → IsAccepted k.grammar
       → (ahead_of (drop i k.words) ≡ ahead.Terminal (Class c) → ⊥)
       → Reading k p base (item.Terminal (Class c) ∷ ys) fs i n rs → IsStuckAt k.grammar k.words i
-  no_class accepted p base c ys fs i n rs other r = record {
+  no_class {p = p} {c = c} {ys = ys} accepted other r = record {
     within = r.held.within;
-    begins = begins_reading k accepted p base (item.Terminal (Class c) ∷ ys) fs i n rs r;
+    begins = begins_reading k accepted r;
     ends = λ rest t e h.
         let w = step.class_next k.grammar p r.done c ys r.under rest t (r.complete rest t e h) in
         other (sym e ∙ ap ahead_of w.2);
@@ -88,14 +88,14 @@ module _ (k : Task) where
 
   -- if the next item is a leaf and a limit is reached, each tree that has the leaf and the open nodes is
   -- beyond it
-  beyond_leaf : (size : Tree → ℕ) (begun : List Open → ℕ) (limit : ℕ) → IsAccepted k.grammar
-      → (p base c : ℕ) (ys : List Item) (fs : List OpenProduction) (i n : ℕ) (rs : Output)
+  beyond_leaf : {p base c : ℕ} {ys : List Item} {fs : List OpenProduction} {i n : ℕ} {rs : Output}
+      (size : Tree → ℕ) (begun : List Open → ℕ) (limit : ℕ) → IsAccepted k.grammar
       → (r : Reading k p base (item.Terminal (Class c) ∷ ys) fs i n rs) → limit ≤ begun (open_at p r.done ys ∷ r.under)
       → ((x : List ℕ) (ws : List Lexeme) (t : Tree)
       → Completes k.grammar (open_at p (joined r.done (more (leaf c x) none)) ys) r.under ws t → limit < size t)
       → LeavesOnly k.grammar k.words size begun limit
-  beyond_leaf size begun limit accepted p base c ys fs i n rs r full passed =
-      let b = begins_leaf k accepted p base c ys fs i n rs r in
+  beyond_leaf {p = p} {c = c} {ys = ys} {i = i} size begun limit accepted r full passed =
+      let b = begins_leaf k accepted r in
       record {
         index = i;
         within = r.held.within;
@@ -109,20 +109,20 @@ module _ (k : Task) where
             passed w.0 w.1 t w.3;
       }
 
-  pub deep_leaf : IsAccepted k.grammar → (p base c : ℕ) (ys : List Item) (fs : List OpenProduction) (i n : ℕ) (rs : Output)
+  pub deep_leaf : {p base c : ℕ} {ys : List Item} {fs : List OpenProduction} {i n : ℕ} {rs : Output} → IsAccepted k.grammar
       → k.depth ≤ suc (length fs) → Reading k p base (item.Terminal (Class c) ∷ ys) fs i n rs → IsTooDeep k
-  deep_leaf accepted p base c ys fs i n rs full r =
+  deep_leaf {p = p} {c = c} {ys = ys} {fs = fs} accepted full r =
       let same = length-shows g r.under fs r.shows in
-      beyond_leaf depth_of (λ above. length above) k.depth accepted p base c ys fs i n rs r (omega arith) (λ x ws t h.
+      beyond_leaf depth_of (λ above. length above) k.depth accepted r (omega arith) (λ x ws t h.
       let d = size.depth_open k.grammar (open_at p (joined r.done (more (leaf c x) none)) ys) r.under ws t h in
       let levels = size.deepest-joined r.done (more (leaf c x) none) in
       omega arith)
 
-  pub large_leaf : IsAccepted k.grammar → (p base c : ℕ) (ys : List Item) (fs : List OpenProduction) (i n : ℕ) (rs : Output)
+  pub large_leaf : {p base c : ℕ} {ys : List Item} {fs : List OpenProduction} {i n : ℕ} {rs : Output} → IsAccepted k.grammar
       → k.nodes ≤ n → Reading k p base (item.Terminal (Class c) ∷ ys) fs i n rs → IsTooLarge k
-  large_leaf accepted p base c ys fs i n rs full r =
+  large_leaf {p = p} {c = c} {ys = ys} accepted full r =
       let counted = r.held.counted in
-      beyond_leaf node_count opened k.nodes accepted p base c ys fs i n rs r (omega arith) (λ x ws t h.
+      beyond_leaf node_count opened k.nodes accepted r (omega arith) (λ x ws t h.
       let d = size.count_open k.grammar (open_at p (joined r.done (more (leaf c x) none)) ys) r.under ws t h in
       let counts = size.node_counts-joined r.done (more (leaf c x) none) in
       omega arith)

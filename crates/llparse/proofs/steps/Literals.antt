@@ -20,10 +20,10 @@ module _ (k : Task) where
   abbrev g : Grammar
   g = k.grammar
 
-  pub on_literal : (p base l : ℕ) (ys : List Item) (fs : List OpenProduction) (i n : ℕ) (rs : Output) (rest : List Lexeme)
+  pub on_literal : {p base l : ℕ} {ys : List Item} {fs : List OpenProduction} {i n : ℕ} {rs : Output} {rest : List Lexeme}
       → drop i k.words ≡ (Literal l, literal_text k.grammar l) ∷ rest
       → Reading k p base (item.Terminal (Literal l) ∷ ys) fs i n rs → Reading k p base ys fs (i + 1) n rs
-  on_literal p base l ys fs i n rs rest next r =
+  on_literal {p = p} {l = l} {ys = ys} {i = i} {rest = rest} next r =
       let after = following k.words i (Literal l, literal_text k.grammar l) rest next in
       let s = r.occurs in
       record {
@@ -58,12 +58,12 @@ module _ (k : Task) where
             (one_more k.words i (Literal l, literal_text k.grammar l) rest others next) w));
       }
 
-  pub no_literal : IsAccepted k.grammar → (p base l : ℕ) (ys : List Item) (fs : List OpenProduction) (i n : ℕ) (rs : Output)
+  pub no_literal : {p base l : ℕ} {ys : List Item} {fs : List OpenProduction} {i n : ℕ} {rs : Output} → IsAccepted k.grammar
       → (ahead_of (drop i k.words) ≡ ahead.Terminal (Literal l) → ⊥)
       → Reading k p base (item.Terminal (Literal l) ∷ ys) fs i n rs → IsStuckAt k.grammar k.words i
-  no_literal accepted p base l ys fs i n rs other r = record {
+  no_literal {p = p} {l = l} {ys = ys} accepted other r = record {
     within = r.held.within;
-    begins = begins_reading k accepted p base (item.Terminal (Literal l) ∷ ys) fs i n rs r;
+    begins = begins_reading k accepted r;
     ends = λ rest t e h.
         let c = step.literal_next k.grammar p r.done l ys r.under rest t (r.complete rest t e h) in
         other (sym e ∙ ap ahead_of c.1);

@@ -48,27 +48,27 @@ module _ (k : Task) where
   pub closed : (p base : ℕ) (fs : List OpenProduction) (i n : ℕ) (rs out : Output)
       → WhenHonest k.honest (out.bytes ≡ rs.bytes ++ node_frame p (drop base rs.texts)) → out.texts ≡ take base rs.texts
       → Reading k p base [] fs i n rs → Between k fs i n out
-  closed p base [] i n rs out put cut r = closing.on_root k p base i n rs out put r
-  closed p base (f ∷ fs) i n rs out put cut r = closing.on_close k p base f fs i n rs out put cut r
+  closed p base [] i n rs out put cut r = closing.on_root k out put r
+  closed p base (f ∷ fs) i n rs out put cut r = closing.on_close k out put cut r
 
   pub at_symbol : (s : ℕ) (fs : List OpenProduction) (i n : ℕ) (rs : Output) → AtItem k (item.Symbol s) fs i n rs
       → AtSymbol k s fs i n rs
   at_symbol s [] i n rs b = absurd b
-  at_symbol s (f ∷ fs) i n rs b = starts.on_symbol k f s (drop f.passed (right_side k.grammar f.production)) fs i n rs refl b
+  at_symbol s (f ∷ fs) i n rs b = starts.on_symbol k f refl b
 
   pub literal : (l : ℕ) (fs : List OpenProduction) (i n : ℕ) (rs : Output) (rest : List Lexeme)
       → drop i k.words ≡ (Literal l, literal_text k.grammar l) ∷ rest
       → AtItem k (item.Terminal (Literal l)) fs i n rs → Between k fs (i + 1) n rs
   literal l [] i n rs rest next b = absurd b
   literal l (f ∷ fs) i n rs rest next b =
-      literals.on_literal k f.production f.base l (drop f.passed (right_side k.grammar f.production)) fs i n rs rest next b
+      literals.on_literal k next b
 
   no_literal : IsAccepted k.grammar → (l : ℕ) (fs : List OpenProduction) (i n : ℕ) (rs : Output)
       → (ahead_of (drop i k.words) ≡ ahead.Terminal (Literal l) → ⊥)
       → AtItem k (item.Terminal (Literal l)) fs i n rs → IsStuckAt k.grammar k.words i
   no_literal accepted l [] i n rs other b = absurd b
   no_literal accepted l (f ∷ fs) i n rs other b =
-      literals.no_literal k accepted f.production f.base l (drop f.passed (right_side k.grammar f.production)) fs i n rs other b
+      literals.no_literal k accepted other b
 
   pub class : (c : ℕ) (x : List ℕ) (fs : List OpenProduction) (i n : ℕ) (rs out : Output) (rest : List Lexeme)
       → drop i k.words ≡ (Class c, x) ∷ rest → IsTokenText x
@@ -77,15 +77,14 @@ module _ (k : Task) where
       → AtItem k (item.Terminal (Class c)) fs i n rs → Between k fs (i + 1) (n + 1) out
   class c x [] i n rs out rest next text put grown more_nodes more_levels b = absurd b
   class c x (f ∷ fs) i n rs out rest next text put grown more_nodes more_levels b =
-      leaves.on_class k f.production f.base c x
-      (drop f.passed (right_side k.grammar f.production)) fs i n rs out rest next text put grown more_nodes more_levels b
+      leaves.on_class k next text put grown more_nodes more_levels b
 
   no_class : IsAccepted k.grammar → (c : ℕ) (fs : List OpenProduction) (i n : ℕ) (rs : Output)
       → (ahead_of (drop i k.words) ≡ ahead.Terminal (Class c) → ⊥)
       → AtItem k (item.Terminal (Class c)) fs i n rs → IsStuckAt k.grammar k.words i
   no_class accepted c [] i n rs other b = absurd b
   no_class accepted c (f ∷ fs) i n rs other b =
-      leaves.no_class k accepted f.production f.base c (drop f.passed (right_side k.grammar f.production)) fs i n rs other b
+      leaves.no_class k accepted other b
 
   pub no_terminal : IsAccepted k.grammar → (t : Terminal) (fs : List OpenProduction) (i n : ℕ) (rs : Output)
       → (ahead_of (drop i k.words) ≡ ahead.Terminal t → ⊥)
@@ -97,13 +96,13 @@ module _ (k : Task) where
       → AtItem k (item.Terminal (Class c)) fs i n rs → IsTooDeep k
   deep_leaf accepted c [] i n rs deep b = absurd b
   deep_leaf accepted c (f ∷ fs) i n rs deep b =
-      leaves.deep_leaf k accepted f.production f.base c (drop f.passed (right_side k.grammar f.production)) fs i n rs deep b
+      leaves.deep_leaf k accepted deep b
 
   pub large_leaf : IsAccepted k.grammar → (c : ℕ) (fs : List OpenProduction) (i n : ℕ) (rs : Output) → k.nodes ≤ n
       → AtItem k (item.Terminal (Class c)) fs i n rs → IsTooLarge k
   large_leaf accepted c [] i n rs large b = absurd b
   large_leaf accepted c (f ∷ fs) i n rs large b =
-      leaves.large_leaf k accepted f.production f.base c (drop f.passed (right_side k.grammar f.production)) fs i n rs large b
+      leaves.large_leaf k accepted large b
 
 -- ---- fewer steps are left
 

@@ -42,10 +42,10 @@ module _ (k : Task) where
     complete = λ rest t e p. (step.begin k.grammar rest t).0 p;
   }
 
-  pub on_symbol : (f : OpenProduction) (s : ℕ) (ys : List Item) (fs : List OpenProduction) (i n : ℕ) (rs : Output)
+  pub on_symbol : (f : OpenProduction) {s : ℕ} {ys : List Item} {fs : List OpenProduction} {i n : ℕ} {rs : Output}
       → ys ≡ drop f.passed (right_side g f.production)
       → Reading k f.production f.base (item.Symbol s ∷ ys) fs i n rs → AtSymbol k s (f ∷ fs) i n rs
-  on_symbol f s ys fs i n rs left r = record {
+  on_symbol f {s = s} {ys = ys} left r = record {
     under = open_at f.production r.done ys ∷ r.under;
     shows = (refl, left, r.begins, r.shows);
     held =
@@ -95,25 +95,24 @@ module _ (k : Task) where
         } in
         subst (λ x. Reading k p base x fs i (n + 1) rs) items r
 
-    pub no_rule : IsAccepted k.grammar → (s : ℕ) (fs : List OpenProduction) (i n : ℕ) (rs : Output)
+    pub no_rule : {fs : List OpenProduction} {i n : ℕ} {rs : Output} → IsAccepted k.grammar → (s : ℕ)
         → choice_of tables s (ahead_of (drop i k.words)) ≡ None → AtSymbol k s fs i n rs → IsStuckAt k.grammar k.words i
-    no_rule accepted s fs i n rs unnamed a = record {
+    no_rule accepted s unnamed a = record {
       within = a.held.within;
       ends =
           λ rest t e p. step.no_rule k.grammar tables fits a.under s rest t a.occurs (ap (choice_of tables s) e ∙ unnamed)
           (a.complete rest t e p);
-      begins = let b = begins_symbol k accepted s fs i n rs a in (b.0, b.1, b.2);
+      begins = let b = begins_symbol k accepted a in (b.0, b.1, b.2);
     }
 
   -- if a node is to be opened and a limit is reached, each tree that has the node below the open nodes is
   -- beyond it
-  beyond_node : (size : Tree → ℕ) (begun : List Open → ℕ) (limit : ℕ) → IsAccepted k.grammar
-      → (s : ℕ) (fs : List OpenProduction) (i n : ℕ) (rs : Output)
-      → (a : AtSymbol k s fs i n rs) → limit ≤ begun a.under
+  beyond_node : {s : ℕ} {fs : List OpenProduction} {i n : ℕ} {rs : Output}
+      (size : Tree → ℕ) (begun : List Open → ℕ) (limit : ℕ) → IsAccepted k.grammar → (a : AtSymbol k s fs i n rs) → limit ≤ begun a.under
       → ((c : Tree) (ws : List Lexeme) (t : Tree) → Continues k.grammar a.under c ws t → limit < size t)
       → LeavesOnly k.grammar k.words size begun limit
-  beyond_node size begun limit accepted s fs i n rs a full passed =
-      let b = begins_symbol k accepted s fs i n rs a in
+  beyond_node {i = i} size begun limit accepted a full passed =
+      let b = begins_symbol k accepted a in
       record {
         index = i;
         within = a.held.within;
@@ -127,20 +126,20 @@ module _ (k : Task) where
       }
 
   -- a node that is opened counts, and is below the others
-  pub deep_node : IsAccepted k.grammar → (s : ℕ) (fs : List OpenProduction) (i n : ℕ) (rs : Output) → k.depth ≤ length fs
+  pub deep_node : {s : ℕ} {fs : List OpenProduction} {i n : ℕ} {rs : Output} → IsAccepted k.grammar → k.depth ≤ length fs
       → AtSymbol k s fs i n rs → IsTooDeep k
-  deep_node accepted s fs i n rs full a =
+  deep_node {fs = fs} accepted full a =
       let same = length-shows g a.under fs a.shows in
-      beyond_node depth_of (λ above. length above) k.depth accepted s fs i n rs a (omega arith) (λ c ws t h.
+      beyond_node depth_of (λ above. length above) k.depth accepted a (omega arith) (λ c ws t h.
       let d = size.depth_under k.grammar a.under c ws t h in
       let one : 1 ≤ depth_of c = size.depth_some c in
       omega arith)
 
-  pub large_node : IsAccepted k.grammar → (s : ℕ) (fs : List OpenProduction) (i n : ℕ) (rs : Output) → k.nodes ≤ n
+  pub large_node : {s : ℕ} {fs : List OpenProduction} {i n : ℕ} {rs : Output} → IsAccepted k.grammar → k.nodes ≤ n
       → AtSymbol k s fs i n rs → IsTooLarge k
-  large_node accepted s fs i n rs full a =
+  large_node accepted full a =
       let counted = a.held.counted in
-      beyond_node node_count opened k.nodes accepted s fs i n rs a (omega arith) (λ c ws t h.
+      beyond_node node_count opened k.nodes accepted a (omega arith) (λ c ws t h.
       let d = size.count_under k.grammar a.under c ws t h in
       let one : 1 ≤ node_count c = size.count_some c in
       omega arith)

@@ -1,6 +1,6 @@
 -- The invariants of one step of a parser: the innermost open node is closed, or moves past its next item.
 use Rattle.std.proofs.Common.{◌≡◌, ℕ, ◌<◌, ◌≤◌, Bool, List, [], ◌∷◌, ◌++◌, drop, take, length, reverse, All, Some, None, refl}
-use Rattle.std.proofs.Common.{sym, ◌∙◌, subst, arith}
+use Rattle.std.proofs.Common.{sym, subst, arith}
 use Rattle.std.proofs.lemmas.List.{length-map}
 use Rattle.std.proofs.lemmas.Option.{slice_get_within}
 use Rattle.ag_value.specs.declared.value.Value.{Value}
@@ -40,7 +40,7 @@ module _ (k : Task) (tables : Choices) (fits : FitsGrammar k.grammar tables) (s 
       (on_open k tables fits s node.production node.base [] 0 0 nothing_made chosen base more_nodes more_levels at_start)
 
   pub not_begun : IsAccepted k.grammar → choice_of tables s (ahead_of (drop 0 k.words)) ≡ None → IsStuckAt k.grammar k.words 0
-  not_begun accepted unnamed = no_rule k tables fits accepted s [] 0 0 nothing_made unnamed at_start
+  not_begun accepted unnamed = no_rule k tables fits accepted s unnamed at_start
 
 -- consecutive calls of the device persist
 pub persists_on : {E : Type 0} (a b d : Bool) (x y z : ℕ) → Persists a b x y ⊥ → Persists b d y z E → Persists a d x z ⊥
@@ -64,7 +64,7 @@ module _ (k : Task) (node new : OpenProduction) (x : Item)
     (passed : Advances (right_side k.grammar node.production) node (Some x) new) where
   pub faced : (y : Item) → x ≡ y → (p : Parser) (bytes : List ℕ) → IsBetween k node p bytes → IsAtItem k y new p bytes
   faced y is p bytes occurs =
-      rw (sym is, passed.1) (faces k node x (reverse p.waiting.items) p.tokens.taken p.count (output_of p bytes) passed.0 occurs)
+      rw (sym is, passed.1) (faces k node x (reverse p.waiting.items) _ _ _ passed.0 occurs)
 
   -- fewer steps are left
   pub smaller : (p r : Parser) → r.waiting.items ≡ p.waiting.items → p.count ≤ r.count
@@ -82,8 +82,8 @@ module _ (k : Task) (node new : OpenProduction) (p : Parser) (bytes : List ℕ)
       × All IsWell (drop new.base p.texts.items)
   own_few accepted =
       let few =
-      own_texts k accepted node.production node.base (reverse p.waiting.items) p.tokens.taken p.count (output_of p bytes)
-      (ends k node (reverse p.waiting.items) p.tokens.taken p.count (output_of p bytes) over.0 occurs) in
+      own_texts k accepted node.production node.base (reverse p.waiting.items) _ _ (output_of p bytes)
+      (ends k node (reverse p.waiting.items) _ _ _ over.0 occurs) in
       subst (λ (f : OpenProduction). (f.base ≤ length p.texts.items) × (length (drop f.base p.texts.items) ≤ max_children)
       × All IsWell (drop f.base p.texts.items)) (sym over.1) few
 
@@ -97,9 +97,8 @@ module _ (k : Task) (node new : OpenProduction) (p : Parser) (bytes : List ℕ)
       subst (λ (f : OpenProduction). WhenHonest k.honest (out ≡ bytes ++ node_frame f.production (drop f.base p.texts.items)))
       over.1 with_own in
       let rest = subst (λ (f : OpenProduction). texts ≡ take f.base p.texts.items) over.1 cut in
-      closed k node.production node.base (reverse p.waiting.items) p.tokens.taken p.count (output_of p bytes)
-      (record { bytes = out; texts = texts }) frame rest
-      (ends k node (reverse p.waiting.items) p.tokens.taken p.count (output_of p bytes) over.0 occurs)
+      closed k node.production node.base (reverse p.waiting.items) _ _ (output_of p bytes) _ frame rest
+      (ends k node (reverse p.waiting.items) _ _ _ over.0 occurs)
 
 -- the end of a parse
 module _ (g : Grammar) (tokens : List Token) (honest : Bool) (prefix : List ℕ) (p : Parser) (bytes : List ℕ) (texts : List Value)

@@ -79,8 +79,8 @@ pub fn expected_before<D: Device>(
     Some(expected)
 }
 
-/// Appends the children that a node of a production has, the rightmost one last. None if there is no such
-/// production, or memory is refused.
+/// Appends the children that a node of a production has, the rightmost one last. None if the grammar has
+/// no production with this number, or memory is refused.
 fn push_children(grammar: &Grammar, number: u16, expected: &mut Vec<Item>) -> Option<()> {
     let production = grammar.productions().get(usize::from(number))?;
     for item in production.items.as_slice() {

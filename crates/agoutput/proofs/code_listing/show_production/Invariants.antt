@@ -6,6 +6,6 @@ use Rattle.agoutput.proofs.code_listing.show_production.Given as goal
 
 abbrev pub invariant-loop-before : goal.invariant-loop-before
 invariant-loop-before l =
-    string_bytes l.out ++ flat_map (code_line l.grammar l.number l.production)
-    (enumerate_from (l.before + 1) (row_of (drop l.before l.lists))) ≡ string_bytes l.initial.out ++ flat_map
-    (code_line l.grammar l.number l.production) (enumerate_from 1 (row_of l.lists))
+    let line = code_line l.numbered.grammar.now l.numbered.number l.numbered.production.now in
+    string_bytes l.out ++ flat_map line (enumerate_from (l.before + 1) (row_of (drop l.before l.lists)))
+    ≡ string_bytes l.initial.out ++ flat_map line (enumerate_from 1 (row_of l.lists))

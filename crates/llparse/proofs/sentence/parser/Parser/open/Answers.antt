@@ -17,8 +17,7 @@ returns-in_err-node-clause-refuses c =
     stuck g c.args.self.now.tokens.list honest prefix c.args.self.now.tokens.taken c.in_err-node.field-0.0
     c.in_err-node.ensures.offset
     (no_rule (task_of g c.args.self.now.tokens.list honest prefix) c.args.tables.now has.1 has.0 c.args.symbol
-    (c.args.outer ∷ reverse c.args.self.now.waiting.items) c.args.self.now.tokens.taken c.args.self.now.count
-    (output_of c.args.self.now bytes) c.in_err-node.ensures.none a))
+    c.in_err-node.ensures.none a))
 
 pub returns-in_err-has_room-clause-refuses : goal.returns-in_err-has_room-clause-refuses
 returns-in_err-has_room-clause-refuses c =
@@ -34,8 +33,7 @@ returns-clause-opens c = λ g honest prefix bytes has a.
     omega (arith, length-reverse c.args.self.now.waiting.items, room.0) in
     let opened =
     on_open (task_of g c.args.self.now.tokens.list honest prefix) c.args.tables.now has.1 c.args.symbol
-    c.in_ok-node.node.production c.in_ok-node.node.base
-    (c.args.outer ∷ reverse c.args.self.now.waiting.items) c.args.self.now.tokens.taken c.args.self.now.count
+    c.in_ok-node.node.production c.in_ok-node.node.base (c.args.outer ∷ reverse c.args.self.now.waiting.items) _ _
     (output_of c.args.self.now bytes) c.in_ok-node.ensures.chosen
     (omega (arith, c.in_ok-node.ensures.base, c.len.ensures)) room.1 levels a in
     let pushed : c.push.new.self.items ≡ c.args.self.now.waiting.items ++ c.args.outer ∷ [] = search rules in

@@ -26,8 +26,7 @@ returns-in_err-lex-clause-refuses g c = λ node.
     stuck gr c.args.self.now.tokens.list honest prefix c.args.self.now.tokens.taken c.in_err-lex.field-0.0
     c.in_err-lex.ensures.offset
     (no_terminal (task_of gr c.args.self.now.tokens.list honest prefix) has.0 c.args.terminal
-    (node ∷ reverse c.args.self.now.waiting.items) c.args.self.now.tokens.taken c.args.self.now.count
-    (output_of c.args.self.now bytes) c.in_err-lex.ensures.other b))
+    (node ∷ reverse c.args.self.now.waiting.items) _ _ _ c.in_err-lex.ensures.other b))
 
 pub returns-in_err-lex-clause-adds : goal.returns-in_err-lex-clause-adds
 returns-in_err-lex-clause-adds g c h = none_added ParseFault (g.D.Device.content c.args.device.now) c.from_residual.result
