@@ -5,4 +5,5 @@ pub mod Innermost
 pub mod Keys
 pub mod Putting
 pub mod Spelled
+pub mod Texts
 pub mod Values

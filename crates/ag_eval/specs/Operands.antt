@@ -10,6 +10,10 @@ use Rattle.ag_eval.specs.declared.operand.Operand.{Operand}
 use Rattle.ag_eval.specs.declared.operand.Operand.TheVariants as operand
 use Rattle.ag_eval.specs.declared.scalar.Scalar.{Scalar}
 use Rattle.ag_eval.specs.declared.scalar.Scalar.TheVariants as scalar
+use Rattle.ag_eval.specs.declared.value_ref.Plain.{Plain}
+use Rattle.ag_eval.specs.declared.value_ref.Plain.TheVariants as plain
+use Rattle.ag_eval.specs.declared.value_ref.ValueRef.{ValueRef}
+use Rattle.ag_eval.specs.declared.value_ref.ValueRef.TheVariants as reference
 use Rattle.ag_grammar.specs.declared.syntax.node.Node.{Node}
 use Rattle.ag_grammar.specs.expressions.Evaluation.{bound_value}
 use Rattle.ag_grammar.specs.expressions.Trees.{each_holds, is_within}
@@ -24,15 +28,27 @@ abbrev pub loan_value : Loan → Value
 loan_value (loan.Value v) = v.now
 loan_value (loan.Carried c) = c.now
 
--- the value, lent or owned
+-- the value that is read
+abbrev pub ref_value : ValueRef → Value
+ref_value (reference.Plain v) = v.now
+ref_value (reference.Shared text) = value.Text text.now
+
+-- the plain value, lent or copied
+abbrev pub plain_value : Plain → Value
+plain_value (plain.Lent v) = v
+plain_value (plain.Copied v) = v
+
+-- the value, lent, owned or shared
 abbrev pub held_value : Held → Value
 held_value (held.Lent v) = v
 held_value (held.Owned v) = v
+held_value (held.Shared text) = value.Text text
 
 -- whether the value is lent
 abbrev pub is_lent : Held → Bool
 is_lent (held.Lent v) = true
 is_lent (held.Owned v) = false
+is_lent (held.Shared text) = false
 
 -- the value of an operand, by the values of the bindings
 abbrev pub operand_value : List Value → Operand → Value

@@ -43,7 +43,7 @@ impl<'e, V: Lender> Evaluation<'e, V> {
         ensures within { IfSome result (λ o. IsIn bindings.now o) }
     {
         let right = self.leaf_scalar(&other.1, bindings)?;
-        let left = Scalar::from_value(so_far.get(bindings))?;
+        let left = Scalar::from_value(so_far.get(bindings).as_value()?)?;
         let scalar = apply_to_scalars(other.0, left, right)?;
         Some(Operand::owned(Measured::new(scalar.into_value())))
     }
@@ -92,7 +92,7 @@ impl<'e, V: Lender> Evaluation<'e, V> {
         match node {
             Node::Literal(literal) => Scalar::from_value(within_limits(literal.value())?),
             Node::Occurrence(k) => self.scalar_occurrence(*k),
-            Node::Bound(k) => Scalar::from_value(bindings.get(*k).get()),
+            Node::Bound(k) => Scalar::from_value(bindings.get(*k).get().as_value()?),
             _ => None,
         }
     }

@@ -1,30 +1,31 @@
 //! The table of the builtins: the value of each operator and call for operands, lent if possible.
 
-ghost use Rattle.std.specs.Prelude.{◌≡◌, ◌≢◌, IfOk, IfSome, None};
+ghost use Rattle.std.specs.Prelude.{◌≡◌, ◌≢◌, ◌∷◌, [], IfOk, IfSome, None};
 ghost use Rattle.ag_value.specs.Well.{IsWell};
 ghost use Rattle.ag_value.specs.declared.value.Value.TheVariants as value;
 ghost use Rattle.ag_eval.specs.declared.operand.Held.{Held as HeldValue};
-ghost use Rattle.ag_eval.specs.Growing.{growth_result};
-ghost use Rattle.ag_eval.specs.Operands.{Gives, IsIn, held_value, operand_value, scalar_value};
-ghost use Rattle.ag_grammar.specs.values.Arguments.{fault_of};
+ghost use Rattle.ag_eval.specs.Operands.{Gives, IsIn, held_value, operand_value, ref_value, scalar_value};
+ghost use Rattle.ag_grammar.specs.values.Arguments.{fault_of, leftmost};
 ghost use Rattle.ag_grammar.specs.values.Calls.{unary_call_result, binary_call_result, put};
-ghost use Rattle.ag_grammar.specs.values.Lists.{append_result, concatenation};
 ghost use Rattle.ag_grammar.specs.values.Operators.{operation_result};
 
 use crate::bindings::Bindings;
-use crate::builtins::comparing::{equal, less, truth};
+use crate::builtins::comparing::{equal, equal_shared, less, truth};
 use crate::builtins::faults::{fault_of, fault_of_three, fault_of_two};
-use crate::builtins::lists::{append, extend_list, length, nth};
+use crate::builtins::lists::{append, length, nth};
 use crate::builtins::numbers::{
     decimal, difference, difference_of, number, product, product_of, quotient, quotient_of,
     remainder, remainder_of, sum, sum_of,
 };
 use crate::builtins::tables;
 use crate::builtins::tables::{get, has, keys};
-use crate::builtins::texts::{extend_text, join};
+use crate::builtins::texts::join;
+use crate::concatenation::concatenate;
 use crate::measured::Measured;
 use crate::operand::{Held, Operand};
 use crate::scalar::Scalar;
+use crate::value_ref::{ValueRef, copied_text};
+use ag_carried::SharedText;
 use ag_grammar::{BinaryCall, Operator, UnaryCall};
 use ag_value::{ErrorCode, NoMemory, Value};
 use std::alloc::Global;
@@ -45,7 +46,7 @@ pub fn fault<'e>(code: ErrorCode) -> Operand<'e>
 }
 
 /// Computes the value of an operator for two operands. Takes memory if `++` extends its left
-/// argument.
+/// argument, and for a plain copy of a text whose bytes are shared.
 pub fn apply<'e>(
     alloc: Global,
     operator: Operator,
@@ -59,22 +60,49 @@ pub fn apply<'e>(
     ensures within { IfOk result (λ o. IsIn bindings.now o) }
 {
     if operator == Operator::Join {
-        return grow(alloc, Growth::Join, left, right, bindings);
+        return concatenate(alloc, left, right, bindings);
     }
-    Ok(owned_operand(calculate(operator, left.get(&*bindings), right.get(&*bindings))))
+    let value = operation(alloc, operator, left.get(&*bindings), right.get(&*bindings))?;
+    Ok(owned_operand(value))
 }
 
 /// Computes the value of an operator other than `++` for two values.
+fn operation(
+    alloc: Global,
+    operator: Operator,
+    left: ValueRef<'_>,
+    right: ValueRef<'_>,
+) -> Result<Value, NoMemory>
+    requires no_join { operator ≢ Operator.Join }
+    requires left { IsWell (ref_value left) }
+    requires right { IsWell (ref_value right) }
+    ensures value { IfOk result
+        (λ v. v ≡ operation_result operator (ref_value left.entry) (ref_value right.entry)) }
+    ensures well { IfOk result (λ v. IsWell v) }
+{
+    if let Some(code) = fault_of_two(left, right) {
+        return Ok(Value::Fault(code));
+    }
+    if let (ValueRef::Plain(one), ValueRef::Plain(other)) = (left, right) {
+        return Ok(calculate(operator, one, other));
+    }
+    if operator == Operator::Equal {
+        return equal_shared(alloc, left, right);
+    }
+    let one = left.to_plain(alloc)?;
+    let other = right.to_plain(alloc)?;
+    Ok(calculate(operator, one.get(), other.get()))
+}
+
+/// Computes the value of an operator other than `++` for two plain values that are not errors.
 fn calculate(operator: Operator, left: &Value, right: &Value) -> Value
     requires no_join { operator ≢ Operator.Join }
+    requires no_fault { leftmost (left.now ∷ right.now ∷ []) ≡ None }
     requires left { IsWell left.now }
     requires right { IsWell right.now }
     ensures value { result ≡ operation_result operator left.now right.now }
     ensures well { IsWell result }
 {
-    if let Some(code) = fault_of_two(left, right) {
-        return Value::Fault(code);
-    }
     match operator {
         Operator::Equal => equal(left, right),
         Operator::Less => less(left, right),
@@ -131,58 +159,6 @@ fn apply_to_numbers(operator: Operator, m: i64, n: i64) -> Option<Scalar>
     }
 }
 
-/// An operator or a call whose value is its first operand, extended by the second.
-#[derive(Clone, Copy)]
-pub(crate) enum Growth {
-    /// `a ++ b`
-    Join,
-    /// `append(l, v)`
-    Append,
-}
-
-/// Extends the first operand by the second, or returns the leftmost error of the two. A first
-/// operand that is lent or bound is copied first; the contents of the second are moved, or copied
-/// if it is lent or bound.
-#[tactic(auto, using(crate::proofs::Arguments::no_faults))]
-fn grow<'e>(
-    alloc: Global,
-    growth: Growth,
-    first: Operand<'e>,
-    second: Operand<'e>,
-    bindings: &Bindings<'e>,
-) -> Result<Operand<'e>, NoMemory>
-    requires first { IsIn bindings.now first }
-    requires second { IsIn bindings.now second }
-    ensures value { IfOk result (Gives bindings.now (growth_result growth) first.entry second.entry) }
-    ensures within { IfOk result (λ o. IsIn bindings.now o) }
-{
-    if let Some(code) = fault_of_two(first.get(&*bindings), second.get(&*bindings)) {
-        return Ok(fault(code));
-    }
-    let first = first.into_owned(alloc, &*bindings)?;
-    let whole = match growth {
-        Growth::Join => extended(alloc, first, second, bindings)?,
-        Growth::Append => append(first, second.into_owned(alloc, &*bindings)?)?,
-    };
-    Ok(Operand::owned(whole))
-}
-
-/// Extends a value by the contents of an operand.
-fn extended<'e>(
-    alloc: Global,
-    left: Measured,
-    right: Operand<'e>,
-    bindings: &Bindings<'e>,
-) -> Result<Measured, NoMemory>
-    requires { IsIn bindings.now right }
-    ensures { IfOk result (λ m. m ≡ concatenation left (operand_value bindings.now right.entry)) }
-{
-    if let Value::Text(more) = right.get(&*bindings) {
-        return extend_text(alloc, left, more.as_str());
-    }
-    extend_list(left, right.into_owned(alloc, &*bindings)?)
-}
-
 /// Computes the value of a call of one operand. Takes memory for a value that it makes.
 pub fn call_unary<'e>(
     alloc: Global,
@@ -199,9 +175,9 @@ pub fn call_unary<'e>(
 
 /// Computes the value of a call of one argument from the argument's value.
 #[tactic(auto, unfolding(ag_grammar::specs::values::Arguments::leftmost))]
-fn unary_value(alloc: Global, call: UnaryCall, argument: &Value) -> Result<Measured, NoMemory>
-    requires { IsWell argument.now }
-    ensures { IfOk result (λ m. m ≡ unary_call_result call argument.now) }
+fn unary_value(alloc: Global, call: UnaryCall, argument: ValueRef<'_>) -> Result<Measured, NoMemory>
+    requires { IsWell (ref_value argument) }
+    ensures { IfOk result (λ m. m ≡ unary_call_result call (ref_value argument.entry)) }
 {
     if call == UnaryCall::IsError {
         return Ok(Measured::new(truth(fault_of(argument).is_some())));
@@ -209,6 +185,21 @@ fn unary_value(alloc: Global, call: UnaryCall, argument: &Value) -> Result<Measu
     if let Some(code) = fault_of(argument) {
         return Ok(Measured::new(Value::Fault(code)));
     }
+    match argument {
+        ValueRef::Plain(value) => call_with_plain(alloc, call, value),
+        ValueRef::Shared(text) => call_with_shared(alloc, call, text),
+    }
+}
+
+/// Computes the value of a call of one argument other than `iserr` for a plain value that is not an
+/// error.
+#[tactic(auto, unfolding(ag_grammar::specs::values::Arguments::leftmost))]
+fn call_with_plain(alloc: Global, call: UnaryCall, argument: &Value) -> Result<Measured, NoMemory>
+    requires no_iserr { call ≢ UnaryCall.IsError }
+    requires no_fault { fault_of argument.now ≡ None }
+    requires well { IsWell argument.now }
+    ensures { IfOk result (λ m. m ≡ unary_call_result call argument.now) }
+{
     let value = match call {
         UnaryCall::Len => length(argument),
         UnaryCall::Text => decimal(alloc, argument)?,
@@ -220,7 +211,27 @@ fn unary_value(alloc: Global, call: UnaryCall, argument: &Value) -> Result<Measu
     Ok(Measured::new(value))
 }
 
-/// Computes the value of a call of two operands. Takes memory for a value that it makes.
+/// Computes the value of a call of one argument for a text whose bytes are shared. Only `number`
+/// takes memory, for a copy.
+#[tactic(auto, unfolding(ag_grammar::specs::values::Arguments::leftmost))]
+fn call_with_shared(
+    alloc: Global,
+    call: UnaryCall,
+    argument: &SharedText,
+) -> Result<Measured, NoMemory>
+    ensures { IfOk result (λ m. m ≡ unary_call_result call (value.Text argument.now)) }
+{
+    let value = match call {
+        UnaryCall::Len => Value::Num(argument.len() as i64),
+        UnaryCall::Number => number(copied_text(alloc, argument)?.get()),
+        UnaryCall::IsError => truth(false),
+        UnaryCall::Text | UnaryCall::Keys => Value::Fault(ErrorCode::Kind),
+    };
+    Ok(Measured::new(value))
+}
+
+/// Computes the value of a call of two operands. Takes memory for a value that it makes, and for a
+/// plain copy of a text whose bytes are shared.
 pub fn call_binary<'e>(
     alloc: Global,
     call: BinaryCall,
@@ -234,10 +245,32 @@ pub fn call_binary<'e>(
     ensures within { IfOk result (λ o. IsIn bindings.now o) }
 {
     match call {
-        BinaryCall::Append => grow(alloc, Growth::Append, first, second, bindings),
+        BinaryCall::Append => call_append(alloc, first, second, bindings),
         BinaryCall::OrElse => Ok(or_else(first, second, bindings)),
         _ => call_reading(alloc, call, &first, second.get(&*bindings), bindings),
     }
+}
+
+/// Computes `append(l, v)`: the list is extended, and copied first if it is lent or bound. The item
+/// is moved, or copied if it is lent, bound or shared.
+#[tactic(auto, using(crate::proofs::Arguments::no_faults))]
+fn call_append<'e>(
+    alloc: Global,
+    list: Operand<'e>,
+    item: Operand<'e>,
+    bindings: &Bindings<'e>,
+) -> Result<Operand<'e>, NoMemory>
+    requires list { IsIn bindings.now list }
+    requires item { IsIn bindings.now item }
+    ensures value { IfOk result (Gives bindings.now (binary_call_result BinaryCall.Append) list.entry item.entry) }
+    ensures within { IfOk result (λ o. IsIn bindings.now o) }
+{
+    if let Some(code) = fault_of_two(list.get(&*bindings), item.get(&*bindings)) {
+        return Ok(fault(code));
+    }
+    let list = list.into_owned(alloc, &*bindings)?;
+    let item = item.into_owned(alloc, &*bindings)?;
+    Ok(Operand::owned(append(list, item)?))
 }
 
 /// Computes the value of a call that only reads its operands (`nth`, `join`, `get`, `has`). A part
@@ -247,24 +280,31 @@ fn call_reading<'e>(
     alloc: Global,
     call: BinaryCall,
     first: &Operand<'e>,
-    second: &Value,
+    second: ValueRef<'_>,
     bindings: &Bindings<'e>,
 ) -> Result<Operand<'e>, NoMemory>
     requires no_append { call ≢ BinaryCall.Append }
     requires no_orelse { call ≢ BinaryCall.OrElse }
     requires within { IsIn bindings.now first.now }
+    requires second { IsWell (ref_value second) }
     ensures value { IfOk result (λ o. operand_value bindings.now o
-        ≡ binary_call_result call (operand_value bindings.now first.now) second.now) }
+        ≡ binary_call_result call (operand_value bindings.now first.now) (ref_value second.entry)) }
     ensures within { IfOk result (λ o. IsIn bindings.now o) }
 {
-    if let Some(outside) = first.from_outside(&*bindings) {
-        return Ok(Operand::Held(reading_result(alloc, call, outside, second)?));
+    if let Some(code) = fault_of_two(first.get(&*bindings), second) {
+        return Ok(fault(code));
     }
-    let held = reading_result(alloc, call, first.get(&*bindings), second)?;
+    let second = second.to_plain(alloc)?;
+    if let Some(outside) = first.from_outside(&*bindings) {
+        return Ok(Operand::Held(reading_result(alloc, call, outside, second.get())?));
+    }
+    let first = first.get(&*bindings).to_plain(alloc)?;
+    let held = reading_result(alloc, call, first.get(), second.get())?;
     Ok(Operand::owned(held.into_owned(alloc)?))
 }
 
-/// Computes the value of a call that only reads its arguments; a part of the first one is lent.
+/// Computes the value of a call that only reads its arguments, for arguments that are not errors; a
+/// part of the first one is lent.
 fn reading_result<'a>(
     alloc: Global,
     call: BinaryCall,
@@ -273,12 +313,10 @@ fn reading_result<'a>(
 ) -> Result<Held<'a>, NoMemory>
     requires no_append { call ≢ BinaryCall.Append }
     requires no_orelse { call ≢ BinaryCall.OrElse }
+    requires no_fault { leftmost (first.now ∷ second.now ∷ []) ≡ None }
     requires first { IsWell first.now }
     ensures { IfOk result (λ h. held_value h ≡ binary_call_result call first.now second.now) }
 {
-    if let Some(code) = fault_of_two(first, second) {
-        return Ok(Held::fault(code));
-    }
     match call {
         BinaryCall::Nth => Ok(nth(first, second)),
         BinaryCall::Join => Ok(Held::Owned(join(alloc, first, second)?)),
@@ -296,34 +334,36 @@ fn or_else<'e>(value: Operand<'e>, other: Operand<'e>, bindings: &Bindings<'e>) 
     ensures value { Gives bindings.now (binary_call_result BinaryCall.OrElse) value.entry other.entry result }
     ensures within { IsIn bindings.now result }
 {
-    match fault_of(value.get(&*bindings)) {
+    match value.fault(&*bindings) {
         Some(_) => other,
         None => value,
     }
 }
 
 /// Computes `put(t, k, v)`: the table is extended, and copied first if it is lent or bound. The
-/// value is moved, or copied if it is lent or bound.
+/// value is moved, or copied if it is lent, bound or shared.
 #[tactic(auto, using(crate::proofs::Arguments::no_faults))]
 pub fn call_put<'e>(
     alloc: Global,
     table: Operand<'e>,
-    key: &Value,
+    key: &Operand<'e>,
     item: Operand<'e>,
     bindings: &Bindings<'e>,
 ) -> Result<Operand<'e>, NoMemory>
     requires table { IsIn bindings.now table }
-    requires key { IsWell key.now }
+    requires key { IsIn bindings.now key.now }
     requires item { IsIn bindings.now item }
     ensures value { IfOk result (λ o. operand_value bindings.now o
-        ≡ put (operand_value bindings.now table.entry) key.now
+        ≡ put (operand_value bindings.now table.entry) (operand_value bindings.now key.now)
         (operand_value bindings.now item.entry)) }
     ensures within { IfOk result (λ o. IsIn bindings.now o) }
 {
+    let key = key.get(&*bindings);
     if let Some(code) = fault_of_three(table.get(&*bindings), key, item.get(&*bindings)) {
         return Ok(fault(code));
     }
+    let key = key.to_plain(alloc)?;
     let table = table.into_owned(alloc, &*bindings)?;
     let item = item.into_owned(alloc, &*bindings)?;
-    Ok(Operand::owned(tables::put(alloc, table, key, item)?))
+    Ok(Operand::owned(tables::put(alloc, table, key.get(), item)?))
 }

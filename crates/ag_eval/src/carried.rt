@@ -17,8 +17,9 @@ use std::alloc::Global;
 /// Computes the value of an expression as `eval` does, for an `env` that lends carried values, and
 /// raises the meter by one evaluation, also if memory is refused. If the value is that of an
 /// occurrence (`$0.env`, also as chosen by `if`, `let` or `orelse`), it is shared and not copied.
+/// A text of more than 256 bytes that `++` made keeps the shared bytes of its operands.
 ///
-/// Takes memory as `eval` does, and for the encoding of a large value that was made.
+/// Takes memory as `eval` does, and for the encoding of another large value that was made.
 #[inline(always)]
 pub fn eval_carried<C: CarriedEnvironment>(
     alloc: Global,

@@ -10,14 +10,13 @@ ghost use Rattle.ag_grammar.specs.expressions.Evaluation.{AreWell, chain_value, 
 ghost use Rattle.ag_grammar.specs.expressions.Evaluation.{value_of};
 ghost use Rattle.ag_eval.specs.Conditions.{decision};
 ghost use Rattle.ag_eval.specs.declared.operand.Held.{Held as HeldValue};
-ghost use Rattle.ag_eval.specs.Operands.{IsIn, each_within, held_value, operand_value, scalar_value};
+ghost use Rattle.ag_eval.specs.Operands.{IsIn, each_within, held_value, operand_value, ref_value, scalar_value};
 ghost use Rattle.ag_grammar.specs.expressions.Trees.{all_below, is_within};
 ghost use Rattle.ag_grammar.specs.values.Calls.{binary_call_result, choice_of, put};
 ghost use Rattle.ag_grammar.specs.values.Lists.{listed};
 
 use crate::available::{copied, literal_value};
 use crate::bindings::Bindings;
-use crate::builtins::faults::fault_of;
 use crate::calls::{apply, call_binary, call_put, call_unary, fault};
 use crate::environment::{ByValue, Environment, Lender, Loan};
 use crate::list_builder::ListBuilder;
@@ -25,6 +24,7 @@ use crate::measured::Measured;
 use crate::meter::Meter;
 use crate::operand::{Held, Operand};
 use crate::scalar::Scalar;
+use crate::value_ref::ValueRef;
 use ag_carried::Carried;
 use ag_grammar::{BinaryCall, Expr, Node, Operator};
 use ag_value::{ErrorCode, Items, NoMemory, Value};
@@ -91,8 +91,8 @@ impl<'e, V: Lender> Evaluation<'e, V> {
         self.env.loan(k).scalar()
     }
 
-    /// Returns the value of the occurrence with this number: lent, or a copy if it is not stored as
-    /// a value.
+    /// Returns the value of the occurrence with this number: lent, shared if it is a text whose bytes
+    /// are shared, or a copy if it is a number that is not stored as a value.
     #[inline(always)]
     fn held_occurrence(&self, k: usize) -> Result<Held<'e>, NoMemory>
         requires { k < length self.now.expr.now.1 }
@@ -197,7 +197,7 @@ impl<'e, V: Lender> Evaluation<'e, V> {
         ensures within { IfOk result (λ o. IsIn bindings.new o) }
         ensures unchanged { OnOk result (bindings.new ≡ bindings.old) }
     {
-        if is_first_result(call, first.get(&*bindings)) {
+        if is_first_result(call, &first, &*bindings) {
             return Ok(first);
         }
         let second = self.operand_of(second, bindings)?;
@@ -223,7 +223,7 @@ impl<'e, V: Lender> Evaluation<'e, V> {
         ensures unchanged { OnOk result (bindings.new ≡ bindings.old) }
     {
         let item = self.operand_of(item, bindings)?;
-        call_put(self.alloc, table, key.get(&*bindings), item, &*bindings)
+        call_put(self.alloc, table, &key, item, &*bindings)
     }
 
     /// Evaluates a chain from the left, given the value of the operands so far.
@@ -271,7 +271,7 @@ impl<'e, V: Lender> Evaluation<'e, V> {
         let mut list = ListBuilder::new(self.alloc);
         for item in items {
             let item = self.operand_of(item, bindings)?;
-            if let Some(code) = fault_of(item.get(&*bindings)) {
+            if let Some(code) = item.fault(&*bindings) {
                 return Ok(fault(code));
             }
             list.push(item.into_owned(self.alloc, &*bindings)?)?;
@@ -314,14 +314,16 @@ impl<'e, V: Lender> Evaluation<'e, V> {
 }
 
 /// Returns whether the value of a call is that of its first argument, for any second one.
-fn is_first_result(call: BinaryCall, first: &Value) -> bool
-    ensures { IsTrue result
-        → (second : AttributeValue) → binary_call_result call first.now second ≡ first.now }
+fn is_first_result(call: BinaryCall, first: &Operand<'_>, bindings: &Bindings<'_>) -> bool
+    requires { IsIn bindings.now first.now }
+    ensures { IsTrue result → (second : AttributeValue)
+        → binary_call_result call (operand_value bindings.now first.now) second
+        ≡ operand_value bindings.now first.now }
 {
     if call != BinaryCall::OrElse {
         return false;
     }
-    fault_of(first).is_none()
+    first.fault(bindings).is_none()
 }
 
 /// Returns the empty table. Takes no memory.
@@ -343,12 +345,12 @@ fn decide(condition: Operand<'_>, bindings: &Bindings<'_>) -> Result<bool, Error
 }
 
 /// Returns the decision of a value as a condition, or its error.
-fn decided(condition: &Value) -> Result<bool, ErrorCode>
-    ensures { result ≡ decision condition.now }
+fn decided(condition: ValueRef<'_>) -> Result<bool, ErrorCode>
+    ensures { result ≡ decision (ref_value condition.entry) }
 {
     match condition {
-        Value::Num(number) => Ok(*number != 0),
-        Value::Fault(code) => Err(*code),
+        ValueRef::Plain(Value::Num(number)) => Ok(*number != 0),
+        ValueRef::Plain(Value::Fault(code)) => Err(*code),
         _ => Err(ErrorCode::Kind),
     }
 }
@@ -361,7 +363,9 @@ fn decided(condition: &Value) -> Result<bool, ErrorCode>
 /// Takes memory for values that it makes, and for copies: of a value that is lent or bound, if it
 /// is the result, an item of a list or table, or extended; of the part that `nth` or `get` takes of
 /// a value that the expression made; and of a value that it made and bound, if another name is
-/// bound to it too.
+/// bound to it too. A text of more than 256 bytes that `++` makes shares the bytes of its operands;
+/// it is copied if it is the result, an item of a list or table, a key or a separator, or an
+/// argument of `number` or `<`.
 #[inline(always)]
 pub fn eval<V: Environment>(
     alloc: Global,

@@ -7,6 +7,7 @@ mod bindings;
 mod builtins;
 mod calls;
 mod carried;
+mod concatenation;
 mod environment;
 mod evaluation;
 mod flat;
@@ -15,6 +16,7 @@ mod measured;
 mod meter;
 mod operand;
 mod scalar;
+mod value_ref;
 
 pub use available::eval_number;
 pub use carried::{eval_carried, eval_scalar};

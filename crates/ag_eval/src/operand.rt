@@ -1,15 +1,19 @@
-//! The value of a part of an expression, lent if possible. A value is well if it is within the
-//! limits of weight and depth and consistent, as `ag_value` defines it.
+//! The value of a part of an expression, lent or shared if possible. A value is well if it is within
+//! the limits of weight and depth and consistent, as `ag_value` defines it.
 
-ghost use Rattle.std.specs.Prelude.{◌≡◌, IfOk, IfSome, is_some};
+ghost use Rattle.std.specs.Prelude.{◌≡◌, IfOk, IfSome, is_some, true};
 ghost use Rattle.ag_value.specs.Well.{IsWell};
 ghost use Rattle.ag_value.specs.declared.value.Value.TheVariants as value;
+ghost use Rattle.ag_grammar.specs.values.Arguments.{fault_of};
+ghost use Rattle.ag_grammar.specs.values.Texts.{is_text};
 ghost use Rattle.ag_eval.specs.declared.operand.Held.{Held as HeldValue};
-ghost use Rattle.ag_eval.specs.Operands.{IsIn, held_value, is_lent, operand_value};
+ghost use Rattle.ag_eval.specs.Operands.{IsIn, held_value, is_lent, operand_value, ref_value};
 
 use crate::bindings::Bindings;
+use crate::builtins::faults::fault_of;
 use crate::measured::Measured;
-use ag_carried::Carried;
+use crate::value_ref::{ValueRef, copied_text};
+use ag_carried::{Carried, SharedText};
 use ag_value::{ErrorCode, NoMemory, Value, copy};
 use std::alloc::Global;
 use std::marker::Model;
@@ -80,11 +84,13 @@ impl<'e> Lent<'e> {
     }
 }
 
-/// A well value that is lent by the environment or the expression, or that is owned.
+/// A well value that is lent by the environment or the expression, or that is owned, or a text whose
+/// bytes are shared.
 #[derive(Debug, Drop)]
 pub enum Held<'e> {
     Lent(Lent<'e>),
     Owned(Measured),
+    Shared(SharedText),
 }
 
 impl<'e> Held<'e> {
@@ -103,29 +109,34 @@ impl<'e> Held<'e> {
         Held::Lent(Lent::new(value))
     }
 
-    /// Lends a carried value, or copies it if it is not stored as a value.
+    /// Lends a carried value, or shares it if it is a text whose bytes are shared, or copies it if it
+    /// is a number.
     #[inline(always)]
     pub fn from_carried(alloc: Global, carried: &'e Carried) -> Result<Held<'e>, NoMemory>
         requires { IsWell carried.now }
         ensures { IfOk result (λ h. held_value h ≡ carried.entry.now) }
     {
-        match carried.as_value() {
-            Some(value) => Ok(Held::Lent(Lent {
+        if let Some(value) = carried.as_value() {
+            return Ok(Held::Lent(Lent {
                 value,
                 carried: Some(carried),
-            })),
-            None => Ok(Held::Owned(Measured::new(carried.to_value(alloc)?))),
+            }));
         }
+        if let Some(text) = carried.as_text() {
+            return Ok(Held::Shared(text.share()?));
+        }
+        Ok(Held::Owned(Measured::new(carried.to_value(alloc)?)))
     }
 
     /// Lends the value.
-    pub fn get(&self) -> &Value
-        ensures value { result.now ≡ held_value self.now }
-        ensures well { IsWell result.now }
+    pub fn get(&self) -> ValueRef<'_>
+        ensures value { ref_value result ≡ held_value self.now }
+        ensures well { IsWell (ref_value result) }
     {
         match self {
-            Held::Lent(lent) => lent.get(),
-            Held::Owned(owned) => owned.get(),
+            Held::Lent(lent) => ValueRef::Plain(lent.get()),
+            Held::Owned(owned) => ValueRef::Plain(owned.get()),
+            Held::Shared(text) => ValueRef::from_text(text),
         }
     }
 
@@ -137,28 +148,45 @@ impl<'e> Held<'e> {
     {
         match self {
             Held::Lent(lent) => Some(lent.get()),
-            Held::Owned(_) => None,
+            Held::Owned(_) | Held::Shared(_) => None,
         }
     }
 
-    /// Returns the value a second time: lent if it is lent, else a copy.
+    /// Returns the value a second time: lent if it is lent, shared if it is shared, else a copy.
     pub fn again(&self, alloc: Global) -> Result<Held<'e>, NoMemory>
         ensures { IfOk result (λ h. held_value h ≡ held_value self.now) }
     {
         match self {
             Held::Lent(lent) => Ok(Held::Lent(lent.again())),
             Held::Owned(owned) => Ok(Held::Owned(Measured::new(copy(alloc, owned.get())?))),
+            Held::Shared(text) => Ok(Held::Shared(text.share()?)),
         }
     }
 
-    /// Returns the value as an owned one: a copy if it is lent.
+    /// Returns the value as an owned one: a copy if it is lent or shared.
     pub fn into_owned(self, alloc: Global) -> Result<Measured, NoMemory>
         ensures { IfOk result (λ m. m ≡ held_value self.entry) }
     {
         match self {
             Held::Lent(lent) => Ok(Measured::new(copy(alloc, lent.get())?)),
             Held::Owned(owned) => Ok(owned),
+            Held::Shared(text) => copied_text(alloc, &text),
         }
+    }
+
+    /// Returns a text as one whose bytes are shared: a copy if it is lent.
+    pub fn into_shared(self, alloc: Global) -> Result<SharedText, NoMemory>
+        requires { is_text (held_value self) ≡ true }
+        ensures { IfOk result (λ text. held_value self.entry ≡ value.Text text) }
+    {
+        let held = match self {
+            Held::Shared(text) => return Ok(text),
+            held => held,
+        };
+        let Value::Text(text) = held.into_owned(alloc)?.into_value() else {
+            unreachable!()
+        };
+        SharedText::new(alloc, text)
     }
 
     /// Returns the value as a carried one, which is shared if a carried one lends it.
@@ -171,6 +199,11 @@ impl<'e> Held<'e> {
             Held::Owned(owned) => {
                 let weight = owned.weight();
                 Carried::with_weight(alloc, owned.into_value(), weight)
+            }
+            Held::Shared(text) => {
+                // for the prover: the text is within the limits
+                let _len = text.len();
+                Ok(Carried::from_text(text))
             }
         }
     }
@@ -200,15 +233,23 @@ impl<'e> Operand<'e> {
     }
 
     /// Lends the value; that of a bound operand from `bindings`.
-    pub fn get<'a>(&'a self, bindings: &'a Bindings<'e>) -> &'a Value
+    pub fn get<'a>(&'a self, bindings: &'a Bindings<'e>) -> ValueRef<'a>
         requires { IsIn bindings.now self.now }
-        ensures value { result.now ≡ operand_value bindings.now self.now }
-        ensures well { IsWell result.now }
+        ensures value { ref_value result ≡ operand_value bindings.now self.now }
+        ensures well { IsWell (ref_value result) }
     {
         match self {
             Operand::Held(held) => held.get(),
             Operand::Bound(k) => bindings.get(*k).get(),
         }
+    }
+
+    /// Returns the error that the value is, if it is one.
+    pub fn fault(&self, bindings: &Bindings<'e>) -> Option<ErrorCode>
+        requires { IsIn bindings.now self.now }
+        ensures { result ≡ fault_of (operand_value bindings.now self.now) }
+    {
+        fault_of(self.get(bindings))
     }
 
     /// Returns the value if the environment or the expression lends it, with the lifetime of that
@@ -236,12 +277,21 @@ impl<'e> Operand<'e> {
         }
     }
 
-    /// Returns the value as an owned one: a copy if it is lent or bound.
+    /// Returns the value as an owned one: a copy if it is lent, bound or shared.
     pub fn into_owned(self, alloc: Global, bindings: &Bindings<'e>) -> Result<Measured, NoMemory>
         requires { IsIn bindings.now self }
         ensures { IfOk result (λ m. m ≡ operand_value bindings.now self.entry) }
     {
         self.into_held(alloc, bindings)?.into_owned(alloc)
+    }
+
+    /// Returns a text as one whose bytes are shared: a copy if it is lent, or if a binding owns it.
+    pub fn into_shared(self, alloc: Global, bindings: &Bindings<'e>) -> Result<SharedText, NoMemory>
+        requires within { IsIn bindings.now self }
+        requires text { is_text (operand_value bindings.now self) ≡ true }
+        ensures { IfOk result (λ text. operand_value bindings.now self.entry ≡ value.Text text) }
+    {
+        self.into_held(alloc, bindings)?.into_shared(alloc)
     }
 
     /// Returns the value as a carried one, which is shared if a carried one lends it.

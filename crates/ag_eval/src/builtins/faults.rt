@@ -2,23 +2,26 @@
 
 ghost use Rattle.std.specs.Prelude.{◌≡◌, ◌∷◌, []};
 ghost use Rattle.ag_grammar.specs.values.Arguments.{fault_of, leftmost};
+ghost use Rattle.ag_eval.specs.Operands.{ref_value};
 
+use crate::value_ref::ValueRef;
 use ag_value::{ErrorCode, Value};
 
 /// Returns the error that a value is, if it is one.
-pub fn fault_of(value: &Value) -> Option<ErrorCode>
-    ensures { result ≡ fault_of value.now }
+#[inline(always)]
+pub fn fault_of(value: ValueRef<'_>) -> Option<ErrorCode>
+    ensures { result ≡ fault_of (ref_value value.entry) }
 {
     match value {
-        Value::Fault(code) => Some(*code),
+        ValueRef::Plain(Value::Fault(code)) => Some(*code),
         _ => None,
     }
 }
 
 /// Returns the leftmost error of two arguments, if one is an error.
 #[tactic(auto, unfolding(ag_grammar::specs::values::Arguments::leftmost))]
-pub fn fault_of_two(first: &Value, second: &Value) -> Option<ErrorCode>
-    ensures { result ≡ leftmost (first.now ∷ second.now ∷ []) }
+pub fn fault_of_two(first: ValueRef<'_>, second: ValueRef<'_>) -> Option<ErrorCode>
+    ensures { result ≡ leftmost (ref_value first.entry ∷ ref_value second.entry ∷ []) }
 {
     match fault_of(first) {
         Some(code) => Some(code),
@@ -28,8 +31,13 @@ pub fn fault_of_two(first: &Value, second: &Value) -> Option<ErrorCode>
 
 /// Returns the leftmost error of three arguments, if one is an error.
 #[tactic(auto, unfolding(ag_grammar::specs::values::Arguments::leftmost))]
-pub fn fault_of_three(first: &Value, second: &Value, third: &Value) -> Option<ErrorCode>
-    ensures { result ≡ leftmost (first.now ∷ second.now ∷ third.now ∷ []) }
+pub fn fault_of_three(
+    first: ValueRef<'_>,
+    second: ValueRef<'_>,
+    third: ValueRef<'_>,
+) -> Option<ErrorCode>
+    ensures { result ≡ leftmost (ref_value first.entry ∷ ref_value second.entry
+        ∷ ref_value third.entry ∷ []) }
 {
     match fault_of_two(first, second) {
         Some(code) => Some(code),

@@ -1,7 +1,7 @@
 //! Operations on lists, and those that texts, lists and tables share.
 
 ghost use Rattle.std.specs.Prelude.{◌≡◌, ◌+◌, ◌++◌, ◌≤◌, ◌∷◌, [], max, option_copied, pos};
-ghost use Rattle.std.specs.Prelude.{false, IfOk, None};
+ghost use Rattle.std.specs.Prelude.{false, true, IfOk, None};
 ghost use Rattle.ag_value.specs.Measure.{depth_of, max_weight, weight_of};
 ghost use Rattle.ag_value.specs.Well.{IsWell};
 ghost use Rattle.ag_value.specs.declared.value.Value.TheVariants as value;
@@ -40,10 +40,10 @@ fn count(length: usize) -> Value
     Value::Num(length as i64)
 }
 
-/// Computes `a ++ b` if b is not a text: the left argument is extended by the contents of the right
+/// Computes `a ++ b` unless both are texts: the left argument is extended by the contents of the right
 /// one. Takes memory for the growth.
 pub fn extend_list(left: Measured, right: Measured) -> Result<Measured, NoMemory>
-    requires { is_text right ≡ false }
+    requires { is_text left ≡ true → is_text right ≡ false }
     ensures { IfOk result (λ m. m ≡ concatenation left right) }
 {
     let weight = left.weight() + right.weight();

@@ -56,7 +56,7 @@ fn are_texts(items: &[Value]) -> bool
 }
 
 /// Returns the text, or an empty one for another value.
-fn bytes_of(value: &Value) -> &str
+pub fn bytes_of(value: &Value) -> &str
     ensures { result.now ≡ bytes_of value.now }
 {
     match value {

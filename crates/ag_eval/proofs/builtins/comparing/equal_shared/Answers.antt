@@ -1,0 +1,8 @@
+use Rattle.std.proofs.Common.{ap, ◌∙◌}
+use Rattle.ag_grammar.specs.values.Arguments.{truth}
+use Rattle.ag_grammar.proofs.values.Same.{decided}
+use Rattle.ag_eval.proofs.builtins.comparing.equal_shared.Goals as goal
+
+pub returns-clause-value : goal.returns-clause-value
+returns-clause-value c =
+    c.truth.ensures.value ∙ ap truth (decided _ _ c.in_ok-same.same c.requires.left c.requires.right c.in_ok-same.ensures)

@@ -1,0 +1,139 @@
+//! The operator `++`. A long text that it makes shares the bytes of its operands, so that a text that
+//! grows from node to node is not copied.
+
+ghost use Rattle.std.specs.Prelude.{◌≡◌, ◌++◌, IfOk, IfSome, MatchOption, length, false, true};
+ghost use Rattle.ag_value.specs.declared.value.Value.TheVariants as value;
+ghost use Rattle.ag_grammar.specs.values.Fitting.{fit};
+ghost use Rattle.ag_grammar.specs.values.Lists.{concatenation};
+ghost use Rattle.ag_grammar.specs.values.Operators.{operation_result};
+ghost use Rattle.ag_grammar.specs.values.Texts.{bytes_of, is_text};
+ghost use Rattle.ag_eval.specs.Operands.{Gives, IsIn, held_value, operand_value};
+
+use crate::bindings::Bindings;
+use crate::builtins::faults::fault_of_two;
+use crate::builtins::lists::extend_list;
+use crate::builtins::texts::{bytes_of, extend_text};
+use crate::calls::fault;
+use crate::measured::Measured;
+use crate::operand::{Held, Operand};
+use ag_carried::{MAX_FLAT_TEXT, SharedText};
+use ag_grammar::Operator;
+use ag_value::{ErrorCode, MAX_WEIGHT, NoMemory};
+use std::alloc::Global;
+
+/// The greatest length of a text in bytes.
+const MAX_TEXT: usize = MAX_WEIGHT as usize - 5;
+
+/// Computes `a ++ b`, or the leftmost error of the two. A text of up to `MAX_FLAT_TEXT` bytes and a
+/// list are the first operand, copied if it is lent or bound, and extended by the second. A longer
+/// text shares the bytes of both operands; those of an operand without shared bytes are moved, or
+/// copied if it is lent or bound.
+pub fn concatenate<'e>(
+    alloc: Global,
+    left: Operand<'e>,
+    right: Operand<'e>,
+    bindings: &Bindings<'e>,
+) -> Result<Operand<'e>, NoMemory>
+    requires left { IsIn bindings.now left }
+    requires right { IsIn bindings.now right }
+    ensures value { IfOk result (Gives bindings.now (operation_result Operator.Join) left.entry right.entry) }
+    ensures within { IfOk result (λ o. IsIn bindings.now o) }
+{
+    if let Some(code) = fault_of_two(left.get(&*bindings), right.get(&*bindings)) {
+        return Ok(fault(code));
+    }
+    match joined_len(&left, &right, &*bindings) {
+        Some(len) if len > MAX_TEXT => Ok(fault(ErrorCode::Big)),
+        Some(len) if len > MAX_FLAT_TEXT => {
+            Ok(Operand::Held(shared_text(alloc, left, right, bindings)?))
+        }
+        Some(_) => Ok(Operand::owned(flat_text(alloc, left, right, bindings)?)),
+        None => Ok(Operand::owned(extended_list(alloc, left, right, bindings)?)),
+    }
+}
+
+/// Joins two texts without a copy of their bytes, or returns the error `big`.
+#[tactic(auto, using(crate::proofs::Texts::concatenations))]
+fn shared_text<'e>(
+    alloc: Global,
+    left: Operand<'e>,
+    right: Operand<'e>,
+    bindings: &Bindings<'e>,
+) -> Result<Held<'e>, NoMemory>
+    requires left { IsIn bindings.now left }
+    requires right { IsIn bindings.now right }
+    requires left_text { is_text (operand_value bindings.now left) ≡ true }
+    requires right_text { is_text (operand_value bindings.now right) ≡ true }
+    ensures { IfOk result (λ h. held_value h
+        ≡ concatenation (operand_value bindings.now left.entry) (operand_value bindings.now right.entry)) }
+{
+    let left = left.into_shared(alloc, &*bindings)?;
+    let right = right.into_shared(alloc, &*bindings)?;
+    joined(alloc, left, right)
+}
+
+/// Extends the first of two texts by the second.
+#[tactic(auto, using(crate::proofs::Texts::concatenations))]
+fn flat_text<'e>(
+    alloc: Global,
+    left: Operand<'e>,
+    right: Operand<'e>,
+    bindings: &Bindings<'e>,
+) -> Result<Measured, NoMemory>
+    requires left { IsIn bindings.now left }
+    requires right { IsIn bindings.now right }
+    requires right_text { is_text (operand_value bindings.now right) ≡ true }
+    ensures { IfOk result (λ m. m
+        ≡ concatenation (operand_value bindings.now left.entry) (operand_value bindings.now right.entry)) }
+{
+    let left = left.into_owned(alloc, &*bindings)?;
+    let right = right.get(&*bindings).to_plain(alloc)?;
+    extend_text(alloc, left, bytes_of(right.get()))
+}
+
+/// Extends the first operand by the contents of the second, unless both are texts.
+fn extended_list<'e>(
+    alloc: Global,
+    left: Operand<'e>,
+    right: Operand<'e>,
+    bindings: &Bindings<'e>,
+) -> Result<Measured, NoMemory>
+    requires left { IsIn bindings.now left }
+    requires right { IsIn bindings.now right }
+    requires no_texts { is_text (operand_value bindings.now left) ≡ true
+        → is_text (operand_value bindings.now right) ≡ false }
+    ensures { IfOk result (λ m. m
+        ≡ concatenation (operand_value bindings.now left.entry) (operand_value bindings.now right.entry)) }
+{
+    let left = left.into_owned(alloc, &*bindings)?;
+    let right = right.into_owned(alloc, &*bindings)?;
+    extend_list(left, right)
+}
+
+/// Returns the length in bytes of two texts together, or `None` unless both are texts.
+fn joined_len(left: &Operand<'_>, right: &Operand<'_>, bindings: &Bindings<'_>) -> Option<usize>
+    requires left { IsIn bindings.now left.now }
+    requires right { IsIn bindings.now right.now }
+    ensures texts { MatchOption result
+        (is_text (operand_value bindings.now left.now) ≡ true
+        → is_text (operand_value bindings.now right.now) ≡ false)
+        (λ _. (is_text (operand_value bindings.now left.now) ≡ true)
+        × (is_text (operand_value bindings.now right.now) ≡ true)) }
+    ensures len { IfSome result (λ n. n ≡ length (bytes_of (operand_value bindings.now left.now)
+        ++ bytes_of (operand_value bindings.now right.now))) }
+{
+    let first = left.get(bindings).text_len()?;
+    let second = right.get(bindings).text_len()?;
+    Some(first + second)
+}
+
+/// Joins two texts without a copy of their bytes, or returns the error `big`.
+#[tactic(auto, using(crate::proofs::Texts::limits))]
+fn joined<'e>(alloc: Global, left: SharedText, right: SharedText) -> Result<Held<'e>, NoMemory>
+    ensures { IfOk result (λ h. held_value h ≡ fit (value.Text (left ++ right))) }
+{
+    match SharedText::join(alloc, left, right)? {
+        Some(text) => Ok(Held::Shared(text)),
+        None => Ok(Held::fault(ErrorCode::Big)),
+    }
+}

@@ -1,0 +1,100 @@
+//! Values that are read: plain ones, which are stored as a `Value`, and texts whose bytes are shared.
+
+ghost use Rattle.std.specs.Prelude.{◌≡◌, ◌≤◌, IfOk, IfSome, MatchOption, length, false, true};
+ghost use Rattle.ag_value.specs.Measure.{max_weight};
+ghost use Rattle.ag_value.specs.Well.{IsWell};
+ghost use Rattle.ag_value.specs.declared.value.Value.TheVariants as value;
+ghost use Rattle.ag_grammar.specs.values.Texts.{bytes_of, is_text};
+ghost use Rattle.ag_eval.specs.Operands.{plain_value, ref_value};
+
+use crate::measured::Measured;
+use crate::operand::Lent;
+use ag_carried::SharedText;
+use ag_value::{NoMemory, Value};
+use std::alloc::Global;
+
+/// A value that is read: a plain one, or a text whose bytes are shared.
+#[derive(Clone, Copy)]
+pub enum ValueRef<'a> {
+    Plain(&'a Value),
+    Shared(&'a SharedText),
+}
+
+impl<'a> ValueRef<'a> {
+    /// Lends a text whose bytes are shared.
+    pub fn from_text(text: &'a SharedText) -> ValueRef<'a>
+        ensures value { ref_value result ≡ value.Text text.entry.now }
+        ensures well { IsWell (ref_value result) }
+    {
+        // for the prover: the text is within the limits
+        let _len = text.len();
+        ValueRef::Shared(text)
+    }
+
+    /// Returns the value if it is a plain one.
+    #[inline(always)]
+    pub fn as_value(self) -> Option<&'a Value>
+        ensures { IfSome result (λ v. v.now ≡ ref_value self.entry) }
+    {
+        match self {
+            ValueRef::Plain(value) => Some(value),
+            ValueRef::Shared(_) => None,
+        }
+    }
+
+    /// Returns the number of bytes of a text, or `None` for a value of another kind.
+    #[tactic(auto, using(ag_grammar::proofs::values::Wells::short))]
+    pub fn text_len(self) -> Option<usize>
+        requires { IsWell (ref_value self) }
+        ensures text { MatchOption result (is_text (ref_value self.entry) ≡ false)
+            (λ _. is_text (ref_value self.entry) ≡ true) }
+        ensures len { IfSome result (λ n. n ≡ length (bytes_of (ref_value self.entry))) }
+        ensures light { IfSome result (λ n. n ≤ max_weight) }
+    {
+        match self {
+            ValueRef::Plain(Value::Text(text)) => Some(text.as_str().len()),
+            ValueRef::Plain(_) => None,
+            ValueRef::Shared(text) => Some(text.len()),
+        }
+    }
+
+    /// Returns the value as a plain one. Takes memory for a copy of a text whose bytes are shared.
+    pub fn to_plain(self, alloc: Global) -> Result<Plain<'a>, NoMemory>
+        requires { IsWell (ref_value self) }
+        ensures { IfOk result (λ p. plain_value p ≡ ref_value self.entry) }
+    {
+        match self {
+            ValueRef::Plain(value) => Ok(Plain::Lent(Lent::new(value))),
+            ValueRef::Shared(text) => Ok(Plain::Copied(copied_text(alloc, text)?)),
+        }
+    }
+}
+
+/// A plain well value: lent, or a copy of a text whose bytes are shared.
+#[derive(Drop)]
+pub enum Plain<'a> {
+    Lent(Lent<'a>),
+    Copied(Measured),
+}
+
+impl<'a> Plain<'a> {
+    /// Lends the value.
+    pub fn get(&self) -> &Value
+        ensures value { result.now ≡ plain_value self.now }
+        ensures well { IsWell result.now }
+    {
+        match self {
+            Plain::Lent(lent) => lent.get(),
+            Plain::Copied(copied) => copied.get(),
+        }
+    }
+}
+
+/// Copies a text whose bytes are shared into a plain value.
+pub fn copied_text(alloc: Global, text: &SharedText) -> Result<Measured, NoMemory>
+    ensures { IfOk result (λ m. m ≡ value.Text text.now) }
+{
+    // for the prover: the text is within the limits
+    let _len = text.len();
+    Ok(Measured::new(Value::Text(text.to_text(alloc)?)))
+}
