@@ -1,9 +1,13 @@
 //! Answers questions about the texts of expressions.
 
-use ag_eval::{Environment, Meter, eval};
+ghost use Rattle.std.specs.Prelude.{IfOk};
+ghost use Rattle.ag_value.specs.Well.{IsWell};
+
+use ag_carried::Carried;
+use ag_eval::{CarriedEnvironment, Environment, Meter, eval, eval_carried};
 use ag_expr::{expected_at, read_expr, read_until};
 use ag_grammar::{Expr, occurrences};
-use ag_value::{Value, is_well, show};
+use ag_value::{Value, copy, is_well, show};
 use rows::current_texts::CurrentTexts;
 use rows::words::{Mistake, first_word, halves, number, printed};
 use std::alloc::{AllocError, Global};
@@ -50,6 +54,65 @@ pub fn value_of(alloc: Global, text: &str, lent: &Value) -> Result<Value, Mistak
 fn value_text(alloc: Global, expr: &Expr, lent: &Value) -> Result<String, Mistake> {
     let value = evaluate(alloc, expr, lent)?;
     Ok(show(alloc, &value)?)
+}
+
+/// An environment that returns the same carried value for each occurrence.
+#[derive(Drop)]
+struct SameCarried<'a> {
+    value: &'a Carried,
+}
+
+impl<'a> CarriedEnvironment for SameCarried<'a> {
+    ghost count = { λ _. 65536 };
+
+    ghost lent = { λ same k. same.value.now };
+
+    fn lend(&self, _k: usize) -> &Carried {
+        self.value
+    }
+}
+
+/// Evaluates an expression whose occurrences all have the carried value `lent`. Fails with `Unfit` if there are
+/// more than `MAX_OCCURRENCES` occurrences.
+#[tactic(auto, using(ag_eval::proofs::Values::are_well))]
+fn carry(alloc: Global, expr: &Expr, lent: &Carried) -> Result<Carried, Mistake>
+    requires { IsWell lent.now }
+    ensures { IfOk result (λ c. IsWell c) }
+{
+    if occurrences(expr).len() > MAX_OCCURRENCES {
+        return Err(Mistake::Unfit);
+    }
+    let mut meter = Meter::new();
+    Ok(eval_carried(alloc, expr, &SameCarried { value: lent }, &mut meter)?)
+}
+
+/// Evaluates an expression `count` times, each time with the previous value as that of all occurrences.
+fn grown(alloc: Global, count: u32, expr: &Expr, first: Carried) -> Result<Carried, Mistake>
+    requires { IsWell first }
+    ensures { IfOk result (λ c. IsWell c) }
+{
+    let mut value = first;
+    for _ in 0..count {
+        value = carry(alloc, expr, &value)?;
+    }
+    Ok(value)
+}
+
+/// Reads `COUNT STEP & END`, evaluates STEP so many times from the value `first` on, as `grown` does, then END
+/// once, and shows its value. Fails with `Unfit` if `first` is not well or one of the two isn't an expression.
+pub fn grow_answer(alloc: Global, rest: &str, first: &Value) -> Result<String, Mistake> {
+    let (count, texts) = first_word(rest);
+    let (step, end) = halves(texts, " & ")?;
+    let (Ok(step), Ok(end)) = (read_expr(alloc, step), read_expr(alloc, end)) else {
+        return Err(Mistake::Unfit);
+    };
+    let first = copy(alloc, first)?;
+    if !is_well(&first) {
+        return Err(Mistake::Unfit);
+    }
+    let value = grown(alloc, number(count)?, &step, Carried::new(alloc, first)?)?;
+    let value = carry(alloc, &end, &value)?;
+    Ok(show(alloc, &value.into_value(alloc)?)?)
 }
 
 /// Returns the value of a text as it is shown, or the fault of the text.

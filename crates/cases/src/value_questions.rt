@@ -3,8 +3,8 @@
 use crate::carried::carried_answer;
 use crate::contents::{back_answer, last_answer, split_answer, turn_answer, write_answer};
 use crate::expressions::{
-    alike_answer, count_answer, expected_answer, meter_answer, occurrences_answer, tree_answer,
-    until_answer, value_answer,
+    alike_answer, count_answer, expected_answer, grow_answer, meter_answer, occurrences_answer,
+    tree_answer, until_answer, value_answer,
 };
 use crate::values::{decode_answer, property_answer, same_answer, spell_answer};
 use ag_value::Value;
@@ -24,6 +24,7 @@ pub fn answer(
     let text = texts.text_or(rest);
     match verb {
         "value" => value_answer(alloc, text, given),
+        "grow" => grow_answer(alloc, rest, given),
         "meter" => meter_answer(alloc, text, given),
         "tree" => tree_answer(alloc, text),
         "alike" => alike_answer(alloc, text),
