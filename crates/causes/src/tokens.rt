@@ -1,6 +1,6 @@
 //! The tokens of a sentence before the subtree of a node.
 
-use ag_grammar::{Grammar, Item, Production, Terminal};
+use ag_grammar::{Direction, Grammar, Item, Production, Terminal};
 use tree_index::{NodeKind, TokenCounts, TreeIndex};
 
 /// Returns the number of literals of a production before a place, which counts from 1.
@@ -30,28 +30,28 @@ pub fn tokens_before(
     let mut node = 0u32;
     let mut tokens = 0u32;
     for place in places {
-        tokens = tokens.saturating_add(tokens_before_child(grammar, index, counts, node, *place)?);
-        node = index.child(grammar, node, *place)?;
+        let NodeKind::Node(number) = index.kind(node)? else {
+            return None;
+        };
+        let production = grammar.productions().get(usize::from(number))?;
+        let child = index.child(grammar, node, *place)?;
+        tokens = tokens.saturating_add(literals_before(production, *place));
+        tokens = tokens.saturating_add(tokens_between(index, counts, node, child)?);
+        node = child;
     }
     Some(tokens)
 }
 
-/// Returns the number of tokens of a node's subtree before the child at a place.
-fn tokens_before_child(
-    grammar: &Grammar,
-    index: &TreeIndex,
-    counts: &TokenCounts,
-    node: u32,
-    place: u16,
-) -> Option<u32> {
-    let NodeKind::Node(number) = index.kind(node)? else {
-        return None;
-    };
-    let production = grammar.productions().get(usize::from(number))?;
-    let mut tokens = literals_before(production, place);
-    for before in 1..place {
-        let child = index.child(grammar, node, before)?;
-        tokens = tokens.saturating_add(counts.of_subtree(index, child)?);
+/// Returns the number of tokens below the children of a node that come before one of them in the sentence.
+fn tokens_between(index: &TreeIndex, counts: &TokenCounts, node: u32, child: u32) -> Option<u32> {
+    // the file of an odd pass is read from left to right
+    match Direction::of_pass(index.pass()).turned() {
+        Direction::LeftToRight => counts.between(node.checked_add(1)?, child),
+        Direction::RightToLeft => counts.between(end_of(index, child)?, end_of(index, node)?),
     }
-    Some(tokens)
+}
+
+/// Returns the number after those of the subtree of a node.
+fn end_of(index: &TreeIndex, node: u32) -> Option<u32> {
+    node.checked_add(index.size(node)?)
 }

@@ -31,7 +31,7 @@ text_clean : (x : List ℕ) → fault_of (Text x) ≡ None
 text_clean x = ap fault_at (outs-Text x)
 
 -- a value that is not an error stays the same
-stays_clean : (v : Value) → fault_of v ≡ None → exchanged v ≡ v
+pub stays_clean : (v : Value) → fault_of v ≡ None → exchanged v ≡ v
 stays_clean v clean = ap (λ c. exchanged_to (value.Fault Divide) (value.Fault Overflow) c v) clean
 
 still_by : (r : Rule) (e : Table) (f h : ℕ → Value) → ((k : ℕ) → f k ≡ h k)

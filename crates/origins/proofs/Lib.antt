@@ -2,6 +2,7 @@ pub mod Arguments
 pub mod Caused
 pub mod Children
 pub mod Induction
+pub mod Knowing
 pub mod Order
 pub mod Origin
 pub mod Quiet

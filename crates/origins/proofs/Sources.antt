@@ -1,64 +1,94 @@
 -- Which argument passes an error on to a rule.
-use Rattle.std.proofs.Common.{ℕ, suc, ◌≡◌, ◌+◌, ◌≤◌, inl, inr, length, true, false, cond, Option, Some, None, refl, ap, ◌∙◌, sym}
-use Rattle.std.proofs.Common.{arith}
+use Rattle.std.proofs.Common.{ℕ, ℤ, suc, ◌≡◌, ◌+◌, inl, inr, Bool, true, false, cond, [], Option, Some, None, slice_get, refl, ap}
+use Rattle.std.proofs.Common.{◌≤◌, length, arith, ◌∙◌, sym}
+use Rattle.std.specs.Prelude.{nat_eq, nat_lt}
 use Rattle.std.proofs.lemmas.Bool.{cases_Bool, le-ltb, lt-ltb}
 use Rattle.std.proofs.lemmas.Option.{slice_get_past}
 use Rattle.ag_value.specs.declared.value.ErrorCode.{ErrorCode}
+use Rattle.ag_value.specs.declared.value.ErrorCode.TheVariants.{Divide, Overflow}
 use Rattle.ag_value.specs.declared.value.Value.{Value}
+use Rattle.ag_value.specs.declared.value.Value.TheVariants as value
+use Rattle.ag_value.specs.declared.value.Value.TheVariants.{outs-Fault, outs-Num}
+use Rattle.ag_value.specs.Spelling.{number_of}
 use Rattle.ag_grammar.specs.declared.grammar.Rule.{Rule}
-use Rattle.ag_grammar.specs.declared.syntax.node.Node.{Node}
-use Rattle.ag_grammar.specs.declared.syntax.node.Node.TheVariants as node_of
 use Rattle.ag_grammar.specs.expressions.Evaluation.{value_of}
-use Rattle.ag_grammar.specs.values.Arguments.{fault_of, has_fault}
-use Rattle.origins.specs.Arising.{Table, environment, exchanged, is_same_error, value_at}
+use Rattle.ag_grammar.specs.values.Arguments.{fault_at, fault_of, has_fault}
+use Rattle.origins.specs.Arising.{Table, environment, exchanged, exchanged_to, is_same_error, value_at}
 use Rattle.origins.specs.Causes.{IsSource, exchanged_below, is_still}
-use Rattle.origins.proofs.Caused.{not_clean, number_clean, same_itself}
-use Rattle.origins.proofs.Quiet.{exchanged_differs, value_of_occurrence}
+use Rattle.origins.specs.Forms.{AreAlike, Holds, IsKnown, IsLike}
+use Rattle.origins.specs.declared.forms.Known.TheVariants as known_as
+use Rattle.origins.proofs.Caused.{not_clean, number_clean, same_itself, stays_clean}
+use Rattle.origins.proofs.Quiet.{exchanged_differs}
 
-module _ (r : Rule) (e : Table) (k : ℕ) (copies : r.expr.0 ≡ node_of.Occurrence k) where
-  copied : (env : ℕ → Value) → value_of r.expr.0 env ≡ env k
-  copied env = ap (λ (z : Node). value_of z env) copies ∙ value_of_occurrence k env
+-- An environment is like itself, and like the one with other errors in place of some.
+alike_itself : (base : ℕ → Value) → AreAlike base base
+alike_itself base = record { each = λ k. like (fault_of (base k)) (base k) refl }
+  where
+    like : (o : Option ErrorCode) (v : Value) → fault_of v ≡ o → IsLike o v v
+    like None v is = refl
+    like (Some c) v is = ap has_fault is
+
+alike_exchanged : (base : ℕ → Value) (n : ℕ) → AreAlike base (exchanged_below n base)
+alike_exchanged base n = record { each = λ k. like (nat_lt k n) (fault_of (base k)) (base k) refl }
+  where
+    other : (c : ErrorCode) (b : Bool) → has_fault (fault_of (cond b (value.Fault Divide) (value.Fault Overflow))) ≡ true
+    other c true = ap (λ x. has_fault (fault_at x)) (outs-Fault Divide)
+    other c false = ap (λ x. has_fault (fault_at x)) (outs-Fault Overflow)
+
+    like : (b : Bool) (o : Option ErrorCode) (v : Value) → fault_of v ≡ o → IsLike o v (cond b (exchanged v) v)
+    like true None v is = stays_clean v is
+    like true (Some c) v is =
+        ap (λ z. has_fault (fault_of (exchanged_to (value.Fault Divide) (value.Fault Overflow) z v))) is
+        ∙ other c (nat_eq (number_of c) 1)
+    like false None v is = refl
+    like false (Some c) v is = ap has_fault is
+
+module _ (r : Rule) (e : Table) (k : ℕ) (known : IsKnown (environment r e) r.expr.0 (known_as.ErrorOf k)) where
+  own : Holds (environment r e) (known_as.ErrorOf k) (value_of r.expr.0 (environment r e))
+  own = known.holds (environment r e) [] (alike_itself (environment r e))
+
+  passed : (n : ℕ) → fault_of (value_of r.expr.0 (exchanged_below n (environment r e)))
+      ≡ fault_of (exchanged_below n (environment r e) k)
+  passed n = (known.holds (exchanged_below n (environment r e)) [] (alike_exchanged (environment r e) n)).0
 
   -- the same error with those before it exchanged, and another one with it exchanged
-  copied_before : (c : ErrorCode) → fault_of (environment r e k) ≡ Some c → is_still r e k ≡ true
+  known_before : (o : Option ErrorCode) → fault_of (environment r e k) ≡ o → is_still r e k ≡ true
   unfolding is_still
-  copied_before c error =
+  known_before None is = absurd (let off : true ≡ false = sym own.1 ∙ ap has_fault is in let bad : ⊥ = cc in bad)
+  known_before (Some c) is =
       let kept : exchanged_below k (environment r e) k ≡ environment r e k =
       ap (λ b. cond b (exchanged (environment r e k)) (environment r e k)) (le-ltb k k (omega arith)) in
-      ap (λ v. is_same_error (fault_of v) (fault_of (value_of r.expr.0 (exchanged_below k (environment r e)))))
-      (copied (environment r e))
-      ∙ ap (λ v. is_same_error (fault_of (environment r e k)) (fault_of v)) (copied (exchanged_below k (environment r e)) ∙ kept)
-      ∙ ap (λ z. is_same_error z z) error ∙ same_itself c
+      ap (λ o. is_same_error o (fault_of (value_of r.expr.0 (exchanged_below k (environment r e))))) (own.0 ∙ is)
+      ∙ ap (λ o. is_same_error (Some c) o) (passed k ∙ ap fault_of kept ∙ is) ∙ same_itself c
 
-  copied_after : is_still r e (suc k) ≡ false
+  known_after : is_still r e (suc k) ≡ false
   unfolding is_still
-  copied_after =
+  known_after =
       let other : exchanged_below (suc k) (environment r e) k ≡ exchanged (environment r e k) =
       ap (λ b. cond b (exchanged (environment r e k)) (environment r e k)) (lt-ltb k (suc k) (omega arith)) in
-      ap (λ v. is_same_error (fault_of v) (fault_of (value_of r.expr.0 (exchanged_below (suc k) (environment r e)))))
-      (copied (environment r e))
-      ∙ ap (λ v. is_same_error (fault_of (environment r e k)) (fault_of v))
-      (copied (exchanged_below (suc k) (environment r e)) ∙ other)
+      ap (λ o. is_same_error o (fault_of (value_of r.expr.0 (exchanged_below (suc k) (environment r e))))) own.0
+      ∙ ap (λ o. is_same_error (fault_of (environment r e k)) o) (passed (suc k) ∙ ap fault_of other)
       ∙ exchanged_differs (environment r e k) (fault_of (environment r e k))
 
   -- the argument passes its error on,
-  pub copied_source : has_fault (fault_of (environment r e k)) ≡ true → IsSource r e k
-  copied_source error = by_code (fault_of (environment r e k)) refl
-    where
-      by_code : (c : Option ErrorCode) → fault_of (environment r e k) ≡ c → IsSource r e k
-      by_code None is = absurd (let off : true ≡ false = sym error ∙ ap has_fault is in let bad : ⊥ = cc in bad)
-      by_code (Some c) is = record { before = copied_before c is; after = copied_after }
+  pub known_source : IsSource r e k
+  known_source = record { before = known_before (fault_of (environment r e k)) refl; after = known_after }
 
-  -- and if it has none, neither has the rule
-  pub copied_clean : has_fault (fault_of (environment r e k)) ≡ false → fault_of (value_of r.expr.0 (environment r e)) ≡ None
-  copied_clean clean = by_code (fault_of (environment r e k)) refl
-    where
-      by_code : (c : Option ErrorCode) → fault_of (environment r e k) ≡ c → fault_of (value_of r.expr.0 (environment r e)) ≡ None
-      by_code None is = ap fault_of (copied (environment r e)) ∙ is
-      by_code (Some c) is = absurd (let off : true ≡ false = sym (ap has_fault is) ∙ clean in let bad : ⊥ = cc in bad)
+  -- and it is one of the rule's
+  pub known_nowhere : length r.args ≤ k → fault_of (value_of r.expr.0 (environment r e)) ≡ None
+  known_nowhere past = own.0 ∙ ap fault_of (ap (value_at e) (slice_get_past r.args k past)) ∙ number_clean
 
-  pub copied_nothing : length r.args ≤ k → fault_of (value_of r.expr.0 (environment r e)) ≡ None
-  copied_nothing past = ap fault_of (copied (environment r e) ∙ ap (value_at e) (slice_get_past r.args k past)) ∙ number_clean
+-- What is known not to be an error is none.
+pub known_clean : (r : Rule) (e : Table) → IsKnown (environment r e) r.expr.0 known_as.Clean
+    → fault_of (value_of r.expr.0 (environment r e)) ≡ None
+known_clean r e known = known.holds (environment r e) [] (alike_itself (environment r e))
+
+pub known_number : (r : Rule) (e : Table) (n : ℤ) → IsKnown (environment r e) r.expr.0 (known_as.Number n)
+    → fault_of (value_of r.expr.0 (environment r e)) ≡ None
+known_number r e n known =
+    ap fault_of (known.holds (environment r e) [] (alike_itself (environment r e))) ∙ ap fault_at (outs-Num n)
+
+pub ruleset known_values = (known_clean, known_number)
 
 -- where an argument is not an error, the rule has the same error with one more exchanged
 pub still_clean : (r : Rule) (e : Table) (k : ℕ) → is_still r e k ≡ true → has_fault (fault_of (environment r e k)) ≡ false

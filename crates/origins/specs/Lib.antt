@@ -1,6 +1,7 @@
 pub mod Arising
 pub mod Causes
 pub mod Faults
+pub mod Forms
 pub mod Laws
 pub mod Origins
 pub mod Records

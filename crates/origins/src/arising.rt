@@ -8,8 +8,10 @@ ghost use Rattle.ag_grammar.specs.expressions.Evaluation.{value_of};
 ghost use Rattle.ag_grammar.specs.values.Arguments.{fault_of, has_fault};
 ghost use Rattle.origins.specs.Arising.{arising_count, environment, exchanged, is_arising};
 ghost use Rattle.origins.specs.Causes.{AnswersSource, exchanged_below, is_still};
+ghost use Rattle.origins.specs.Forms.{IsKnown};
 ghost use Rattle.origins.specs.Rows.{table_of};
 
+use crate::forms::Known;
 use crate::lending::{Arguments, ExchangedErrors, FirstExchanged, error_of, is_same_error};
 use crate::row::Row;
 use ag_eval::{Environment, Meter, eval};
@@ -178,11 +180,18 @@ impl<'a> Row<'a> {
         Ok(is_same_error(Some(code), error_of(&other)))
     }
 
-    /// Returns the argument of a number if its value is an error: a rule that only copies the argument passes
-    /// that error on.
-    #[tactic(auto, using(crate::proofs::Sources::copied_clean, crate::proofs::Sources::copied_nothing))]
-    fn copied_error(&self, rule: &Rule, number: usize) -> Option<Target>
-        requires copies { rule.now.expr.0 ≡ node.Occurrence number }
+    /// Returns what is known of the value of a rule without an evaluation.
+    fn known(&self, rule: &Rule) -> Known
+        ensures { IsKnown (environment rule.now (table_of self.now.grammar.now
+            self.now.production.now self.now.values.now)) rule.now.expr.0 result }
+    {
+        self.known_of(rule, rule.expr.tree())
+    }
+
+    /// Returns the argument of an index, whose error is known to be the value of the rule.
+    fn known_source(&self, rule: &Rule, number: usize) -> Option<Target>
+        requires { IsKnown (environment rule.now (table_of self.now.grammar.now
+            self.now.production.now self.now.values.now)) rule.now.expr.0 (Known.ErrorOf number) }
         ensures { AnswersSource rule.now
             (table_of self.now.grammar.now self.now.production.now self.now.values.now) result }
     {
@@ -190,27 +199,36 @@ impl<'a> Row<'a> {
         if args.len() <= number {
             return None;
         }
-        if self.is_error_at(rule, number) {
-            Some(args[number])
-        } else {
-            None
-        }
+        Some(args[number])
     }
 
     /// Returns the argument that passes its error on to a rule. Returns `None` if the rule's value is not
     /// an error, or the error arises in the rule. Fails if memory is refused.
     ///
-    /// Evaluates the rule, and if its value is an error once more for each argument that is an error, up to the
-    /// one that passes it on. Does not evaluate a rule that only copies an argument.
-    #[tactic(auto, using(crate::proofs::Caused::still_none, crate::proofs::Caused::arises_here))]
+    /// Evaluates nothing if it is known without it, as for a rule that copies an argument, or adds one to a number.
+    /// Else evaluates the rule, and if its value is an error once more for each argument that is an error, up to
+    /// the one that passes it on.
+    #[tactic(auto, using(crate::proofs::Sources::known_values))]
     pub fn source_of(&self, alloc: Global, rule: &Rule) -> Result<Option<Target>, NoMemory>
         requires arguments { length rule.now.args ≡ length rule.now.expr.1 }
         ensures { IfOk result (AnswersSource rule.now
             (table_of self.now.grammar.now self.now.production.now self.now.values.now)) }
     {
-        if let Node::Occurrence(number) = rule.expr.tree() {
-            return Ok(self.copied_error(rule, *number));
+        match self.known(rule) {
+            Known::ErrorOf(number) => Ok(self.known_source(rule, number)),
+            Known::Number(_) => Ok(None),
+            Known::Clean => Ok(None),
+            Known::Nothing => self.evaluated_source(alloc, rule),
         }
+    }
+
+    /// Returns the argument that passes its error on to a rule as `source_of` does, by evaluations.
+    #[tactic(auto, using(crate::proofs::Caused::still_none, crate::proofs::Caused::arises_here))]
+    fn evaluated_source(&self, alloc: Global, rule: &Rule) -> Result<Option<Target>, NoMemory>
+        requires arguments { length rule.now.args ≡ length rule.now.expr.1 }
+        ensures { IfOk result (AnswersSource rule.now
+            (table_of self.now.grammar.now self.now.production.now self.now.values.now)) }
+    {
         let Some(code) = self.error_in(alloc, rule)? else {
             return Ok(None);
         };

@@ -4,6 +4,7 @@
 
 mod arising;
 mod fault;
+mod forms;
 pub mod laws;
 mod lending;
 mod record;

@@ -168,7 +168,7 @@ impl TreeSentence<'_> {
         let record = format.read_record(alloc, item, device, end)?;
         let mut text = String::new(alloc);
         if let Some(value) = format.own_value(&record, item, 0) {
-            if let Some(Value::Text(lex)) = value.as_value() {
+            if let Value::Text(lex) = value.to_value(alloc)? {
                 push(&mut text, lex.as_str())?;
             }
         }

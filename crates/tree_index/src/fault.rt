@@ -2,6 +2,7 @@
 
 ghost use Rattle.std.specs.Prelude.{◌≡◌};
 ghost use Rattle.tree_index.specs.Faults.{record_fault_of, tree_fault_of};
+ghost use Rattle.tree_index.specs.declared.fault.ShapeFault.TheVariants as record_fault;
 ghost use Rattle.tree_index.specs.declared.fault.TreeFault.TheVariants as tree_fault;
 
 use ag_value::{NoMemory, ValueFault};
@@ -24,6 +25,14 @@ impl From<ValueFault> for ShapeFault {
             ValueFault::Malformed => ShapeFault::Damaged,
             ValueFault::NoMemory => ShapeFault::NoMemory,
         }
+    }
+}
+
+impl From<NoMemory> for ShapeFault {
+    ghost from_gives = { λ _ e. e ≡ record_fault.NoMemory };
+
+    fn from(_error: NoMemory) -> ShapeFault {
+        ShapeFault::NoMemory
     }
 }
 

@@ -25,6 +25,10 @@ use treefile::Device;
 /// The offset in bytes of the number of the pass in a header.
 const PASS_OFFSET: u64 = 4;
 
+/// The greatest number of bytes of a file whose bodies are copied, in large blocks, where they could be lent: one by one,
+/// which takes longer for small bodies.
+const MAX_COPIED: u64 = 4_194_304;
+
 /// The greatest number of turns of a walk: one to each node below the root, one to leave each node, and one at
 /// which no node is open.
 const MAX_TURNS: u32 = 2 * MAX_NODES + 1;
@@ -69,6 +73,8 @@ struct Mode<'a> {
     alloc: Global,
     format: FileFormat<'a>,
     with_values: bool,
+    /// Whether bodies are lent, not copied, if the device has them in memory.
+    lends: bool,
 }
 
 /// The record that is expected next.
@@ -136,8 +142,8 @@ impl Mode<'_> {
     }
 }
 
-/// Reads the next body of a file as the record of an item, and appends its row. If values are not read and
-/// the device has the body in memory, looks only at what it begins with.
+/// Reads the next body of a file as the record of an item, and appends its row. If bodies are lent and the device
+/// has this one in memory, looks only at what it begins with.
 fn fetch<D: Device>(
     mode: &Mode<'_>,
     item: Item,
@@ -159,7 +165,7 @@ fn fetch<D: Device>(
     }
     let end = back.end();
     let row = values.len();
-    if !mode.with_values {
+    if mode.lends {
         if let Some(body) = back.lend_back(device) {
             return match split_record(mode.format.grammar, item, body.own()) {
                 Some((number, _)) => Ok(Fetched {
@@ -255,7 +261,7 @@ impl Reading {
         ensures device { IsErrOf result TreeFault.Device → ⊥ }
     {
         let Item::Symbol(_) = fetched.item else {
-            self.values.truncate(fetched.row);
+            self.truncate_values(fetched.row);
             self.index
                 .add(fetched.end, NodeKind::Token(fetched.number))?;
             return Ok(());
@@ -281,7 +287,18 @@ impl Reading {
         ensures back { self.new.back ≡ self.old.back }
     {
         self.index.close(node.number);
-        self.values.truncate(node.row);
+        self.truncate_values(node.row);
+    }
+
+    /// Drops the values from an index on, if there are any.
+    fn truncate_values(&mut self, row: usize)
+        ensures index { self.new.index ≡ self.old.index }
+        ensures nodes { self.new.nodes ≡ self.old.nodes }
+        ensures back { self.new.back ≡ self.old.back }
+    {
+        if row < self.values.len() {
+            self.values.truncate(row);
+        }
     }
 
     /// Turns to the innermost open node, which was taken from the list: visits its next child, or closes it.
@@ -391,6 +408,7 @@ fn read_file<D: Device>(
             pass,
         },
         with_values,
+        lends: !with_values && MAX_COPIED < back.end(),
     };
     let mut reading = Reading {
         back,

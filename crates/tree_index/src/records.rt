@@ -7,7 +7,7 @@ use crate::fault::ShapeFault;
 use ag_carried::Carried;
 use ag_grammar::limits::MAX_TOKEN_BYTES;
 use ag_grammar::{Grammar, Item, Terminal};
-use ag_value::Value;
+use ag_value::{NoMemory, Value};
 use std::alloc::Global;
 use treefile::{Kind, split_body};
 
@@ -67,7 +67,7 @@ pub(crate) fn read_text(
     row: &mut Vec<Carried>,
 ) -> Result<(), ShapeFault> {
     let (value, length) = Carried::read(alloc, spelling)?;
-    if length != spelling.len() || !is_token_text(&value) {
+    if length != spelling.len() || !is_token_text(alloc, &value)? {
         return Err(ShapeFault::Damaged);
     }
     let Ok(()) = row.push(value) else {
@@ -76,10 +76,20 @@ pub(crate) fn read_text(
     Ok(())
 }
 
-/// Returns whether a value is a text that a token may have.
-fn is_token_text(value: &Carried) -> bool {
-    match value.as_value() {
-        Some(Value::Text(text)) => text.as_str().len() <= MAX_TOKEN_BYTES,
+/// Returns whether a value is a text that a token may have. Fails if memory is refused.
+fn is_token_text(alloc: Global, value: &Carried) -> Result<bool, NoMemory> {
+    match (value.as_number(), value.as_value()) {
+        (Some(_), _) => Ok(false),
+        (None, Some(value)) => Ok(is_short_text(value)),
+        // a long text that is not stored in one piece
+        (None, None) => Ok(is_short_text(&value.to_value(alloc)?)),
+    }
+}
+
+/// Returns whether a value is a text of at most `MAX_TOKEN_BYTES`.
+fn is_short_text(value: &Value) -> bool {
+    match value {
+        Value::Text(text) => text.as_str().len() <= MAX_TOKEN_BYTES,
         _ => false,
     }
 }

@@ -36,6 +36,13 @@ impl TokenCounts {
         Ok(TokenCounts { before })
     }
 
+    /// Returns the number of tokens of the nodes from one number up to another, which is not among them. Returns `None`
+    /// if there are no such nodes.
+    pub fn between(&self, first: u32, after: u32) -> Option<u32> {
+        let before_first = *self.before.get(first as usize)?;
+        self.before.get(after as usize)?.checked_sub(before_first)
+    }
+
     /// Returns the number of tokens of the subtree of a node.
     pub fn of_subtree(&self, index: &TreeIndex, node: u32) -> Option<u32>
         ensures count { IfSome result (HasTokens index.now self.now node) }

@@ -12,6 +12,13 @@ use tree_index::NodePath;
 /// The greatest number that each reader of JSON keeps exactly, 2^53 - 1; `-MAX_EXACT` is the least.
 const MAX_EXACT: i64 = 9_007_199_254_740_991;
 
+/// A member of an object: the name of an attribute, and its value.
+#[derive(Clone, Copy)]
+struct Member<'s> {
+    name: &'s str,
+    value: &'s Carried,
+}
+
 impl TreeText<'_> {
     /// Writes a node as an object in one line.
     pub(crate) fn write_object(
@@ -29,10 +36,12 @@ impl TreeText<'_> {
         )?;
         self.write_kind_fields(alloc, out, shown)?;
         out.push_str(", \"values\": {")?;
-        let mut is_first = true;
+        let mut separator = "";
         for attr in 0..MAX_ATTRIBUTES as u16 {
-            if self.write_member(out, shown, attr, is_first)? {
-                is_first = false;
+            if let Some(member) = self.member(shown, attr) {
+                out.push_str(separator)?;
+                member.write(alloc, out)?;
+                separator = ", ";
             }
         }
         Ok(out.push_str("}}\n")?)
@@ -73,39 +82,35 @@ impl TreeText<'_> {
         }
     }
 
-    /// Writes a member with the value of an attribute, if the attribute is selected and the file has its value.
-    /// Returns whether it wrote one.
-    fn write_member(
-        &self,
-        out: &mut String,
-        shown: &ShownNode,
-        attr: u16,
-        is_first: bool,
-    ) -> Result<bool, NoMemory> {
+    /// Returns the member with the value of an attribute. Returns `None` if the attribute is not selected, or the
+    /// file does not have its value.
+    fn member<'s>(&'s self, shown: &'s ShownNode, attr: u16) -> Option<Member<'s>> {
         if !self.is_selected(shown.item, attr) {
-            return Ok(false);
+            return None;
         }
-        let name = self.format.attribute_name(shown.item, attr);
-        let value = self.format.own_value(&shown.record, shown.item, attr);
-        let (Some(name), Some(value)) = (name, value) else {
-            return Ok(false);
-        };
-        if !is_first {
-            out.push_str(", ")?;
-        }
-        write_string(out, name)?;
+        Some(Member {
+            name: self.format.attribute_name(shown.item, attr)?,
+            value: self.format.own_value(&shown.record, shown.item, attr)?,
+        })
+    }
+}
+
+impl Member<'_> {
+    /// Writes the member.
+    fn write(self, alloc: Global, out: &mut String) -> Result<(), NoMemory> {
+        write_string(out, self.name)?;
         out.push_str(": ")?;
-        write_carried(out, value)?;
-        Ok(true)
+        write_carried(alloc, out, self.value)
     }
 }
 
 /// Writes a value as JSON.
-fn write_carried(out: &mut String, value: &Carried) -> Result<(), NoMemory> {
+fn write_carried(alloc: Global, out: &mut String, value: &Carried) -> Result<(), NoMemory> {
     match (value.as_number(), value.as_value()) {
         (Some(number), _) => write_number(out, number),
         (None, Some(value)) => write_json(out, value),
-        (None, None) => Ok(()),
+        // a long text that is not stored in one piece
+        (None, None) => write_json(out, &value.to_value(alloc)?),
     }
 }
 

@@ -17,13 +17,24 @@ pub fn write_value(
         return Ok(write!(out, "{number}")?);
     }
     match value.as_value() {
-        Some(Value::Text(text)) => write_text(alloc, out, text.as_str(), width),
-        Some(value) => {
-            let shown = show(alloc, value)?;
-            write_first(out, shown.as_str(), width)
-        }
-        None => Ok(()),
+        Some(value) => write_flat(alloc, out, value, width),
+        // a long text that is not stored in one piece
+        None => write_flat(alloc, out, &value.to_value(alloc)?, width),
     }
+}
+
+/// Writes a value as `write_value` does.
+fn write_flat(
+    alloc: Global,
+    out: &mut String,
+    value: &Value,
+    width: usize,
+) -> Result<(), NoMemory> {
+    if let Value::Text(text) = value {
+        return write_text(alloc, out, text.as_str(), width);
+    }
+    let shown = show(alloc, value)?;
+    write_first(out, shown.as_str(), width)
 }
 
 /// Writes the first characters of a value that is a text. Of a long text, only a prefix is shown

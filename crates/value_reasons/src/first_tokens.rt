@@ -127,7 +127,7 @@ impl<'a> ExplainedTree<'a> {
                 };
                 match self.format.own_value(&record, item, 0) {
                     Some(value) => {
-                        if let Some(Value::Text(text)) = value.as_value() {
+                        if let Value::Text(text) = value.to_value(self.alloc)? {
                             write_shortened(out, text.as_str(), before)?;
                         }
                         Ok(true)

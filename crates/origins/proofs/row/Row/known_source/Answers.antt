@@ -1,12 +1,12 @@
-use Rattle.std.proofs.Common.{List, Some, inl, length, slice_get, get_or, ◌≡◌, ◌≤◌, ◌∙◌, subst, sym}
+use Rattle.std.proofs.Common.{List, Some, inl, length, slice_get, get_or, ◌≡◌, ◌≤◌, subst}
 use Rattle.std.proofs.lemmas.Option.{slice_get-get_or}
 use Rattle.ag_grammar.specs.declared.grammar.Target.{Target}
 use Rattle.origins.specs.Rows.{table_of}
-use Rattle.origins.proofs.Sources.{copied_nothing, copied_source}
-use Rattle.origins.proofs.row.Row.copied_error.Goals as goal
+use Rattle.origins.proofs.Sources.{known_nowhere, known_source}
+use Rattle.origins.proofs.row.Row.known_source.Goals as goal
 
-pub returns-then-is_error_at : goal.returns-then-is_error_at
-returns-then-is_error_at c =
+pub returns : goal.returns
+returns c =
     let rule = c.args.rule.now in
     let e = table_of c.args.self.now.grammar.now c.args.self.now.production.now c.args.self.now.values.now in
     let n = c.args.number in
@@ -15,7 +15,7 @@ returns-then-is_error_at c =
     let there : slice_get args n ≡ Some (get_or args n nothing) = slice_get-get_or args n nothing c.if-args-number.false in (
       n,
       subst (λ (xs : List Target). slice_get xs n ≡ Some (get_or args n nothing)) c.as_slice-args.ensures there,
-      copied_source rule e n c.requires.copies (sym c.is_error_at.ensures ∙ c.if-is_error_at.true),
+      known_source rule e n c.requires,
     )
 
 pub returns-then-args-number : goal.returns-then-args-number
@@ -23,4 +23,4 @@ returns-then-args-number c =
     let rule = c.args.rule.now in
     let e = table_of c.args.self.now.grammar.now c.args.self.now.production.now c.args.self.now.values.now in
     let past = subst (λ (xs : List Target). length xs ≤ c.args.number) c.as_slice-args.ensures c.if-args-number.true in
-    inl (copied_nothing rule e c.args.number c.requires.copies past)
+    inl (known_nowhere rule e c.args.number c.requires past)

@@ -1,0 +1,87 @@
+-- What is known of the value of an expression without an evaluation: from its form, from which of its occurrences are errors, and
+-- from the numbers and the texts among the others. All of this is this project's.
+use Rattle.std.specs.Prelude.{ℕ, ◌≡◌, true, List, map, Option, Some, None}
+use Rattle.ag_value.specs.declared.value.ErrorCode.{ErrorCode}
+use Rattle.ag_value.specs.declared.value.Value.{Value}
+use Rattle.ag_value.specs.declared.value.Value.TheVariants as value
+use Rattle.ag_grammar.specs.declared.syntax.node.BinaryCall.{BinaryCall}
+use Rattle.ag_grammar.specs.declared.syntax.node.Node.{Node}
+use Rattle.ag_grammar.specs.declared.syntax.node.Operator.{Operator}
+use Rattle.ag_grammar.specs.declared.syntax.node.UnaryCall.{UnaryCall}
+use Rattle.ag_grammar.specs.expressions.Evaluation.{chain_value, value_in}
+use Rattle.ag_grammar.specs.values.Arguments.{fault_of, has_fault}
+use Rattle.ag_grammar.specs.values.Calls.{binary_call_result, choice_of, put, unary_call_result}
+use Rattle.ag_grammar.specs.values.Numbers.{spelled_number}
+use Rattle.ag_grammar.specs.values.Operators.{operation_result}
+use Rattle.origins.specs.declared.forms.Known.{Known}
+use Rattle.origins.specs.declared.forms.Known.TheVariants as known
+
+-- An error is like any error, and any other value only like itself. The first argument is the error that the second one is.
+abbrev pub IsLike : Option ErrorCode → Value → Value → Type 0
+IsLike None v w = w ≡ v
+IsLike (Some c) v w = has_fault (fault_of w) ≡ true
+
+-- Two environments have errors at the same occurrences, and the same values at the others.
+pub record AreAlike (base env : ℕ → Value) : Type 0 where
+  pub each : (k : ℕ) → IsLike (fault_of (base k)) (base k) (env k)
+
+-- what is known is true of a value in an environment
+abbrev pub Holds : (ℕ → Value) → Known → Value → Type 0
+Holds env (known.Number n) v = v ≡ value.Num n
+Holds env known.Clean v = fault_of v ≡ None
+Holds env (known.ErrorOf k) v = (fault_of v ≡ fault_of (env k)) × (has_fault (fault_of (env k)) ≡ true)
+Holds env known.Nothing v = Unit {0}
+
+-- the same of a value that depends on no environment
+abbrev pub States : Value → Known → Type 0
+States v (known.Number n) = v ≡ value.Num n
+States v known.Clean = fault_of v ≡ None
+States v (known.ErrorOf k) = ⊥
+States v known.Nothing = Unit {0}
+
+pub record IsStated (v : Value) (r : Known) : Type 0 where
+  pub states : States v r
+
+-- the same of the value of the occurrence of a number
+abbrev pub Describes : Value → ℕ → Known → Type 0
+Describes v k (known.Number n) = v ≡ value.Num n
+Describes v k known.Clean = fault_of v ≡ None
+Describes v k (known.ErrorOf j) = (j ≡ k) × (has_fault (fault_of v) ≡ true)
+Describes v k known.Nothing = Unit {0}
+
+-- A value is a text that spells a number, if a number is known.
+abbrev pub Spells : Value → Known → Type 0
+Spells v (known.Number n) = (text : List ℕ) × (v ≡ value.Text text) × (spelled_number text ≡ Some n)
+Spells v known.Clean = ⊥
+Spells v (known.ErrorOf k) = ⊥
+Spells v known.Nothing = Unit {0}
+
+-- What is known of an expression is true in each environment like one, whatever names are bound around it.
+pub record IsKnown (base : ℕ → Value) (e : Node) (r : Known) : Type 0 where
+  pub holds : (env : ℕ → Value) (bound : List Value) → AreAlike base env → Holds env r (value_in e env bound)
+
+-- What is known of a chain follows from what is known of its value before some operands.
+pub record Continues (base : ℕ → Value) (a : Known) (others : List (Operator × Node)) (r : Known) : Type 0 where
+  pub holds : (env : ℕ → Value) (bound : List Value) (v : Value) → AreAlike base env → Holds env a v
+      → Holds env r (chain_value env bound v (map (λ p. (p.0, value_in p.1)) others))
+
+-- So it does if it follows from what is known of the value before the rest of them.
+pub record Reaches (base : ℕ → Value) (a : Known) (others : List (Operator × Node)) (b : Known) (rest : List (Operator × Node))
+    : Type 0 where
+  pub onward : (r : Known) → Continues base b rest r → Continues base a others r
+
+-- What is known of the result of an operator, of a call, of an `if` or of a `put` follows from what is known of its arguments.
+pub record StepsTo (o : Operator) (a b r : Known) : Type 0 where
+  pub holds : (env : ℕ → Value) (v w : Value) → Holds env a v → Holds env b w → Holds env r (operation_result o v w)
+
+pub record CallsTo (call : UnaryCall) (a r : Known) : Type 0 where
+  pub holds : (env : ℕ → Value) (v : Value) → Holds env a v → Holds env r (unary_call_result call v)
+
+pub record CallsBoth (call : BinaryCall) (a b r : Known) : Type 0 where
+  pub holds : (env : ℕ → Value) (v w : Value) → Holds env a v → Holds env b w → Holds env r (binary_call_result call v w)
+
+pub record ChoosesTo (c a b r : Known) : Type 0 where
+  pub holds : (env : ℕ → Value) (u v w : Value) → Holds env c u → Holds env a v → Holds env b w → Holds env r (choice_of u v w)
+
+pub record PutsTo (t k a r : Known) : Type 0 where
+  pub holds : (env : ℕ → Value) (u v w : Value) → Holds env t u → Holds env k v → Holds env a w → Holds env r (put u v w)
