@@ -24,8 +24,8 @@ pub record IsOneTree (IsTree : Tree → Type 0) (t : Tree) : Type 0 where
   pub only : (s : Tree) → IsTree s → s ≡ t
   pub within : IsWithinLimits max_depth max_nodes t
 
--- A report is true of a tree and a number of passes: it has the number of the tree's nodes, each of its rules
--- was evaluated once, and each pass read and wrote one record for each node.
+-- A report is true of a tree and a number of passes: it has the number of the tree's nodes, as many rules were evaluated as the
+-- tree has, and for each pass as many records were read, and as many written, as it has nodes.
 pub record IsReport (g : Grammar) (passes : ℕ) (t : Tree) (report : Report) : Type 0 where
   pub nodes : report.nodes ≡ node_count t
   pub passes_are : report.passes ≡ passes

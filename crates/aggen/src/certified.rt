@@ -32,7 +32,7 @@ pub struct CertifiedPlan {
 /// assigns the same passes, and so does the plan of the text's translator.
 ///
 /// Fails as `Translator::build` does: with G1 to G4, N1 to N10, L1 or A1 if the text makes no
-/// translator.
+/// translator, and with NoMemory if memory is refused.
 pub fn certify_plan(alloc: Global, text: &[u8]) -> Result<CertifiedPlan, BuildFault>
     ensures grammar { IfOk result (λ p. IsGrammarOf text.now p.grammar) }
     ensures free { IfOk result (λ p. HasNoConflict p.grammar) }

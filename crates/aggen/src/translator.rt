@@ -80,7 +80,7 @@ impl Translator {
     ///
     /// Fails with G1 to G4 if the text is not one of a grammar; then with the first fault of N1 to
     /// N10 of the grammar; then with L1, the least conflict of an accepted grammar; then with A1,
-    /// if no assignment of passes is legal.
+    /// if no assignment of passes is legal. Fails with NoMemory if memory is refused.
     pub fn build(alloc: Global, text: &[u8]) -> Result<Translator, BuildFault>
         ensures grammar { IfOk result (λ t. IsGrammarOf text.now t) }
         ensures free { IfOk result (λ t. HasNoConflict t) }
@@ -131,9 +131,10 @@ impl Translator {
     /// the number of its nodes.
     ///
     /// Fails with S1 to S4, before the device is used, if the sentence is too long, is not UTF-8 or
-    /// can't be cut into tokens; with P1 if its tokens have no tree; with P2 or P3 if each tree of them is
-    /// beyond the limits; and with D1 if the device failed. After a fault the device has its old content,
-    /// or a prefix of a file of pass 0.
+    /// can't be cut into tokens; with P2 or P3 if each tree of its tokens is beyond a limit; with P1 if
+    /// they have no tree, or with P2 or P3 if the parser reaches a limit first; with D1 if the device
+    /// failed; and with NoMemory if memory is refused. After a fault the device has its old content, or
+    /// a prefix of a file of pass 0.
     pub fn parse_tree<D: Device>(&self, sentence: &[u8], device: &mut D) -> Result<u32, Fault>
         // Ok: there is one tree, it is within the limits, and its file is written.
         ensures tree { IfOk result (λ _. (t : Tree) × IsTreeOfSentence self.now sentence.now t) }
@@ -180,9 +181,10 @@ impl Translator {
     ///
     /// Fails with S1 to S4 before a device is used, and with P1 to P3 before `b` is, as
     /// `parse_tree` does. Fails with O1 NoText if the translation is not a text, with O2 Write if a
-    /// write failed or took no byte, and with D1 Device if a call of a device failed. R1, P2 or P3
-    /// of a tree file, B1 or B2 are possible only on a device that does not return the bytes that
-    /// were written. After every fault except O2 the writer is unchanged.
+    /// write failed or took no byte, with D1 Device if a call of a device failed, and with NoMemory
+    /// if memory is refused. R1, P2 or P3 of a tree file, B1 or B2 are possible only on a device that
+    /// does not return the bytes that were written. After every fault except O2 the writer is
+    /// unchanged.
     ///
     /// After O1 and O2 the devices have the last two tree files. After P `a` has a prefix of the
     /// file of pass 0, and after D1 and NoMemory each device has its old content, or a prefix of
@@ -244,11 +246,12 @@ impl Translator {
     /// Fails with R1 if the content of `tree` is the file of pass 0 of no tree of the grammar; with
     /// P2 if it is that of none of at most `MAX_DEPTH` levels, and with P3 if it is that of none
     /// of at most `MAX_NODES` nodes. Fails with O1 NoText if the translation is not a
-    /// text, with O2 Write if a write failed or took no byte, and with D1 Device if a call of a
-    /// device failed. B1, B2, or R1, P2 or P3 of a later pass's file are possible only on a device
-    /// that does not return the bytes that were written. After every fault except O2 the writer is
-    /// unchanged. After O1 and O2 the devices have the last two tree files, and after each other
-    /// fault each has its old content, or a prefix of the file of some pass.
+    /// text, with O2 Write if a write failed or took no byte, with D1 Device if a call of a device
+    /// failed, and with NoMemory if memory is refused. B1, B2, or R1, P2 or P3 of a later pass's file
+    /// are possible only on a device that does not return the bytes that were written. After every
+    /// fault except O2 the writer is unchanged. After O1 and O2 the devices have the last two tree
+    /// files, as after success, and after each other fault each has its old content, or a prefix of
+    /// the file of some pass.
     #[tactic(auto, using(crate::proofs::Begun::begun))]
     pub fn evaluate_tree<T: Device, D: Device, W: Write>(
         &self,
@@ -303,9 +306,9 @@ impl Translator {
     /// Fails with R1 if the content of `old` is the file of version 1 and pass 0 of no tree of the
     /// grammar; with P2 if it is that of no tree of at most `MAX_REVERSED_DEPTH` levels (256), and
     /// with P3 if it is that of none of at most `MAX_REVERSED_NODES` nodes (65,536);
-    /// and with D1 if a call of a device failed. R1 or P2 with an offset in `mid` are possible only
-    /// if `mid` does not return the bytes that were written. After a fault `mid` and `to` have
-    /// their old contents, or a prefix of a file.
+    /// with D1 if a call of a device failed; and with NoMemory if memory is refused. R1 or P2 with an
+    /// offset in `mid` are possible only if `mid` does not return the bytes that were written. After a
+    /// fault `mid` and `to` have their old contents, or a prefix of a file.
     pub fn upgrade<D: Device, E: Device, F: Device>(
         &self,
         old: &mut D,

@@ -110,7 +110,7 @@ ChainsShowLater =
     → IsChainOf g (direction_of (suc k)) (HasPassFrom (passes_of rows) (suc k)) s a xs → IsLegal g other → (p : ℕ)
     → partial_of other s a ≡ Some p → suc k < p
 
--- Each attribute that has a later pass has a chain in the strikes of a pass.
+-- If pass k has strikes, each attribute that has a later pass has a chain for pass k.
 abbrev pub ChainsAreThere : Type 0
 ChainsAreThere = (g : Grammar) (m : Passes) (k : ℕ) (xs : List Strike) → AreStrikesAt g m k xs → (s a : ℕ) → HasPassAfter m k s a
     → (ys : List Strike) × IsChainOf g (direction_of k) (HasPassFrom m k) s a ys

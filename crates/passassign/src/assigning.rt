@@ -136,8 +136,8 @@ fn certificate_of(
 
 /// Makes the next pass, and a second one if the first assigns nothing. `open_before` is the number of
 /// attributes without a pass before the call. Returns their number after it, which is smaller. Fails
-/// with A1 if the second pass assigns nothing either. Appends the strikes of the passes to `kept`, if
-/// they are wanted.
+/// with A1 if the second pass assigns nothing either, and with NoMemory if memory is refused. Appends
+/// the strikes of the passes to `kept`, if they are wanted.
 fn advance(
     alloc: Global,
     dependencies: &Dependencies,
@@ -185,7 +185,8 @@ fn advance(
 }
 
 /// Returns the least legal assignment for the symbols and productions of an accepted grammar, and
-/// its strikes, or no lists if they are not wanted. Fails with A1 if there is none.
+/// its strikes, or no lists if they are not wanted. Fails with A1 if there is none, and with NoMemory
+/// if memory is refused.
 pub(crate) fn assign_all(
     alloc: Global,
     symbols: &[Symbol],
@@ -229,14 +230,17 @@ pub(crate) fn assign_all(
 
 /// Returns the least legal assignment of passes to the attributes of a grammar: no attribute has a
 /// later pass than in any legal assignment. Passes are numbered from 1. No pass is above 8,192,
-/// which is two for each attribute that a grammar may have, and there is one row for each symbol.
+/// which is two for each attribute that a grammar may have. There is one row for each symbol, which
+/// has the passes of its attributes.
 ///
 /// Fails with A1 Stuck if there is no legal assignment, with any number of passes. The certificate
 /// has exactly the stuck attributes, in declared order: no legal assignment of some attributes gives
 /// them a pass. It shows why they can't have a pass of either direction: it has the strikes of
-/// the last two passes tried, in their order. Fails with NoMemory if the allocator refuses memory.
+/// the last two passes tried, by their directions. Fails with NoMemory if the allocator refuses
+/// memory.
 ///
-/// Allocates the result, the dependencies of the rules and the strikes of one pass.
+/// Allocates the result, a table of the attributes, the dependencies of the rules and their edges,
+/// the strikes of up to two passes, and what the search of one pass needs.
 pub fn assign(alloc: Global, grammar: &Grammar) -> Result<Assignment, AssignFault>
     ensures least { IfOk result (λ m. IsLeast grammar.now (passes_of m)) }
     ensures few { IfOk result AreWithinMaxPasses }

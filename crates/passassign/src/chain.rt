@@ -161,10 +161,9 @@ impl Strikes {
         }
     }
 
-    /// Returns why a pass can't compute an attribute that has a later one: a chain of the pass's
-    /// strikes, from that of the attribute down to one that waits for no other. Each strike's
-    /// argument is the attribute of the next one. Empty if the pass does not strike the attribute. An
-    /// attribute is its symbol's number and its own.
+    /// Returns why a pass can't compute an attribute that has a later one: a chain for the pass, from
+    /// a strike of the attribute down to one that waits for no other. Empty if the pass does not
+    /// strike the attribute. An attribute is its symbol's number and its own.
     ///
     /// Allocates the chain, and fails if memory is refused. Reads at most all strikes of the pass for
     /// each strike of the chain.
@@ -200,9 +199,9 @@ impl Stuck {
         }
     }
 
-    /// Returns why no pass of a direction can compute an attribute of the set: a chain of strikes, as
-    /// `Strikes::chain_of` does. Empty if the list does not strike the attribute. Fails if memory is
-    /// refused.
+    /// Returns why no pass of a direction can compute an attribute of the set: a chain for the
+    /// direction, as `Strikes::chain_of` does for a pass. Empty if the list does not strike the
+    /// attribute. Fails if memory is refused.
     pub fn chain_of(
         &self,
         alloc: Global,

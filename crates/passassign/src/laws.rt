@@ -99,12 +99,14 @@ pub fn certificates_are_strikes()
     ensures { CertificatesAreStrikes }
 {}
 
-/// A chain shows that its attribute has a later pass in every legal assignment.
+/// If an assignment has strikes, one list for each pass, a chain for one of its passes shows that the
+/// chain's attribute has a later pass than this one in every legal assignment.
 pub fn chains_show_later()
     ensures { ChainsShowLater }
 {}
 
-/// Each attribute that has a later pass than k has a chain of strikes of pass k.
+/// If pass k of an assignment has strikes, each attribute that has a later pass has a chain for
+/// pass k.
 pub fn chains_are_there()
     ensures { ChainsAreThere }
 {}

@@ -143,7 +143,7 @@ pub record IsComplete (g : Grammar) (q : Production) : Type 0 where
   pub no_other : Each (λ r. HasKind g q r.target (defined_kind r.target.place)) q.rules
 
 -- Normal: the arguments of a rule are inherited attributes of the left side and synthesized attributes of the
--- right side, which are those that the production's own rules do not define (this project's).
+-- right side, which are those that the production's own rules do not define (Bochmann 1976).
 abbrev pub IsNormal : Grammar → Production → Type 0
 IsNormal g q = Each (λ r. Each (λ o. HasKind g q o (used_kind o.place)) r.args) q.rules
 
@@ -165,7 +165,7 @@ pub data IsReached (g : Grammar) : ℕ → Type 0 where
   within : (p : ℕ) (q : Production) {s : ℕ} → IsProduction g p q → IsReached g q.left → Has q.items (item.Symbol s)
       → IsReached g s
 
--- An accepted grammar: named, complete (Knuth 1968), normal, reduced, which means that each symbol is
+-- An accepted grammar: named, complete (Knuth 1968), normal (Bochmann 1976), reduced, which means that each symbol is
 -- productive and reached (the textbook), and within the limits (this project's).
 pub record IsAccepted (g : Grammar) : Type 0 where
   pub named : IsNamed g

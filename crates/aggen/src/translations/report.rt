@@ -9,10 +9,10 @@ pub struct Report {
     pub nodes: u32,
     /// The number of passes that ran: those of the plan, at least 1.
     pub passes: u16,
-    /// The number of rules that were evaluated: each rule of each node once.
+    /// The number of evaluations of rules: as many as the tree has rules at its nodes.
     pub evals: u64,
-    /// The number of records that the passes read: one for each node in each pass. The records that
-    /// the parser wrote are not counted.
+    /// The number of records that the passes read: for each pass as many as the tree has nodes. The
+    /// records that the parser wrote are not counted.
     pub read: u64,
     /// The number of records that the passes wrote, which is the same.
     pub written: u64,

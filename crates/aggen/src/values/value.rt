@@ -26,10 +26,10 @@ use treefile::Device;
 /// writes the text of the value that was read, and LF, to `out`.
 ///
 /// Fails before the device is used with X1 to X4 if the text is not an expression, and with X2 at
-/// its first `$` if it has occurrences. Fails with D1 Device if the device failed, and with B1 or
-/// B2 if it does not return the bytes that were written. Only then writes to `out`, and fails with
-/// O2 Write if a write fails or takes no byte. After each fault except X the device has its old
-/// content, or a prefix of the file.
+/// its first `$` if it has occurrences. Fails with D1 Device if the device failed, with B1 or B2 if
+/// it does not return the bytes that were written, and with NoMemory if memory is refused. Only then
+/// writes to `out`, and fails with O2 Write if a write fails or takes no byte. After each fault
+/// except X the device has its old content, or a prefix of the file.
 pub fn show_value<D: Device, W: Write>(
     alloc: Global,
     text: &str,
@@ -77,7 +77,8 @@ pub fn show_value<D: Device, W: Write>(
 }
 
 /// Returns the value of an expression without occurrences. Fails with X1 to X4 if the text is not
-/// an expression, and with X2 at its first `$` if it has occurrences.
+/// an expression, with X2 at its first `$` if it has occurrences, and with NoMemory if memory is
+/// refused.
 fn value_of(alloc: Global, text: &str) -> Result<Value, Fault>
     ensures value { IfOk result (λ value. HasValue text.now value) }
     ensures well { IfOk result (λ value. IsWell value) }

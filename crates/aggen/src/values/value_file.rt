@@ -16,7 +16,7 @@ use std::alloc::Global;
 use treefile::{Device, Kind, Writer, last_body, split_body};
 
 /// Writes a tree file of pass 0 to the device, whose one record is a token with number 0 and this
-/// value. Fails with D1 Device if the device failed.
+/// value. Fails with D1 Device if the device failed, and with NoMemory if memory is refused.
 pub fn write_file<D: Device>(alloc: Global, device: &mut D, value: Value) -> Result<(), Fault>
     requires { IsWell value }
     ensures ok { OnOk result
@@ -33,8 +33,8 @@ pub fn write_file<D: Device>(alloc: Global, device: &mut D, value: Value) -> Res
 }
 
 /// Returns the value in the last record of a tree file. Fails with B2 Damaged at the file's end if
-/// that record is not a token with number 0 and exactly one value, and with B1, B2 or D1 as
-/// `last_body` does.
+/// that record is not a token with number 0 and exactly one value, and with B1, B2, D1 or NoMemory
+/// as `last_body` does.
 pub fn read_file<D: Device>(alloc: Global, device: &mut D) -> Result<Value, Fault>
     ensures found { WhenHonest (D.is_honest device.new) (IfOk result
         (λ value. last_body_of version_two (D.content device.old)
@@ -57,7 +57,8 @@ pub fn read_file<D: Device>(alloc: Global, device: &mut D) -> Result<Value, Faul
 }
 
 /// Returns the value in the body of the last record of a file that ends at offset `end`. Fails with
-/// B2 Damaged at `end` if the body is not that of a token with number 0 and exactly one value.
+/// B2 Damaged at `end` if the body is not that of a token with number 0 and exactly one value, and
+/// with NoMemory if memory is refused.
 fn value_in(alloc: Global, body: &[u8], end: u64) -> Result<Value, Fault>
     ensures found { IfOk result (λ value. body.now ≡ body_of Kind.Token 0 (value ∷ [])) }
     ensures well { IfOk result (λ value. IsWell value) }
