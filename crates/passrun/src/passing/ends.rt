@@ -20,7 +20,7 @@ use crate::layouts::hints::ChildLocation;
 use crate::passing::machine::Machine;
 use crate::passing::open_node::OpenNode;
 use crate::passing::putting::put_record;
-use crate::reading::fetching::{Expected, fetch};
+use crate::reading::fetching::{ExpectedRecord, fetch};
 use crate::run_fault::RunFault;
 use ag_eval::Meter;
 use ag_grammar::Item;
@@ -77,7 +77,7 @@ pub(crate) fn begin<D: Device, E: Device>(
     let writer = Writer::begin(context.alloc, to, context.setting.pass)?;
     let mut values = Vec::new(context.alloc);
     let start = Item::Symbol(context.setting.grammar.start());
-    let expected = Expected {
+    let expected = ExpectedRecord {
         item: start,
         location: ChildLocation::default(),
         open_count: 0,

@@ -21,7 +21,7 @@ use crate::passing::copying::{following, matches_copy, move_copies, single_value
 use crate::passing::evaluating::{NodeRule, put_rule_value};
 use crate::passing::open_node::OpenNode;
 use crate::passing::putting::put_record;
-use crate::reading::fetching::{Expected, fetch};
+use crate::reading::fetching::{ExpectedRecord, fetch};
 use crate::run_fault::RunFault;
 use ag_carried::Carried;
 use ag_eval::Meter;
@@ -117,7 +117,7 @@ impl Machine {
             production: node.production,
             place,
         };
-        let expected = Expected {
+        let expected = ExpectedRecord {
             item: row.item,
             location,
             open_count,

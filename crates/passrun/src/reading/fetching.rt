@@ -20,7 +20,7 @@ use treefile::Device;
 
 /// The record that a pass expects next.
 #[derive(Clone, Copy)]
-pub(crate) struct Expected {
+pub(crate) struct ExpectedRecord {
     /// The item whose record it is.
     pub(crate) item: Item,
     /// The place at which it is read.
@@ -39,7 +39,7 @@ pub(crate) struct Expected {
 #[inline(always)]
 pub(crate) fn fetch<D: Device>(
     context: &PassContext<'_>,
-    expected: Expected,
+    expected: ExpectedRecord,
     back: &mut Back,
     values: &mut Vec<Carried>,
     from: &mut D,

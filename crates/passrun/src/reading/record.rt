@@ -199,18 +199,18 @@ fn take_values(
     passes: &[u16],
     bytes: &[u8],
     values: &mut Vec<Carried>,
-    row: &RowLocation<'_>,
+    row: RowLocation<'_>,
 ) -> Result<(), RecordFault>
-    requires { 1 ≤ row.now.pass }
-    ensures taken { OnOk result (AreTaken (row.now.pass - 1) row.now.pass passes.now bytes.now []
+    requires { 1 ≤ row.pass }
+    ensures taken { OnOk result (AreTaken (row.entry.pass - 1) row.entry.pass passes.now bytes.now []
         values.old.items values.new.items) }
     ensures none { IsErrOf result RecordFault.Damaged
-        → IsNoRow (row.now.pass - 1) passes.now bytes.now }
+        → IsNoRow (row.entry.pass - 1) passes.now bytes.now }
     ensures prefix { PrependsTo values.old.items values.new.items }
 {
     let mut rest = bytes;
     for pass in passes {
-        rest = take_value(alloc, *pass, rest, values, row)?;
+        rest = take_value(alloc, *pass, rest, values, &row)?;
     }
     check_end(rest)
 }
@@ -223,13 +223,13 @@ fn take_row(
     passes: &[u16],
     bytes: &[u8],
     values: &mut Vec<Carried>,
-    row: &RowLocation<'_>,
+    row: RowLocation<'_>,
 ) -> Result<(), RecordFault>
-    requires { 1 ≤ row.now.pass }
-    ensures taken { OnOk result (AreTaken (row.now.pass - 1) row.now.pass passes.now bytes.now []
+    requires { 1 ≤ row.pass }
+    ensures taken { OnOk result (AreTaken (row.entry.pass - 1) row.entry.pass passes.now bytes.now []
         values.old.items values.new.items) }
     ensures none { IsErrOf result RecordFault.Damaged
-        → IsNoRow (row.now.pass - 1) passes.now bytes.now }
+        → IsNoRow (row.entry.pass - 1) passes.now bytes.now }
     ensures prefix { PrependsTo values.old.items values.new.items }
 {
     let Ok(()) = values.reserve(passes.len()) else {
@@ -310,7 +310,7 @@ pub fn read_node(
         parent: ChildLocation::default(),
         start: values.len(),
     };
-    take_row(alloc, passes.as_slice(), spellings, values, &row)?;
+    take_row(alloc, passes.as_slice(), spellings, values, row)?;
     Ok(number)
 }
 
@@ -345,7 +345,7 @@ fn read_node_by_layout(
         layout.passes.as_slice(),
         spellings,
         values,
-        &row,
+        row,
     )?;
     Ok(number)
 }

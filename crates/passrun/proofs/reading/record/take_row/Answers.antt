@@ -6,7 +6,7 @@ use Rattle.passrun.proofs.reading.record.take_row.Goals as goal
 
 pub loop-index-preserved : goal.loop-index-preserved
 loop-index-preserved c =
-    let k = c.args.row.now.pass in
+    let k = c.args.row.pass in
     let read = k - 1 in
     let i = c.loop-index.index in
     let ps = c.args.passes.now in
@@ -31,7 +31,7 @@ loop-index-preserved c =
 
 pub returns-clause-none : goal.returns-clause-none
 returns-clause-none c = λ damaged.
-    let k = c.args.row.now.pass in
+    let k = c.args.row.pass in
     let rest = c.loop-index.rest.now in
     let vs = c.loop-index.values.items in
     let some =
@@ -43,7 +43,7 @@ returns-clause-none c = λ damaged.
 
 pub returns-clause-taken : goal.returns-clause-taken
 returns-clause-taken c =
-    let k = c.args.row.now.pass in
+    let k = c.args.row.pass in
     let read = k - 1 in
     let vs = c.loop-index.values.items in
     let rest = c.loop-index.rest.now in

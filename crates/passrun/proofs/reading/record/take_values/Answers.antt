@@ -6,7 +6,7 @@ use Rattle.passrun.proofs.reading.record.take_values.Goals as goal
 
 pub loop-pass-preserved : goal.loop-pass-preserved
 loop-pass-preserved c =
-    let k = c.args.row.now.pass in
+    let k = c.args.row.pass in
     let read = k - 1 in
     let i = c.loop-pass.pass-index in
     let ps = c.args.passes.now in
@@ -29,7 +29,7 @@ loop-pass-preserved c =
 
 pub returns-clause-none : goal.returns-clause-none
 returns-clause-none c = λ damaged.
-    let k = c.args.row.now.pass in
+    let k = c.args.row.pass in
     let rest = c.loop-pass.rest.now in
     let vs = c.loop-pass.values.items in
     let some =
@@ -41,7 +41,7 @@ returns-clause-none c = λ damaged.
 
 pub returns-clause-taken : goal.returns-clause-taken
 returns-clause-taken c =
-    let k = c.args.row.now.pass in
+    let k = c.args.row.pass in
     let read = k - 1 in
     let vs = c.loop-pass.values.items in
     let rest = c.loop-pass.rest.now in
