@@ -49,7 +49,7 @@ PassesAreRecorded =
     → IsPassed (setting_of g plan k) from to count evals
     → RunsPass version_two g (passes_of plan.0) (k - 1) from to × CountsPass g (passes_of plan.0) (k - 1) from count evals
 
--- All passes from the first one on evaluate each rule of the tree exactly once.
+-- All passes from the first one on evaluate as many rules as the tree has.
 abbrev pub AllRulesAreRun : Type 0
 AllRulesAreRun =
     (g : Grammar) (m : Passes) (last : ℕ) (start : List ℕ) (which : Last) (a b : List ℕ) (evals : ℕ) (sum : Passed) → IsAccepted g

@@ -42,8 +42,8 @@ pub record IsPassedOn (c : Setting) (last : Last) (a b a_new b_new : List ℕ) (
 abbrev pub one_more : Passed → Passed → Passed
 one_more sum passed = record { nodes = passed.nodes; read = sum.read + passed.read; written = sum.written + passed.written }
 
--- The counts of `count` passes after pass k over a tree: they evaluated each of their rules once, and each
--- pass read and wrote the record of each node. The number of nodes is 0 if no pass ran.
+-- The counts of `count` passes after pass k over a tree: they evaluated as many rules as the tree has in these passes, and each
+-- pass read and wrote as many records as the tree has nodes. The number of nodes is 0 if no pass ran.
 pub record HasCounted (g : Grammar) (m : Passes) (t : Tree) (k count evals : ℕ) (sum : Passed) : Type 0 where
   pub evals_are : evals ≡ sum_of_passes (λ p. rules_of_pass m p g t) k count
   pub none : count ≡ 0 → sum.nodes ≡ 0

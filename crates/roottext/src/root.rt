@@ -94,7 +94,7 @@ fn out_value(
     ensures well { IfOk result IsWell }
 {
     let carried = read_out(alloc, grammar, plan, out, body)?;
-    // The value has one owner, so this takes no memory.
+    // This takes no memory, unless the text is in several parts: then it makes a copy in one part.
     let Ok(value) = carried.into_value(alloc) else {
         return Err(RecordFault::NoMemory);
     };
