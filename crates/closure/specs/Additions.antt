@@ -5,21 +5,21 @@ use Rattle.closure.specs.declared.addition.Reason.{Reason}
 use Rattle.closure.specs.declared.addition.Reason.TheVariants as reason
 use Rattle.closure.specs.declared.clause.Clause.{Clause}
 
--- a list of additions contains a number
+-- one of these additions is that of a number
 abbrev pub IsAdded : List Addition → ℕ → Type 0
 IsAdded xs t = (i : ℕ) × (x : Addition) × (slice_get xs i ≡ Some x) × (x.number ≡ t)
 
--- it contains the number before the index n
+-- one of these additions before the index n is that of a number
 abbrev pub IsAddedBefore : List Addition → ℕ → ℕ → Type 0
 IsAddedBefore xs n t = (i : ℕ) × (x : Addition) × (i < n) × (slice_get xs i ≡ Some x) × (x.number ≡ t)
 
--- The reason why the number n is added, if the numbers that satisfy `there` are added already: n is the seed with
--- an index, or the head of the clause with an index, each number of whose body satisfies `there`.
+-- A reason is one why the number n follows: n is the seed with the reason's index, or it is the head of the clause with
+-- that index, and each number of the clause's body satisfies `there`.
 abbrev pub IsReason : List Clause → List ℕ → (there : ℕ → Type 0) → ℕ → Reason → Type 0
 IsReason clauses seeds there n (reason.Seed i) = slice_get seeds i ≡ Some n
 IsReason clauses seeds there n (reason.Clause p) = (q : Clause) × (slice_get clauses p ≡ Some q) × (q.head ≡ n) × All there q.body
 
--- Each number is added once, and for a reason by the numbers before it.
+-- Each number is added once, with the reason why it follows; a body's numbers are added before the clause's head.
 pub record AreInOrder (clauses : List Clause) (seeds : List ℕ) (xs : List Addition) : Type 0 where
   pub once : (i j : ℕ) (x y : Addition) → slice_get xs i ≡ Some x → slice_get xs j ≡ Some y → x.number ≡ y.number → i ≡ j
   pub reasoned : (i : ℕ) (x : Addition) → slice_get xs i ≡ Some x → IsReason clauses seeds (IsAddedBefore xs i) x.number x.reason

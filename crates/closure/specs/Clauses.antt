@@ -7,7 +7,7 @@ pub record Clauses : Type 0 where
   pub clauses : List Clause
   pub count : ℕ
 
--- each number of a clause is below a number
+-- the head of a clause and the numbers of its body are below a count
 pub record IsClauseBelow (count : ℕ) (q : Clause) : Type 0 where
   pub head : q.head < count
   pub body : All (λ t. t < count) q.body

@@ -1,4 +1,4 @@
--- The clauses with each number in their bodies.
+-- For each number the clauses whose bodies contain it, by their indices.
 use Rattle.std.specs.Prelude.{ℕ, map, ◌≡◌, ◌<◌, List, [], length, slice_index_or, All, Contains}
 use Rattle.std.specs.Global.{Vec}
 use Rattle.closure.specs.Clauses.{IsClauseBelow}
@@ -12,14 +12,15 @@ rows table = map (λ v. v.items) table
 abbrev pub row : List (List ℕ) → ℕ → List ℕ
 row table t = slice_index_or table t []
 
--- The table `new` is `old` with entries for the clause added: each row contains the entries that it had, and
--- any new entry is the clause.
+-- The table `new` is `old` with entries for the clause added: each row contains the entries that it had, and all
+-- entries of `new` are below each number that the clause and all entries of `old` are below.
 pub record AddsClause (clause : ℕ) (old new : List (List ℕ)) : Type 0 where
   pub same : length new ≡ length old
   pub kept : (t p : ℕ) → Contains (row old t) p → Contains (row new t) p
   pub fits : (n : ℕ) → clause < n → ((t : ℕ) → All (λ p. p < n) (row old t)) → (t : ℕ) → All (λ p. p < n) (row new t)
 
--- Each number's row has the clauses whose bodies contain the number, and a list those that have no body.
+-- Each number's row contains the clauses whose bodies contain the number, and `facts` those whose bodies are empty; all
+-- entries are indices of clauses.
 pub record AreWaiting (clauses : List Clause) (uses : List (List ℕ)) (facts : List ℕ) : Type 0 where
   pub below : All (IsClauseBelow (length uses)) clauses
   pub listed : (p t : ℕ) (d : Clause) → p < length clauses → Contains (slice_index_or clauses p d).body t

@@ -18,7 +18,8 @@ use std::marker::Model;
 #[derive(Drop)]
 pub struct Clauses {
     clauses: Vec<Clause>,
-    /// For each number below the count, the indices of the clauses with this number in the body.
+    /// For each number below the count, the indices of the clauses whose bodies contain it: an index
+    /// once for each time that the body contains the number.
     uses: Vec<Vec<usize>>,
     /// The indices of the clauses with an empty body.
     facts: Vec<usize>,
@@ -40,8 +41,8 @@ impl Model for Clauses {
 }
 
 impl Clauses {
-    /// Makes clauses over the numbers below `count`. Takes memory, and time linear in their lengths and
-    /// in `count`. Fails with NoMemory.
+    /// Makes a list of clauses, whose numbers have to be below `count`, ready for searches. Takes memory,
+    /// and time linear in the clauses' lengths and in `count`. Fails with NoMemory.
     pub fn new(alloc: Global, clauses: Vec<Clause>, count: usize) -> Result<Clauses, NoMemory>
         requires { All (IsClauseBelow count) clauses.items }
         ensures { IfOk result (λ c. c ≡ record {
@@ -58,9 +59,9 @@ impl Clauses {
         })
     }
 
-    /// Makes clauses of edges between the numbers below `count`: the numbers that follow are those
-    /// that are reached. Takes memory, and time linear in the number of edges and in `count`. Fails
-    /// with NoMemory.
+    /// Makes one clause of each edge between numbers below `count`: a number follows if it is reached
+    /// from a seed. Takes memory, and time linear in the number of edges and in `count`. Fails with
+    /// NoMemory.
     pub fn of_edges(alloc: Global, edges: &[Edge], count: usize) -> Result<Clauses, NoMemory>
         requires { All (IsEdgeBelow count) edges.now }
         ensures { IfOk result (λ c. c ≡ clauses_of_edges edges.now count) }
@@ -69,7 +70,7 @@ impl Clauses {
         Clauses::new(alloc, clauses, count)
     }
 
-    /// Returns the marks of the numbers that follow from the clauses and seeds, and of no others.
+    /// Returns, for each number below the count, whether it follows from the clauses and the seeds.
     /// Takes memory, and time linear in the lengths of the clauses and the seeds, and in the count.
     /// Fails with NoMemory.
     pub fn closure(&self, alloc: Global, seeds: &[usize]) -> Result<Vec<bool>, NoMemory>
@@ -80,14 +81,16 @@ impl Clauses {
         Ok(self.find(alloc, seeds)?.marks)
     }
 
-    /// Returns the numbers that follow from the clauses and seeds, in the order in which they are
-    /// found: each number once, with the seed or the clause by which it follows, and after all
-    /// numbers of that clause's body; and the marks of these numbers.
+    /// Returns the numbers that follow from the clauses and the seeds, and, for each number below the
+    /// count, whether it follows. Each number that follows is listed once, with the seed or the clause
+    /// by which it follows, and after all numbers of that clause's body.
     ///
-    /// The order is that of a queue: the heads of clauses with an empty body, by their indices; the
-    /// seeds, by theirs; and then, for each number in the queue, the heads of the clauses whose body
-    /// contains it and now follows, by their indices. Takes memory, and time linear in the lengths of
-    /// the clauses and the seeds, and in the count. Fails with NoMemory.
+    /// The list is filled as a queue. First come the heads of the clauses with an empty body, by the
+    /// clauses' indices, and then the seeds, by theirs. For each number of the queue in turn, the clauses
+    /// whose bodies contain it are visited by their indices, and the head of a clause is added if all
+    /// numbers of its body are in the queue. A number that is in the queue is not added again. Takes
+    /// memory, and time linear in the lengths of the clauses and the seeds, and in the count. Fails with
+    /// NoMemory.
     pub fn find(&self, alloc: Global, seeds: &[usize]) -> Result<FoundNumbers, NoMemory>
         requires { All (λ t. t < self.now.count) seeds.now }
         ensures len { IfOk result (λ found. length found.marks.items ≡ self.now.count) }

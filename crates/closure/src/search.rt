@@ -20,8 +20,8 @@ fn is_known(marks: &[bool], number: usize) -> bool
     number < marks.len() && marks[number]
 }
 
-/// Returns the length of the longest prefix of a body whose numbers are marked, if the first `from`
-/// are.
+/// Returns the length of the longest prefix of a body whose numbers are all marked. The first `from`
+/// numbers have to be marked.
 fn known_prefix_len(marks: &[bool], body: &[usize], from: usize) -> usize
     requires within { from ≤ length body.now }
     requires known { list_all (is_marked marks.now) (take from body.now) ≡ true }
@@ -47,14 +47,16 @@ struct Search<'g> {
     marks: Vec<bool>,
     /// The marked numbers, in the order in which they were found.
     added: Vec<Addition>,
-    /// The number of entries of `added` whose clauses have been visited.
+    /// The number of entries of `added` whose clauses have been visited or are being visited: an entry
+    /// is counted before the clauses with its number are visited.
     visited: usize,
     /// For each clause, the length of a prefix of its body whose numbers are known to be marked.
     passed: Vec<usize>,
 }
 
 impl<'g> Search<'g> {
-    /// Advances in the body of a clause past the marked numbers; returns whether all are marked.
+    /// Advances in the body of a clause to its first number that is not marked. Returns whether there
+    /// is none, so that all are marked.
     fn advance(&mut self, clause: usize) -> bool
         requires clause { clause < length self.old.clauses.now }
         requires search { IsSearch self.old.clauses.now self.old.seeds.now self.old.marks.items
@@ -171,9 +173,10 @@ impl<'g> Search<'g> {
     }
 }
 
-/// Returns the numbers that follow from clauses and seeds. `uses` has the indices of the clauses with
-/// each number in their body, and `facts` those of the clauses with an empty body. Takes time linear
-/// in the lengths of the clauses, the seeds and `uses`. Fails with NoMemory.
+/// Returns the numbers that follow from clauses and seeds. `uses` has, for each number below the count,
+/// the indices of the clauses whose bodies contain it, and `facts` those of the clauses with an empty
+/// body. Takes time linear in the lengths of the clauses, the seeds, `uses` and its lists. Fails with
+/// NoMemory.
 pub(crate) fn find<'g>(
     alloc: Global,
     clauses: &'g [Clause],

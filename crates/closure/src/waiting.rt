@@ -1,4 +1,4 @@
-//! The clauses with each number in their bodies, and those with an empty body.
+//! For each number the clauses whose bodies contain it, and the clauses with an empty body.
 ghost use Rattle.std.specs.Prelude.{◌≡◌, ◌<◌, ℕ, [], length, All, Contains, IfOk, OnOk};
 ghost use Rattle.std.specs.Prelude.{slice_index_or};
 ghost use Rattle.closure.specs.Clauses.{IsClauseBelow};

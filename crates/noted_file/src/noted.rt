@@ -1,7 +1,8 @@
-//! A file that records the calls made on it. Each method of `NotedFile` uses the file of the operating
-//! system once, and then adds one entry with the result to the record, but an `open` that fails
-//! makes no record. `read_at` moves the file's position and reads. No clause can say that the file was
-//! used as recorded: a reviewer has to compare the two in each body.
+//! A file that records the calls made on it. Each method of `NotedFile` performs one operation on the
+//! file of the operating system, and then adds one entry with the result to the record; `read_at` moves
+//! the file's position before it reads. An `open` that fails records nothing. One clause says what the
+//! file itself received: `taken` of `append`, where a contract can name the file's bytes. No other clause
+//! can say that an operation was performed as recorded: a reviewer has to compare the two in each body.
 ghost use Rattle.std.specs.Prelude.{◌≡◌, ◌∷◌, true, false, is_ok, length, IfOk, MatchResult, OnOk};
 ghost use Rattle.std.specs.Io.KnownBytes.{Appends};
 ghost use Rattle.noted_file.specs.Calls.{append_event, length_event, open_event, read_event};
@@ -86,8 +87,8 @@ impl<F: Read + Write + Seek + OpenFile> NotedFile<F> {
 
     /// Appends bytes to the file, which has to be open for appending (`OpenOptions::append`): in another
     /// file they would be written at its current position, which `read_at` moves. No clause requires
-    /// that. Fails with the system's error, which is recorded too; a prefix of the bytes may be written
-    /// then, though the record counts none.
+    /// that. Fails with the system's error; a failure is recorded too. The file may then have a prefix of
+    /// the bytes, though a replay of the record adds none of them.
     pub fn append(&mut self, bytes: &[u8]) -> io::Result<()>
         ensures noted { self.new.events
             ≡ append_event (is_ok result) bytes.now ∷ self.old.events }
@@ -101,7 +102,8 @@ impl<F: Read + Write + Seek + OpenFile> NotedFile<F> {
     }
 
     /// Fills `out` with the bytes of the file from offset `at` on. Fails with the system's error, and with
-    /// `UnexpectedEof` if there are fewer bytes; both are recorded too.
+    /// `UnexpectedEof` if there are fewer bytes; a failure is recorded too, with the arbitrary bytes that
+    /// `out` has then.
     pub fn read_at(&mut self, at: u64, out: &mut [u8]) -> io::Result<()>
         ensures noted { self.new.events
             ≡ read_event at (is_ok result) out.new ∷ self.old.events }
