@@ -48,7 +48,7 @@ WholeIsLeast = (g : Grammar) (k : ℕ) (n : Partial) (m : Passes) → Each (IsCo
     → Each (IsNormal g) g.productions → IsMade g k n → ((s : ℕ) → length (m s) ≡ length (symbol_kinds (slice_get g.symbols s)))
     → ((s a : ℕ) → partial_of m s a ≡ n s a) → IsLeast g m
 
--- A least assignment has the fewest passes: the greatest one of a legal assignment is no less than its own.
+-- A least assignment has the fewest passes: the greatest one of a legal assignment is at least its own.
 abbrev pub LeastHasFewest : Type 0
 LeastHasFewest = (g : Grammar) (rows other : List (List ℕ)) (n k : ℕ) → IsLeast g (passes_of rows) → IsLegal g (passes_of other)
     → IsGreatest n rows → IsGreatest k other → n ≤ k

@@ -25,7 +25,7 @@ use ag_grammar::{Direction, Grammar, Production, Symbol};
 use ag_value::{Items, NoMemory};
 use std::alloc::Global;
 
-/// The reasons why there is no assignment.
+/// The reasons why an assignment cannot be made.
 #[derive(Debug, Drop)]
 pub enum AssignFault {
     /// A1: no assignment is legal, with any number of passes.
@@ -233,7 +233,7 @@ pub(crate) fn assign_all(
 /// which is two for each attribute that a grammar may have. There is one row for each symbol, which
 /// has the passes of its attributes.
 ///
-/// Fails with A1 Stuck if there is no legal assignment, with any number of passes. The certificate
+/// Fails with A1 Stuck if no assignment is legal, with any number of passes. The certificate
 /// has exactly the stuck attributes, in declared order: no legal assignment of some attributes gives
 /// them a pass. It shows why they can't have a pass of either direction: it has the strikes of
 /// the last two passes tried, by their directions. Fails with NoMemory if the allocator refuses

@@ -18,8 +18,8 @@ use ag_grammar::{Direction, Grammar, Item, Production, Rule, Target};
 use ag_value::NoMemory;
 use std::alloc::Global;
 
-/// Returns the attribute that an argument of a rule is. `None` if it is no attribute of a symbol, or
-/// is at the target's own child or at one that a pass in the direction visits later.
+/// Returns the attribute that an argument of a rule is. `None` if it is not one of a symbol, or is
+/// at the target's own child or at one that a pass in the direction visits later.
 fn awaited_attribute(
     direction: Direction,
     production: &Production,
@@ -147,8 +147,7 @@ fn chain_in(
 }
 
 impl Strikes {
-    /// Returns the strikes of a pass, numbered from 1; empty if there is no list for it. Does not
-    /// allocate.
+    /// Returns the strikes of a pass, numbered from 1; empty if it has no list. Does not allocate.
     pub fn of_pass(&self, pass: u16) -> &[Strike]
         ensures { result.now ≡ strikes_of self.now.lists pass }
     {
@@ -174,9 +173,11 @@ impl Strikes {
         pass: u16,
         attribute: (u16, u16),
     ) -> Result<Vec<Strike>, NoMemory>
-        ensures chain { IfOk result (λ links. (rows : List (List ℕ)) → AreStrikesOf grammar.now rows self.now.lists
+        ensures chain { IfOk result (λ links. (rows : List (List ℕ))
+            → AreStrikesOf grammar.now rows self.now.lists
             → 1 ≤ pass → HasPassAfter (passes_of rows) pass attribute.0 attribute.1
-            → IsChainOf grammar.now (direction_of pass) (HasPassFrom (passes_of rows) pass) attribute.0 attribute.1 links.items) }
+            → IsChainOf grammar.now (direction_of pass) (HasPassFrom (passes_of rows) pass)
+            attribute.0 attribute.1 links.items) }
     {
         chain_in(
             alloc,

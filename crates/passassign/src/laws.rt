@@ -12,14 +12,14 @@ pub fn members_are_stuck()
     ensures { MembersAreStuck }
 {}
 
-/// If an attribute is stuck there is no legal assignment.
+/// If an attribute is stuck, no assignment is legal.
 #[tactic(auto, using(crate::proofs::making::Whole::stuck_refused))]
 pub fn stuck_is_refused()
     ensures { StuckIsRefused }
 {}
 
-/// If there is a certificate, and each production is complete, there is no legal assignment, with
-/// any number of passes.
+/// If there is a certificate, and each production is complete, no assignment is legal, with any
+/// number of passes.
 #[tactic(auto, using(crate::proofs::making::Whole::certified_refused))]
 pub fn certified_is_refused()
     ensures { CertifiedIsRefused }

@@ -189,7 +189,7 @@ fn after(state: State, pass: u16, is_struck: bool) -> State
     }
 }
 
-/// Returns whether a slot is marked; false if there is no mark for it.
+/// Returns whether a slot is marked; false if it has no mark.
 pub(crate) fn has_mark(marks: &[bool], slot: usize) -> bool
     ensures { result ≡ is_marked marks.now slot }
 {
