@@ -23,11 +23,12 @@ use Rattle.ag_grammar.specs.values.Arguments.{either, truth}
 use Rattle.ag_grammar.specs.values.Arguments.{fault_at, fault_of, fault_or, first_fault, has_fault, leftmost, strict}
 use Rattle.ag_grammar.specs.values.Calls.{binary_call_result, choice_of, chosen_at, put, unary_call_result}
 use Rattle.ag_grammar.specs.values.Fitting.{fit}
-use Rattle.ag_grammar.specs.values.Numbers.{decimal_at, decimal_of, from_numbers, number_at, number_or_fault, number_value, spelled_number}
+use Rattle.ag_grammar.specs.values.Numbers.{decimal_at, decimal_of, from_numbers, number_at, number_or_fault, number_value}
 use Rattle.ag_grammar.specs.values.Tables.{put_result}
 use Rattle.ag_grammar.specs.values.Operators.{operation_result, operator_result}
 use Rattle.ag_grammar.proofs.expressions.Trees.{value-Chain, value-If, value-Let, value-Literal, value-Unary}
-use Rattle.origins.specs.Forms.{AreAlike, CallsBoth, CallsTo, ChoosesTo, Continues, Describes, Holds, IsKnown, IsLike, IsStated, PutsTo}
+use Rattle.origins.specs.Forms.{AreAlike, CallsBoth, CallsTo, ChoosesTo, Continues, Describes, Holds, IsKnown, IsLike, IsStated}
+use Rattle.origins.specs.Forms.{PutsTo}
 use Rattle.origins.specs.Forms.{Reaches, Spells, States, StepsTo}
 use Rattle.origins.specs.declared.forms.Known.{Known}
 use Rattle.origins.specs.declared.forms.Known.TheVariants as known

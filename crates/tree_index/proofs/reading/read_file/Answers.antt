@@ -29,7 +29,8 @@ returns-in_default-clause-indexed g c =
     ∙ ap (λ (n : ℕ). take (n - 1) reading.nodes.items) h.cases.0 in
     let content = g.D.Device.content c.args.device.now in
     IfOk-weaker c.end-in_default.result (λ (index : TreeIndex). index ≡ reading.index)
-    (λ (index : TreeIndex). WhenHonest (g.D.Device.is_honest c.end-in_default.new.device) (IsIndexIn c.args.grammar.now content index))
+    (λ (index : TreeIndex). WhenHonest (g.D.Device.is_honest c.end-in_default.new.device)
+    (IsIndexIn c.args.grammar.now content index))
     (λ index same honest. subst (IsIndexIn c.args.grammar.now content) (sym same)
     (ends_reading c.args.grammar.now content reading.back (reverse reading.nodes.items) reading.index (ap reverse nothing)
     (c.loop-turn.invariant.come (c.end-in_default.ensures.persists.honest honest)))) c.end-in_default.ensures.index

@@ -21,8 +21,8 @@ chain_known-returns t c =
 
 pub known_of-returns-in-Chain : goal.known_of-returns-in-Chain
 known_of-returns-in-Chain t c =
-    let base : ℕ → Value =
-    environment c.args.rule.now (table_of c.args.self.now.grammar.now c.args.self.now.production.now c.args.self.now.values.now) in
+    let row = c.args.self.now in
+    let base : ℕ → Value = environment c.args.rule.now (table_of row.grammar.now row.production.now row.values.now) in
     let first : IsKnown base c.in-Chain.first c.known_of-first.result =
     subst (λ (e : Node). IsKnown base e c.known_of-first.result) c.get.ensures c.known_of-first.ensures in
     let others : Continues base c.known_of-first.result c.in-Chain.others c.chain_known.result =
