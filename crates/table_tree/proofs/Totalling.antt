@@ -1,0 +1,129 @@
+-- The totals of the parts of a table.
+use Rattle.std.proofs.Common.{◌≡◌, ℕ, ◌+◌, ◌<◌, ◌≤◌, List, [], ◌∷◌, ◌++◌, map, refl, ◌∙◌}
+use Rattle.std.proofs.Common.{arith, length-append}
+use Rattle.std.proofs.Common.{true, false, nat_lt, Some, Err}
+use Rattle.std.proofs.lemmas.Bool.{le-ltb, lt-ltb}
+use Rattle.std.proofs.lemmas.List.Sums.{sum_by-cons}
+use Rattle.ag_grammar.specs.values.Fitting.{fit}
+use Rattle.ag_value.specs.declared.value.ErrorCode.TheVariants.{Big, Deep}
+use Rattle.ag_value.specs.declared.value.Value.{Value}
+use Rattle.ag_value.specs.declared.value.Value.TheVariants as v
+use Rattle.ag_value.specs.Measure.{depth_of, weight_of, weight_of_pair, max_value_depth, max_weight}
+use Rattle.ag_value.specs.Well.{IsWell}
+use Rattle.ag_value.proofs.Layers.{depth-Table, weight-Table}
+use Rattle.ag_value.proofs.Weights.{few_pairs}
+use Rattle.table_tree.specs.Entries.{IsEntry}
+use Rattle.table_tree.specs.Putting.{IsLimitFault, IsPut}
+use Rattle.table_tree.specs.declared.putting.PutFault.{PutFault}
+use Rattle.table_tree.specs.declared.putting.PutFault.TheVariants as fault
+use Rattle.table_tree.specs.Totals.{AreJoined, AreSmall, AreTotals}
+use Rattle.table_tree.specs.declared.totals.Totals.{Totals}
+use Rattle.table_tree.proofs.Keys.{Pair}
+use Rattle.table_tree.proofs.Tables.{depth_of_pair, greatest_append, sum_append}
+use Rattle.table_tree.proofs.With.{with_lighter}
+use Rattle.ag_grammar.specs.values.Tables.{with_pair}
+
+-- the totals of the pairs before a pair, of the pair, and of those after it
+pub joined_totals : (before : List Pair) (p : Pair) (after : List Pair) (x y z t : Totals) → AreTotals before x
+    → AreTotals (p ∷ []) y → AreTotals after z → AreJoined x y z t → AreTotals (before ++ p ∷ after) t
+joined_totals before p after x y z t b m a j =
+    let one = sum_by-cons (λ n. n) (weight_of_pair p) (map weight_of_pair after) in
+    let alone = sum_by-cons (λ n. n) (weight_of_pair p) [] in
+    record {
+      pairs_are =
+          j.pairs_are
+          ∙ (let e = length-append before (p ∷ after) in let k = b.pairs_are in let l = m.pairs_are in let n = a.pairs_are in
+          omega arith);
+      bytes_are =
+          j.bytes_are
+          ∙ (let e = sum_append weight_of_pair before (p ∷ after) in let k = b.bytes_are in let l = m.bytes_are in
+          let n = a.bytes_are in omega arith);
+      depth_is =
+          j.depth_is
+          ∙ (let e = greatest_append depth_of_pair before (p ∷ after) in let k = b.depth_is in let l = m.depth_is in
+          let n = a.depth_is in omega arith);
+    }
+
+-- the totals of a well table are within its limits
+pub small : (pairs : List Pair) (t : Totals) → AreTotals pairs t → IsWell (v.Table pairs) → AreSmall t
+small pairs t are well =
+    let shallow = well.shallow in
+    let light = well.light in
+    let n = are.pairs_are in
+    let b = are.bytes_are in
+    let d = are.depth_is in
+    record {
+      few = let e = few_pairs pairs in omega arith;
+      light = let e = weight-Table pairs in omega arith;
+      shallow = let e = depth-Table pairs in omega arith;
+    }
+
+-- the totals of one pair
+pub totals_alone : (p : Pair) (t : Totals) → t.pairs ≡ 1 → t.bytes ≡ weight_of_pair p → t.depth ≡ depth_of p.1
+    → AreTotals (p ∷ []) t
+totals_alone p t n b d = record {
+  pairs_are = n;
+  bytes_are = let e = sum_by-cons (λ n. n) (weight_of_pair p) [] in omega arith;
+  depth_is = omega arith;
+}
+
+-- the totals of a well table in which a key has a value
+pub record AreBounded (totals : Totals) : Type 0 where
+  pub few : totals.pairs ≤ totals.bytes
+  pub light : totals.bytes ≤ 3145732
+
+pub with_bounded : (key : List ℕ) (x : Value) (ps : List Pair) (t a : Totals) → AreTotals (with_pair key x ps) t
+    → AreTotals ((key, x) ∷ []) a → a.bytes ≤ 2097156 → IsWell (v.Table ps) → AreBounded t
+with_bounded key x ps t a are one light well =
+    let n = are.pairs_are in
+    let b = are.bytes_are in
+    let o = one.bytes_are in
+    let alone = sum_by-cons (λ n. n) (weight_of_pair (key, x)) [] in
+    let lighter = with_lighter key x weight_of_pair ps in
+    let whole = well.light in
+    let e = weight-Table ps in
+    record { few = let f = few_pairs (with_pair key x ps) in omega arith; light = omega arith }
+
+-- the encoding of an entry is short
+pub entry_light : (key : List ℕ) (value : Value) (bytes : List ℕ) (depth : ℕ) → IsEntry key value bytes depth
+    → weight_of_pair (key, value) ≤ 2097156
+entry_light key value bytes depth is = let short = is.short in let light = is.well.light in omega arith
+
+-- a table within the limits, or beyond them
+pub fit_deep : (ps : List Pair) (t : Totals) → AreTotals ps t → max_value_depth ≤ t.depth → fit (v.Table ps) ≡ v.Fault Deep
+fit_deep ps t are deep =
+    let d = are.depth_is in
+    let e = depth-Table ps in
+    let over : nat_lt max_value_depth (depth_of (v.Table ps)) ≡ true =
+    lt-ltb max_value_depth (depth_of (v.Table ps)) (omega arith) in
+    rw over refl
+
+pub fit_heavy : (ps : List Pair) (t : Totals) → AreTotals ps t → t.depth < max_value_depth → max_weight < 5 + t.bytes
+    → fit (v.Table ps) ≡ v.Fault Big
+fit_heavy ps t are shallow heavy =
+    let d = are.depth_is in
+    let e = depth-Table ps in
+    let b = are.bytes_are in
+    let w = weight-Table ps in
+    let flat : nat_lt max_value_depth (depth_of (v.Table ps)) ≡ false =
+    le-ltb max_value_depth (depth_of (v.Table ps)) (omega arith) in
+    let over : nat_lt max_weight (weight_of (v.Table ps)) ≡ true = lt-ltb max_weight (weight_of (v.Table ps)) (omega arith) in
+    rw (flat, over) refl
+
+pub fit_within : (ps : List Pair) (t : Totals) → AreTotals ps t → t.depth < max_value_depth → 5 + t.bytes ≤ max_weight
+    → fit (v.Table ps) ≡ v.Table ps
+fit_within ps t are shallow light =
+    let d = are.depth_is in
+    let e = depth-Table ps in
+    let b = are.bytes_are in
+    let w = weight-Table ps in
+    let flat : nat_lt max_value_depth (depth_of (v.Table ps)) ≡ false =
+    le-ltb max_value_depth (depth_of (v.Table ps)) (omega arith) in
+    let under : nat_lt max_weight (weight_of (v.Table ps)) ≡ false = le-ltb max_weight (weight_of (v.Table ps)) (omega arith) in
+    rw (flat, under) refl
+
+pub put_fault : (ps : List Pair) (t : Totals) (f : PutFault) → AreTotals ps t → IsLimitFault t (Some f)
+    → IsPut (fit (v.Table ps)) (Err f)
+put_fault ps t fault.TooDeep are is = fit_deep ps t are is
+put_fault ps t fault.TooHeavy are is = fit_heavy ps t are is.0 is.1
+put_fault ps t fault.NoMemory are is = tt

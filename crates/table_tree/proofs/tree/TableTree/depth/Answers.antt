@@ -1,0 +1,9 @@
+use Rattle.std.proofs.Common.{arith}
+use Rattle.ag_value.proofs.Layers.{depth-Table}
+use Rattle.table_tree.proofs.tree.TableTree.depth.Goals as goal
+
+pub overflow_add-result : goal.overflow_add-result
+overflow_add-result c = let shallow = c.totals.ensures.small.shallow in omega arith
+
+pub returns : goal.returns
+returns c = let deepest = c.totals.ensures.totals.depth_is in let whole = depth-Table c.args.self.now in omega arith

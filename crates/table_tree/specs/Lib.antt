@@ -1,0 +1,6 @@
+pub mod Entries
+pub mod Nodes
+pub mod Pieces
+pub mod Putting
+pub mod Splits
+pub mod Totals

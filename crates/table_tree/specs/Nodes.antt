@@ -1,0 +1,27 @@
+-- The pairs of a tree. All of this is this project's.
+use Rattle.std.specs.Prelude.{◌≡◌, ◌++◌, ◌∷◌, [], ℕ, List, Option, IfSome, map}
+use Rattle.ag_value.specs.Well.{IsWell}
+use Rattle.ag_value.specs.declared.value.Value.{Value}
+use Rattle.ag_value.specs.declared.value.Value.TheVariants as value
+use Rattle.ag_value.specs.Spelling.{joined, spelling_of_pair}
+use Rattle.table_tree.specs.Totals.{AreBytes, AreTotals}
+use Rattle.table_tree.specs.declared.totals.Totals.{Totals}
+use Rattle.table_tree.specs.declared.tree.Node.{Node}
+use Rattle.table_tree.specs.declared.tree.Node.TheVariants.{Leaf, Fork}
+
+-- the pairs in the order of their keys
+abbrev pub pairs_of : Node → List (List ℕ × Value)
+pairs_of Leaf = []
+pairs_of (Fork rc) = rc.value.left ++ rc.value.entry.value ∷ rc.value.right
+
+-- a well table, whose encoding are bytes, its totals, and a block, which is none or the encodings of the pairs
+pub record IsTotalled (pairs : List (List ℕ × Value)) (totals : Totals) (block : Option (List ℕ)) : Type 0 where
+  pub well : IsWell (value.Table pairs)
+  pub are : AreTotals pairs totals
+  pub bytes : AreBytes (joined (map spelling_of_pair pairs))
+  pub block_is : IfSome block (λ encoded. encoded ≡ joined (map spelling_of_pair pairs))
+
+-- the pairs of a fork are a well table, and its totals and its block are theirs
+abbrev pub IsNode : Node → Type 0
+IsNode Leaf = Unit {0}
+IsNode (Fork rc) = IsTotalled (pairs_of (Fork rc)) rc.value.totals rc.value.block

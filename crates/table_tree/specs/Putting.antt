@@ -1,0 +1,24 @@
+-- The result of putting a pair into a table. All of this is this project's.
+use Rattle.std.specs.Prelude.{◌≡◌, ◌+◌, ◌<◌, ◌≤◌, ℕ, List, Option, Some, None, Result, Ok, Err}
+use Rattle.ag_value.specs.Measure.{max_value_depth, max_weight}
+use Rattle.ag_value.specs.declared.value.ErrorCode.TheVariants.{Big, Deep}
+use Rattle.ag_value.specs.declared.value.Value.{Value}
+use Rattle.ag_value.specs.declared.value.Value.TheVariants as value
+use Rattle.table_tree.specs.declared.putting.PutFault.{PutFault}
+use Rattle.table_tree.specs.declared.putting.PutFault.TheVariants as fault
+use Rattle.table_tree.specs.declared.totals.Totals.{Totals}
+
+-- The result is a table, and this table is the expected value; or it is TooDeep or TooHeavy, and the expected value is the
+-- error `deep` or `big`; or memory ran out.
+abbrev pub IsPut : Value → Result (List (List ℕ × Value)) PutFault → Type 0
+IsPut expected (Ok pairs) = expected ≡ value.Table pairs
+IsPut expected (Err fault.TooDeep) = expected ≡ value.Fault Deep
+IsPut expected (Err fault.TooHeavy) = expected ≡ value.Fault Big
+IsPut expected (Err fault.NoMemory) = Unit {0}
+
+-- the limit that a table with these totals exceeds: first that of the depth, then that of the weight
+abbrev pub IsLimitFault : Totals → Option PutFault → Type 0
+IsLimitFault totals None = (totals.depth < max_value_depth) × (5 + totals.bytes ≤ max_weight)
+IsLimitFault totals (Some fault.TooDeep) = max_value_depth ≤ totals.depth
+IsLimitFault totals (Some fault.TooHeavy) = (totals.depth < max_value_depth) × (max_weight < 5 + totals.bytes)
+IsLimitFault totals (Some fault.NoMemory) = ⊥

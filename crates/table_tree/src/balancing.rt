@@ -1,0 +1,106 @@
+//! The balance of a tree: the heights of the two sides of a node differ by at most one. No contract
+//! depends on it.
+
+ghost use Rattle.std.specs.Prelude.{◌≡◌, ◌∷◌, ◌++◌, IfOk};
+ghost use Rattle.ag_value.specs.Well.{IsWell};
+ghost use Rattle.ag_value.specs.declared.value.Value.TheVariants as v;
+
+use crate::entry::Entry;
+use crate::tree::TableTree;
+use ag_value::NoMemory;
+use std::alloc::Global;
+use std::rc::Rc;
+
+/// Returns the table of the pairs of a table, a pair and the pairs of another table. If one side is
+/// higher than the other by two levels, the root is taken from it. Fails with NoMemory.
+pub(crate) fn balanced(
+    alloc: Global,
+    left: TableTree,
+    entry: Rc<Entry>,
+    right: TableTree,
+) -> Result<TableTree, NoMemory>
+    requires { IsWell (v.Table (left ++ entry.value ∷ right)) }
+    ensures { IfOk result (λ table. table ≡ left ++ entry.value ∷ right) }
+{
+    if left.height() > right.height().saturating_add(1) {
+        let left = with_high_left(alloc, left)?;
+        return turned_right(alloc, left, entry, right);
+    }
+    if right.height() > left.height().saturating_add(1) {
+        let right = with_high_right(alloc, right)?;
+        return turned_left(alloc, left, entry, right);
+    }
+    TableTree::fork(alloc, left, entry, right)
+}
+
+/// Returns the same table. If its right side was the higher one, the root is taken from there.
+fn with_high_left(alloc: Global, table: TableTree) -> Result<TableTree, NoMemory>
+    ensures { IfOk result (λ same. same ≡ table) }
+{
+    let Some(root) = table.root() else {
+        return Ok(table);
+    };
+    if root.left.height() >= root.right.height() {
+        return Ok(table);
+    }
+    turned_left(
+        alloc,
+        root.left.share()?,
+        root.entry.clone()?,
+        root.right.share()?,
+    )
+}
+
+/// Returns the same table. If its left side was the higher one, the root is taken from there.
+fn with_high_right(alloc: Global, table: TableTree) -> Result<TableTree, NoMemory>
+    ensures { IfOk result (λ same. same ≡ table) }
+{
+    let Some(root) = table.root() else {
+        return Ok(table);
+    };
+    if root.right.height() >= root.left.height() {
+        return Ok(table);
+    }
+    turned_right(
+        alloc,
+        root.left.share()?,
+        root.entry.clone()?,
+        root.right.share()?,
+    )
+}
+
+/// Returns the table of the pairs of a table, a pair and the pairs of another table, with the root of
+/// the left side as its root. Fails with NoMemory.
+fn turned_right(
+    alloc: Global,
+    left: TableTree,
+    entry: Rc<Entry>,
+    right: TableTree,
+) -> Result<TableTree, NoMemory>
+    requires { IsWell (v.Table (left ++ entry.value ∷ right)) }
+    ensures { IfOk result (λ table. table ≡ left ++ entry.value ∷ right) }
+{
+    let Some(root) = left.root() else {
+        return TableTree::fork(alloc, left, entry, right);
+    };
+    let lower = TableTree::fork(alloc, root.right.share()?, entry, right)?;
+    TableTree::fork(alloc, root.left.share()?, root.entry.clone()?, lower)
+}
+
+/// Returns the table of the pairs of a table, a pair and the pairs of another table, with the root of
+/// the right side as its root. Fails with NoMemory.
+fn turned_left(
+    alloc: Global,
+    left: TableTree,
+    entry: Rc<Entry>,
+    right: TableTree,
+) -> Result<TableTree, NoMemory>
+    requires { IsWell (v.Table (left ++ entry.value ∷ right)) }
+    ensures { IfOk result (λ table. table ≡ left ++ entry.value ∷ right) }
+{
+    let Some(root) = right.root() else {
+        return TableTree::fork(alloc, left, entry, right);
+    };
+    let lower = TableTree::fork(alloc, left, entry, root.left.share()?)?;
+    TableTree::fork(alloc, lower, root.entry.clone()?, root.right.share()?)
+}

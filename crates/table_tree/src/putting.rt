@@ -1,0 +1,115 @@
+//! Tables with one more pair, or with another value for a key.
+
+ghost use Rattle.std.specs.Prelude.{◌≡◌, ◌≤◌, length, true, IfOk};
+ghost use Rattle.ag_grammar.specs.values.Fitting.{fit};
+ghost use Rattle.ag_grammar.specs.values.Tables.{with_pair};
+ghost use Rattle.ag_value.specs.Measure.{max_weight};
+ghost use Rattle.ag_value.specs.Well.{IsWell, is_item};
+ghost use Rattle.ag_value.specs.declared.value.Value.TheVariants as v;
+ghost use Rattle.table_tree.specs.Putting.{IsLimitFault, IsPut};
+ghost use Rattle.table_tree.specs.Totals.{AreTotals};
+ghost use Rattle.table_tree.specs.declared.putting.PutFault.TheVariants as put_fault;
+
+use crate::balancing::balanced;
+use crate::entry::Entry;
+use crate::totals::Totals;
+use crate::tree::TableTree;
+use ag_value::{MAX_VALUE_DEPTH, MAX_WEIGHT, NoMemory, OutOfMemory, Text, Value};
+use std::alloc::Global;
+use std::cmp::Ordering;
+use std::rc::Rc;
+
+/// The reasons why a pair can't be put into a table.
+#[derive(Clone, Copy, Debug, PartialEq, Eq)]
+pub enum PutFault {
+    /// The depth of the table would exceed 64.
+    TooDeep,
+    /// The weight of the table would exceed 1,048,576.
+    TooHeavy,
+    /// The allocator refused memory, or a node has 2^64 - 1 owners.
+    NoMemory,
+}
+
+impl<M: OutOfMemory> From<M> for PutFault {
+    ghost from_gives = { λ _ e. e ≡ put_fault.NoMemory };
+
+    fn from(_error: M) -> PutFault {
+        PutFault::NoMemory
+    }
+}
+
+impl TableTree {
+    /// Returns the table in which a key has a value, and all other pairs are those of this table. Takes
+    /// time and memory that grow with the logarithm of the number of pairs, and shares the other nodes.
+    /// Fails with TooDeep or TooHeavy if the result exceeds the limits of well values, and with NoMemory.
+    pub fn put(&self, alloc: Global, key: &str, value: Value) -> Result<TableTree, PutFault>
+        requires short { length key.now ≤ max_weight }
+        requires well { IsWell value }
+        requires item { is_item value ≡ true }
+        ensures { IsPut (fit (v.Table (with_pair key.now value self.now))) result }
+    {
+        let entry = Entry::new(alloc, Text::from_str(alloc, key)?, value)?;
+        let entry = Rc::new(alloc, entry)?;
+        if let Some(fault) = limit_fault(self.totals_with(entry.as_ref())) {
+            return Err(fault);
+        }
+        let table = self.with_entry(alloc, entry)?;
+        Ok(table)
+    }
+
+    /// Returns the totals of the table in which the key of an entry has its value.
+    fn totals_with(&self, entry: &Entry) -> Totals
+        ensures totals { AreTotals (with_pair entry.now.0 entry.now.1 self.now) result }
+        ensures well { IsWell (v.Table self.now) }
+    {
+        let added = entry.totals();
+        let Some(root) = self.root() else {
+            return added;
+        };
+        let (left, own, right) = (root.left, root.entry.totals(), root.right);
+        match entry.key().cmp(root.entry.key()) {
+            Ordering::Less => Totals::joined(left.totals_with(entry), own, right.totals()),
+            Ordering::Equal => Totals::joined(left.totals(), added, right.totals()),
+            Ordering::Greater => Totals::joined(left.totals(), own, right.totals_with(entry)),
+        }
+    }
+
+    /// Returns the table in which the key of an entry has its value. Fails with NoMemory.
+    fn with_entry(&self, alloc: Global, entry: Rc<Entry>) -> Result<TableTree, NoMemory>
+        requires { IsWell (v.Table (with_pair entry.value.0 entry.value.1 self.now)) }
+        ensures { IfOk result (λ table. table ≡ with_pair entry.value.0 entry.value.1 self.now) }
+    {
+        let Some(root) = self.root() else {
+            return TableTree::fork(alloc, TableTree::new(), entry, TableTree::new());
+        };
+        match entry.key().cmp(root.entry.key()) {
+            Ordering::Less => {
+                let left = root.left.with_entry(alloc, entry)?;
+                balanced(alloc, left, root.entry.clone()?, root.right.share()?)
+            }
+            Ordering::Equal => TableTree::fork(
+                alloc,
+                root.left.share()?,
+                entry,
+                root.right.share()?,
+            ),
+            Ordering::Greater => {
+                let right = root.right.with_entry(alloc, entry)?;
+                balanced(alloc, root.left.share()?, root.entry.clone()?, right)
+            }
+        }
+    }
+}
+
+/// Returns the limit of well values that a table with these totals exceeds, if there is one.
+fn limit_fault(totals: Totals) -> Option<PutFault>
+    ensures { IsLimitFault totals result }
+{
+    if totals.depth >= MAX_VALUE_DEPTH {
+        return Some(PutFault::TooDeep);
+    }
+    if totals.bytes as u64 > MAX_WEIGHT - 5 {
+        return Some(PutFault::TooHeavy);
+    }
+    None
+}

@@ -1,0 +1,87 @@
+//! Tests of what no clause says: that each call succeeds, and the balance.
+
+use crate::{PutFault, TableTree};
+use ag_value::{Items, NoMemory, Text, Value};
+use std::alloc::{AllocError, Global};
+use std::test::Fail;
+
+/// Puts a number at a key of four hexadecimal digits.
+fn with_number(alloc: Global, table: &TableTree, key: u32) -> Result<TableTree, PutFault> {
+    let key = format!(in alloc; "{key:04x}")?;
+    if key.len() > 100 {
+        return Err(PutFault::TooHeavy);
+    }
+    table.put(alloc, key.as_str(), Value::Num(7))
+}
+
+/// Returns the table of some keys, put in this order.
+fn table_of(alloc: Global, keys: &[u32]) -> Result<TableTree, PutFault> {
+    let mut table = TableTree::new();
+    for key in keys {
+        table = with_number(alloc, &table, *key)?;
+    }
+    Ok(table)
+}
+
+/// Returns the flat copy of a table as a tree.
+fn rebuilt(alloc: Global, table: &TableTree) -> Result<TableTree, NoMemory> {
+    let _weight = table.weight();
+    TableTree::from_table(alloc, table.to_table(alloc)?)
+}
+
+#[test]
+fn a_table_has_what_was_put(rt: HostRuntime) -> Result<(), PutFault> {
+    let alloc = rt.alloc();
+    let table = table_of(alloc, &[5, 1, 3, 5])?;
+    assert_eq!(rt; (table.len(), table.weight(), table.depth()), (3, 56, 1));
+    assert!(rt; table.has("0003") && !table.has("0004"));
+    assert!(rt; matches!(table.get("0005"), Some(Value::Num(7))));
+    assert!(rt; table.get("0002").is_none());
+    let Some(first) = table.entry_at(0) else {
+        return Err(PutFault::TooDeep);
+    };
+    assert_eq!(rt; first.key(), "0001");
+    assert!(rt; table.entry_at(3).is_none());
+    assert_eq!(rt; table.keys(alloc)?.as_slice().len(), 3);
+    Ok(())
+}
+
+#[test]
+fn an_encoding_is_that_of_the_flat_table(rt: HostRuntime) -> Result<(), PutFault> {
+    let alloc = rt.alloc();
+    let table = table_of(alloc, &[0xb, 0xa])?;
+    let mut bytes = Vec::new(alloc);
+    table.append_encoding(&mut bytes)?;
+    let expected =
+        b"\x03\0\0\0\x02\0\0\0\x04000a\0\0\0\0\0\0\0\0\x07\0\0\0\x04000b\0\0\0\0\0\0\0\0\x07";
+    assert!(rt; bytes.as_slice() == expected.as_slice());
+    Ok(())
+}
+
+#[test]
+fn other_versions_stay(rt: HostRuntime) -> Result<(), PutFault> {
+    let alloc = rt.alloc();
+    let old = table_of(alloc, &[1, 2])?;
+    let new = with_number(alloc, &old, 3)?;
+    assert!(rt; !old.has("0003") && new.has("0003"));
+    assert!(rt; !old.same(&new) && new.same(&rebuilt(alloc, &new)?) && old.same(&old.share()?));
+    Ok(())
+}
+
+#[test]
+fn trees_are_balanced(rt: HostRuntime) -> Result<(), PutFault> {
+    let alloc = rt.alloc();
+    let count = 4096u32;
+    let mut up = TableTree::new();
+    let mut down = TableTree::new();
+    let mut mixed = TableTree::new();
+    for key in 0..count {
+        up = with_number(alloc, &up, key)?;
+        down = with_number(alloc, &down, count.saturating_sub(key))?;
+        mixed = with_number(alloc, &mixed, key.wrapping_mul(2_654_435_769) % 65_536)?;
+    }
+    // 1.45 times the binary logarithm of 4098 is 17.4
+    assert!(rt; up.height() <= 17 && down.height() <= 17 && mixed.height() <= 17);
+    assert_eq!(rt; rebuilt(alloc, &mixed)?.height(), 13);
+    Ok(())
+}

@@ -1,0 +1,30 @@
+//! The totals of the pairs of a table.
+
+ghost use Rattle.std.specs.Prelude.{◌+◌, ◌<◌, ◌^◌};
+ghost use Rattle.table_tree.specs.Totals.{AreJoined};
+
+/// The totals of some pairs.
+#[derive(Clone, Copy, Debug)]
+pub(crate) struct Totals {
+    /// The number of pairs.
+    pub pairs: u32,
+    /// The number of bytes of their encodings.
+    pub bytes: u32,
+    /// The greatest depth of their values, 0 if there is no pair.
+    pub depth: u32,
+}
+
+impl Totals {
+    /// Returns the totals of pairs, one pair and further pairs, from the totals of each.
+    pub fn joined(before: Totals, pair: Totals, after: Totals) -> Totals
+        requires pairs { before.pairs + pair.pairs + after.pairs < 2 ^ 32 }
+        requires bytes { before.bytes + pair.bytes + after.bytes < 2 ^ 32 }
+        ensures { AreJoined before pair after result }
+    {
+        Totals {
+            pairs: before.pairs + pair.pairs + after.pairs,
+            bytes: before.bytes + pair.bytes + after.bytes,
+            depth: before.depth.max(pair.depth).max(after.depth),
+        }
+    }
+}

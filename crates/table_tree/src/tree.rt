@@ -1,0 +1,252 @@
+//! Tables as persistent balanced trees.
+
+ghost use Rattle.std.specs.Prelude.{◌≡◌, ◌∷◌, ◌++◌, [], length, map, IfOk, IfSome, MatchOption};
+ghost use Rattle.ag_value.specs.Measure.{depth_of, weight_of};
+ghost use Rattle.ag_value.specs.Spelling.{joined, spelling_of_pair};
+ghost use Rattle.ag_value.specs.Well.{IsWell};
+ghost use Rattle.ag_value.specs.declared.value.Value.TheVariants as v;
+ghost use Rattle.table_tree.specs.Splits.{IsSplit};
+ghost use Rattle.table_tree.specs.Totals.{AreBytes, AreSmall, AreTotals};
+
+use crate::entry::Entry;
+use crate::totals::Totals;
+use ag_value::{Items, NoMemory};
+use std::alloc::Global;
+use std::fmt;
+use std::marker::Model;
+use std::rc::Rc;
+
+/// The least and the greatest number of bytes of a block.
+const MIN_BLOCK: usize = 128;
+
+const MAX_BLOCK: usize = 512;
+
+/// A well table: its pairs in the order of their keys, as a balanced tree whose nodes have several
+/// owners. Contracts see the list of the pairs. A table made of another shares all nodes with it but
+/// those on the way to one key.
+#[cycle(tree)]
+#[derive(Drop)]
+pub struct TableTree {
+    node: Node,
+}
+
+/// What a tree consists of.
+#[cycle(tree)]
+#[derive(Drop)]
+enum Node {
+    Leaf,
+    Fork(Rc<Branch>),
+}
+
+/// A pair between the pairs before it and those after it.
+#[cycle(tree)]
+#[derive(Drop)]
+struct Branch {
+    left: TableTree,
+    entry: Rc<Entry>,
+    right: TableTree,
+    /// The totals of all these pairs.
+    totals: Totals,
+    /// The number of nodes on the longest way down from this one, itself included.
+    height: u8,
+    /// The encodings of all these pairs, if they have at least 128 and at most 512 bytes.
+    block: Option<Items<u8>>,
+}
+
+impl Model for TableTree {
+    ghost use Rattle.std.specs.Prelude.{ℕ, List, length};
+    ghost use Rattle.std.specs.Coded.{codes};
+    ghost use Rattle.ag_value.specs.declared.value.Value.{Value as AttributeValue};
+    ghost use Rattle.ag_value.specs.contracts.value.Value as value_row;
+
+    ghost Value = { List (List ℕ × AttributeValue) };
+
+    ghost coded = { Prim.hlevel (codes, value_row.the_row.coded) };
+
+    ghost use Rattle.table_tree.specs.Nodes.{IsNode, pairs_of};
+
+    ghost view = { λ t. pairs_of t.node };
+
+    ghost invariant = { λ t. IsNode t.node };
+
+    ghost size = { length };
+
+    ghost use Rattle.std.proofs.Common.{arith, length-append};
+
+    ghost size_decreases = { λ t h. Prim.grind (arith, length-append) };
+}
+
+impl fmt::Debug for TableTree {
+    fn fmt<W: fmt::Write>(&self, f: &mut fmt::Formatter<W>) -> fmt::Result {
+        f.debug_struct("TableTree")
+            .field("len", &self.len())
+            .finish()
+    }
+}
+
+/// The root of a tree that is not empty: a pair, and the trees of the pairs before and after it.
+#[derive(Clone, Copy)]
+pub(crate) struct Root<'a> {
+    pub left: &'a TableTree,
+    pub entry: &'a Rc<Entry>,
+    pub right: &'a TableTree,
+}
+
+impl TableTree {
+    /// Returns the empty table. Takes no memory.
+    pub fn new() -> TableTree
+        ensures { result ≡ [] }
+    {
+        TableTree { node: Node::Leaf }
+    }
+
+    /// Returns the same table for one more owner, in constant time. Takes no memory. Fails with NoMemory
+    /// if the table has 2^64 - 1 owners.
+    pub fn share(&self) -> Result<TableTree, NoMemory>
+        ensures { IfOk result (λ table. table ≡ self.now) }
+    {
+        match &self.node {
+            Node::Leaf => Ok(TableTree::new()),
+            Node::Fork(branch) => Ok(TableTree {
+                node: Node::Fork(branch.clone()?),
+            }),
+        }
+    }
+
+    /// Returns the number of pairs. Takes constant time.
+    pub fn len(&self) -> usize
+        ensures { result ≡ length self.now }
+    {
+        self.totals().pairs as usize
+    }
+
+    /// Returns the weight of the table, which is the length of its encoding in bytes. Takes constant
+    /// time.
+    pub fn weight(&self) -> u64
+        ensures weight { result ≡ weight_of (v.Table self.now) }
+        ensures well { IsWell (v.Table self.now) }
+    {
+        5 + self.totals().bytes as u64
+    }
+
+    /// Returns the depth of the table. Takes constant time.
+    pub fn depth(&self) -> u32
+        ensures { result ≡ depth_of (v.Table self.now) }
+    {
+        1 + self.totals().depth
+    }
+
+    /// Returns the totals of all pairs.
+    #[inline(always)]
+    pub(crate) fn totals(&self) -> Totals
+        ensures totals { AreTotals self.now result }
+        ensures small { AreSmall result }
+        ensures well { IsWell (v.Table self.now) }
+        ensures bytes { AreBytes (joined (map spelling_of_pair self.now)) }
+    {
+        match &self.node {
+            Node::Leaf => Totals {
+                pairs: 0,
+                bytes: 0,
+                depth: 0,
+            },
+            Node::Fork(branch) => branch.as_ref().totals,
+        }
+    }
+
+    /// Returns the number of levels, which is meant to be at most 1.45 times the binary logarithm of the
+    /// number of pairs plus 2. No contract says so.
+    pub fn height(&self) -> u8 {
+        match &self.node {
+            Node::Leaf => 0,
+            Node::Fork(branch) => branch.as_ref().height,
+        }
+    }
+
+    /// Returns the encodings of all pairs, one after the other, if they are stored together.
+    #[inline(always)]
+    pub(crate) fn block(&self) -> Option<&[u8]>
+        ensures bytes { IfSome result (λ bytes. bytes.now ≡ joined (map spelling_of_pair self.now)) }
+        ensures well { IfSome result (λ _. IsWell (v.Table self.now)) }
+    {
+        match &self.node {
+            Node::Leaf => None,
+            Node::Fork(branch) => match &branch.as_ref().block {
+                Some(block) => Some(block.as_slice()),
+                None => None,
+            },
+        }
+    }
+
+    /// Returns the root, or `None` if the table is empty.
+    #[inline(always)]
+    pub(crate) fn root(&self) -> Option<Root<'_>>
+        ensures { MatchOption result (self.now ≡ []) (λ root.
+            IsSplit self.now root.left.now root.entry.now.value root.right.now) }
+    {
+        match &self.node {
+            Node::Leaf => None,
+            Node::Fork(branch) => {
+                let branch = branch.as_ref();
+                Some(Root {
+                    left: &branch.left,
+                    entry: &branch.entry,
+                    right: &branch.right,
+                })
+            }
+        }
+    }
+
+    /// Returns the table of the pairs of a table, a pair and the pairs of another table. Takes memory for
+    /// one node. Fails with NoMemory.
+    pub(crate) fn fork(
+        alloc: Global,
+        left: TableTree,
+        entry: Rc<Entry>,
+        right: TableTree,
+    ) -> Result<TableTree, NoMemory>
+        requires { IsWell (v.Table (left ++ entry.value ∷ right)) }
+        ensures { IfOk result (λ table. table ≡ left ++ entry.value ∷ right) }
+    {
+        let totals = Totals::joined(left.totals(), entry.as_ref().totals(), right.totals());
+        let height = left.height().max(right.height()).saturating_add(1);
+        let block = block_of(alloc, &left, entry.as_ref(), &right, totals)?;
+        let branch = Rc::new(
+            alloc,
+            Branch {
+                left,
+                entry,
+                right,
+                totals,
+                height,
+                block,
+            },
+        )?;
+        Ok(TableTree {
+            node: Node::Fork(branch),
+        })
+    }
+}
+
+/// Returns the encodings of the pairs of a table, of a pair and of the pairs of another table, if they
+/// have the length of a block. Takes memory for them. Fails with NoMemory.
+fn block_of(
+    alloc: Global,
+    left: &TableTree,
+    entry: &Entry,
+    right: &TableTree,
+    totals: Totals,
+) -> Result<Option<Items<u8>>, NoMemory>
+    ensures { IfOk result (λ block. IfSome block (λ bytes.
+        bytes ≡ joined (map spelling_of_pair (left.now ++ entry.now ∷ right.now)))) }
+{
+    let len = totals.bytes as usize;
+    if len < MIN_BLOCK || len > MAX_BLOCK {
+        return Ok(None);
+    }
+    let mut bytes = Vec::with_capacity(alloc, len)?;
+    left.append_pairs(&mut bytes)?;
+    bytes.extend_from_slice(entry.bytes())?;
+    right.append_pairs(&mut bytes)?;
+    Ok(Some(Items::from_vec(bytes)))
+}
