@@ -98,7 +98,7 @@ fn grown(alloc: Global, count: u32, expr: &Expr, first: Carried) -> Result<Carri
     Ok(value)
 }
 
-/// Reads `COUNT STEP & END`, evaluates STEP so many times from the value `first` on, as `grown` does, then END
+/// Reads `COUNT STEP & END`, evaluates STEP COUNT times from the value `first` on, as `grown` does, then END
 /// once, and shows its value. Fails with `Unfit` if `first` is not well or one of the two isn't an expression.
 pub fn grow_answer(alloc: Global, rest: &str, first: &Value) -> Result<String, Mistake> {
     let (count, texts) = first_word(rest);
