@@ -16,13 +16,14 @@ pub fn each_sentence_has_an_answer()
     ensures { AnAnswer }
 {}
 
-/// States that `iffy if` is a name and then the literal, with the literal `if` and names.
+/// Worked example: with the literal `if` and names, the tokens of `iffy if` are a name and then the
+/// literal.
 #[tactic(auto, using(crate::proofs::Examples::longest_wins))]
 pub fn the_longest_word_wins()
     ensures { LongestWins }
 {}
 
-/// States that no token is at the offset 1 of `12`, if the only word is the literal `1`.
+/// Worked example: if the only word is the literal `1`, no token begins at the offset 1 of `12`.
 #[tactic(auto, using(crate::proofs::Examples::unused_is_none))]
 pub fn a_class_that_is_not_in_use_has_no_words()
     ensures { UnusedIsNone }

@@ -9,15 +9,15 @@ use Rattle.ag_text.specs.Reading.{grammar_of}
 use Rattle.ag_text.specs.declared.stop.Stop.TheVariants.{WrongAt}
 use Rattle.ag_text.specs.Syntax.{IsGrammar}
 
--- The parser returns a grammar for tokens, read to their end, if and only if the syntax relates the tokens to
--- the grammar.
+-- The reading function of grammars (`grammar_of`) returns a grammar for all tokens of a text if and only if the
+-- syntax relates these tokens to the grammar.
 abbrev pub ReadingAgrees : Type 0
 ReadingAgrees = (at : ℕ) (placed : List PlacedToken) (raw : RawGrammar)
     → (grammar_of (record { left = placed; ending = ending.EndsAt at }) ≡ Ok
     (raw, record { left = []; ending = ending.EndsAt at })) ↔ IsGrammar placed raw
 
--- Outside of expressions, the parser rejects tokens that are not a grammar at the first token that cannot be
--- accepted.
+-- Outside of expressions, the reading function of grammars rejects tokens that are not a grammar at the first
+-- token that cannot be accepted.
 abbrev pub RefusesAtTheFirst : Type 0
 RefusesAtTheFirst = (i : Input) (at : ℕ) → grammar_of i ≡ Err (WrongAt at) → IsFirstWrong i at
 

@@ -11,13 +11,15 @@ use Rattle.ag_text.specs.Syntax.{IsGrammar}
 abbrev pub Begins : List PlacedToken → Type 0
 Begins ps = (more : List PlacedToken) × (raw : RawGrammar) × IsGrammar (ps ++ more) raw
 
--- no grammar continues with the next token, at any offset, or ends with the text if that ends here
+-- No grammar's text begins with the tokens `ps` and then the next token. If there is no next token because the
+-- text ends, `ps` alone are not a grammar. If there is none for another reason (characters that begin no token, or
+-- a number above its limit), nothing is stated.
 abbrev pub NoneGoesOn : List PlacedToken → Ending → List PlacedToken → Type 0
 NoneGoesOn ps e [] = (at : ℕ) → e ≡ ending.EndsAt at → (raw : RawGrammar) → IsGrammar ps raw → ⊥
 NoneGoesOn ps e (p ∷ rest) = Begins (ps ++ p ∷ []) → ⊥
 
--- The offset is that of the first token of `rest`: the tokens before it are a prefix of the text of a
--- grammar, and no grammar continues with this token.
+-- The offset is that of the first token of `rest`, or the one where the tokens end if `rest` is empty. The tokens
+-- before it are a prefix of the text of a grammar, and no grammar continues with this token, or ends there.
 pub record IsFirstWrong (i : Input) (at : ℕ) : Type 0 where
   pub before : List PlacedToken
   pub rest : List PlacedToken

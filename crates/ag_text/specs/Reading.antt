@@ -1,5 +1,5 @@
--- The parser of grammars as a plain function on tokens with offsets: it returns a result and the remaining
--- input, or a fault.
+-- The reading function of grammars: their parser as a plain function on tokens with offsets. It returns a result
+-- and the remaining input, or a fault.
 use Rattle.std.specs.Prelude.{ℕ, Bool, true, false, not, List, [], ◌∷◌, Option, Result, Ok, Err, codes}
 use Rattle.ag_expr.specs.declared.fault.ExprFault.{ExprFault}
 use Rattle.ag_grammar.specs.declared.syntax.node.Node.{Node}

@@ -28,10 +28,11 @@ pub enum Expected {
 /// The signs and reserved names of a grammar outside of names, items and rules.
 const SIGNS: [&str; 9] = ["=", "{", "}", ",", ";", "start", "symbol", "syn", "inh"];
 
-/// Returns what could be at the offset of this fault instead of the token there. Tries each
-/// candidate after the text before the offset, so it parses that a few times. Returns an empty list
-/// for faults other than G2 and G3 with X2, and if no level of expressions is left. Fails with
-/// `NoMemory` if memory runs out.
+/// Returns what could be at the offset of this fault instead of the token there. For each of about 13
+/// candidates it parses the text before the offset with that candidate at its end: the whole text for
+/// G2, and only that of the expression for G3. Returns an empty list for faults other than G2 and G3
+/// with X2. If the expression has no level left at the offset, the list has no operand, but it may have
+/// a `]`. Fails with `NoMemory` if memory runs out.
 pub fn expected_at(alloc: Global, text: &str, fault: TextFault) -> Result<Vec<Expected>, NoMemory> {
     match fault {
         TextFault::Unexpected(_, at) => expected_outside(alloc, text, at),

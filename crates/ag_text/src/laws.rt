@@ -7,15 +7,16 @@ ghost use Rattle.ag_text.specs.Laws.{OneGrammar, ReadingAgrees, RefusesAtTheFirs
 ghost use Rattle.ag_text.specs.Syntax.{IsGrammar};
 ghost use Rattle.ag_text.specs.Worked.{constant, constant_tokens, start_alone};
 
-/// States that the parser returns a grammar for tokens, read to their end, if and only if the
-/// syntax relates the tokens to the grammar.
+/// States that the reading function of grammars (`grammar_of` of the specification, which
+/// `read_grammar` agrees with) returns a grammar for all tokens of a text if and only if the syntax
+/// relates these tokens to the grammar.
 #[tactic(auto, using(crate::proofs::Agree::reading_agrees))]
 pub fn reading_agrees_with_the_syntax()
     ensures { ReadingAgrees }
 {}
 
-/// States that, outside of expressions, the parser fails at the first token that cannot be
-/// accepted.
+/// States that, outside of expressions, the reading function of grammars fails at the first token that
+/// cannot be accepted.
 #[tactic(auto, using(crate::proofs::Agree::refuses_at_the_first))]
 pub fn the_first_wrong_token_is_reported()
     ensures { RefusesAtTheFirst }

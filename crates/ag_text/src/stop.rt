@@ -10,7 +10,8 @@ use ag_value::OutOfMemory;
 /// Why the parser of grammars fails. Offsets are in bytes from the beginning of the text.
 #[derive(Clone, Copy, Debug, PartialEq, Eq)]
 pub enum Stop {
-    /// The token at this offset cannot be accepted, or the text ends there.
+    /// The token at this offset cannot be accepted; or the text ends there; or no token begins there; or
+    /// the number there is above its limit. `TextFault::Unexpected` is the same fault with its line.
     WrongAt(usize),
     /// The expression of a rule has this fault.
     InExpr(ExprFault),
@@ -18,7 +19,7 @@ pub enum Stop {
     NoMemory,
 }
 
-/// Returns the fault of the grammar's parser for a fault of an expression.
+/// Returns the fault of the parser of grammars for a fault of an expression.
 pub fn in_expr(fault: ExprFault) -> Stop
     ensures { result ≡ stop_of fault }
 {

@@ -31,7 +31,7 @@ fn is_reserved(name: &str) -> bool
         || name == "TEXT"
 }
 
-/// Returns the fault for the next token, or for the place where the tokens end.
+/// Returns `WrongAt` with the offset of the next token, or with that where the tokens end.
 pub fn refusal(cursor: &Cursor<'_>) -> Stop
     ensures { result ≡ stop.WrongAt (offset cursor.now) }
 {
@@ -75,7 +75,7 @@ pub fn sees_any(cursor: &Cursor<'_>) -> bool
     cursor.peek().is_some()
 }
 
-/// Reads this punctuation. Fails with `refusal` if the next token is another one.
+/// Reads this punctuation. Fails with `WrongAt` if the next token is another one or there is none.
 pub fn expect(cursor: &mut Cursor<'_>, mark: Punctuation) -> Result<(), Stop>
     ensures { Reads (reading.expect mark) cursor.old result cursor.new }
 {
@@ -88,7 +88,7 @@ pub fn expect(cursor: &mut Cursor<'_>, mark: Punctuation) -> Result<(), Stop>
     }
 }
 
-/// Reads this reserved name. Fails with `refusal` if the next token is another one.
+/// Reads this reserved name. Fails with `WrongAt` if the next token is another one or there is none.
 pub fn expect_word(cursor: &mut Cursor<'_>, word: &str) -> Result<(), Stop>
     ensures { Reads (reading.expect_word word.now) cursor.old result cursor.new }
 {
@@ -101,15 +101,15 @@ pub fn expect_word(cursor: &mut Cursor<'_>, word: &str) -> Result<(), Stop>
     }
 }
 
-/// Returns a copy of a text. Fails with `NoMemory`.
+/// Returns a copy of a text. Fails with `NoMemory` if memory runs out.
 fn copy_of(alloc: Global, text: &str) -> Result<Text, NoMemory>
     ensures { IfOk result (λ copy. copy ≡ text.now) }
 {
     Ok(Text::from_string(String::from_str(alloc, text)?))
 }
 
-/// Reads a name that is not reserved, and returns it with its offset. Fails with `refusal` if the next
-/// token is another one.
+/// Reads a name that is not reserved, and returns it with its offset in bytes. Fails with `WrongAt` if
+/// the next token is not such a name or there is none, and with `NoMemory` if memory runs out.
 pub fn name(alloc: Global, cursor: &mut Cursor<'_>) -> Result<Named, Stop>
     ensures { Reads (reading.one_from meanings.name_in) cursor.old result cursor.new }
 {
@@ -160,7 +160,7 @@ fn is_literal(text: &str) -> bool
 }
 
 /// Returns the item for the body of a text literal in a right side, or `None` if its text is empty or
-/// contains a separator.
+/// contains a separator. Fails with `NoMemory` if memory runs out.
 fn literal(alloc: Global, body: &str) -> Result<Option<RawItem>, NoMemory>
     ensures { IfOk result (λ found. found
         ≡ meanings.literal_of (unescaped_bytes (chars body.now))) }
@@ -172,7 +172,8 @@ fn literal(alloc: Global, body: &str) -> Result<Option<RawItem>, NoMemory>
     Ok(None)
 }
 
-/// Returns the item for a name: a class or a symbol's name; `None` for another reserved name.
+/// Returns the item for a name at the byte offset `at`: a class or a symbol's name; `None` for another
+/// reserved name. Fails with `NoMemory` if memory runs out.
 fn named_item(alloc: Global, name: &str, at: usize) -> Result<Option<RawItem>, NoMemory>
     ensures { IfOk result (λ found. found ≡ meanings.item_in at (token.Name name.now)) }
 {
@@ -186,7 +187,8 @@ fn named_item(alloc: Global, name: &str, at: usize) -> Result<Option<RawItem>, N
     Ok(Some(RawItem::Name(Named { name, at })))
 }
 
-/// Returns the item of a right side for a token, or `None` if the token cannot be one.
+/// Returns the item of a right side for a token at the byte offset `at`, or `None` if the token cannot
+/// be one. Fails with `NoMemory` if memory runs out.
 fn item_of(alloc: Global, token: GrammarToken<'_>, at: usize) -> Result<Option<RawItem>, NoMemory>
     ensures { IfOk result (λ found. found ≡ meanings.item_in at (token_of token.entry)) }
 {
@@ -197,8 +199,8 @@ fn item_of(alloc: Global, token: GrammarToken<'_>, at: usize) -> Result<Option<R
     }
 }
 
-/// Reads an item of a right side: a class, a name or a literal. Fails with `refusal` if the next
-/// token is not one.
+/// Reads an item of a right side: a class, a name or a literal. Fails with `WrongAt` if the next token
+/// is not one or there is none, and with `NoMemory` if memory runs out.
 pub fn item(alloc: Global, cursor: &mut Cursor<'_>) -> Result<RawItem, Stop>
     ensures { Reads (reading.one_from meanings.item_in) cursor.old result cursor.new }
 {
@@ -212,7 +214,9 @@ pub fn item(alloc: Global, cursor: &mut Cursor<'_>) -> Result<RawItem, Stop>
     Err(refusal(cursor))
 }
 
-/// Reads the target of a rule, which is an occurrence. Fails with `refusal` if the next token is not one.
+/// Reads the target of a rule, which is an occurrence such as `$1.value`, and returns it with its offset
+/// in bytes. Fails with `WrongAt` if the next token is not an occurrence or there is none, and with
+/// `NoMemory` if memory runs out.
 pub fn target(alloc: Global, cursor: &mut Cursor<'_>) -> Result<Occ, Stop>
     ensures { Reads (reading.one_from meanings.target_in) cursor.old result cursor.new }
 {
@@ -227,7 +231,7 @@ pub fn target(alloc: Global, cursor: &mut Cursor<'_>) -> Result<Occ, Stop>
     }
 }
 
-/// Checks that the text ends here. Fails with `refusal` if it does not.
+/// Checks that the text ends here. Fails with `WrongAt` if it does not.
 pub fn expect_end(cursor: &mut Cursor<'_>) -> Result<(), Stop>
     ensures { Reads reading.at_end cursor.old result cursor.new }
 {

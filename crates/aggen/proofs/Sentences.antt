@@ -28,7 +28,7 @@ pub with_tokens : (g : Grammar) → IsAccepted g → (sentence : List ℕ) (ts :
 with_tokens g ok sentence ts cut t is =
     subst (λ us. IsTreeWith g (words_of us) t) (same_tokens g ok sentence ts is.tokens cut is.cut) is.tree
 
--- a sentence that is rejected by scanning has no tokens, and so no tree
+-- a sentence that is rejected by scanning cannot be cut into tokens, and so has no tree
 none_of : (g : Grammar) → IsAccepted g → (sentence : List ℕ) (f : ScanFault) → (IsAnswer (vocabulary_of g) sentence (Err f))
     → HasNoTree g sentence
 none_of g ok sentence f is t of_sentence = let same : Ok of_sentence.tokens ≡ Err f =

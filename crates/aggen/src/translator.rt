@@ -243,15 +243,16 @@ impl Translator {
     /// or `b`; if there is one pass, the file of the pass before it is that of `tree`. Nothing is
     /// written to `out` before the last pass has ended, and `tree` is only read.
     ///
-    /// Fails with R1 if the content of `tree` is the file of pass 0 of no tree of the grammar; with
-    /// P2 if it is that of none of at most `MAX_DEPTH` levels, and with P3 if it is that of none
-    /// of at most `MAX_NODES` nodes. Fails with O1 NoText if the translation is not a
-    /// text, with O2 Write if a write failed or took no byte, with D1 Device if a call of a device
-    /// failed, and with NoMemory if memory is refused. B1, B2, or R1, P2 or P3 of a later pass's file
-    /// are possible only on a device that does not return the bytes that were written. After every
-    /// fault except O2 the writer is unchanged. After O1 and O2 the devices have the last two tree
-    /// files, as after success, and after each other fault each has its old content, or a prefix of
-    /// the file of some pass.
+    /// Fails with R1 only if the content of `tree` is the file of pass 0 of no tree of the grammar. If a
+    /// limit is reached first, when the content is read from its end, fails with P2 or P3 instead: the
+    /// content is then the file of no tree of at most `MAX_DEPTH` levels (P2), or of none of at most
+    /// `MAX_NODES` nodes (P3), and may be the file of no tree at all. Fails with O1 NoText if the
+    /// translation is not a text, with O2 Write if a write failed or took no byte, with D1 Device if a
+    /// call of a device failed, and with NoMemory if memory is refused. B1, B2, or R1, P2 or P3 of a
+    /// later pass's file are possible only on a device that does not return the bytes that were written.
+    /// After every fault except O2 the writer is unchanged. After O1 and O2 the devices have the last two
+    /// tree files, as after success, and after each other fault each of `a` and `b` has its old content,
+    /// or a prefix of the file of some pass.
     #[tactic(auto, using(crate::proofs::Begun::begun))]
     pub fn evaluate_tree<T: Device, D: Device, W: Write>(
         &self,
@@ -303,12 +304,13 @@ impl Translator {
     /// that `parse_tree` writes for a sentence with this tree. `mid` then has the same records from
     /// right to left, and `old` is only read. Returns the number of nodes.
     ///
-    /// Fails with R1 if the content of `old` is the file of version 1 and pass 0 of no tree of the
-    /// grammar; with P2 if it is that of no tree of at most `MAX_REVERSED_DEPTH` levels (256), and
-    /// with P3 if it is that of none of at most `MAX_REVERSED_NODES` nodes (65,536);
-    /// with D1 if a call of a device failed; and with NoMemory if memory is refused. R1 or P2 with an
-    /// offset in `mid` are possible only if `mid` does not return the bytes that were written. After a
-    /// fault `mid` and `to` have their old contents, or a prefix of a file.
+    /// Fails with R1 only if the content of `old` is the file of version 1 and pass 0 of no tree of the
+    /// grammar. If a limit is reached first, when the content is read from its end, fails with P2 or P3
+    /// instead: the content is then the file of no tree of at most `MAX_REVERSED_DEPTH` levels (256; P2),
+    /// or of none of at most `MAX_REVERSED_NODES` nodes (65,536; P3), and may be the file of no tree at
+    /// all. Fails with D1 if a call of a device failed, and with NoMemory if memory is refused. R1 with
+    /// an offset in `mid`, and P2 for its content, are possible only if `mid` does not return the bytes
+    /// that were written. After a fault `mid` and `to` have their old contents, or a prefix of a file.
     pub fn upgrade<D: Device, E: Device, F: Device>(
         &self,
         old: &mut D,

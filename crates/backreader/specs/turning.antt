@@ -1,4 +1,4 @@
--- Reversing a file of version 1 that was read from its end: what is left of it, and the worked example.
+-- Reversing a tree file: what the result of `turn` means, the states between its steps, and a worked example.
 pub mod Taking
 pub mod Turning
 pub mod Worked

@@ -93,7 +93,8 @@ impl Back {
         Back::start_version(alloc, FileVersion::One, device)
     }
 
-    /// Starts a reader at the end of the tree file of a version on a device.
+    /// Starts a reader at the end of a tree file of this version. Fails as `start` does, but with B1 if
+    /// the first four bytes are not those of the version (`AGT1` or `AGT2`).
     fn start_version<D: Device>(
         alloc: Global,
         version: FileVersion,
@@ -125,10 +126,10 @@ impl Back {
     /// first call. Returns `None` if the header ends there. Requires the device of `start`, with
     /// the same content if it is honest.
     ///
-    /// Fails with B2 Damaged and the expected offset if no frame ends there, and with D1 Device if
-    /// a call of the device failed. After either, every later call fails with the same fault and
-    /// does not use the device. Takes memory for a frame of more than 4,096 bytes; after NoMemory
-    /// nothing has changed.
+    /// Fails with B2 Damaged if no frame ends at the offset where one is expected (`end`), which the fault
+    /// contains, and with D1 Device if a call of the device failed. After either, every later call of
+    /// `back` fails with the same fault and does not use the device. Takes memory only for a frame of more
+    /// than 4,096 bytes; after NoMemory nothing has changed, and the call can be repeated.
     #[inline(always)]
     pub fn back<D: Device>(&mut self, device: &mut D) -> Result<Option<&[u8]>, FrameFault>
         requires { WhenHonest (D.is_honest device.old) (IsOver (D.content device.old) self.old) }
@@ -149,7 +150,7 @@ impl Back {
             (λ body. IsBody self.old.progress.version body.now)) }
         ensures room { IfOk result (λ found. IfSome found
             (λ body. length body.now + length_bytes ≤ self.old.progress.at)) }
-        // Only `start` returns B1.
+        // B1 is never a new fault: only a reader that already had it would repeat it.
         ensures file { IsErrOf result FrameFault.NotATreeFile → self.old.progress.fault ≢ None }
         ensures broken { IfSome self.old.progress.fault
             (λ fault. (result ≡ Err fault) × (device.new ≡ device.old)) }

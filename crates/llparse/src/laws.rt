@@ -26,32 +26,32 @@ pub fn texts_are_given()
     ensures { TextsAreGiven }
 {}
 
-/// Two productions `L = L "x"` and `L = "x"` conflict at `x`.
+/// Worked example: the two productions `L = L "x"` and `L = "x"` conflict at `x`.
 #[tactic(auto, using(crate::proofs::Examples::left_recursion))]
 pub fn left_recursion_conflicts()
     ensures { IsConflict left_recursive 0 1 (ahead.Terminal (Literal 0)) }
 {}
 
-/// The example grammar whose one sentence is `x x` has no conflict.
+/// Worked example: the grammar `sample`, whose one sentence is `x x`, has no conflict.
 pub fn sample_is_free()
     ensures { HasNoConflict sample }
 {}
 
-/// The conflict of `L = L "x"` and `L = "x"` at `x` is the least of that grammar, and its symbol is
-/// 0.
+/// Worked example: the conflict of `L = L "x"` and `L = "x"` at `x` is the least one of that grammar, and
+/// its symbol has the number 0.
 #[tactic(auto, using(crate::proofs::Examples::left_recursion_least))]
 pub fn left_recursion_is_least()
     ensures { IsLeastConflict left_recursive 0 0 1 (ahead.Terminal (Literal 0)) }
 {}
 
-/// The production `L = L "x"` is a choice of its symbol at `x`.
+/// Worked example: the production `L = L "x"` is a choice of its symbol at `x`.
 #[tactic(auto, using(crate::proofs::Examples::first_choice))]
 pub fn left_recursion_is_a_choice()
     ensures { IsChoice left_recursive 0 (ahead.Terminal (Literal 0)) 0 }
 {}
 
-/// Looking up tables: entries at a literal and at the end, a class without an entry, and a literal
-/// that the grammar does not have.
+/// Worked example: what small tables have at a literal and at the end, for a class without an entry, and
+/// for a literal that the grammar does not have.
 pub fn small_tables_are_read()
     ensures literal { choice_of small_tables 0 (ahead.Terminal (Literal 0)) ≡ Some 0 }
     ensures end { choice_of small_tables 0 ahead.End ≡ Some 1 }
@@ -59,7 +59,7 @@ pub fn small_tables_are_read()
     ensures unknown { choice_of small_tables 0 (ahead.Terminal (Literal 1)) ≡ None }
 {}
 
-/// The order of look-aheads for two literals.
+/// Worked example: the order of look-aheads for two literals: the literals, the classes, the end.
 pub fn indices_are_in_order()
     ensures literals { index_of 2 (ahead.Terminal (Literal 1)) ≡ 1 }
     ensures classes { index_of 2 (ahead.Terminal (Class 0)) ≡ 2 }

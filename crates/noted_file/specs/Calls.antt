@@ -66,24 +66,29 @@ replay (e ∷ earlier) = after_call e.0 e.1 e.2 e.3 (replay earlier)
 abbrev pub IsFresh : List Event → Type 0
 IsFresh events = (bytes : List ℕ) × (events ≡ initial_event bytes ∷ [])
 
--- a file of one byte, to which two are appended, is three bytes long
+-- ---- worked examples: replays of a few calls, each on a file that has one byte when it is opened
+
+-- After two bytes were appended, the returned length 3 agrees with the replay, so the file is honest.
 pub length_of_three : (replay
     (length_event true 3 ∷ append_event true (8 ∷ 9 ∷ []) ∷ open_event [] ∷ initial_event (7 ∷ []) ∷ [])).is_honest ≡ true
 length_of_three = refl
 
--- a file that returns the length 2 is not honest, and does not become honest again when it returns 3
+-- After the same append, the returned length 2 disagrees with the replay, so the file is not honest. It does not
+-- become honest again when it then returns 3.
 pub length_of_two : (replay
     (length_event true 3 ∷ length_event true 2 ∷ append_event true (8 ∷ 9 ∷ []) ∷ open_event [] ∷ initial_event (7 ∷ [])
     ∷ [])).is_honest ≡ false
 length_of_two = refl
 
--- a truncated file contains only what was appended since
+-- After a truncation and an append of the byte 9, the file must contain this byte alone, and the byte that was read
+-- agrees with that.
 pub content_after_truncation : (replay
     (read_event 0 true (9 ∷ []) ∷ append_event true (9 ∷ []) ∷ truncate_event true ∷ open_event [] ∷ initial_event (7 ∷ []) ∷ []))
     ≡ record { stored = 9 ∷ []; is_honest = true }
 content_after_truncation = refl
 
--- a file that returns a byte from before its truncation is not honest
+-- After the same truncation and append, the returned byte 7 is the one from before the truncation, so the file is
+-- not honest.
 pub byte_from_before : (replay
     (read_event 0 true (7 ∷ []) ∷ append_event true (9 ∷ []) ∷ truncate_event true ∷ open_event [] ∷ initial_event (7 ∷ [])
     ∷ [])).is_honest ≡ false

@@ -94,7 +94,7 @@ fn out_value(
     ensures well { IfOk result IsWell }
 {
     let carried = read_out(alloc, grammar, plan, out, body)?;
-    // This takes no memory, unless the text is in several parts: then it makes a copy in one part.
+    // The value was decoded from the body and has one owner, so this takes no memory.
     let Ok(value) = carried.into_value(alloc) else {
         return Err(RecordFault::NoMemory);
     };

@@ -1,4 +1,4 @@
-//! Sentences that have no tokens.
+//! Sentences that cannot be cut into tokens.
 
 use crate::display::{FoundText, begins_with};
 use crate::hints::{BYTE_ORDER_MARK, MARK};

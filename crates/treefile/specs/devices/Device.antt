@@ -39,7 +39,9 @@ TakesNoMemory result = result ≢ Err NoMemory
 abbrev pub AppendsPrefix : List ℕ → List ℕ → List ℕ → Type 0
 AppendsPrefix bytes old new = (n : ℕ) × (new ≡ old ++ take n bytes)
 
--- The content after an append: all bytes were appended; after Failed a prefix of them; after NoMemory none.
+-- The content after an append: all bytes were appended; after Failed a prefix of them; after NoMemory none. This is
+-- about a call with its result; the `Appends` of std (`Io.KnownBytes`) has no result, and states that all bytes
+-- were appended to those of a writer, if they are known.
 abbrev pub Appends : List ℕ → List ℕ → List ℕ → Result (Unit {0}) DeviceFault → Type 0
 Appends bytes old new (Ok u) = new ≡ old ++ bytes
 Appends bytes old new (Err Failed) = AppendsPrefix bytes old new
