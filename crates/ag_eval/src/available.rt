@@ -176,7 +176,7 @@ fn limit_error(item: &Value) -> Option<ErrorCode>
     None
 }
 
-/// Copies a value; a number in one step.
+/// Returns a copy of a value; a number is copied in one step. Fails with `NoMemory` if memory is refused.
 #[inline(always)]
 pub fn copied(alloc: Global, value: &Value) -> Result<Value, NoMemory>
     requires { IsWell value.now }

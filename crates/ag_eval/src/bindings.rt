@@ -46,7 +46,7 @@ impl<'e> Bindings<'e> {
         &self.held[k]
     }
 
-    /// Adds an innermost binding.
+    /// Adds an innermost binding. Fails with `NoMemory` if memory is refused.
     pub fn bind(&mut self, held: Held<'e>) -> Result<(), NoMemory>
         ensures { OnOk result (self.new ≡ self.old ++ held_value held.entry ∷ []) }
     {

@@ -1,4 +1,5 @@
-//! The table of the builtins: the value of each operator and call for operands, lent if possible.
+//! The table of the builtins: the value of each operator and call for operands, lent if possible. The
+//! functions that return a `Result` fail with `NoMemory` if memory is refused.
 
 ghost use Rattle.std.specs.Prelude.{◌≡◌, ◌≢◌, ◌∷◌, [], IfOk, IfSome, None};
 ghost use Rattle.ag_value.specs.Well.{IsWell};

@@ -19,7 +19,8 @@ use std::alloc::Global;
 /// occurrence (`$0.env`, also as chosen by `if`, `let` or `orelse`), it is shared and not copied.
 /// A text of more than 256 bytes that `++` made keeps the shared bytes of its operands.
 ///
-/// Takes memory as `eval` does, and for the encoding of another large value that was made.
+/// Takes memory as `eval` does, and for the encoding of a large value that the evaluation made, unless that
+/// is such a text. Fails with `NoMemory` if memory is refused.
 #[inline(always)]
 pub fn eval_carried<C: CarriedEnvironment>(
     alloc: Global,
@@ -42,7 +43,8 @@ pub fn eval_carried<C: CarriedEnvironment>(
 /// Returns the value of an expression that is a literal, an occurrence or a chain of these, if each
 /// of them is a number or an error, and raises the meter by one evaluation, as `eval_carried` does.
 /// Returns `None` for any other expression, and for literals and occurrences of another kind:
-/// nothing is evaluated then, and the meter is unchanged. Takes no memory.
+/// nothing is evaluated then, and the meter is unchanged. No contract says for which expressions a value
+/// is returned. Takes no memory.
 #[inline(always)]
 pub fn eval_scalar<C: CarriedEnvironment>(
     alloc: Global,

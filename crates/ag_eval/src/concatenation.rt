@@ -1,5 +1,6 @@
 //! The operator `++`. A long text that it makes shares the bytes of its operands, so that a text that
-//! grows from node to node is not copied.
+//! grows from node to node is not copied. The functions that return a `Result` fail with `NoMemory` if
+//! memory is refused.
 
 ghost use Rattle.std.specs.Prelude.{◌≡◌, ◌++◌, IfOk, IfSome, MatchOption, length, false, true};
 ghost use Rattle.ag_value.specs.declared.value.Value.TheVariants as value;

@@ -11,7 +11,7 @@ use ag_value::Value;
 pub trait Environment {
     ghost use Rattle.ag_value.specs.declared.value.Value.{Value as AttributeValue};
 
-    /// The number of values that are lent.
+    /// The number of occurrences whose values are lent; they are numbered from 0.
     ghost count: { Self → ℕ };
 
     /// The value of the occurrence with this number.
@@ -27,7 +27,7 @@ pub trait Environment {
 pub trait CarriedEnvironment {
     ghost use Rattle.ag_value.specs.declared.value.Value.{Value as AttributeValue};
 
-    /// The number of values that are lent.
+    /// The number of occurrences whose values are lent; they are numbered from 0.
     ghost count: { Self → ℕ };
 
     /// The value of the occurrence with this number.
@@ -74,7 +74,7 @@ fn scalar_of(carried: &Carried) -> Option<Scalar>
 pub trait Lender {
     ghost use Rattle.ag_value.specs.declared.value.Value.{Value as AttributeValue};
 
-    /// The number of values that are lent.
+    /// The number of occurrences whose values are lent; they are numbered from 0.
     ghost count: { Self → ℕ };
 
     /// The value of the occurrence with this number.

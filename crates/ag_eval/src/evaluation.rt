@@ -1,4 +1,5 @@
-//! The value of an expression.
+//! The value of an expression. A function that returns a `Result` with `NoMemory` fails only if memory is
+//! refused.
 
 ghost use Rattle.std.specs.Prelude.{◌≡◌, ◌+◌, ◌-◌, ◌^◌, ◌<◌, ◌≤◌, length, map, suc, true, IfOk};
 ghost use Rattle.std.specs.Prelude.{IfSome, IsTrue, MatchResult, OnOk, List, [], ◌∷◌, ◌++◌};
@@ -333,7 +334,8 @@ fn empty_table<'e>(alloc: Global) -> Operand<'e>
     Operand::owned(Measured::new(Value::Table(Items::from_vec(Vec::new(alloc)))))
 }
 
-/// Returns the decision of a condition, or its error.
+/// Returns whether a condition holds: whether its number is not 0. Fails with its error if it is one, and
+/// with the error `kind` if it is a text, a list or a table.
 #[tactic(auto, using(crate::proofs::Decided::chooses))]
 fn decide(condition: Operand<'_>, bindings: &Bindings<'_>) -> Result<bool, ErrorCode>
     requires { IsIn bindings.now condition }
@@ -344,7 +346,7 @@ fn decide(condition: Operand<'_>, bindings: &Bindings<'_>) -> Result<bool, Error
     decided(condition.get(bindings))
 }
 
-/// Returns the decision of a value as a condition, or its error.
+/// Returns whether a value holds as a condition. Fails as `decide` does.
 fn decided(condition: ValueRef<'_>) -> Result<bool, ErrorCode>
     ensures { result ≡ decision (ref_value condition.entry) }
 {
@@ -358,7 +360,8 @@ fn decided(condition: ValueRef<'_>) -> Result<bool, ErrorCode>
 /// Computes the value of an expression for an `env` that lends the values of its occurrences, and
 /// raises the meter by one evaluation, also if memory is refused. The other public calls that take
 /// a meter are `eval_carried`, `eval_scalar` and `eval_number`; they too count one evaluation for
-/// each value that they compute.
+/// each value that they compute. Fails with `NoMemory` if memory is refused. Requires that `env` lends a
+/// well value for each occurrence of the expression, and that the meter is not full.
 ///
 /// Takes memory for values that it makes, and for copies: of a value that is lent or bound, if it
 /// is the result, an item of a list or table, or extended; of the part that `nth` or `get` takes of

@@ -46,7 +46,7 @@ impl ListBuilder {
         }
     }
 
-    /// Appends an item.
+    /// Appends an item. Fails with `NoMemory` if memory is refused.
     pub fn push(&mut self, item: Measured) -> Result<(), NoMemory>
         requires { fault_of item ≡ None }
         ensures { OnOk result (self.new ≡ self.old ++ item ∷ []) }

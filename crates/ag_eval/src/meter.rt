@@ -5,9 +5,8 @@ ghost use Rattle.std.specs.Prelude.{◌≡◌, ◌+◌, ◌-◌, ◌^◌, ◌<�
 use std::marker::Model;
 
 /// Counts evaluations. Every public call of this crate that takes a meter computes an expression's
-/// value and raises the meter by one: `eval` in each case, `eval_number` if it returns a number.
-/// `eval_number` returns `None` for an expression that is not a number literal; then it computes
-/// nothing, and the meter keeps its count.
+/// value and raises the meter by one: `eval` and `eval_carried` in each case, `eval_number` and
+/// `eval_scalar` if they return a value. If these two return `None`, the meter keeps its count.
 #[derive(Debug, Drop)]
 pub struct Meter {
     count: u64,

@@ -1,5 +1,6 @@
 //! The value of a part of an expression, lent or shared if possible. A value is well if it is within
-//! the limits of weight and depth and consistent, as `ag_value` defines it.
+//! the limits of weight and depth and consistent, as `ag_value` defines it. The functions that return a
+//! `Result` fail with `NoMemory` if memory is refused.
 
 ghost use Rattle.std.specs.Prelude.{◌≡◌, IfOk, IfSome, is_some, true};
 ghost use Rattle.ag_value.specs.Well.{IsWell};

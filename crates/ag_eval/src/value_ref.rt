@@ -1,4 +1,5 @@
-//! Values that are read: plain ones, which are stored as a `Value`, and texts whose bytes are shared.
+//! Values that are read: plain ones, which are stored as a `Value`, and texts whose bytes are shared. The
+//! functions that return a `Result` fail with `NoMemory` if memory is refused.
 
 ghost use Rattle.std.specs.Prelude.{◌≡◌, ◌≤◌, IfOk, IfSome, MatchOption, length, false, true};
 ghost use Rattle.ag_value.specs.Measure.{max_weight};

@@ -9,11 +9,11 @@ use Rattle.ag_tokens.specs.Tokens.{BeginsNoToken, IsLongest, IsToken, Lexes}
 abbrev pub OneInput : Type 0
 OneInput = (cs : List ℕ) → (i : Input) × Lexes 0 cs i × ((j : Input) → Lexes 0 cs j → j ≡ i)
 
--- `token_from` returns the longest token at the beginning of characters,
+-- If `token_from` returns a token, it is the longest one at the beginning of the characters.
 abbrev pub LongestIsCut : Type 0
 LongestIsCut = (characters rest : List ℕ) (t : GrammarToken) → token_from characters ≡ Some (t, rest)
     → (word : List ℕ) × (characters ≡ word ++ rest) × IsToken word t × IsLongest word rest
 
--- and no token begins there if it returns `None`.
+-- If `token_from` returns `None`, the characters begin with no token.
 abbrev pub NothingIsCut : Type 0
 NothingIsCut = (characters : List ℕ) → token_from characters ≡ None → BeginsNoToken characters

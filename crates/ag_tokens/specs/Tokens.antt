@@ -134,15 +134,15 @@ pub record AnyTokenAt (from : ℕ) (cs : List ℕ) (at : ℕ) : Type 0 where
   pub is : IsToken word token
   pub longest : IsLongest word rest
 
--- At this offset there is a token whose number is above its limit,
+-- At this offset there is a token whose number is above its limit.
 abbrev pub TooLargeAt : ℕ → List ℕ → ℕ → Type 0
 TooLargeAt from cs at = (there : AnyTokenAt from cs at) × (is_within there.token ≡ false)
 
--- or a token whose number, if it has one, is within its limit,
+-- At this offset there is a token whose number, if it has one, is within its limit.
 abbrev pub TokenAt : ℕ → List ℕ → ℕ → Type 0
 TokenAt from cs at = (there : AnyTokenAt from cs at) × (is_within there.token ≡ true)
 
--- or the end of the characters.
+-- The characters end at this offset.
 abbrev pub EndsAt : ℕ → List ℕ → ℕ → Type 0
 EndsAt from cs at = Reaches from cs at []
 

@@ -56,9 +56,8 @@ pub record IsTranslatorOf (text : List ℕ) (g : Grammar) : Type 0 where
   pub free : HasNoConflict g
   pub alternating : IsAlternating g
 
--- The text of a grammar was read: the handle has its translator, and the status is 0; or the handle has none, and the refusal has
--- a
--- true reason.
+-- The text of a grammar was read: the handle has its translator, and the status is 0; or the handle has none, and the
+-- refusal has a true reason.
 abbrev pub IsBuilt : (text : List ℕ) → Option Grammar → (status : ℕ) → RefusalFields → Type 0
 IsBuilt text (Some g) status fields = IsTranslatorOf text g × (status ≡ 0) × (fields ≡ no_fields)
 IsBuilt text None status fields = HasReason (IsTranslatorFault text) status fields

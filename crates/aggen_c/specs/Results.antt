@@ -19,9 +19,8 @@ use Rattle.aggen.specs.Translation.{HasNoText, IsOneTree, IsTreeInFile}
 use Rattle.ag_fault.specs.declared.fault.Fault.{Fault}
 use Rattle.ag_fault.specs.declared.fault.Fault.TheVariants as fault
 
--- Of the trees of a kind there is exactly one, and it is within the limits. The values meet every equation of the grammar at
--- every
--- node of it, no other values do, and the text is the value of the root's `out`.
+-- Of the trees of a kind there is exactly one, and it is within the limits. The values meet every equation of the
+-- grammar at every node of it, no other values do, and the text is the value of the root's `out`.
 pub record HasTranslation (IsTree : Tree → Type 0) (g : Grammar) (text : List ℕ) : Type 0 where
   pub tree : Tree
   pub one : IsOneTree IsTree tree

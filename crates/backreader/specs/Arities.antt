@@ -19,6 +19,8 @@ arity_of children (byte ∷ high ∷ []) = None
 arity_of children (byte ∷ high ∷ low ∷ spellings) =
     option_and_then (λ kind. children kind (from_be_bytes w16 (high ∷ low ∷ []))) (kind_of byte)
 
+-- ---- worked examples
+
 -- a node of production 258, if the number of each node is its number of children
 pub arity_of_node : arity_of (λ kind number. Some number) (0 ∷ 1 ∷ 2 ∷ 9 ∷ []) ≡ Some 258
 arity_of_node = refl

@@ -1,6 +1,5 @@
--- The cause of an error: the chain of values through which it was passed on, down to the rule in which it arises. All of this is
--- this
--- project's.
+-- The cause of an error: the chain of values through which it was passed on, down to the rule in which it arises. All
+-- of this is this project's.
 use Rattle.std.specs.Prelude.{ℕ, zero, suc, ◌≡◌, ◌⊎◌, true, false, nat_lt, List, [], ◌∷◌, ◌++◌, Option, Some, None, slice_get}
 use Rattle.std.specs.Prelude.{if◌then◌else◌, Bool}
 use Rattle.ag_value.specs.declared.value.Value.{Value}
@@ -33,9 +32,8 @@ is_still r e n =
     is_same_error (fault_of (value_of r.expr.0 (environment r e)))
     (fault_of (value_of r.expr.0 (exchanged_below n (environment r e))))
 
--- A rule's error is passed on from the argument of this number: it is the same error with other errors in the place of those
--- before
--- it, and not with another one in its place too.
+-- A rule's error is passed on from the argument of this number: it is the same error with other errors in the place of
+-- those before it, and not with another one in its place too.
 pub record IsSource (r : Rule) (e : Table) (k : ℕ) : Type 0 where
   pub before : is_still r e k ≡ true
   pub after : is_still r e (suc k) ≡ false
@@ -64,9 +62,8 @@ pub record IsRuleAt (g : Grammar) (t : Tree) (v : Valuation) (path : List ℕ) (
   pub rule : IsRule of r
   pub values : e ≡ at (values_at v path)
 
--- The error of an attribute instance has a cause: it arises in the rule that gives it, or is passed on by that rule from an
--- argument,
--- whose error has one.
+-- The error of an attribute instance has a cause: it arises in the rule that gives it, or is passed on by that rule
+-- from an argument, whose error has one.
 pub data HasCause (g : Grammar) (t : Tree) (v : Valuation) : List ℕ → ℕ → Type 0 where
   here : (path : List ℕ) (r : Rule) (e : Table) → IsRuleAt g t v path r e → is_arising e r ≡ true
       → HasCause g t v (place_path path r.target.place) r.target.attr

@@ -1,6 +1,5 @@
--- The indices of the values that a rule uses in a node's record in the file of the last pass, which has all values. All of this
--- is
--- this project's.
+-- The indices of the values that a rule uses in a node's record in the file of the last pass, which has all values. All
+-- of this is this project's.
 use Rattle.std.specs.Prelude.{ℕ, zero, suc, ◌+◌, pos, get_or, List, [], ◌∷◌, Option, Some, None, slice_get, length}
 use Rattle.ag_value.specs.declared.value.Value.{Value, Num}
 use Rattle.ag_grammar.specs.declared.grammar.Item.{Item}

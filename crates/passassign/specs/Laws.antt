@@ -27,12 +27,12 @@ StuckIsRefused = (g : Grammar) (s a : ℕ) → IsAttribute g s a → IsStuck g s
 abbrev pub CertifiedIsRefused : Type 0
 CertifiedIsRefused = (g : Grammar) (c : Stuck) → Each (IsComplete g) g.productions → IsCertificate g c → IsAlternating g → ⊥
 
--- The passes before pass k assign no attribute a later pass than a legal partial assignment does,
+-- The passes before pass k assign no attribute a later pass than a legal partial assignment does.
 abbrev pub MadeIsAtMost : Type 0
 MadeIsAtMost = (g : Grammar) (k : ℕ) (m n : Partial) → IsMade g k m → IsLegalPartial g n → (s a p q : ℕ) → m s a ≡ Some p
     → n s a ≡ Some q → p ≤ q
 
--- and an attribute that they leave open has there no pass before k.
+-- An attribute that the passes before pass k leave open has no pass before k in a legal partial assignment.
 abbrev pub LeftIsLater : Type 0
 LeftIsLater = (g : Grammar) (k : ℕ) (m n : Partial) → IsMade g k m → IsLegalPartial g n → (s a q : ℕ) → m s a ≡ None
     → n s a ≡ Some q → k ≤ q
@@ -53,13 +53,13 @@ abbrev pub LeastHasFewest : Type 0
 LeastHasFewest = (g : Grammar) (rows other : List (List ℕ)) (n k : ℕ) → IsLeast g (passes_of rows) → IsLegal g (passes_of other)
     → IsGreatest n rows → IsGreatest k other → n ≤ k
 
--- The attributes left open by two consecutive passes that assign nothing are stuck,
+-- The attributes left open by two consecutive passes that assign nothing are stuck.
 abbrev pub RestIsStuck : Type 0
 RestIsStuck = (g : Grammar) (k : ℕ) (m : Partial) (first second : List Strike) → AreIdle g k m first second → (s a : ℕ)
     → IsOpen g m s a → IsStuck g s a
 
--- and no others are, if passes have made the assignment before them, and each production is complete and
--- normal.
+-- The stuck attributes are exactly those left open by two consecutive passes that assign nothing, if passes have made
+-- the assignment before these two, and each production is complete and normal.
 abbrev pub StuckIsLeft : Type 0
 StuckIsLeft = (g : Grammar) (k : ℕ) (m : Partial) (first second : List Strike) → Each (IsComplete g) g.productions
     → Each (IsNormal g) g.productions → IsMade g k m → AreIdle g k m first second → (s a : ℕ) → IsAttribute g s a
@@ -84,12 +84,12 @@ MarksMakePass = (g : Grammar) (k : ℕ) (m after : Partial) (xs : List Strike) (
     → AreFinished g (direction_of k) (IsOpen g m) xs → AreMarks hit xs
     → ((s a : ℕ) → IsAttribute g s a → after s a ≡ pass_after k (m s a) (hit s a)) → IsPass g k m after xs
 
--- If an assignment has strikes, no legal assignment gives any attribute an earlier pass;
+-- If an assignment has strikes, no legal assignment gives any attribute an earlier pass.
 abbrev pub NoneIsEarlier : Type 0
 NoneIsEarlier = (g : Grammar) (rows : List (List ℕ)) (lists : List (List Strike)) (other : Passes) → AreStrikesOf g rows lists
     → IsLegal g other → (s a p q : ℕ) → partial_of (passes_of rows) s a ≡ Some p → partial_of other s a ≡ Some q → p ≤ q
 
--- so if it is legal it is the least one.
+-- A legal assignment that has strikes is the least one.
 abbrev pub StrikesShowLeast : Type 0
 StrikesShowLeast = (g : Grammar) (rows : List (List ℕ)) (lists : List (List Strike)) → IsLegal g (passes_of rows)
     → AreStrikesOf g rows lists → IsLeast g (passes_of rows)

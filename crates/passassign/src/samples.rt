@@ -1,4 +1,4 @@
-//! Examples of the definitions, each a law.
+//! Worked examples of the definitions, each a law.
 
 ghost use Rattle.ag_grammar.specs.grammars.Passes.{IsLegal};
 ghost use Rattle.ag_grammar.specs.grammars.Sample.{sample, sample_passes, later_passes, both_ways};
@@ -7,45 +7,47 @@ ghost use Rattle.passassign.specs.Least.{partial_of, IsLeast, IsAlternating};
 ghost use Rattle.passassign.specs.Making.{IsMade};
 ghost use Rattle.passassign.specs.Sample.{both_ways_stuck, exchanged, rightward, third_passes};
 
-/// The first pass is assigned to every attribute of the first sample,
+/// Worked example: pass 1 is assigned to every attribute of the grammar `sample`.
 #[tactic(auto, using(crate::proofs::making::Earliest::sample_made))]
 pub fn sample_made()
     ensures { IsMade sample 2 (partial_of sample_passes) }
 {}
 
-/// and that is the least assignment.
+/// Worked example: pass 1 for every attribute is the least assignment of `sample`.
 #[tactic(auto, using(crate::proofs::making::Earliest::sample_least))]
 pub fn sample_least()
     ensures { IsLeast sample sample_passes }
 {}
 
-/// Assigning the third pass to all attributes is legal too, and not least.
+/// Worked example: pass 3 for every attribute of `sample` is legal too, and not least.
 #[tactic(auto, using(crate::proofs::making::Earliest::third_not_least))]
 pub fn third_not_least()
     ensures legal { IsLegal sample third_passes }
     ensures greater { IsLeast sample third_passes → ⊥ }
 {}
 
-/// Attributes that depend on a child to the left are struck in the first pass, and assigned to the
-/// second.
+/// Worked example: attributes that depend on a child to the left are struck in pass 1, and assigned to
+/// pass 2.
 #[tactic(auto, using(crate::proofs::making::Earliest::rightward_made))]
 pub fn rightward_made()
     ensures { IsMade rightward 3 (partial_of later_passes) }
 {}
 
-/// The grammar with productions for both directions has a certificate of all its attributes,
+/// Worked example: the grammar `both_ways`, with productions for both directions, has a certificate of all
+/// its attributes.
 #[tactic(auto, using(crate::proofs::strikes::BothWays::both_ways_certified))]
 pub fn both_ways_certified()
     ensures { IsCertificate both_ways both_ways_stuck }
 {}
 
-/// so no assignment is legal, whatever the number of passes.
+/// Worked example: no assignment of `both_ways` is legal, with any number of passes.
 #[tactic(auto, using(crate::proofs::strikes::BothWays::both_ways_refused))]
 pub fn both_ways_refused()
     ensures { IsAlternating both_ways → ⊥ }
 {}
 
-/// With its lists of strikes exchanged it is not a certificate: a strike is for one direction.
+/// Worked example: with its two lists of strikes exchanged, the certificate of `both_ways` is not one: a
+/// strike is for one direction.
 #[tactic(auto, using(crate::proofs::strikes::BothWays::exchanged_refused))]
 pub fn exchanged_refused()
     ensures { IsCertificate both_ways exchanged → ⊥ }

@@ -8,7 +8,8 @@ use Rattle.passcode.specs.declared.instr.Instr.{Instr}
 use Rattle.passcode.specs.Rows.{Lists, lists_of}
 
 -- A grammar, an assignment `passes`, code, and a pass. Pass k reads the file of pass k - 1 (`read`) and writes that of pass k
--- (`write`), so `write` is the number of the pass. The file of pass 0 is the parsed tree, with its tokens' texts.
+-- (`write`), so `write` is the number of the pass. The file of pass 0 is the parsed tree, with its tokens' texts. The struct
+-- `Setting` of passrun has references to the grammar and the plan; contracts turn it into this record.
 pub record Setting : Type 0 where
   pub grammar : Grammar
   pub passes : Passes

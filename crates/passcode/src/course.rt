@@ -95,7 +95,7 @@ impl<'a> ListContext<'a> {
     }
 
     /// Appends the instruction that computes an attribute at a place, if the attribute has this pass and
-    /// a rule computes it.
+    /// a rule computes it. Fails with NoMemory if memory is refused.
     fn append_instruction(&self, list: &mut Vec<Instr>, target: Target) -> Result<(), NoMemory>
         requires { length self.now.production.now.rules ≤ max_rules }
         ensures { OnOk result (list.new.items ≡ list.old.items ++ remaining_for
@@ -110,7 +110,7 @@ impl<'a> ListContext<'a> {
     }
 
     /// Appends the instructions that compute the attributes at a place that have this pass, in the order
-    /// of their numbers.
+    /// of their numbers. Fails with NoMemory if memory is refused.
     fn append_instructions(&self, list: &mut Vec<Instr>, place: u16) -> Result<(), NoMemory>
         requires { IsPlanned (passes_of self.now.assignment.now) self.now.production.now }
         ensures { OnOk result (list.new.items ≡ list.old.items ++ remaining_at
@@ -129,7 +129,7 @@ impl<'a> ListContext<'a> {
     }
 
     /// Appends the instructions for a place of the right side: `Get`, the `Set`s, `Go` and `Put` for a
-    /// symbol, `Get` and `Put` for a token.
+    /// symbol, `Get` and `Put` for a token. Fails with NoMemory if memory is refused.
     fn append_visit(&self, list: &mut Vec<Instr>, place: u16) -> Result<(), NoMemory>
         requires { IsPlanned (passes_of self.now.assignment.now) self.now.production.now }
         ensures { OnOk result (list.new.items ≡ list.old.items ++ visit
@@ -152,7 +152,8 @@ impl<'a> ListContext<'a> {
         Ok(())
     }
 
-    /// Returns the list for the production in the pass. `children` is the production's `arity`.
+    /// Returns the list for the production in the pass. `children` is the production's `arity`. Fails
+    /// with NoMemory if memory is refused.
     pub(crate) fn list(&self, alloc: Global, children: usize) -> Result<Vec<Instr>, NoMemory>
         requires planned { IsPlanned (passes_of self.now.assignment.now) self.now.production.now }
         requires children { children ≡ arity self.now.production.now }

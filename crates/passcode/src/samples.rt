@@ -1,4 +1,5 @@
-//! Examples of the definitions, each a law. The first ones are about one production and pass 1.
+//! Worked examples of the definitions, each a law. All but the last are about pass 1 and the production
+//! `R = A A { $0.out = $1.s; $1.i = $2.s; $2.i = 0; }` (`sample_production`).
 
 ghost use Rattle.std.specs.Prelude.{◌≡◌, Some, count_by};
 ghost use Rattle.ag_grammar.specs.grammars.Counts.{pass_rule_count};
@@ -13,8 +14,8 @@ ghost use Rattle.passcode.specs.Sample.{undefined_list};
 
 use ag_grammar::samples::sample_legal;
 
-/// The first pass goes from right to left. Of the two places of the first sample's first production
-/// it visits the second one first: after one turn this place was visited, and the first one was not.
+/// Worked example: pass 1 goes from right to left, so it visits the second of the two places first. After
+/// one turn this place was visited, and the first one was not.
 #[tactic(auto, using(crate::proofs::Sampled::sample_visited, crate::proofs::Sampled::sample_unvisited))]
 pub fn sample_turns()
     ensures turn { place_of sample_production 1 0 ≡ 2 }
@@ -23,7 +24,7 @@ pub fn sample_turns()
     ensures unvisited { IsVisited sample_production 1 1 1 → ⊥ }
 {}
 
-/// A list for this production and pass runs,
+/// Worked example: the list `sample_list` runs from the start to the end.
 #[tactic(auto, using(crate::proofs::Sampled::sample_runs))]
 pub fn sample_runs()
     ensures { Runs sample_passes sample_production 1 start sample_list }
@@ -31,7 +32,7 @@ pub fn sample_runs()
     sample_legal();
 }
 
-/// it agrees, that is, meets the four conditions,
+/// Worked example: the list `sample_list` agrees, that is, it meets the four conditions.
 #[tactic(auto, using(crate::proofs::Sampled::sample_agrees))]
 pub fn sample_agrees()
     ensures { ListAgrees sample_passes sample_production 1 sample_list }
@@ -39,30 +40,32 @@ pub fn sample_agrees()
     sample_legal();
 }
 
-/// and is the one that `generate` makes.
+/// Worked example: the list `sample_list` is the one that `generate` returns.
 pub fn sample_made()
     ensures { generated_list sample_passes sample_production 1 ≡ sample_list }
 {}
 
-/// It runs three rules: the production has three, and all of them are of the first pass.
+/// Worked example: the list `sample_list` runs three rules. The production has three, and the targets of
+/// all of them have pass 1.
 pub fn sample_counted()
     ensures runs { count_by is_computation sample_list ≡ 3 }
     ensures rules { pass_rule_count sample_passes 1 (Some sample_production) ≡ 3 }
 {}
 
-/// With its places from left to right a list does not agree, since pass 1 goes from right to left;
+/// Worked example: a list with the places from left to right does not agree, since pass 1 goes from right
+/// to left.
 #[tactic(auto, using(crate::proofs::Sampled::forward_refused))]
 pub fn forward_refused()
     ensures { ListAgrees sample_passes sample_production 1 forward_list → ⊥ }
 {}
 
-/// nor with a `Set` after the child's `Go`,
+/// Worked example: a list with a `Set` after the child's `Go` does not agree.
 #[tactic(auto, using(crate::proofs::Sampled::late_refused))]
 pub fn late_refused()
     ensures { ListAgrees sample_passes sample_production 1 late_list → ⊥ }
 {}
 
-/// nor without the `Def` for `out`.
+/// Worked example: a list without the `Def` for `out` does not agree.
 #[tactic(auto, using(crate::proofs::Sampled::undefined_refused))]
 pub fn undefined_refused()
     ensures { ListAgrees sample_passes sample_production 1 undefined_list → ⊥ }
@@ -70,8 +73,8 @@ pub fn undefined_refused()
     sample_legal();
 }
 
-/// Agreement alone is not enough if the assignment is not legal. Here a list for pass 1 agrees, but
-/// does not run: its rule uses an attribute of the left side that has pass 2.
+/// Worked example: if the assignment is not legal, a list may agree and not run. The one rule of this list
+/// for pass 1 uses an attribute of the left side that has pass 2.
 #[tactic(auto, using(crate::proofs::Sampled::hasty_agrees, crate::proofs::Sampled::hasty_stops))]
 pub fn legality_is_needed()
     ensures agrees { ListAgrees hasty_passes hasty_production 1 hasty_list }

@@ -1,4 +1,4 @@
-//! Prints the faults of a pass.
+//! The printed forms of the faults of a pass.
 
 use crate::run_fault::RunFault;
 use std::error::Error;

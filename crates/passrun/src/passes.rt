@@ -118,11 +118,11 @@ fn one_more(sum: Passed, passed: Passed) -> Passed
 /// than the greatest pass, runs, reads and writes nothing, and returns `Last::A` with three zeros.
 ///
 /// Stops at the first pass that fails, and returns its fault, as `run_pass` does. Fails with R1
-/// (`Damaged`) and an offset if the file on `a` is not one that pass `first` - 1 writes for a tree
-/// of the grammar. Fails with P2 (`TooDeep`) if it encodes no tree of at most `MAX_DEPTH` levels,
-/// and with P3 (`TooManyNodes`) if it encodes no tree of at most `MAX_NODES` nodes. Fails
-/// with D1 (`Device`) if a call of one of the devices failed, and with `NoMemory` if memory cannot
-/// be allocated.
+/// (`Damaged`) and an offset only if the file on `a` is not one that pass `first` - 1 writes for a tree
+/// of the grammar. If a limit is reached before any damage, fails with P2 (`TooDeep`) or P3
+/// (`TooManyNodes`) instead: the file then encodes no tree of at most `MAX_DEPTH` levels, or none of at
+/// most `MAX_NODES` nodes, and may encode no tree at all. Fails with D1 (`Device`) if a call of one of
+/// the devices failed, and with `NoMemory` if memory cannot be allocated.
 ///
 /// The first pass overwrites the content of `b`, and the second one the file on `a`, which is kept
 /// if at most one pass runs. After a failure the device that the failed pass reads still has its

@@ -264,14 +264,14 @@ fn stored_among(items: &[Item]) -> u32
 /// recurses over at most `MAX_REVERSED_LEVELS` (256) levels. The first device always keeps its
 /// content. After a success the old content of the other two is lost.
 ///
-/// Fails with R1 (`Damaged`) if the content is not the file of version 1 and pass 0 of a tree of
-/// the grammar; the offset is as for `run_pass`. Fails with P2 (`TooDeep`) if it encodes no tree of
-/// at most `MAX_REVERSED_LEVELS` (256) levels, and with P3 (`TooManyNodes`) if it encodes no tree
-/// of at most `MAX_REVERSED_RECORDS` (65,536) nodes. Fails with D1 (`Device`) if a call of a
-/// device failed, and with `NoMemory` if memory cannot be allocated. Fails with R1 and an offset in
-/// the content of the second device, or with P2, if that does not return the bytes written to it;
-/// an honest device does. After a failure the second and the third device have their old content,
-/// or a prefix of a file.
+/// Fails with R1 (`Damaged`) only if the content is not the file of version 1 and pass 0 of a tree of
+/// the grammar; the offset is as for `run_pass`. If a limit is reached before any damage, fails with P2
+/// (`TooDeep`) or P3 (`TooManyNodes`) instead: the content then encodes no tree of at most
+/// `MAX_REVERSED_LEVELS` (256) levels, or none of at most `MAX_REVERSED_RECORDS` (65,536) nodes, and may
+/// encode no tree at all. Fails with D1 (`Device`) if a call of a device failed, and with `NoMemory` if
+/// memory cannot be allocated. If the second device does not return the bytes that were written to it,
+/// fails with R1 and an offset in that device's content, or with P2; an honest device returns them.
+/// After a failure the second and the third device have their old content, or a prefix of a file.
 ///
 /// Allocates memory for two buffers, for the texts of the tokens of each node on the path, and for
 /// a body at each level.
@@ -307,7 +307,8 @@ pub fn upgrade<D: Device, E: Device, F: Device>(
     Ok(count)
 }
 
-/// Writes the record of a node or token that was read from a file of version 1.
+/// Writes the record of a node or token that was read from a file of version 1. Fails with D1 if the
+/// device fails, and with `NoMemory` if memory cannot be allocated.
 #[inline(always)]
 fn put_record<E: Device>(
     kind: Kind,

@@ -1,4 +1,8 @@
 //! The check that strikes are good in a pass, one after the other. Both kinds of certificate use it.
+//!
+//! A strike names an attribute, a rule for it and an argument of that rule. It is good if this argument is
+//! a reason why the pass can't compute the attribute: it was struck before, or it is a candidate at the
+//! same child as the rule's target, or at a child that the direction visits later.
 
 ghost use Rattle.std.specs.Prelude.{ℕ, ◌≡◌, ◌↔◌, IfSome, IsSome, IsTrue, Some, slice_get, take};
 ghost use Rattle.ag_grammar.specs.declared.grammar.Item.TheVariants as item;
@@ -138,8 +142,8 @@ fn is_next<C: Candidates>(
         && is_good(grammar, direction, candidates, struck, strike)
 }
 
-/// Returns marks of the attributes that a list strikes, or `None` if a strike may not come after those
-/// before it. Does not allocate.
+/// Returns marks of the attributes that a list strikes, or `None` if one of the strikes may not come next
+/// after those before it. Does not allocate.
 pub(crate) fn marks_of<C: Candidates>(
     grammar: &Grammar,
     direction: Direction,

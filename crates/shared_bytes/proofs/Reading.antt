@@ -80,9 +80,8 @@ all_read place at done content out h le =
 pub none_at_first : (at : ℕ) (content out : List ℕ) → HasRead 0 at 0 content out
 none_at_first at content out = record { within = omega arith; same = refl; reached = λ less. omega arith }
 
--- The own bytes before a splice, the splice, and what comes after it, where own byte number `base` is the first one of a body
--- that
--- begins at offset `at`. The own bytes from index `from` on are at offset `place` of the body.
+-- The own bytes before a splice, the splice, and what comes after it, where own byte number `base` is the first one of
+-- a body that begins at offset `at`. The own bytes from index `from` on are at offset `place` of the body.
 pub record IsTurn (base at from place : ℕ) (own content : List ℕ) (g : Splice) (rest : List Splice) : Type 0 where
   pub from_here : base ≤ g.own
   pub forward : from ≤ g.own - base

@@ -80,12 +80,12 @@ RunContinues = (version : Version) (g : Grammar) (m : Passes) (k last : ℕ) (st
     → k ≤ last → RunsPasses version g m k last start newest previous → RunsPass version g m last newest next
     → RunsPasses version g m k (suc last) start next newest
 
--- If the file after some passes is of no tree, so was the file before them,
+-- If the file after some passes is that of no tree of the grammar, neither was the file before them.
 abbrev pub RefusalGoesBack : Type 0
 RefusalGoesBack = (version : Version) (g : Grammar) (m : Passes) (k last : ℕ) (start newest previous : List ℕ)
     → RunsPasses version g m k last start newest previous → HasNoTree version g m last newest → HasNoTree version g m k start
 
--- also within limits.
+-- If the file after some passes is that of no tree within limits, neither was the file before them.
 abbrev pub RefusalWithinGoesBack : Type 0
 RefusalWithinGoesBack =
     (depth nodes : ℕ) (version : Version) (g : Grammar) (m : Passes) (k last : ℕ) (start newest previous : List ℕ)
@@ -105,23 +105,23 @@ ListedRecord = (version : Version) (g : Grammar) (m : Passes) (k s : ℕ) (body 
     ↔ ((p : ℕ) × (q : Production) × (vs : List Value) × IsListedRecord version g m k s body p q vs
     × (ys ≡ children_with_copies version.has_copies g m k (stored_items q.items) (drop (count_up_to k (m s)) vs)))
 
--- If fewer values were read from some bytes than there should be, and no other value begins after them, the
--- bytes don't spell that number of values;
+-- If fewer than n values were read from some bytes, and no other value begins after them, the bytes don't spell n
+-- values.
 abbrev pub ValueIsMissing : Type 0
 ValueIsMissing = (bytes : List ℕ) (vs : List Value) (rest : List ℕ) (n : ℕ) → HasReadValues bytes vs rest → length vs < n
     → BeginsNoValue rest → AreSpelled n bytes → ⊥
 
--- nor do they if all were read and bytes are left over.
+-- If n values were read from some bytes, and bytes are left over, the bytes don't spell n values.
 abbrev pub BytesAreLeft : Type 0
 BytesAreLeft = (bytes : List ℕ) (vs : List Value) (rest : List ℕ) (n : ℕ) → HasReadValues bytes vs rest → length vs ≡ n
     → 0 < length rest → AreSpelled n bytes → ⊥
 
--- At the end of a content the root is expected,
+-- Before anything was read, at the end of a content, the root is expected.
 abbrev pub ReadingBegins : Type 0
 ReadingBegins = (version : Version) (g : Grammar) (m : Passes) (k : ℕ) (content : List ℕ) → IsUsable version
     → FitsVersion version g m → ReadSoFar version g m k content (length content) 0 (pending_root g)
 
--- and after a record of the first expected child its own children are, before the others.
+-- After a record of the first expected child its own children are expected, before the others.
 abbrev pub ReadingContinues : Type 0
 ReadingContinues =
     (version : Version) (g : Grammar) (m : Passes) (k : ℕ) (content body : List ℕ) (at count level : ℕ) (x : Child)
@@ -130,13 +130,13 @@ ReadingContinues =
     → ReadSoFar version g m k content (before_frame at body) (suc count)
     (before_others (other (direction_of k)) (suc level) ys todo)
 
--- After i visited members of a right side the next one is expected, and then the others of that right side;
+-- After i visited members of a right side the next one is expected, and then the others of that right side.
 abbrev pub NextPending : Type 0
 NextPending = (d : Direction) (level i : ℕ) (xs : List Child) (x : Child) (todo : Pending) → i < length xs
     → slice_get xs (nth d (length xs) i) ≡ Some x
     → before_others d level (remaining_of d xs i) todo ≡ (level, x) ∷ before_others d level (remaining_of d xs (suc i)) todo
 
--- before the first one all of them are, and after the last one none.
+-- Before the first visited member of a right side all members are expected, and after the last one none.
 abbrev pub AllPending : Type 0
 AllPending = (d : Direction) (level : ℕ) (xs : List Child) (todo : Pending)
     → (remaining_of d xs 0 ≡ xs) × (before_others d level (remaining_of d xs (length xs)) todo ≡ todo)
@@ -153,32 +153,32 @@ ReadingEnds = (version : Version) (g : Grammar) (m : Passes) (k : ℕ) (content 
     → ReadSoFar version g m k content at count [] → IsTreeOf g t → IsFileOfTree version g m k t v content
     → next_before version content at ≡ Ok None
 
--- If the body found before an offset is not the expected one, the content is the file of no tree;
+-- If the body found before an offset is not the expected one, the content is the file of no tree.
 abbrev pub ReadingBreaks : Type 0
 ReadingBreaks = (version : Version) (g : Grammar) (m : Passes) (k : ℕ) (content : List ℕ) (at count : ℕ) (todo : Pending)
     → ReadSoFar version g m k content at count todo → Breaks version g m k todo (next_before version content at)
     → HasNoTree version g m k content
 
--- if a tree at too deep a level, or one record too many, is expected, it is the file of no tree within the
--- limits;
+-- If a tree at too deep a level, or one record too many, is expected, the content is the file of no tree within the
+-- limits.
 abbrev pub ReadingIsTooLong : Type 0
 ReadingIsTooLong =
     (version : Version) (g : Grammar) (m : Passes) (k : ℕ) (content : List ℕ) (at count level depth nodes : ℕ) (x : Child)
     (todo : Pending) → ReadSoFar version g m k content at count ((level, x) ∷ todo) → IsTooLarge depth nodes level count
     → HasNoTreeWithin depth nodes version g m k content
 
--- and it is the file of no tree if it does not begin as a tree file of the pass.
+-- If a content does not begin as a tree file of the pass, it is the file of no tree.
 abbrev pub NoFileHasNoTree : Type 0
 NoFileHasNoTree = (version : Version) (g : Grammar) (m : Passes) (k : ℕ) (content : List ℕ) → IsUsable version → k < 2 ^ 16
     → ((is_tree_file version content ≡ true) × (pass_of content ≡ k) → ⊥) → HasNoTree version g m k content
 
--- The last body of a tree's file is the root's record,
+-- The last body of a tree's file is the root's record.
 abbrev pub RootIsLast : Type 0
 RootIsLast = (version : Version) (g : Grammar) (m : Passes) (k p : ℕ) (ts : Forest) (v : Valuation) (content : List ℕ)
     → IsUsable version → FitsVersion version g m → IsTreeOf g (node p ts) → IsFileOfTree version g m k (node p ts) v content
     → last_body_of version content ≡ Ok (node_body version g m k p (v []) (copies_of g m k ts (children v)))
 
--- and in that of the last pass each attribute has its value at its number.
+-- If no attribute has a pass after k, a record of pass k has the value of each attribute at its number.
 abbrev pub ValuesAreWhole : Type 0
 ValuesAreWhole = (k : ℕ) (ps : List ℕ) (e : ℕ → Value) (a p : ℕ) → Each (λ n. n ≤ k) ps → slice_get ps a ≡ Some p
     → slice_get (values_up_to k ps e) a ≡ Some (e a)

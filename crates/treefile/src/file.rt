@@ -157,7 +157,8 @@ impl<F: Read + Write + Seek + OpenFile> FileDevice<F> {
     }
 
     /// Appends bytes as `append` does, also if they do not fit in the buffer: writes the buffered bytes to
-    /// the file first, and bytes that fill a buffer directly.
+    /// the file first, and bytes that fill a buffer directly. Fails with `Failed` if the file is only read,
+    /// or if this write or an earlier one failed, and with `NoMemory` if memory is refused.
     #[cold]
     #[inline(never)]
     fn append_slowly(&mut self, bytes: &[u8]) -> Result<(), DeviceFault>

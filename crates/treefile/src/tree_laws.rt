@@ -75,9 +75,9 @@ pub fn trees_are_read_back()
         (prefix (other (direction_of pass)) (bodies_of version grammar passes pass tree values)) }
 {}
 
-/// The files of `1` in the grammar of binary fractions, byte for byte, and the file of pass 0 of `iffy if`
-/// in `token_sample`. In pass 0 the only values are the texts of tokens. In version 2 a record has
-/// copies too.
+/// Worked examples: the files of `1` in the grammar of binary fractions, byte for byte, and the file of
+/// pass 0 of `iffy if` in `token_sample`. In pass 0 the only values are the texts of tokens. In version
+/// 2 a record has copies too.
 pub fn worked_files()
     ensures first { (values : Valuation) →
         file_of_tree version_one binary binary_passes 0 tree_of_one values ≡ pass_0_of_one }
@@ -163,11 +163,11 @@ pub fn root_is_last()
     ensures values { ValuesAreWhole }
 {}
 
-/// The tree of `1` with its values can be recorded, and so can that of `iffy if`, but not with an
-/// empty text for the name. The file of pass 2 of `1` is that of no other tree, and its last record
-/// is that of N. Pass 1 ran from the file of pass 0 of `x x` in `sample` to that of pass 1, and so did
-/// the passes from 1 to 1. T's record in pass 1 has the number 65536, which is spelled in nine bytes. A
-/// following byte 9 begins no value, so there are not two.
+/// Worked examples: the tree of `1` with its values can be recorded, and so can that of `iffy if`, but
+/// not with an empty text for the name. The file of pass 2 of `1` is that of no other tree, and its
+/// last record is that of N. Pass 1 ran from the file of pass 0 of `x x` in `sample` to that of pass 1,
+/// and so did the passes from 1 to 1. T's record in pass 1 has the number 65536, which is spelled in
+/// nine bytes. A following byte 9 begins no value, so there are not two.
 pub fn worked_records()
     ensures numbered { IsNumbered binary }
     ensures recorded { IsRecorded binary binary_passes 2 (item.Symbol 0) tree_of_one values_of_one }
@@ -191,10 +191,11 @@ pub fn worked_records()
     ensures missing { AreSpelled 2 (spelled_number ++ 9 ∷ []) → ⊥ }
 {}
 
-/// Reading the file of pass 0 of `1`, in version 1, from its end and from right to left. N is expected
-/// first, and after its record Q and then L, one level deeper. The bodies are those of a tree of three
-/// levels, and of none of two; nor is the file that of a tree of at most three nodes. A header alone is
-/// the file of no tree, nor is a file with only Q's record, nor is this one a file of pass 1.
+/// Worked example: reading the file of pass 0 of `1`, in version 1, from its end and from right to
+/// left. N is expected first, and after its record Q and then L, one level deeper. The bodies are those
+/// of a tree of three levels, and of none of two; nor is the file that of a tree of at most three
+/// nodes. A header alone is the file of no tree, nor is a file with only Q's record, nor is this one a
+/// file of pass 1.
 pub fn worked_reading()
     ensures one { IsRecordOf version_one binary binary_passes 1 (item.Symbol 3, None)
         record_of_t [] }

@@ -55,7 +55,7 @@ fn are_texts(items: &[Value]) -> bool
     true
 }
 
-/// Returns the text, or an empty one for another value.
+/// Lends a text, or an empty one for a value of another kind.
 pub fn bytes_of(value: &Value) -> &str
     ensures { result.now ≡ bytes_of value.now }
 {

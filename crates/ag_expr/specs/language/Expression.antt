@@ -37,12 +37,12 @@ abbrev pub IsRefused : List ℕ → ExprFault → Type 0
 IsRefused text fault.NoMemory = Unit {0}
 IsRefused text e = ReadsAsNone text
 
--- an expression can begin with a name that is not reserved, `let`, `if`, or the name of a call,
+-- whether an expression can begin with this name: one that is not reserved, `let`, `if`, or the name of a call
 abbrev pub begins_with : List ℕ → Bool
 begins_with name =
     not (is_reserved name) || (bytes_eq name (codes "let") || (bytes_eq name (codes "if") || is_some (call_of name)))
 
--- and with a number, a text, an occurrence, `(`, `[` or `{`
+-- whether an expression can begin with this token: a number, a text, an occurrence, `(`, `[`, `{`, or such a name
 abbrev pub begins_expression : GrammarToken → Bool
 begins_expression (token.Number n) = true
 begins_expression (token.Text bytes) = true

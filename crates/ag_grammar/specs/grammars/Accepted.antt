@@ -16,39 +16,41 @@ use Rattle.ag_grammar.specs.declared.limits.TheConstants.{MAX_TEXT_BYTES, NAME, 
 use Rattle.ag_grammar.specs.grammars.AttributeGrammar.{attribute_names, Grammar, stored_items, IsProduction, IsRule, Kind}
 use Rattle.ag_grammar.specs.grammars.AttributeGrammar.{HasKind, RefersTo, defined_kind, used_kind}
 
--- The limits of a grammar (this project's): the maximum number of symbols,
+-- ---- the limits of a grammar (this project's)
+
+-- the maximum number of symbols
 abbrev pub max_symbols : ℕ
 max_symbols = MAX_SYMBOLS
 
--- of attributes of a symbol,
+-- the maximum number of attributes of a symbol
 abbrev pub max_attributes : ℕ
 max_attributes = MAX_ATTRIBUTES
 
--- of productions,
+-- the maximum number of productions
 abbrev pub max_productions : ℕ
 max_productions = MAX_PRODUCTIONS
 
--- of items on a right side,
+-- the maximum number of items on a right side
 abbrev pub max_items : ℕ
 max_items = MAX_ITEMS
 
--- of children of a production (items of its right side other than literals, also called stored items),
+-- the maximum number of children of a production (items of its right side other than literals, also called stored items)
 abbrev pub max_children : ℕ
 max_children = MAX_CHILDREN
 
--- of rules of a production and of arguments of a rule (an accepted grammar has far fewer),
+-- the maximum number of rules of a production, and of arguments of a rule (an accepted grammar has far fewer)
 abbrev pub max_rules : ℕ
 max_rules = MAX_RULES
 
--- of distinct literals,
+-- the maximum number of distinct literals
 abbrev pub max_literals : ℕ
 max_literals = MAX_LITERALS
 
--- of bytes of a literal,
+-- the maximum number of bytes of a literal
 abbrev pub max_literal_bytes : ℕ
 max_literal_bytes = MAX_LITERAL_BYTES
 
--- and of bytes of the grammar's text; the limit of a sentence is the same.
+-- the maximum number of bytes of a grammar's text; the limit of a sentence is the same
 abbrev pub max_text_bytes : ℕ
 max_text_bytes = MAX_TEXT_BYTES
 
@@ -57,7 +59,7 @@ max_text_bytes = MAX_TEXT_BYTES
 abbrev pub max_passes : ℕ
 max_passes = MAX_PASSES
 
--- the numbers of the classes NAME, NUMBER and TEXT (this project's),
+-- the numbers of the classes NAME, NUMBER and TEXT (this project's)
 abbrev pub name_class : ℕ
 name_class = NAME
 
@@ -67,7 +69,7 @@ number_class = NUMBER
 abbrev pub text_class : ℕ
 text_class = TEXT
 
--- and the number of classes
+-- the number of classes
 abbrev pub class_count : ℕ
 class_count = CLASS_COUNT
 

@@ -51,12 +51,12 @@ RunGoesOn = (g : Grammar) (m : Passes) (x : Item) (t : Tree) (u w v : Valuation)
     → first ≤ next → RanThrough g m t u first next w → Same (λ p. p < next) g m t w v → Solves (OfPass m next) g t v
     → RanThrough g m t u first (suc next) v
 
--- After the last pass, each equation whose target belongs to a pass from the first one on is satisfied,
+-- After the last pass, each equation whose target belongs to a pass from the first one on is satisfied.
 abbrev pub RunSolvesRest : Type 0
 RunSolvesRest = (g : Grammar) (m : Passes) (t : Tree) (u w : Valuation) (first last : ℕ) → IsLastPass last m
     → RanThrough g m t u first (suc last) w → Solves (FromPass m first) g t w
 
--- and if the first was pass 1, the values are the solution.
+-- If passes from pass 1 to the last one ran, the values are the solution.
 abbrev pub RunIsTheSolution : Type 0
 RunIsTheSolution = (g : Grammar) (m : Passes) (t : Tree) (u w : Valuation) (last : ℕ) → IsAccepted g → IsLegal g m
     → IsLastPass last m → IsTreeOf g t → RanThrough g m t u 1 (suc last) w → IsTheSolution g m t w

@@ -9,15 +9,15 @@ use Rattle.ag_grammar.specs.values.Fitting.{fit}
 use Rattle.ag_grammar.specs.values.Operators.{comparison_result}
 use Rattle.ag_grammar.specs.values.Tables.{get_result, keys_of}
 
--- A value that is too deep becomes the error `deep`, even if it is also too heavy;
+-- `fit` makes the error `deep` of a value that is too deep, even if it is also too heavy.
 abbrev pub DeepComesFirst : Type 0
 DeepComesFirst = (v : Value) → max_value_depth < depth_of v → fit v ≡ value.Fault Deep
 
--- a value that is only too heavy becomes the error `big`;
+-- `fit` makes the error `big` of a value that is too heavy but not too deep.
 abbrev pub BigComesNext : Type 0
 BigComesNext = (v : Value) → depth_of v ≤ max_value_depth → max_weight < weight_of v → fit v ≡ value.Fault Big
 
--- and any other value is unchanged.
+-- `fit` leaves a value unchanged that is neither too deep nor too heavy.
 abbrev pub WhatFitsStays : Type 0
 WhatFitsStays = (v : Value) → depth_of v ≤ max_value_depth → weight_of v ≤ max_weight → fit v ≡ v
 

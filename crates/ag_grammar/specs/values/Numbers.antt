@@ -21,11 +21,11 @@ quotient_of (pos zero) quotient = value.Fault Divide
 quotient_of (pos (suc n)) quotient = quotient
 quotient_of (negsuc n) quotient = quotient
 
--- the quotient, truncated towards zero,
+-- the quotient, truncated towards zero
 abbrev pub quotient : ℤ → ℤ → Value
 quotient m n = quotient_of n (number_value (int_div m n))
 
--- and the remainder, with the sign of the dividend
+-- the remainder, with the sign of the dividend
 abbrev pub remainder : ℤ → ℤ → Value
 remainder m n = quotient_of n (value.Num (int_rem m n))
 

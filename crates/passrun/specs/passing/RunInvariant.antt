@@ -49,7 +49,7 @@ root_number (leaf c x) = c
 root_number (node p ts) = p
 
 -- Of the values of a symbol's attributes of passes up to this one, only those of synthesized attributes of this
--- pass may differ.
+-- pass may differ. This is about attribute values; the `Keeps` of std is about the bytes of a file.
 abbrev pub Keeps : Setting → ℕ → (ℕ → Value) → (ℕ → Value) → Type 0
 Keeps c s old new = (a p : ℕ) → slice_get (c.passes s) a ≡ Some p → p ≤ c.write
     → ((p ≡ c.write) × (slice_get (symbol_kinds (slice_get c.grammar.symbols s)) a ≡ Some Synthesized) → ⊥) → new a ≡ old a
@@ -228,8 +228,8 @@ pub record IsActive (c : Setting) (s : ℕ) (f : ℕ → Value) (level : ℕ) (x
   pub base : x.base ≡ length under
   pub todo_is : todo ≡ pending c production phase i x.child table of_child (suc level) others
 
--- The root's tree was read, and written except for the root's record, which has the remaining values. So many
--- rules were evaluated.
+-- The root's tree was read, and written except for the root's record, which has the remaining values. `evals` rules
+-- were evaluated.
 pub record IsRootReady (c : Setting) (root : ℕ) (values : List Value) (new : Transcript) (evals : ℕ)
     (todo : Pending) : Type 0 where
   pub tree : Tree

@@ -70,8 +70,7 @@ pub(crate) struct Layout {
 }
 
 /// Returns the rows of the places of a production in a pass, and the number of values in the row of
-/// its nodes.
-/// Fails with `NoMemory` if memory cannot be allocated.
+/// its nodes. Fails with `NoMemory` if memory cannot be allocated.
 fn rows_of_places(
     alloc: Global,
     setting: &Setting<'_>,

@@ -29,7 +29,7 @@ use std::alloc::Global;
 use treefile::Device;
 
 /// Runs the pass of a context: reads the file of the previous pass backward, and writes the file of
-/// the pass.
+/// the pass. Fails as `run_pass` does.
 pub(crate) fn run_in_context<D: Device, E: Device>(
     context: &PassContext<'_>,
     from: &mut D,
@@ -72,14 +72,15 @@ pub(crate) fn run_in_context<D: Device, E: Device>(
 /// the file of the pass. Evaluates each rule of the pass once at each node of its production. The
 /// meter counts these evaluations, and may be at most 2^63 before the call.
 ///
-/// Fails with R1 (`Damaged`) if the first file is not one that the previous pass writes for a tree
-/// of the grammar. The offset is 0 if the file does not begin as a tree file, and 4 if it is that
+/// Fails with R1 (`Damaged`) only if the first file is not one that the previous pass writes for a
+/// tree of the grammar. The offset is 0 if the file does not begin as a tree file, and 4 if it is that
 /// of another pass. Otherwise it is the end of the frame that shows the damage, or the offset at
-/// which a frame should end. Fails with P2 (`TooDeep`) if the file encodes no tree of at most
-/// `MAX_DEPTH` levels, before a record one level deeper is read. Fails with P3 (`TooManyNodes`) if
-/// it encodes no tree of at most `MAX_NODES` nodes, before one record more is read. Fails
-/// with D1 (`Device`) if a call of one of the devices failed, and with `NoMemory` if memory cannot
-/// be allocated.
+/// which a frame should end. If a limit is reached before any damage, fails with P2 or P3 instead: with
+/// P2 (`TooDeep`) before a record one level deeper than `MAX_DEPTH` is read, and with P3
+/// (`TooManyNodes`) before one record more than `MAX_NODES` is read. The file then encodes no tree of
+/// at most `MAX_DEPTH` levels, or none of at most `MAX_NODES` nodes; it may encode no tree at all. Fails
+/// with D1 (`Device`) if a call of one of the devices failed, and with `NoMemory` if memory cannot be
+/// allocated.
 ///
 /// Only reads the first device. After a failure the second device has its old content, or a prefix
 /// of a tree file. Allocates memory for the slots of the grammar's rules, for a buffer of 4,096

@@ -116,7 +116,7 @@ fn read_node(
     Ok(None)
 }
 
-/// Reads the record of an item from a copy of a body, as `read_record` does.
+/// Reads the record of an item from a copy of a body, as `read_record` does, and fails as it does.
 fn read_copy(
     context: &PassContext<'_>,
     item: Item,
@@ -136,7 +136,8 @@ fn read_copy(
     read_record(context, item, location, bytes.as_slice(), values)
 }
 
-/// Reads the body of a node of a symbol in which values are shared, as `read_record` does.
+/// Reads the body of a node of a symbol in which values are shared, as `read_record` does, and fails
+/// as it does.
 fn read_shared_node(
     context: &PassContext<'_>,
     symbol: u16,
@@ -161,7 +162,7 @@ fn read_shared_node(
     read_copy(context, Item::Symbol(symbol), location, &body, values)
 }
 
-/// Reads a body in which values are shared, as `read_record` does.
+/// Reads a body in which values are shared, as `read_record` does, and fails as it does.
 fn read_shared(
     context: &PassContext<'_>,
     item: Item,

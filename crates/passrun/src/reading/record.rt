@@ -64,8 +64,8 @@ fn number_in(bytes: &[u8]) -> Option<(i64, &[u8])>
     Some((number.cast_signed(), rest))
 }
 
-/// Reads a value as `Carried::read` does, and returns it with its length in bytes. The candidate is
-/// a stored value that may be equal to it, which then saves a copy.
+/// Reads a value as `Carried::read` does, fails as it does, and returns the value with its length in
+/// bytes. The candidate is a stored value that may be equal to it, which then saves a copy.
 fn read_beside(
     alloc: Global,
     candidate: Option<&Carried>,
@@ -215,8 +215,8 @@ fn take_values(
     check_end(rest)
 }
 
-/// Takes the values of a row as `take_values` does. Numbers, up to the first value of another kind,
-/// are taken by `take_number`, which is faster.
+/// Takes the values of a row as `take_values` does, and fails as it does. Numbers, up to the first
+/// value of another kind, are taken by `take_number`, which is faster.
 #[inline(always)]
 fn take_row(
     alloc: Global,
@@ -314,8 +314,8 @@ pub fn read_node(
     Ok(number)
 }
 
-/// Reads the body of a node as `read_node` does, with the passes of the values from the layout of
-/// its production, and with hints for the values.
+/// Reads the body of a node as `read_node` does, and fails as it does, with the passes of the values
+/// from the layout of its production, and with hints for the values.
 #[inline(always)]
 fn read_node_by_layout(
     context: &PassContext<'_>,

@@ -52,6 +52,8 @@ abbrev pub Clears : List ℕ → List ℕ → Result (Unit {0}) DeviceFault → 
 Clears old new (Ok u) = new ≡ []
 Clears old new (Err fault) = (new ≡ []) ⊎ (new ≡ old)
 
+-- ---- worked examples
+
 -- one more failure has risen
 pub risen_by_one : HasRisen 3 4
 risen_by_one = inl (lit< tt)

@@ -45,6 +45,8 @@ pub record StaysBroken {F : Type 0} (old new : FileDeviceState F) (failed : Type
   pub fails : old.access ≡ Broken → failed
   pub stays : old.access ≡ Broken → new.access ≡ Broken
 
+-- ---- worked examples
+
 -- a truncated file that took two bytes, and a third byte that is buffered
 abbrev pub third_is_buffered : FileDeviceState (List ℕ)
 third_is_buffered =

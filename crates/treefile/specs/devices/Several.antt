@@ -27,6 +27,8 @@ pub record ThreePersist {D E F : Type 0} (honest : D → Bool) (failures : D →
       ⊎ (HasRisen (other_failures other_old) (other_failures other_new)
       ⊎ HasRisen (last_failures last_old) (last_failures last_new))
 
+-- ---- worked examples
+
 -- a call whose second device failed: the first had three failures before, and the second none
 pub second_failed : BothPersist {D = ℕ} {E = ℕ} (λ _. true) (λ n. n) 3 3 (λ _. true) (λ n. n) 0 1 (Unit {0})
 second_failed = record {

@@ -41,6 +41,8 @@ ReadsTo version content at [] start = at ≡ start
 ReadsTo version content at (body ∷ bodies) start =
     (next_before version content at ≡ Ok (Some body)) × ReadsTo version content (before_frame at body) bodies start
 
+-- ---- worked examples
+
 -- a file of 22 bytes has one body, whose frame begins after the header
 pub fourteen_is_read : ReadsTo version_one file_of_fourteen 22 ((1 ∷ 0 ∷ 0 ∷ 0 ∷ 0 ∷ 0 ∷ 0 ∷ 0 ∷ 0 ∷ 0 ∷ 0 ∷ 14 ∷ []) ∷ []) 6
 unfolding next_before body_before fits_before

@@ -90,6 +90,8 @@ ReadsAs view (Err (Damaged at)) read = read ≡ Err (Damaged at)
 ReadsAs view (Err Device) read = Unit {0}
 ReadsAs view (Err NoMemory) read = Unit {0}
 
+-- ---- worked examples
+
 -- versions 1 and 2 are usable
 pub version_one_usable : IsUsable version_one
 version_one_usable = record { four = refl; narrow = lit< tt }

@@ -114,11 +114,11 @@ ReadSoFar version g m k content at count todo =
     (bodies : List (List ℕ)) × ReadsBack version content at bodies
     × Expects version g m k (other (direction_of k)) depth todo bodies × (count + length bodies ≤ nodes)
 
--- A content is the file of pass k of no tree of the grammar,
+-- A content is the file of pass k of no tree of the grammar.
 abbrev pub HasNoTree : Version → Grammar → Passes → ℕ → List ℕ → Type 0
 HasNoTree version g m k content = (t : Tree) (v : Valuation) → IsTreeOf g t → IsFileOfTree version g m k t v content → ⊥
 
--- and of none within a depth and a number of nodes.
+-- A content is the file of pass k of no tree of the grammar within a depth and a number of nodes.
 abbrev pub HasNoTreeWithin : ℕ → ℕ → Version → Grammar → Passes → ℕ → List ℕ → Type 0
 HasNoTreeWithin depth nodes version g m k content = (t : Tree) (v : Valuation) → IsTreeOf g t → IsWithinLimits depth nodes t
     → IsFileOfTree version g m k t v content → ⊥
@@ -146,6 +146,8 @@ AreThere version g m k d deepest (x ∷ xs) bodies =
     × (x.0 + depth_of t ≤ suc deepest) × (bodies ≡ prefix d (bodies_of version g m k t v) ++ others)
     × AreThere version g m k d deepest xs others
     × MatchesCopy x.1.1 (copy_of g m k t v)
+
+-- ---- worked examples
 
 -- from right to left the last of three items comes first, and then the one before it
 pub first_from_right : nth RightToLeft 3 0 ≡ 2

@@ -27,11 +27,11 @@ abbrev pub IsFirstFile : Version → Grammar → Tree → List ℕ → Type 0
 IsFirstFile version g t content = (m : Passes) (v : Valuation) → AreFromOne m → Solves NoRule g t v
     → IsFileOfTree version g m 0 t v content
 
--- the content is the file of pass 0 of no tree of the grammar,
+-- the content is the file of pass 0 of no tree of the grammar
 abbrev pub HasNoFirstTree : Version → Grammar → List ℕ → Type 0
 HasNoFirstTree version g content = (t : Tree) → IsTreeOf g t → IsFirstFile version g t content → ⊥
 
--- and of none within a depth and a number of nodes
+-- the content is the file of pass 0 of no tree of the grammar within a depth and a number of nodes
 abbrev pub HasNoFirstTreeWithin : (depth nodes : ℕ) → Version → Grammar → List ℕ → Type 0
 HasNoFirstTreeWithin depth nodes version g content = (t : Tree) → IsTreeOf g t → IsWithinLimits depth nodes t
     → IsFirstFile version g t content → ⊥

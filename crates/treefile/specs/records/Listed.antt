@@ -78,6 +78,8 @@ pub record HasReadValues (bytes : List ℕ) (vs : List Value) (rest : List ℕ) 
 abbrev pub BeginsNoValue : List ℕ → Type 0
 BeginsNoValue bytes = (v : Value) (rest : List ℕ) → IsWell v → bytes ≡ spelling_of v ++ rest → ⊥
 
+-- ---- worked examples
+
 -- of three attributes of the passes 1, 2 and 2 one is of a pass up to 1, and all are of a pass up to 2
 pub one_up_to_first : count_up_to 1 (1 ∷ 2 ∷ 2 ∷ []) ≡ 1
 one_up_to_first = refl

@@ -70,6 +70,8 @@ abbrev mutual
   node_counts none = 0
   node_counts (more t ts) = node_count t + node_counts ts
 
+-- ---- worked examples
+
 -- a node with two children, the second of which has one: three levels, and four nodes
 abbrev pub small_tree : BodyTree
 small_tree = branch (9 ∷ []) (more (branch (7 ∷ []) none) (more (branch (8 ∷ []) (more (branch [] none) none)) none))

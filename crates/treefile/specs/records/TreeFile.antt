@@ -69,6 +69,8 @@ file_of_fourteen = 65 ∷ 71 ∷ 84 ∷ 49 ∷ 0 ∷ 0 ∷ 1 ∷ 0 ∷ 0 ∷ 0 �
 fourteen : spelling_of (value.Num (pos 14)) ≡ 0 ∷ 0 ∷ 0 ∷ 0 ∷ 0 ∷ 0 ∷ 0 ∷ 0 ∷ 14 ∷ []
 fourteen = ap spelling_of (sym (rolls-Num (pos 14))) ∙ fold-roll-Value (List ℕ) spelling_step (Value-F.Num (pos 14))
 
+-- ---- worked examples
+
 pub bytes_of_fourteen : file version_one 0 (body_of Token 0 (value.Num (pos 14) ∷ []) ∷ []) ≡ file_of_fourteen
 bytes_of_fourteen = ap (λ (spelling : List ℕ). file version_one 0 (body_from Token 0 (spelling ++ []) ∷ [])) fourteen
 
