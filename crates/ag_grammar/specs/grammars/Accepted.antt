@@ -16,9 +16,7 @@ use Rattle.ag_grammar.specs.declared.limits.TheConstants.{MAX_TEXT_BYTES, NAME, 
 use Rattle.ag_grammar.specs.grammars.AttributeGrammar.{attribute_names, Grammar, stored_items, IsProduction, IsRule, Kind}
 use Rattle.ag_grammar.specs.grammars.AttributeGrammar.{HasKind, RefersTo, defined_kind, used_kind}
 
--- ---- the limits of a grammar (this project's)
-
--- the maximum number of symbols
+-- the maximum number of symbols; this and the definitions up to `max_text_bytes` are the limits of a grammar (this project's)
 abbrev pub max_symbols : ℕ
 max_symbols = MAX_SYMBOLS
 
