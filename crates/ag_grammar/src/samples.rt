@@ -1,4 +1,5 @@
-//! Examples for the definitions; each is a law.
+//! Worked examples of the definitions; each is a law. The first grammar is `sample` of `Sample.antt`, whose one
+//! sentence is `x x`; the second one, `token_sample`, has a token.
 
 ghost use Rattle.std.specs.Prelude.{ℕ, ◌≡◌, [], ◌∷◌, pos, true, false};
 ghost use Rattle.ag_value.specs.declared.value.Value.{Num, Text, Value as AttributeValue};
@@ -29,25 +30,26 @@ pub fn sample_accepted()
     ensures { IsAccepted sample }
 {}
 
-/// States that its first production is not complete without the rule for `out` of the left side.
+/// States that the first production of the first grammar is not complete without the rule for `out` of
+/// the left side.
 #[tactic(auto, using(crate::proofs::grammars::samples::NumberSample::missing))]
 pub fn rule_missing()
     ensures { IsComplete without_out (production_r (rule_first ∷ rule_second ∷ [])) → ⊥ }
 {}
 
-/// States that the grammar is not accepted without that rule.
+/// States that the first grammar is not accepted without the rule for `out`.
 #[tactic(auto, using(crate::proofs::grammars::samples::NumberSample::refused))]
 pub fn missing_refused()
     ensures { IsAccepted without_out → ⊥ }
 {}
 
-/// States that the grammar is not accepted with the rule for the second child's `i` twice.
+/// States that the first grammar is not accepted with the rule for the second child's `i` twice.
 #[tactic(auto, using(crate::proofs::grammars::samples::NumberSample::doubled_refused))]
 pub fn doubled_refused()
     ensures { IsAccepted doubled → ⊥ }
 {}
 
-/// States that the grammar is not accepted if a rule's expression has an occurrence but the rule
+/// States that the first grammar is not accepted if a rule's expression has an occurrence but the rule
 /// has no argument for it.
 #[tactic(auto, using(crate::proofs::grammars::samples::NumberSample::bare_refused))]
 pub fn bare_refused()
@@ -60,51 +62,51 @@ pub fn sample_fits()
     ensures { IsTreeOf sample sample_tree }
 {}
 
-/// States that this tree has depth 2 and 3 nodes, and is within the limits.
+/// States that the tree of `x x` has depth 2 and 3 nodes, and is within the limits.
 pub fn sample_size()
     ensures depth { depth_of sample_tree ≡ 2 }
     ensures nodes { node_count sample_tree ≡ 3 }
     ensures limits { IsWithinLimits max_depth max_nodes sample_tree }
 {}
 
-/// States that it yields the literal `x` twice.
+/// States that the tree of `x x` yields the literal `x` twice.
 pub fn sample_yield()
     ensures { yield_of sample sample_tree ≡ (Literal 0, 120 ∷ []) ∷ (Literal 0, 120 ∷ []) ∷ [] }
 {}
 
-/// States that the values with 2 for `out` solve the grammar on this tree.
+/// States that the values with 2 for `out` solve the first grammar on the tree of `x x`.
 #[tactic(auto, using(crate::proofs::grammars::samples::NumberSample::solved))]
 pub fn sample_solved()
     ensures { Solves AnyRule sample sample_tree (sample_values 2) }
 {}
 
-/// States that the same values with 1 for `out` do not.
+/// States that the same values with 1 for `out` do not solve the first grammar on the tree of `x x`.
 #[tactic(auto, using(crate::proofs::grammars::samples::NumberSample::unsolved))]
 pub fn sample_unsolved()
     ensures { Solves AnyRule sample sample_tree (sample_values 1) → ⊥ }
 {}
 
-/// States that the translation is 2.
+/// States that the translation of the tree of `x x` is 2.
 #[tactic(auto, using(crate::proofs::grammars::samples::NumberSample::translation))]
 pub fn sample_translation()
     ensures { IsTranslation sample (sample_values 2) (Num (pos 2)) }
 {}
 
-/// States that pass 1 for all attributes is a legal assignment.
+/// States that pass 1 for all attributes is a legal assignment of the first grammar.
 pub fn sample_legal()
     ensures { IsLegal sample sample_passes }
 {}
 
-/// States that the tree has five rules: three at the root, and one at each of the two children. All
-/// are rules of pass 1.
+/// States that the tree of `x x` has five rules: three at the root, and one at each of the two
+/// children. All are rules of pass 1.
 pub fn sample_counts()
     ensures rules { rules_of sample sample_tree ≡ 5 }
     ensures first { rules_of_pass sample_passes 1 sample sample_tree ≡ 5 }
     ensures second { rules_of_pass sample_passes 2 sample sample_tree ≡ 0 }
 {}
 
-/// States that pass 1 is the last pass. From any values it leaves those with 2 for `out`, and these
-/// are the solution.
+/// States that pass 1 is the last pass of that assignment. From any values it leaves those with 2 for
+/// `out`, and these are the solution.
 #[tactic(auto, using(crate::proofs::grammars::Running::sample_settled))]
 pub fn sample_ran()
     ensures last { IsLastPass 1 sample_passes }
@@ -152,8 +154,8 @@ pub fn samples_in_order()
     ensures classes { IsInOrder token_sample }
 {}
 
-/// States two orders that are wrong: with that production first, literal 1 of the first grammar
-/// appears before literal 0; and the classes 1, 0 of the second grammar do not ascend.
+/// States that two grammars are not in order: with the added production first, literal 1 of the first
+/// grammar appears before literal 0; and the classes 1, 0 of the second grammar do not ascend.
 #[tactic(auto, using(crate::proofs::grammars::samples::Ordered::exchanged))]
 pub fn not_in_order()
     ensures literals { IsInOrder back_first → ⊥ }
@@ -191,31 +193,32 @@ pub fn token_fits()
     ensures { IsTreeOf token_sample token_tree }
 {}
 
-/// States that this tree has depth 2 and 2 nodes: a token counts as a node.
+/// States that the tree of `iffy if` has depth 2 and 2 nodes: a token counts as a node.
 pub fn token_size()
     ensures depth { depth_of token_tree ≡ 2 }
     ensures nodes { node_count token_tree ≡ 2 }
 {}
 
-/// States that it yields the name `iffy` and then the literal `if`.
+/// States that the tree of `iffy if` yields the name `iffy` and then the literal `if`.
 pub fn token_yield()
     ensures { yield_of token_sample token_tree
         ≡ (Class 0, iffy) ∷ (Literal 0, 105 ∷ 102 ∷ []) ∷ [] }
 {}
 
-/// States that the values with the name for `out` solve the grammar on this tree.
+/// States that the values with the name for `out` solve the second grammar on the tree of `iffy if`.
 #[tactic(auto, using(crate::proofs::grammars::samples::TokenSample::solved))]
 pub fn token_solved()
     ensures { Solves AnyRule token_sample token_tree (token_values iffy) }
 {}
 
-/// States that the values with the empty text for `out` do not.
+/// States that the values with the empty text for `out` do not solve the second grammar on the tree of
+/// `iffy if`.
 #[tactic(auto, using(crate::proofs::grammars::samples::TokenSample::unsolved))]
 pub fn token_unsolved()
     ensures { Solves AnyRule token_sample token_tree (token_values []) → ⊥ }
 {}
 
-/// States that the translation is the name.
+/// States that the translation of the tree of `iffy if` is the name.
 #[tactic(auto, using(crate::proofs::grammars::samples::TokenSample::translation))]
 pub fn token_translation()
     ensures { IsTranslation token_sample (token_values iffy) (Text iffy) }

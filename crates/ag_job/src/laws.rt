@@ -4,14 +4,14 @@ ghost use Rattle.ag_job.specs.Jobs.{OnePairOfParts};
 ghost use Rattle.ag_job.specs.Worked.{CrAloneIsNone, CrAndLfEnd, LongerIsNone, NothingBefore};
 ghost use Rattle.ag_job.specs.Worked.{SpacedIsNone, TheFirstCuts, TheLastEnds};
 
-/// A job has at most one grammar and one sentence.
+/// States that a job has at most one grammar and one sentence.
 pub fn a_job_has_one_grammar_and_one_sentence()
     ensures { OnePairOfParts }
 {}
 
-/// Examples that were worked out by hand. In four jobs, the line `%%` ends with CR and LF, is the last line
-/// and has no LF, is the first of two, or is the first line of the job. In three texts no line is exactly
-/// `%%`: it has a CR and no LF after it, begins with a space, or has a third `%`.
+/// Worked examples. In four jobs, the line `%%` ends with CR and LF, is the last line and has no LF, is
+/// the first of two, or is the first line of the job. In three texts no line is exactly `%%`: it has a
+/// CR and no LF after it, begins with a space, or has a third `%`.
 pub fn worked_jobs()
     ensures cr_and_lf { CrAndLfEnd }
     ensures last { TheLastEnds }

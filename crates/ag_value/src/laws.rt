@@ -10,18 +10,18 @@ ghost use Rattle.ag_value.specs.declared.value.ErrorCode.TheVariants as code;
 ghost use Rattle.ag_value.specs.declared.value.Value.{Value};
 ghost use Rattle.ag_value.specs.declared.value.Value.TheVariants as v;
 
-/// No spelling of a well value is a proper prefix of that of another.
+/// States that no spelling of a well value is a proper prefix of that of another.
 pub fn no_spelling_begins_another()
     ensures { (value other : Value) (rest : List ℕ) → IsWell value → IsWell other
         → spelling_of other ≡ spelling_of value ++ rest → value ≡ other }
 {}
 
-/// The weight of a value is the length of its spelling.
+/// States that the weight of a value is the length of its spelling.
 pub fn weight_is_length()
     ensures { (value : Value) → length (spelling_of value) ≡ weight_of value }
 {}
 
-/// Spellings worked out by hand: of 14, of a division by zero, and of the table
+/// Worked examples: the spellings of 14, of the error of a division by zero, and of the table
 /// `{"k": [-1, "hi"]}`.
 #[tactic(auto, using(crate::proofs::Layers::spellings))]
 pub fn worked_spellings()
@@ -33,7 +33,8 @@ pub fn worked_spellings()
         ∷ 1 ∷ 0 ∷ 0 ∷ 0 ∷ 2 ∷ 104 ∷ 105 ∷ [] }
 {}
 
-/// The weight, the depth and the text of the same values.
+/// Worked examples: the weights, the depths and the texts of 14, of the error of a division by zero,
+/// and of `{"k": [-1, "hi"]}`.
 pub fn worked_measures()
     ensures number_weight { weight_of (v.Num (pos 14)) ≡ 9 }
     ensures number_depth { depth_of (v.Num (pos 14)) ≡ 0 }

@@ -1,4 +1,4 @@
-//! Examples of the definitions, each a law.
+//! Worked examples of the definitions, each a law.
 
 ghost use Rattle.closure.specs.Edges.{clause_of_edge};
 ghost use Rattle.closure.specs.Following.{Follows};

@@ -10,18 +10,18 @@ ghost use Rattle.llparse.specs.table.Tables.{choice_of, IsChoice, IsLeastConflic
 ghost use Rattle.llparse.specs.Worked.{left_recursive, small_tables};
 ghost use Rattle.llparse.specs.declared.ahead.Ahead.TheVariants as ahead;
 
-/// A grammar without a conflict has at most one tree with a given yield.
+/// States that a grammar without a conflict has at most one tree with a given yield.
 pub fn one_tree()
     ensures { OneTree }
 {}
 
-/// If words leave only trees beyond a limit, as P2 and P3 state, each tree of these words is beyond
-/// it.
+/// States that if words leave only trees beyond a limit, as P2 and P3 state, each tree of these words
+/// is beyond it.
 pub fn left_trees_are_beyond_the_limit()
     ensures { LeftTreesAreBeyondTheLimit }
 {}
 
-/// Each tree has values that give each of its leaves its text.
+/// States that each tree has values that give each of its leaves its text.
 pub fn texts_are_given()
     ensures { TextsAreGiven }
 {}
@@ -37,8 +37,8 @@ pub fn sample_is_free()
     ensures { HasNoConflict sample }
 {}
 
-/// Worked example: the conflict of `L = L "x"` and `L = "x"` at `x` is the least one of that grammar, and
-/// its symbol has the number 0.
+/// Worked example: the conflict of `L = L "x"` and `L = "x"` at `x` is the least one of that grammar,
+/// and its symbol has the number 0.
 #[tactic(auto, using(crate::proofs::Examples::left_recursion_least))]
 pub fn left_recursion_is_least()
     ensures { IsLeastConflict left_recursive 0 0 1 (ahead.Terminal (Literal 0)) }

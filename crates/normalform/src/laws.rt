@@ -5,41 +5,40 @@ ghost use Rattle.normalform.specs.Laws.{AcceptedWithoutFault, NoFaultWhereAccept
 ghost use Rattle.normalform.specs.Laws.{OneFirstFault, NoFirstFaultWithoutFault};
 ghost use Rattle.normalform.specs.Laws.{WorkedNumbers};
 
-/// If a raw grammar has no fault, the numbered grammar is accepted.
+/// States that if a raw grammar has no fault, the numbered grammar is accepted.
 #[tactic(auto, using(crate::proofs::numbered::Accepting::accepted_without_fault))]
 pub fn accepted_without_fault()
     ensures { AcceptedWithoutFault }
 {}
 
-/// If the numbered grammar is accepted, the raw one has no fault.
+/// States that if the numbered grammar is accepted, the raw one has no fault.
 pub fn no_fault_where_accepted()
     ensures { NoFaultWhereAccepted }
 {}
 
-/// A raw grammar has at most one first fault.
+/// States that a raw grammar has at most one first fault.
 #[tactic(auto, using(crate::proofs::found::First::one_first_fault))]
 pub fn one_first_fault()
     ensures { OneFirstFault }
 {}
 
-/// A raw grammar without faults has no first fault.
+/// States that a raw grammar without faults has no first fault.
 #[tactic(auto, using(crate::proofs::numbered::Accepting::first_excludes))]
 pub fn no_first_fault_without_fault()
     ensures { NoFirstFaultWithoutFault }
 {}
 
-/// The numbers of a small grammar are those computed by hand.
+/// Worked example: the numbers of a small grammar.
 pub fn worked_numbers()
     ensures { WorkedNumbers }
 {}
 
-/// The faults of wrong names and of a wrong start symbol in small grammars are those computed by
-/// hand.
+/// Worked examples: the faults of wrong names and of a wrong start symbol in small grammars.
 pub fn worked_names()
     ensures { WorkedNames }
 {}
 
-/// The faults of wrong rules in small grammars are those computed by hand.
+/// Worked examples: the faults of wrong rules in small grammars.
 pub fn worked_rules()
     ensures { WorkedRules }
 {}

@@ -3,14 +3,14 @@
 ghost use Rattle.origins.specs.Causes.{ErrorsHaveCauses};
 ghost use Rattle.origins.specs.Laws.{CausesHaveOrigins, NoneIsClean, NoneIsCounted};
 
-/// Each error of a solution has a cause: a chain of rules that pass it on, and one in which it arises.
-/// At that one's node there is an origin.
+/// States that each error of a solution has a cause: a chain of rules that pass it on, and a rule in
+/// which it arises. The node of that rule is an origin.
 pub fn errors_have_causes()
     ensures causes { ErrorsHaveCauses }
     ensures origins { CausesHaveOrigins }
 {}
 
-/// Where a tree has no origin, none is counted, and no value of its solution is an error.
+/// States that if a tree has no origin, none is counted, and no value of its solution is an error.
 pub fn no_origin_no_error()
     ensures clean { NoneIsClean }
     ensures counted { NoneIsCounted }

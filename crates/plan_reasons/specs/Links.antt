@@ -39,7 +39,7 @@ abbrev pub IsLinkOrNone : Grammar → Strike → Option Link → Type 0
 IsLinkOrNone g x None = NamesAttribute g x → ⊥
 IsLinkOrNone g x (Some l) = IsLinkOf g x l
 
--- the link of a strike by argument o of rule u; for None, the argument is no attribute of a symbol
+-- the link of a strike by argument o of rule u; for None, the argument is not an attribute of a symbol
 abbrev pub IsLinkAt : Production → Rule → Target → Strike → Option Link → Type 0
 IsLinkAt q u o x None = (s : ℕ) → item_at q o.place ≡ Some (item.Symbol s) → ⊥
 IsLinkAt q u o x (Some l) =

@@ -71,7 +71,7 @@ fn geometry_of(direction: Direction, first: u16, second: u16) -> Geometry
 }
 
 /// Returns the link of a strike, from the production, rule and argument that it names. None if the argument
-/// is no attribute of a symbol.
+/// is not an attribute of a symbol.
 fn link_at(production: &Production, rule: &Rule, argument: Target, strike: Strike) -> Option<Link>
     ensures { IsLinkAt production.now rule.now argument strike result }
 {

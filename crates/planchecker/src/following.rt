@@ -165,7 +165,8 @@ impl NodeState<'_> {
         self.are_available(rule.args.as_slice())
     }
 
-    /// Returns whether the rule with a number and a target was run, if its target has the pass.
+    /// Returns whether the rule with this number and target is done: it was run, or its target does not
+    /// have the pass.
     fn is_done(&self, number: u16, target: Target) -> bool
         requires { IsOnPath self.now }
         ensures { IsTrue result ↔ (HasPass (passes_of self.now.context.assignment.now)

@@ -1,4 +1,4 @@
--- Where the children of a node stand in an index.
+-- The indices of a node's children in an index of a tree.
 use Rattle.std.proofs.Common.{◌≡◌, ℕ, zero, suc, ◌+◌, ◌-◌, ◌<◌, List, [], ◌∷◌, ◌++◌, length, drop, map, Option, Some, Ok}
 use Rattle.std.proofs.Common.{slice_get, refl, ap, sym, subst, ◌∙◌, append_assoc, arith}
 use Rattle.std.specs.Option.{option_map}
@@ -31,7 +31,7 @@ at_length (z ∷ xs) x ys = at_length xs x ys
 after_front : {X : Type 0} (xs : List X) (x : X) (ys : List X) (n : ℕ) → length xs ≡ n → slice_get (xs ++ x ∷ ys) n ≡ Some x
 after_front xs x ys n is = subst (λ (i : ℕ). slice_get (xs ++ x ∷ ys) i ≡ Some x) is (at_length xs x ys)
 
--- a subtree stands where its node does
+-- a subtree has the index of its node
 pub first_of : (d : Direction) (nodes : List Subtree) (n : ℕ) (t : Tree) (v : Valuation) → StandsAt d nodes n t v
     → slice_get nodes n ≡ Some (record { tree = t; values = v })
 first_of d nodes n (leaf c x) v s = ap (λ (ns : List Subtree). slice_get ns n) s.split ∙ after_front s.prefix _ _ n s.at
@@ -74,7 +74,7 @@ next_occur d nodes n kid later s =
       at = omega arith;
     }
 
--- and the first of them stands there.
+-- The first of some subtrees has the first index.
 pub first_occurs : (d : Direction) (nodes : List Subtree) (n : ℕ) (kid : Subtree) (later : List Subtree)
     → StandAt d nodes n (kid ∷ later) → StandsAt d nodes n kid.tree kid.values
 first_occurs d nodes n kid later s =

@@ -129,7 +129,7 @@ no_child g index number before count place counted less none k t v x tree w has 
     (subst (λ (o : Option NodeKind). HasCount g o count) (kind_there k t v index number tree w has s) counted) less none has few
     fits s
 
--- what holds holds also where there is no number
+-- a fact that holds without a condition also holds if there is no number
 pub if_none : (r : Option ℕ) (P : Type 0) → P → IfNone r P
 if_none None P h = h
 if_none (Some n) P h = tt

@@ -116,7 +116,7 @@ IsOpenNumber i (o ∷ os) = (i ≡ o.number) ⊎ IsOpenNumber i os
 abbrev pub AreSizes : List ℕ → List ℕ → List OpenRecord → Type 0
 AreSizes sizes so_far os = (i : ℕ) → i < length so_far → (get_or so_far i 0 ≡ get_or sizes i 0) ⊎ IsOpenNumber i os
 
--- The index of the nodes that were read, in front of those that are to come.
+-- The index of the nodes that were read, which precede the nodes that are still to be read.
 pub record IsBegun (g : Grammar) (m : Passes) (k : ℕ) (t : Tree) (v : Valuation) (content : List ℕ) (records : ℕ)
     (os : List OpenRecord) (index : TreeIndex) (pending : List Subtree) : Type 0 where
   pub read : List Subtree

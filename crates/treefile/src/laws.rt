@@ -13,8 +13,8 @@ ghost use Rattle.treefile.specs.records.TreeFile.{Version, body_of, file, frame}
 ghost use Rattle.treefile.specs.declared.body.Kind.{Kind};
 ghost use Rattle.treefile.specs.declared.reading.FrameFault.TheVariants.{Damaged};
 
-/// A content begins as a tree file of a version exactly if it has room for a header and begins with the
-/// magic of the version.
+/// States that a content begins as a tree file of a version exactly if it has room for a header and
+/// begins with the magic of the version.
 pub fn headers_are_distinguished()
     ensures { (version : Version) (content : List ℕ) →
         (is_tree_file version content ≡ true)
@@ -22,9 +22,9 @@ pub fn headers_are_distinguished()
         × (take (length version.magic) content ≡ version.magic)) }
 {}
 
-/// In a usable version, in a content that has only bytes, and at an offset within it: a body is read
-/// exactly if its frame ends at the offset, and the offset is reported as damaged exactly if no frame
-/// ends there. Only `read` requires that the version is usable, and it holds of all contents.
+/// States when a body is read, in a usable version and in a content that has only bytes, at an offset
+/// within it: exactly if its frame ends at the offset. The offset is reported as damaged exactly if no
+/// frame ends there. Only `read` requires that the version is usable, and it holds of all contents.
 pub fn frames_are_read()
     ensures read { (version : Version) (content body : List ℕ) (at : ℕ) → IsUsable version →
         IsBodyBefore version content at body → body_before version content at ≡ Ok body }
@@ -37,9 +37,9 @@ pub fn frames_are_read()
         body_before version content at ≡ Err (Damaged at) }
 {}
 
-/// A file grows by the frame of a body. In a usable version its last body is the one whose frame was
-/// appended last, if its length is within the limits of the version, and after a header alone there is
-/// none. B2 Damaged comes only with the offset of the end of the content.
+/// States that a file grows by the frame of a body. In a usable version its last body is the one whose
+/// frame was appended last, if its length is within the limits of the version, and after a header alone
+/// there is none. B2 Damaged comes only with the offset of the end of the content.
 pub fn last_is_read()
     ensures grows { (version : Version) (pass : ℕ) (bodies : List (List ℕ)) (body : List ℕ) →
         file version pass (bodies ++ body ∷ []) ≡ file version pass bodies ++ frame body }
@@ -52,10 +52,10 @@ pub fn last_is_read()
         last_body_of version content ≡ Err (Damaged at) → at ≡ length content }
 {}
 
-/// In a usable version: the file of a pass below 2^16 begins as a tree file of that pass. A file of bodies
-/// whose lengths are within the limits of the version is read back from its end to its header as these
-/// bodies, the last one first. A content that has only bytes, begins as a tree file and is read back as
-/// some bodies is the file of these.
+/// States that, in a usable version, the file of a pass below 2^16 begins as a tree file of that pass.
+/// There a file of bodies whose lengths are within the limits of the version is read back from its end
+/// to its header as these bodies, the last one first. A content that has only bytes, begins as a tree
+/// file and is read back as some bodies is the file of these.
 pub fn files_are_read_back()
     ensures begins { (version : Version) (pass : ℕ) (bodies : List (List ℕ)) → IsUsable version →
         pass < 2 ^ 16 → (is_tree_file version (file version pass bodies) ≡ true)
@@ -69,8 +69,8 @@ pub fn files_are_read_back()
         content ≡ file version (pass_of content) (reverse bodies) }
 {}
 
-/// The body of a record of well values, at most as many as the version allows, has a length within
-/// the limits of the version.
+/// States that the body of a record of well values, at most as many as the version allows, has a length
+/// within the limits of the version.
 pub fn records_fit()
     ensures least { (kind : Kind) (number : ℕ) (values : List Value) →
         least_body ≤ length (body_of kind number values) }

@@ -39,15 +39,16 @@ ghost use Rattle.treefile.specs.Worked.{pass_1_of_one, pass_1_of_one_in_two, pas
 ghost use Rattle.treefile.specs.Worked.{pass_2_of_one_in_two, production_of, record_of_iffy, record_of_n};
 ghost use Rattle.treefile.specs.Worked.{record_of_t, spelled_number, tree_of_one, values_of_one};
 
-/// The reverse of the postfix list of a direction is the prefix list of the other direction.
+/// States that the reverse of the postfix list of a direction is the prefix list of the other
+/// direction.
 pub fn reversed_postfix_is_prefix()
     ensures { (direction : Direction) (tree : BodyTree) →
         reverse (postfix direction tree) ≡ prefix (other direction) tree }
 {}
 
-/// If each body determines the number of children of its node, a list begins with the prefix list
-/// of at most one tree, and ends with the postfix list of at most one. So no prefix list is a
-/// proper prefix of another, and a list is that of at most one tree.
+/// States that if each body determines the number of children of its node, a list begins with the
+/// prefix list of at most one tree, and ends with the postfix list of at most one. So no prefix list is
+/// a proper prefix of another, and a list is that of at most one tree.
 pub fn lists_determine_trees()
     ensures begins { (arity : List ℕ → Option ℕ) (direction : Direction) (tree another : BodyTree)
         (rest others : List (List ℕ)) → MatchesArity arity tree → MatchesArity arity another →
@@ -59,8 +60,9 @@ pub fn lists_determine_trees()
         (tree ≡ another) × (leading ≡ others) }
 {}
 
-/// The length of each record of a tree's file is within the limits of the version. In a usable version the
-/// file is read back as the tree's prefix list in the other direction: each node before its children.
+/// States that the length of each record of a tree's file is within the limits of the version. In a
+/// usable version the file is read back as the tree's prefix list in the other direction: each node
+/// before its children.
 pub fn trees_are_read_back()
     ensures bodies { (version : Version) (grammar : Grammar) (passes : Passes) (pass : ℕ)
         (tree : Tree) (values : Valuation) (content : List ℕ) →
@@ -95,19 +97,19 @@ pub fn worked_files()
         file_of_tree version_two token_sample iffy_passes 0 token_tree values ≡ file_of_iffy_in_two }
 {}
 
-/// A record determines its node's production and values. A list begins with the records of at most one
-/// tree of an item (a member of a right side: a symbol, a class or a literal), and of one valuation of it
-/// (the values of its nodes) up to the pass, each node before its children; and it ends with those of at
-/// most one, each node after its children.
+/// States that a record determines its node's production and values. A list begins with the records of
+/// at most one tree of an item (a member of a right side: a symbol, a class or a literal), and of one
+/// valuation of it (the values of its nodes) up to the pass, each node before its children; and it ends
+/// with those of at most one, each node after its children.
 pub fn records_determine_trees()
     ensures node { OneNode }
     ensures leading { OneTreeBefore }
     ensures end { OneTreeAtEnd }
 {}
 
-/// A content is the file of a pass of at most one tree of the grammar, and of one valuation of it (the
-/// values of its nodes) up to the pass. Values that are the same up to the pass have the same file.
-/// Accepted grammars meet the conditions on grammar and version in versions 1 and 2.
+/// States that a content is the file of a pass of at most one tree of the grammar, and of one valuation
+/// of it (the values of its nodes) up to the pass. Values that are the same up to the pass have the
+/// same file. Accepted grammars meet the conditions on grammar and version in versions 1 and 2.
 pub fn files_have_one_tree()
     ensures reading { OneReading }
     ensures same { SameFile }
@@ -115,10 +117,10 @@ pub fn files_have_one_tree()
     ensures two { FitsAccepted version_two }
 {}
 
-/// Passes over files run one after the other. Before the first pass the file is unchanged, and each
-/// further pass reads the file that the previous one left. If that file encodes no tree of the grammar,
-/// neither does the first one, also within limits: so a fault that a later pass finds is a fault of the
-/// first file.
+/// States that passes over files run one after the other. Before the first pass the file is unchanged,
+/// and each further pass reads the file that the previous one left. If that file encodes no tree of the
+/// grammar, neither does the first one, also within limits: so a fault that a later pass finds is a
+/// fault of the first file.
 pub fn passes_follow_files()
     ensures begins { RunBegins }
     ensures goes { RunContinues }
@@ -126,10 +128,10 @@ pub fn passes_follow_files()
     ensures within { RefusalWithinGoesBack }
 {}
 
-/// When a content is read from its end to its header, the root is expected first. After a record its
-/// children are expected, which the record determines, one by one in the direction of the next pass.
-/// The expected bodies are the records of the trees of these children. If nothing more is expected and
-/// the content is the file of a tree, all of it was read.
+/// States that when a content is read from its end to its header, the root is expected first. After a
+/// record its children are expected, which the record determines, one by one in the direction of the
+/// next pass. The expected bodies are the records of the trees of these children. If nothing more is
+/// expected and the content is the file of a tree, all of it was read.
 pub fn reading_is_followed()
     ensures one { OneRecord }
     ensures begins { ReadingBegins }
@@ -140,24 +142,25 @@ pub fn reading_is_followed()
     ensures ends { ReadingEnds }
 {}
 
-/// If a content does not begin as a tree file of the pass, or a body found in reading is not the
-/// expected one, it is the file of no tree. If too much is expected, it is the file of no tree within
-/// the limits of levels and nodes.
+/// States that if a content does not begin as a tree file of the pass, or a body found in reading is
+/// not the expected one, it is the file of no tree. If too much is expected, it is the file of no tree
+/// within the limits of levels and nodes.
 pub fn refusals_are_true()
     ensures breaks { ReadingBreaks }
     ensures long { ReadingIsTooLong }
     ensures header { NoFileHasNoTree }
 {}
 
-/// The values of a record follow one another: a body is a record exactly if it has the right number
-/// of well values, and it is none if a value is missing or bytes are left over.
+/// States that the values of a record follow one another: a body is a record exactly if it has the
+/// right number of well values, and it is none if a value is missing or bytes are left over.
 pub fn records_are_read()
     ensures listed { ListedRecord }
     ensures missing { ValueIsMissing }
     ensures left { BytesAreLeft }
 {}
 
-/// The last record of a file is the root's, and in the file of the last pass it has all its values.
+/// States that the last record of a file is the root's, and in the file of the last pass it has all its
+/// values.
 pub fn root_is_last()
     ensures last { RootIsLast }
     ensures values { ValuesAreWhole }
@@ -223,8 +226,8 @@ pub fn worked_reading()
     ensures other_pass { HasNoTree version_one binary binary_passes 1 pass_0_of_one }
 {}
 
-/// A tree of a grammar has exactly one file of pass 0 in each version, whatever passes its
-/// attributes have.
+/// States that a tree of a grammar has exactly one file of pass 0 in each version, whatever passes, from
+/// 1 on, its attributes have.
 pub fn first_files_are_one()
     ensures there { (version : Version) (grammar : Grammar) (tree : Tree) →
         IsTreeOf grammar tree → IsFirstFile version grammar tree (first_file version tree) }

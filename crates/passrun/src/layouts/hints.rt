@@ -14,7 +14,8 @@
 //! | other copy of `$i.b` | in its own row: the value of a rule for an attribute of `$i` | if `$i` returns it as `b` |
 //!
 //! A rule also counts as `$i.b` if its expression is a `let`, an `if` or an `orelse` that may
-//! return that occurrence. Only rules of passes before k count: their values are in the file.
+//! return that occurrence; then the values are equal if it does return it. Only rules of passes
+//! before k count: their values are in the file.
 //!
 //! No contract mentions hints. `Carried::read_beside` compares the candidate with the bytes that
 //! are read: a wrong hint costs a comparison and changes nothing. Numbers and errors are read
