@@ -80,7 +80,7 @@ pub fn plan_text(alloc: Global, translator: &Translator) -> Result<Vec<u8>, Faul
     }
 }
 
-/// Returns a device that contains the bytes of a file.
+/// Returns a device that contains the bytes of a file. Fails with NoMemory if memory is refused.
 pub fn device_of(alloc: Global, file: &[u8]) -> Result<MemDevice, Fault>
     ensures content { IfOk result (λ device. device ≡ file.now) }
     ensures refused { IfErr result IsNoMemory }
@@ -89,7 +89,7 @@ pub fn device_of(alloc: Global, file: &[u8]) -> Result<MemDevice, Fault>
     Ok(MemDevice::from_bytes(bytes))
 }
 
-/// Returns a copy of bytes.
+/// Returns a copy of bytes. Fails with NoMemory if memory is refused.
 fn copy_of(alloc: Global, bytes: &[u8]) -> Result<Vec<u8>, Fault>
     ensures copy { IfOk result (λ copy. copy.items ≡ bytes.now) }
     ensures refused { IfErr result IsNoMemory }

@@ -29,7 +29,8 @@ pub enum Operation {
 }
 
 impl Operation {
-    /// Returns the result of the operation on an input.
+    /// Returns the result of the operation on an input. Fails with a fault that is true of the input, or with
+    /// NoMemory.
     pub fn result(
         self,
         alloc: Global,

@@ -1,6 +1,8 @@
 //! Parsing sentences with one token of look-ahead: FIRST and FOLLOW, the tables that are made of
 //! them, the proof that a grammar without conflicts has at most one tree of a sentence, and the
 //! parser, which writes that tree's file.
+//!
+//! A function that returns a `Result` with `NoMemory` fails only if memory is refused.
 #![tactic(auto)]
 
 mod ahead;

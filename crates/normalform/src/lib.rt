@@ -1,5 +1,7 @@
 //! Numbering the names of a grammar, and checking that it is accepted: complete, normal, reduced
 //! and within the limits.
+//!
+//! A function that returns a `Result` with `NoMemory` fails only if memory is refused.
 #![tactic(auto)]
 
 mod checking;

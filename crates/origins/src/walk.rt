@@ -338,6 +338,9 @@ impl Walk {
 ///
 /// Reads the file once, from its end. Evaluates each rule of the tree that does more than copy an argument, and
 /// a second time if its value is an error. Takes memory for a buffer, for the values of one record, and for each level.
+///
+/// Fails with R1, P2 or P3 as `WalkFault` says, with D1 if a call of the device failed, and with NoMemory if
+/// memory is refused.
 pub fn find_origins<D: Device>(
     alloc: Global,
     grammar: &Grammar,

@@ -6,6 +6,8 @@
 //! it. It is legal if each rule finds its arguments computed when the pass reaches the rule. The
 //! least one is computed pass by pass. A pass strikes each attribute that it can't compute, with the
 //! rule and the argument that are the reason, and the rest get the pass.
+//!
+//! A function that returns a `Result` with `NoMemory` fails only if memory is refused.
 #![tactic(auto)]
 
 mod assigning;

@@ -73,7 +73,10 @@ impl NodePath {
         }
     }
 
-    /// Reads a path. It begins with `/`, and `/1/2` is the same as `/1/2/`.
+    /// Reads a path: `/` for the root, or `/` and a step, any number of times. A step is a place, from 1,
+    /// or a place, `*` and a number of repetitions, from 1 to 65,535: `/1/1/1` is the same as `/1*3`. Fails
+    /// with `NotAPath` for another text (also for one that ends with `/`, except `/` itself), and with
+    /// `NoMemory` if memory is refused.
     pub fn parse(alloc: Global, text: &str) -> Result<NodePath, PathFault> {
         let Some(rest) = text.strip_prefix('/') else {
             return Err(PathFault::NotAPath);

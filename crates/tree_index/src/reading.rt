@@ -452,8 +452,8 @@ impl TreeIndex {
         read_file(alloc, grammar, plan, true, device)
     }
 
-    /// Makes the index of a file as `read` does, without reading the values in its records. So it accepts
-    /// some damaged files. It is for a file that a pass has just written.
+    /// Makes the index of a file as `read` does, and fails as it does, without reading the values in its
+    /// records. So it accepts some damaged files. It is for a file that a pass has just written.
     pub fn read_shape<D: Device>(
         alloc: Global,
         grammar: &Grammar,

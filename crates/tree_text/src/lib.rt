@@ -1,7 +1,8 @@
 //! A tree file as text: a line for each node, indented, in the order of the sentence; or a JSON object for
 //! each. What `aggen show` prints.
 //!
-//! Characters that control a terminal are written as escapes, such as `\u{1b}`.
+//! Characters that control a terminal are written as escapes, such as `\u{1b}`. The functions that write
+//! to a `String` fail if memory is refused.
 #![tactic(auto)]
 
 mod fault;

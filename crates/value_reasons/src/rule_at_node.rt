@@ -84,7 +84,8 @@ impl<'a> ExplainedTree<'a> {
     }
 
     /// Writes where an error arises: the target of the rule and its position, the text `place`, the values of the
-    /// rule's arguments, and the number of rules that passed the error on.
+    /// rule's arguments, and the number of rules that passed the error on. Writes nothing if the node has no such
+    /// rule. Fails as reading the records of the rule's node does, and if memory is refused.
     pub fn write_cause<D: Device>(
         &self,
         out: &mut String,

@@ -237,7 +237,8 @@ fn position_after<'t>(
 ///
 /// If the tables are not the grammar's, the result is the place where a parse by them is stuck, and
 /// what they allow there: literals of the grammar, classes and the end. Reads the tokens twice, and
-/// takes memory for two stacks like the one of `parse`, and for the result.
+/// takes memory for two stacks like the one of `parse`, and for the result. Fails with NoMemory if
+/// memory is refused.
 pub fn expected_at<'t>(
     alloc: Global,
     grammar: &Grammar,
