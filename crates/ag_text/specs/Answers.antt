@@ -50,7 +50,7 @@ read_text text i =
 abbrev pub IsRead : List ℕ → Result RawGrammar TextFault → Type 0
 IsRead text answer = (i : Input) → Lexes 0 (chars text) i → answer ≢ Err fault.NoMemory → read_text text i ≡ answer
 
--- the same for a text that is short enough and UTF-8
+-- the answer is the result of parsing a text that is short enough and UTF-8, or memory ran out
 abbrev pub IsReadText : List ℕ → Result RawGrammar TextFault → Type 0
 IsReadText text answer = (i : Input) → Lexes 0 (chars text) i → answer ≢ Err fault.NoMemory
     → answer_of text (grammar_of i) ≡ answer

@@ -76,7 +76,7 @@ section_from w = do
   expect_word w
   names_from
 
--- the same, or no names if the next token is another one
+-- what `section_from` reads, or no names if the next token is not the word `w`
 unfoldable pub attributes_from : List ℕ → Parser (List Named)
 attributes_from w = choose (is_word w) (section_from w) (pure [])
 

@@ -41,13 +41,13 @@ IsNames = do
   first ← one name_in
   further false (first ∷ []) IsFurther
 
--- the names after `syn` or `inh`
+-- the word `w` (`syn` or `inh`) and the names after it
 abbrev pub IsSection : List ℕ → List PlacedToken → List Named → Type 0
 IsSection w = do
   word w
   IsNames
 
--- or none
+-- such a section, or nothing and so no names
 abbrev pub IsAttributes : List ℕ → List PlacedToken → List Named → Type 0
 IsAttributes w = IsSection w or gives []
 

@@ -35,7 +35,7 @@ pub record HasTranslation (IsTree : Tree → Type 0) (g : Grammar) (text : List 
 abbrev pub IsTranslationOf : Grammar → (sentence text : List ℕ) → Type 0
 IsTranslationOf g sentence = HasTranslation (IsTreeOfSentence g sentence) g
 
--- it is the translation of the tree in a tree file of pass 0
+-- the text is the translation of the tree in a tree file of pass 0
 abbrev pub IsEvaluationOf : Grammar → (file text : List ℕ) → Type 0
 IsEvaluationOf g file = HasTranslation (IsTreeInFile g file) g
 

@@ -45,7 +45,7 @@ IsReasonWhere d candidate struck q j o =
     IsOneOf struck (item_at q o.place) o.attr
     ⊎ (IsSameOrLater d j o.place × IsOneOf candidate (item_at q o.place) o.attr)
 
--- the same, where the attributes that a list strikes are struck
+-- an argument is such a reason if the attributes that a list strikes are struck
 abbrev pub IsReason : Direction → Attributes → List Strike → Production → ℕ → Target → Type 0
 IsReason d candidate struck q j o = IsReasonWhere d candidate (IsStruckBy struck) q j o
 
@@ -80,7 +80,7 @@ pub record StrikesExactly (g : Grammar) (d : Direction) (candidate later : Attri
   pub all : (s a : ℕ) → later s a → IsStruckBy xs s a
   pub only : (s a : ℕ) → IsStruckBy xs s a → later s a
 
--- the same of all candidates: the pass is assigned to none of them
+-- such strikes of all candidates: the pass is assigned to none of them
 abbrev pub StrikesAll : Grammar → Direction → Attributes → List Strike → Type 0
 StrikesAll g d candidate xs = StrikesExactly g d candidate candidate xs
 

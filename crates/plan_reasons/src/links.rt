@@ -36,7 +36,7 @@ pub struct Link {
     pub target: Target,
     /// The attribute at a place that the argument refers to.
     pub argument: Target,
-    /// The same as an attribute of a symbol.
+    /// The attribute of a symbol that the argument refers to.
     pub used: Attribute,
 }
 

@@ -93,7 +93,7 @@ pub record HasNodes (k : ℕ) (t : Tree) (v : Valuation) (index : TreeIndex) : T
   pub kinds : index.kinds.items ≡ map kind_at (nodes_of (back_from k) t v)
   pub sizes : index.sizes.items ≡ map size_at (nodes_of (back_from k) t v)
 
--- It is the index of a tree, of which a content is the file of pass k: the records of the nodes end where it says.
+-- An index is that of a tree whose file of pass k is the content: the records of the nodes end where the index says.
 pub record IsIndexOf (g : Grammar) (m : Passes) (k : ℕ) (t : Tree) (v : Valuation) (content : List ℕ) (index : TreeIndex) : Type 0
   where
     pub nodes : HasNodes k t v index

@@ -43,7 +43,7 @@ abbrev pub Leads : (Grammar → Type 0) → List Token → (Task → List ℕ �
 Leads P tokens A B = (g : Grammar) (honest : Bool) (prefix bytes : List ℕ) → P g → A (task_of g tokens honest prefix) bytes
     → B (task_of g tokens honest prefix) bytes
 
--- the same for a step that changes the device's content
+-- what `Leads` states, for a step that changes the device's content
 abbrev pub Writes : (Grammar → Type 0) → List Token → Bool → List ℕ → List ℕ → (Task → List ℕ → Type 0) → (Task → List ℕ → Type 0)
     → Type 0
 Writes P tokens honest old new A B = (g : Grammar) (prefix : List ℕ) → P g → A (task_of g tokens honest prefix) old

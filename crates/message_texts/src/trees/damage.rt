@@ -14,7 +14,7 @@ use treefile::{Device, FileVersion, HEADER_BYTES};
 /// What is expected of a tree file.
 const TREE_FILE: &str = "expected a tree file, which begins with `AGT2` and the number of a pass";
 
-/// The same if a file of version 1 is converted.
+/// What is expected of a tree file of version 1, which is converted.
 const OLD_FILE: &str =
     "expected a tree file of version 1, which begins with `AGT1` and the number of a pass";
 

@@ -65,7 +65,7 @@ pub record IsWithin (count : ℕ) (u : Rule) : Type 0 where
   pub target : u.target.place < count
   pub args : Each (λ (o : Target). o.place < count) u.args
 
--- Each of these rules is so.
+-- The targets and the arguments of all these rules are at places below `count`.
 abbrev pub AreWithin : ℕ → List Rule → Type 0
 AreWithin count rules = Each (IsWithin count) rules
 

@@ -13,6 +13,6 @@ AreSmall m = (s : ℕ) → length (m s) ≤ max_attributes
 abbrev pub max_width : ℕ
 max_width = max_attributes * (max_children + 1)
 
--- At no place do the copies begin after this bound.
+-- The copies of each place begin at an index up to this bound.
 abbrev pub AreLow : List PlaceRow → Type 0
 AreLow rows = (j : ℕ) → start_in rows j ≤ max_width

@@ -71,7 +71,7 @@ pub record IsNodeBody (g : Grammar) (s p : ℕ) (spellings body : List ℕ) : Ty
   pub same : body ≡ body_from Node p spellings
   pub only : (r : ℕ) (others : List ℕ) → r < 2 ^ 16 → body ≡ body_from Node r others → (p ≡ r) × (spellings ≡ others)
 
--- The same, without the claim that the body determines both.
+-- What `IsNodeBody` states, without the claim that the body determines both.
 pub record IsBodyOf (g : Grammar) (s p : ℕ) (spellings body : List ℕ) : Type 0 where
   pub production : Production
   pub there : IsProduction g p production
@@ -128,7 +128,7 @@ IsRead c (item.Symbol s) p body old new = IsNodeRead c s p body old new
 IsRead c (item.Terminal (Class d)) p body old new = (p ≡ d) × IsTokenRead d body old new
 IsRead c (item.Terminal (Literal l)) p body old new = ⊥
 
--- A body is not a record of an item. A literal has none.
+-- A body is not a record of an item. A literal has no record, so this is true of each body.
 abbrev pub IsNoRecord : Setting → Item → List ℕ → Type 0
 IsNoRecord c (item.Symbol s) body = IsNoNode c s body
 IsNoRecord c (item.Terminal (Class d)) body = IsNoToken d body
@@ -145,7 +145,8 @@ read_values c (item.Terminal (Literal l)) p body old new h = elim h [ ]
 abbrev pub AgreeAt : Setting → Item → (ℕ → Value) → (ℕ → Value) → Type 0
 AgreeAt c x f h = values_up_to c.read (copied_passes c x) f ≡ values_up_to c.read (copied_passes c x) h
 
--- The answer is whether two rows agree so. Each row begins with the values at the item that have copies.
+-- `answer` says whether the values at the beginnings of two rows agree at an item, as `AgreeAt` defines it. Each row begins
+-- with the values at the item that have copies.
 abbrev pub Agrees : Setting → Item → (ours theirs : List Value) → (answer : Bool) → Type 0
 Agrees c x ours theirs answer = (f h : ℕ → Value) (rest others : List Value)
     → ours ≡ values_up_to c.write (copied_passes c x) f ++ rest → theirs ≡ values_up_to c.write (copied_passes c x) h ++ others

@@ -16,7 +16,7 @@ pub record BothPersist {D E : Type 0} (honest : D → Bool) (failures : D → �
   pub second : Lasts other_honest other_failures other_old other_new
   pub cause : failed → HasRisen (failures old) (failures new) ⊎ HasRisen (other_failures other_old) (other_failures other_new)
 
--- the same of three devices
+-- All three devices persist. If the call returns that a device failed, the failures of one of the three have risen.
 pub record ThreePersist {D E F : Type 0} (honest : D → Bool) (failures : D → ℕ) (old new : D) (other_honest : E → Bool)
     (other_failures : E → ℕ) (other_old other_new : E) (last_honest : F → Bool) (last_failures : F → ℕ) (last_old last_new : F)
     (failed : Type 0) : Type 0 where
