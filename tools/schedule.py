@@ -4,8 +4,8 @@
     tools/schedule.py [--cores N] [--crates]
 
 It simulates the schedule of `rt ci`. The proofs of a crate and of its tests begin when the crates that it uses are proved; of the
-tasks that can begin, the one with the longest chain of work after it is first. A core that no other proof needs is one more job
-of a proof. The edits that must fail begin when no proof can.
+tasks that can begin, the one with the longest chain of work after it is first. Each task takes one core, as in tools/gate. The
+edits that must fail begin when no proof can.
 """
 import argparse
 import os
@@ -18,8 +18,6 @@ sys.path.insert(0, str(Path(__file__).resolve().parent))
 from rooms import TOP, crates_in
 
 CORES = len(os.sched_getaffinity(0))
-# the part of a proof that is not parallel, and the factor of the total work of several jobs
-ALONE, OVERHEAD = 0.25, 1.2
 # processor seconds of a crate that is not in the table
 UNKNOWN = (100, 0, 0)
 
@@ -90,10 +88,6 @@ def chains(tasks):
     return found
 
 
-def seconds_of(work, jobs):
-    return work if jobs == 1 else work * (ALONE + (1 - ALONE) * OVERHEAD / jobs)
-
-
 def ends_of(tasks, cores):
     """Returns the second at which each task ends."""
     chain = chains(tasks)
@@ -101,18 +95,12 @@ def ends_of(tasks, cores):
     now, running, ends = 0.0, {}, {}
     while waiting or running:
         ready = [it for it in waiting if all(used in ends for used in tasks[it].after)]
-        proofs = [it for it in ready if not tasks[it].is_edit]
-        for key in ready:
-            idle = cores - sum(jobs for _, jobs in running.values())
-            if idle < 1:
-                break
-            rivals = len(proofs) - proofs.index(key) if key in proofs else idle
-            jobs = max(1, min(4, idle // rivals))
-            running[key] = now + seconds_of(tasks[key].work, jobs), jobs
+        for key in ready[: cores - len(running)]:
+            running[key] = now + tasks[key].work
             waiting.remove(key)
-        now = min(end for end, _ in running.values())
-        for key in [it for it, (end, _) in running.items() if end <= now]:
-            ends[key] = running.pop(key)[0]
+        now = min(running.values())
+        for key in [it for it, end in running.items() if end <= now]:
+            ends[key] = running.pop(key)
     return ends
 
 
