@@ -14,6 +14,8 @@ mod files;
 #[cfg(test)]
 mod reading_back;
 #[cfg(test)]
+mod table_trees;
+#[cfg(test)]
 mod tree_files;
 #[cfg(test)]
 mod turning;

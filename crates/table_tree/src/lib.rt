@@ -16,6 +16,3 @@ mod tree;
 pub use entry::Entry;
 pub use putting::PutFault;
 pub use tree::TableTree;
-
-#[cfg(test)]
-mod tests;

@@ -1,9 +1,9 @@
-//! Tests of what no clause says: that each call succeeds, and the balance.
+//! Table trees: what no clause says, that each call succeeds, and the balance.
 
-use crate::{PutFault, TableTree};
 use ag_value::{Items, NoMemory, Text, Value};
 use std::alloc::{AllocError, Global};
 use std::test::Fail;
+use table_tree::{PutFault, TableTree};
 
 /// Puts a number at a key of four hexadecimal digits.
 fn with_number(alloc: Global, table: &TableTree, key: u32) -> Result<TableTree, PutFault> {
