@@ -188,8 +188,8 @@ impl Translator {
     ///
     /// After O1 and O2 the devices have the last two tree files. After P `a` has a prefix of a file
     /// of pass 0, and after D1 and NoMemory each device has its old content, or a prefix of a file
-    /// of some pass: of a header and frames of any bodies whose lengths are in range, as after P1
-    /// there is no tree. The next call can use the devices in any state.
+    /// of some pass: of a header and frames of any bodies whose lengths are in range (after P1 there
+    /// is no tree). The next call can use the devices in any state.
     #[tactic(auto, using(crate::proofs::Begun::begun))]
     pub fn translate<D: Device, W: Write>(
         &self,

@@ -12,8 +12,8 @@ abbrev pub joined : Forest → Forest → Forest
 joined none us = us
 joined (more t ts) us = more t (joined ts us)
 
--- A node whose right side is read up to `rest`: `done` has the trees of the items that are read. If a child of the node is
--- open, its item is neither in `rest` nor has it a tree in `done`.
+-- A node whose right side is read up to `rest`: `done` has the trees of the items that are read. A child that is still open is in
+-- neither: its item comes just before `rest`, and its tree is not in `done`.
 pub record Open : Type 0 where
   pub production : ℕ
   pub done : Forest

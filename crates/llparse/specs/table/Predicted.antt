@@ -11,8 +11,8 @@ use Rattle.llparse.specs.declared.ahead.Ahead.{Ahead}
 use Rattle.llparse.specs.declared.table.choosing.Pair.{Pair}
 use Rattle.llparse.specs.declared.table.predict.Sets.{Sets}
 
--- the marks are those of the nullable symbols, and the clauses `first` and `follow` are of the edges of the graphs for FIRST and
--- FOLLOW (they are not these sets)
+-- the marks are those of the nullable symbols; the clauses `first` and `follow` are those of the edges for FIRST and for FOLLOW,
+-- and not these sets
 pub record AreSets (g : Grammar) (sets : Sets) : Type 0 where
   pub nullable_exact : AreNullableMarks g sets.nullable.items
   pub first_exact : IsOver g (AreFirstEdges g sets.nullable.items) sets.first
