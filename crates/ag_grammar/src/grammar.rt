@@ -35,8 +35,9 @@ pub enum Item {
     Terminal(Terminal),
 }
 
-/// An attribute at a place of a production: the target of a rule, or the attribute that one of its
-/// arguments refers to (Knuth 1968).
+/// An attribute at a place of a production, which Knuth (1968) calls an attribute occurrence: the
+/// target of a rule, or, in spite of the name of this type, one of its arguments. An occurrence in an
+/// expression, such as `$1.sum`, refers to one.
 #[derive(Clone, Copy, Debug, PartialEq, Eq)]
 pub struct Target {
     /// The place: 0 is the left side; 1, 2, .. are the children, which are the items of the right

@@ -134,7 +134,7 @@ impl Translator {
     /// can't be cut into tokens; with P2 or P3 if each tree of its tokens is beyond a limit; with P1 if
     /// they have no tree, or with P2 or P3 if the parser reaches a limit first; with D1 if the device
     /// failed; and with NoMemory if memory is refused. After a fault the device has its old content, or
-    /// a prefix of a file of pass 0.
+    /// a prefix of a file of pass 0: of its header and frames of any bodies whose lengths are in range.
     pub fn parse_tree<D: Device>(&self, sentence: &[u8], device: &mut D) -> Result<u32, Fault>
         // Ok: there is one tree, it is within the limits, and its file is written.
         ensures tree { IfOk result (λ _. (t : Tree) × IsTreeOfSentence self.now sentence.now t) }
@@ -186,9 +186,10 @@ impl Translator {
     /// does not return the bytes that were written. After every fault except O2 the writer is
     /// unchanged.
     ///
-    /// After O1 and O2 the devices have the last two tree files. After P `a` has a prefix of the
-    /// file of pass 0, and after D1 and NoMemory each device has its old content, or a prefix of
-    /// the file of some pass. The next call can use the devices in any state.
+    /// After O1 and O2 the devices have the last two tree files. After P `a` has a prefix of a file
+    /// of pass 0, and after D1 and NoMemory each device has its old content, or a prefix of a file
+    /// of some pass: of a header and frames of any bodies whose lengths are in range (after P1 there
+    /// is no tree). The next call can use the devices in any state.
     #[tactic(auto, using(crate::proofs::Begun::begun))]
     pub fn translate<D: Device, W: Write>(
         &self,
@@ -252,7 +253,7 @@ impl Translator {
     /// later pass's file are possible only on a device that does not return the bytes that were written.
     /// After every fault except O2 the writer is unchanged. After O1 and O2 the devices have the last two
     /// tree files, as after success, and after each other fault each of `a` and `b` has its old content,
-    /// or a prefix of the file of some pass.
+    /// or a prefix of a file of some pass, as with `translate`.
     #[tactic(auto, using(crate::proofs::Begun::begun))]
     pub fn evaluate_tree<T: Device, D: Device, W: Write>(
         &self,

@@ -42,7 +42,7 @@ impl<F: Read + Write + Seek + OpenFile> WorkFiles<F> {
         ensures kept { IfErr result (λ e. e ≢ Fault.Write → out.new ≡ out.old) }
         ensures content { LeavesContent (T.is_honest tree.new)
             (T.content tree.old) (T.content tree.new) }
-        // each device has what it had, or a prefix of the file of some pass
+        // each device has what it had, or a prefix of a file of some pass
         ensures a_left { WhenHonest (is_honest_of self.new.a)
             (LeavesSomeFile (content_of self.old.a) (content_of self.new.a)) }
         ensures b_left { WhenHonest (is_honest_of self.new.b)

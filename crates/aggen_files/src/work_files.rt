@@ -100,7 +100,7 @@ impl<F: Read + Write + Seek + OpenFile> WorkFiles<F> {
     /// with NoMemory also if memory for the translation's bytes cannot be allocated. Only with O2
     /// has anything been printed. After O1 and O2 the files are the last two tree files. After S1
     /// to S4 both files have the contents that they had. After P1 to P3 b.agt has, and a.agt has a
-    /// prefix of the file of pass 0.
+    /// prefix of a file of pass 0.
     pub fn translate<W: Write>(
         &mut self,
         alloc: Global,
@@ -129,7 +129,7 @@ impl<F: Read + Write + Seek + OpenFile> WorkFiles<F> {
         // P: a.agt has a prefix of a file of pass 0
         ensures parsed { IfErr result (λ e. IsParseFault e →
             WhenHonest (is_honest_of self.new.a) (BeginsFile 0 (stored_of self.new.a))) }
-        // each device has what it had, or a prefix of the file of some pass
+        // each device has what it had, or a prefix of a file of some pass
         ensures a_left { WhenHonest (is_honest_of self.new.a)
             (LeavesSomeFile (content_of self.old.a) (content_of self.new.a)) }
         ensures b_left { WhenHonest (is_honest_of self.new.b)

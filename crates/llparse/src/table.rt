@@ -1,8 +1,9 @@
 //! The tables of a grammar: FIRST, FOLLOW, and the production that each look-ahead chooses.
 //!
-//! Symbols and look-aheads are numbered as the nodes of graphs (`nodes`). For one look-ahead, FIRST
-//! and FOLLOW are sets of nodes that edges reach. A set is a list of marks: `true` at the numbers
-//! of its nodes.
+//! Symbols and look-aheads are numbered as the nodes of graphs (`nodes`). For one look-ahead, the
+//! symbols that have it in FIRST are the nodes that the edges of one graph reach, and those that
+//! have it in FOLLOW the nodes that the edges of another reach. A set of nodes is a list of marks:
+//! `true` at the numbers of its nodes.
 
 pub mod building;
 pub mod choosing;

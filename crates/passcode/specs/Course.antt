@@ -47,12 +47,13 @@ place_of q k t = suc (nth (direction_of k) (arity q) t)
 abbrev pub IsVisited : Production → ℕ → ℕ → ℕ → Type 0
 IsVisited q k n j = (t : ℕ) × (t < n) × (j ≡ place_of q k t)
 
--- A value of pass p at a place doesn't change any more: it is of an earlier pass, or is on the left side, or at a child in
--- which the pass has run.
+-- The value of an argument of pass p at a place doesn't change any more: it is of an earlier pass, or is on the left side, or at
+-- a child in which the pass has run. An argument on the left side is inherited, since the grammar is normal, so its value was set
+-- before the pass came to this node.
 abbrev pub IsFinal : Production → ℕ → State → ℕ → ℕ → Type 0
 IsFinal q k s j p = (p < k) ⊎ ((j ≡ 0) ⊎ IsVisited q k (run_count s.phase s.turn) j)
 
--- An attribute at a place is available: it has no later pass, and its value is final.
+-- An attribute at a place is available, as an argument: it has no later pass, and its value is final.
 abbrev pub IsAvailable : Passes → Production → ℕ → State → Target → Type 0
 IsAvailable m q k s o = (p : ℕ) × HasPass m q o p × (p ≤ k) × IsFinal q k s o.place p
 

@@ -37,7 +37,7 @@ abbrev pub remaining_at : Passes → Production → ℕ → List ℕ → ℕ →
 remaining_at m q k done j = flat_map (λ a. remaining_for m q k done (record { place = j; attr = a }))
     (range_with_len 0 (length (item_passes m (item_at q j))))
 
--- the instructions of a child after its `Get`
+-- the instructions of a child after its `Get`, if a declared symbol is there and not a token class (`IsChild`)
 abbrev pub child_part : Passes → Production → ℕ → List ℕ → ℕ → List Instr
 child_part m q k done j = remaining_at m q k done j ++ instr.Go j ∷ instr.Put j ∷ []
 
@@ -51,7 +51,7 @@ visit m q k done j None = []
 abbrev pub visits : Passes → Production → ℕ → List ℕ → (t n : ℕ) → List Instr
 visits m q k done t n = flat_map (λ t. visit m q k done (place_of q k t) (item_at q (place_of q k t))) (range_with_len t n)
 
--- the instructions of the node's own attributes, and the `End`
+-- the instructions of the node's own attributes that were not run, and the `End` (`own_part` in `Sample` is one such list)
 abbrev pub own_part : Passes → Production → ℕ → List ℕ → List Instr
 own_part m q k done = remaining_at m q k done 0 ++ instr.End ∷ []
 

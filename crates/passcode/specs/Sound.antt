@@ -1,4 +1,4 @@
--- The conditions that the code of a pass relies on (this project's).
+-- The conditions that `passrun` relies on when it runs a pass (this project's).
 use Rattle.std.specs.Prelude.{ℕ, suc, ◌≡◌}
 use Rattle.ag_grammar.specs.declared.grammar.Production.{Production}
 use Rattle.ag_grammar.specs.grammars.Accepted.{IsAccepted}

@@ -18,8 +18,8 @@ use ag_value::NoMemory;
 use passassign::Assignment;
 use std::alloc::Global;
 
-/// Returns the lists of a production, for the passes from 1 to `passes`. Fails with NoMemory if memory is
-/// refused.
+/// Makes the lists of a production, for the passes from 1 to `passes`. (`lists_of` of the specs looks
+/// them up in given code.) Fails with NoMemory if memory is refused.
 fn lists_of(
     alloc: Global,
     production: &Production,

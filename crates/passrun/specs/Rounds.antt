@@ -96,7 +96,7 @@ LeavesSomeFile old new = (pass : ℕ) × LeavesBeginning pass old new
 
 -- The contents after a failure in the passes after pass k; a and b are the old contents of the first and the
 -- second device. Some passes ran, possibly none, and the file of the last of them is still on the device that
--- the next one read. The other device has its content from before that pass, or a prefix of the file of that
+-- the next one read. The other device has its content from before that pass, or a prefix of a file of that
 -- pass. If at least one pass ran, a is the file of a tree within the limits. If none ran, the first device
 -- was read and is unchanged, whatever its content.
 pub record LeavesAfterFailure (g : Grammar) (m : Passes) (k : ℕ) (a b a_new b_new : List ℕ) : Type 0 where

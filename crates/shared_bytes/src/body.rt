@@ -13,8 +13,9 @@ use ag_value::{NoMemory, ValueFault};
 use std::alloc::{AllocError, Global};
 use std::marker::Model;
 
-/// A borrowed part of a `SharedBytes`: own bytes, and between them the encodings of shared values.
-/// Contracts see the list of its bytes.
+/// Any borrowed part of a `SharedBytes`: own bytes, and between them the encodings of shared values.
+/// Contracts see the list of its bytes. The name is that of its main use, the body of a frame of a
+/// tree file, but it may be any other part.
 #[derive(Drop)]
 pub struct Body<'a> {
     /// The own bytes of this part.

@@ -183,9 +183,9 @@ impl<F: Read + Write + Seek + OpenFile> FileDevice<F> {
 
 impl<F: Read + Write + Seek + OpenFile> FileDevice<F> {
     /// Opens the file at `path` for reading and appending, and creates it if there is none. An
-    /// existing content stays until `clear`. `before` is the record of calls that the device
-    /// continues: `CallRecord::new()` for a new one. Fails with F1 if the file can't be opened. Takes no
-    /// memory.
+    /// existing content stays until `clear`, unlike with std's `File::create`, which empties the file.
+    /// `before` is the record of calls that the device continues: `CallRecord::new()` for a new one.
+    /// Fails with F1 if the file can't be opened. Takes no memory.
     pub fn create<Rt: Files<File = F>>(
         rt: &Rt,
         alloc: Global,
@@ -202,9 +202,9 @@ impl<F: Read + Write + Seek + OpenFile> FileDevice<F> {
         }
     }
 
-    /// Opens the file at `path` for reading only: `append` and `clear` fail. `before` is the record
-    /// of calls that the device continues: `CallRecord::new()` for a new one. Fails with F1 if the file
-    /// can't be opened. Takes no memory.
+    /// Opens the existing file at `path` for reading only: `append` and `clear` fail. `before` is the
+    /// record of calls that the device continues: `CallRecord::new()` for a new one. Fails with F1 if the
+    /// file can't be opened. Takes no memory.
     pub fn existing<Rt: Files<File = F>>(
         rt: &Rt,
         alloc: Global,

@@ -103,7 +103,8 @@ impl Device for SharedDevice {
 }
 
 /// Lends the body of the frame that ends at offset `at` of a content. Returns `None` if no frame
-/// ends there.
+/// ends there. The type `Body` is any borrowed part of shared bytes, not only the body of a frame: the
+/// parts that are cut off on the way have it too.
 #[inline(never)]
 fn body_before(bytes: &SharedBytes, at: u64) -> Option<Body<'_>>
     ensures body { IfSome result (λ body. body_before version_two bytes.now at ≡ Ok body) }

@@ -12,7 +12,8 @@ abbrev pub joined : Forest → Forest → Forest
 joined none us = us
 joined (more t ts) us = more t (joined ts us)
 
--- a node whose right side is read up to `rest`, with the trees of the items before it
+-- A node whose right side is read up to `rest`: `done` has the trees of the items that are read. A child that is still open is in
+-- neither: its item comes just before `rest`, and its tree is not in `done`.
 pub record Open : Type 0 where
   pub production : ℕ
   pub done : Forest
@@ -48,21 +49,21 @@ module _ (g : Grammar) where
       (c : Tree) × (vs : List Lexeme) × Fits g (item.Symbol s) c × (ws ≡ yield_of g c ++ vs)
       × Continues os c vs t
 
-  -- each open node is at a place where its symbol is expected
+  -- A node of symbol s may be opened below these open nodes, of which the innermost is first: the innermost has just passed an
+  -- item s, and each other one an item of the symbol of the node inside it. If none is open, s is the start symbol.
   abbrev pub IsStack : List Open → ℕ → Type 0
   IsStack [] s = s ≡ g.start
   IsStack (o ∷ os) s =
       (q : Production) × (before : List Item) × IsProduction g o.production q × (q.items ≡ before ++ item.Symbol s ∷ o.rest)
       × IsStack os q.left
 
-  -- the innermost open node is at a place where the one around it expects it, and has read a prefix of its
-  -- right side
+  -- the innermost open node o has read a prefix of its right side, and a node of its symbol may be opened below the others
   abbrev pub FitsStack : Open → List Open → Type 0
   FitsStack o os =
       (q : Production) × (before : List Item) × IsProduction g o.production q × (q.items ≡ before ++ o.rest) × IsStack os q.left
 
-  -- each open node is at a place where the one around it expects it, and the next item of the innermost one
-  -- is this item
+  -- each open node may be opened below those around it, and the next item of the innermost one is this item; if none is open,
+  -- it is the start symbol
   abbrev pub IsNext : List Open → Item → Type 0
   IsNext [] x = x ≡ item.Symbol g.start
   IsNext (o ∷ os) x = FitsStack (open_at o.production o.done (x ∷ o.rest)) os

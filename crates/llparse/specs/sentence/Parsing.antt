@@ -178,11 +178,11 @@ abbrev pub total_length : List Production → ℕ
 total_length [] = 0
 total_length (q ∷ qs) = length q.items + total_length qs
 
--- the greatest number of steps before a node is opened: one for each item that is left, and one for each end
+-- the greatest number of steps before a node is opened: one for each item that remains, and one for each end
 abbrev pub own_steps : Grammar → List OpenProduction → ℕ
 own_steps g [] = 0
 own_steps g (f ∷ fs) = suc (length (drop f.passed (right_side g f.production))) + own_steps g fs
 
--- a bound of the number of steps that are left
+-- a bound of the number of steps that remain (`left` is not a left side here)
 abbrev pub steps_left : Grammar → ℕ → List OpenProduction → ℕ → ℕ
 steps_left g nodes fs count = (total_length g.productions + 2) * (nodes - count) + own_steps g fs

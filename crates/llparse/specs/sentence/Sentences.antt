@@ -31,8 +31,8 @@ pub record IsStuckAt (g : Grammar) (words : List Lexeme) (index : ℕ) : Type 0 
 -- reached the limit. And each tree whose words are those before the index, and then any that continue with
 -- the look-ahead there, is beyond the limit; the given words are such words, so each tree of them is beyond
 -- the limit. The words that continue with the look-ahead may be those of no tree, and then no tree has the
--- words. But if no tree that begins with the words before an index has reached the limit there, this states
--- nothing for that index, whatever can't be taken there.
+-- words. An index where no such tree has reached the limit can't be the index of this record, so a token that
+-- merely doesn't fit there is P1, and not P2 or P3.
 pub record LeavesOnly (g : Grammar) (words : List Lexeme) (size : Tree → ℕ) (begun : List Open → ℕ) (limit : ℕ) : Type 0 where
   pub index : ℕ
   pub within : index ≤ length words

@@ -1,4 +1,4 @@
--- The sets of a grammar, and the productions that one look-ahead chooses.
+-- The nullable symbols and the edges of a grammar, and the productions that one look-ahead chooses.
 use Rattle.std.specs.Prelude.{ℕ, ◌≡◌, ◌+◌, ◌<◌, ◌≤◌, ◌⊎◌, ◌↔◌, Bool, true, List, Option, Some, None, slice_get, slice_index_or}
 use Rattle.ag_grammar.specs.declared.grammar.Production.{Production}
 use Rattle.ag_grammar.specs.grammars.AttributeGrammar.{Grammar, IsProduction}
@@ -11,7 +11,8 @@ use Rattle.llparse.specs.declared.ahead.Ahead.{Ahead}
 use Rattle.llparse.specs.declared.table.choosing.Pair.{Pair}
 use Rattle.llparse.specs.declared.table.predict.Sets.{Sets}
 
--- the marks are those of the nullable symbols, and the clauses are of the edges for FIRST and FOLLOW
+-- the marks are those of the nullable symbols; the clauses `first` and `follow` are those of the edges for FIRST and for FOLLOW,
+-- and not these sets
 pub record AreSets (g : Grammar) (sets : Sets) : Type 0 where
   pub nullable_exact : AreNullableMarks g sets.nullable.items
   pub first_exact : IsOver g (AreFirstEdges g sets.nullable.items) sets.first

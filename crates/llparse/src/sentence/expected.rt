@@ -181,7 +181,8 @@ fn expected_after(
     Ok(expected)
 }
 
-/// The place where `parse` rejects tokens with P1.
+/// The place where `parse` rejects tokens with P1. The fields have this meaning only if it does so: if
+/// it doesn't, they have the place where the parser stopped, and no look-ahead.
 #[derive(Debug, Drop)]
 pub struct StuckPlace<'t> {
     /// The number of tokens before the one that can't be taken; the number of all tokens, if the
@@ -233,12 +234,13 @@ fn position_after<'t>(
 /// Returns the place where `parse` rejects this sentence with P1, and the look-aheads expected
 /// there. Each look-ahead is tried after the tokens before that place, with all nodes that are open
 /// there, so one that the tables allow only in other contexts is not returned. If `parse` doesn't
-/// reject the sentence with P1, no look-ahead is returned.
+/// reject the sentence with P1, no look-ahead is returned, and the place is only where the parser
+/// stopped: at the end, or where it reached a limit.
 ///
 /// If the tables are not the grammar's, the result is the place where a parse by them is stuck, and
 /// what they allow there: literals of the grammar, classes and the end. Reads the tokens twice, and
-/// takes memory for two stacks like the one of `parse`, and for the result. Fails with NoMemory if
-/// memory is refused.
+/// takes memory for three stacks of open nodes like the one of `parse` (without texts), and for the
+/// result. Fails with NoMemory if memory is refused.
 pub fn expected_at<'t>(
     alloc: Global,
     grammar: &Grammar,

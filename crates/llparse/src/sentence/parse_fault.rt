@@ -9,12 +9,14 @@ use treefile::DeviceFault;
 /// The reasons why a sentence is rejected.
 #[derive(Clone, Copy, Debug, PartialEq, Eq)]
 pub enum ParseFault {
-    /// P1: no tree has these tokens. Carries the offset in bytes of the token that can't be taken;
-    /// at the end that of the last token, and 0 if there is none.
+    /// P1: no tree has these tokens. Carries the offset in bytes of the token that can't be taken; at
+    /// the end that of the last token, and 0 if there is none. P2 or P3 comes instead if a limit is
+    /// reached before this token.
     Unexpected(u32),
-    /// P2: each tree with these tokens is deeper than the limit.
+    /// P2: each tree with these tokens is deeper than the limit. There may be no such tree (see P1).
     TooDeep,
-    /// P3: each tree with these tokens has more nodes than the limit. A literal has no node.
+    /// P3: each tree with these tokens has more nodes than the limit. A literal has no node. There
+    /// may be no such tree (see P1).
     TooManyNodes,
     /// D1: a call of the device failed.
     Device,

@@ -176,8 +176,8 @@ pub(crate) fn put_node<D: Device>(
 
 /// The state of parsing a sentence: the nodes that wait for the innermost open one, the outermost
 /// first; the texts of the tokens among the children of open nodes, those of the innermost one
-/// last; the position in the tokens; and the number of nodes opened so far, with leaves. It takes
-/// sixteen bytes for a waiting node, and memory for the texts.
+/// last; the position in the tokens; and the number of nodes opened so far, with leaves, and with
+/// the root from the beginning. It takes sixteen bytes for a waiting node, and memory for the texts.
 #[derive(Drop)]
 pub(crate) struct Parser<'t> {
     pub(crate) waiting: Vec<OpenProduction>,
@@ -187,7 +187,8 @@ pub(crate) struct Parser<'t> {
 }
 
 impl<'t> Parser<'t> {
-    /// Makes a parser with only the root open, which has taken no token.
+    /// Makes a parser with no node open, which has taken no token. `count` already includes the root,
+    /// which the caller opens.
     pub(crate) fn new(alloc: Global, sentence: &'t Sentence<'_>) -> Parser<'t>
         ensures waiting { result.waiting.items ≡ [] }
         ensures texts { result.texts.items ≡ [] }
@@ -272,7 +273,7 @@ impl<'t> Parser<'t> {
         requires written { writer.old.written + length self.old.waiting.items + 1
             ≡ self.old.count }
         requires fine { writer.old.is_broken ≡ false }
-        // for each hypothesis about the device that makes it honest
+        // for every flag `honest` that implies that the device is honest
         ensures takes { OnOk result ((node : OpenProduction) (honest : Bool)
             → (honest ≡ true → D.is_honest device.new ≡ true)
             → Writes (FitsTokens self.old.tokens.list) self.old.tokens.list

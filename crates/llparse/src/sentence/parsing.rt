@@ -87,11 +87,13 @@ fn run<D: Device>(
 /// memory for a stack of sixteen bytes for each open node except the innermost one, for the texts
 /// of the tokens of a class among the children of open nodes, and for one frame.
 ///
-/// Fails with P1 Unexpected if no tree has these tokens. Fails with P2 TooDeep or P3 TooManyNodes
-/// if at some token a tree that begins with the tokens before it has reached the limit, and each
-/// tree that begins with these tokens and continues with the look-ahead there is beyond the limit.
-/// So is then each tree with all tokens. Fails with D1 Device if the device failed. After a fault
-/// the device has a prefix of the file. The writer is broken after D1, and after no other fault.
+/// Fails with P1 Unexpected if no tree has these tokens, unless a limit is reached first. Fails
+/// with P2 TooDeep or P3 TooManyNodes if at some token a tree that begins with the tokens before it
+/// has reached the limit, and each tree that begins with these tokens and continues with the
+/// look-ahead there is beyond the limit. So is then each tree with all tokens, and there may be
+/// none. Fails with D1 Device if the device failed. After a fault an honest device has a prefix of
+/// a file of pass 0: of its header and frames of any bodies whose lengths are in range (after P1
+/// there is no tree). The writer is broken after D1, and after no other fault.
 pub fn parse<D: Device>(
     alloc: Global,
     grammar: &Grammar,

@@ -24,8 +24,9 @@ pub(crate) struct Column {
     pub(crate) conflict: Option<Pair>,
 }
 
-/// Returns the least conflict after one more production, which comes before all those before it:
-/// `production` and `chosen`, the choice so far for its symbol, or `conflict`, the least so far.
+/// Returns the least conflict after one more production, whose number is less than those handled so
+/// far (they are handled from the last to the first): `production` and `chosen`, the choice so far
+/// for its symbol, or `conflict`, the least so far.
 fn conflict_with(production: u16, chosen: Option<u16>, conflict: Option<Pair>) -> Option<Pair>
     ensures some { (r : ℕ) → chosen ≡ Some r → result ≡ Some
         (record { first = production; second = r }) }
@@ -41,7 +42,7 @@ fn conflict_with(production: u16, chosen: Option<u16>, conflict: Option<Pair>) -
 }
 
 impl Column {
-    /// Chooses a production that comes before all those chosen so far.
+    /// Chooses a production whose number is less than those handled so far.
     fn put(&mut self, symbol: usize, production: u16)
         requires symbol { symbol < length self.old.choices.items }
         ensures len { length self.new.choices.items ≡ length self.old.choices.items }
@@ -54,7 +55,7 @@ impl Column {
         self.choices[symbol] = Some(production);
     }
 
-    /// Chooses a production that comes before all those chosen so far, if it is marked (`wanted`).
+    /// Chooses a production whose number is less than those handled so far, if it is marked (`wanted`).
     fn choose_if(&mut self, symbol: usize, production: u16, wanted: bool)
         requires symbol { symbol < length self.old.choices.items }
         ensures len { length self.new.choices.items ≡ length self.old.choices.items }

@@ -63,7 +63,9 @@ fn edges_of(
 }
 
 /// What the predictions for all look-aheads are computed from: the marks of the nullable symbols,
-/// and the edges for FIRST and FOLLOW.
+/// and the edges of two graphs. `first` and `follow` are these edges, and not FIRST and FOLLOW
+/// sets: for one look-ahead, the nodes that they reach are the symbols that have it in FIRST, or
+/// in FOLLOW.
 #[derive(Drop)]
 pub(crate) struct Sets {
     nullable: Vec<bool>,

@@ -58,7 +58,7 @@ pub(crate) fn begin<D: Device, E: Device>(
         (E.is_honest to.new) (E.content to.new) meter.now m (Some (first_at m.root 0))) }
     ensures header { OnOk result (WhenHonest (E.is_honest to.new)
         (E.content to.new ≡ header version_two (setting context.now).write)) }
-    // the content of the second device is unchanged, or a prefix of the file
+    // the content of the second device is unchanged, or a prefix of a file of the pass
     ensures left { OnErr result (WhenHonest (E.is_honest to.new)
         (LeavesBeginning (setting context.now).write (E.content to.old) (E.content to.new))) }
     ensures refused { IfErr result (λ f. WhenHonest (D.is_honest from.new)

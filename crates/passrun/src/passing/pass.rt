@@ -44,7 +44,7 @@ pub(crate) fn run_in_context<D: Device, E: Device>(
     // R1, P2 and P3 only if they are true of the file
     ensures refused { IfErr result (λ f. WhenHonest (D.is_honest from.new)
         (IsRunFault (setting context.now) (D.content from.old) f)) }
-    // the content of the second device is unchanged, or a prefix of the file
+    // the content of the second device is unchanged, or a prefix of a file of the pass
     ensures left { OnErr result (WhenHonest (E.is_honest to.new)
         (LeavesBeginning (setting context.now).write (E.content to.old) (E.content to.new))) }
     // for any first device, honest or not
@@ -111,7 +111,7 @@ pub fn run_pass<D: Device, E: Device>(
     // R1, P2 and P3 only if they are true of the file
     ensures refused { IfErr result (λ f. WhenHonest (D.is_honest from.new)
         (IsRunFault (setting_of grammar.now plan.now pass) (D.content from.old) f)) }
-    // the content of the second device is unchanged, or a prefix of the file
+    // the content of the second device is unchanged, or a prefix of a file of the pass
     ensures left { OnErr result (WhenHonest (E.is_honest to.new)
         (LeavesBeginning pass (E.content to.old) (E.content to.new))) }
     // for any first device, honest or not

@@ -18,9 +18,9 @@ abbrev pub FusePersists : {D : Type 0} → (D → Bool) → (D → ℕ) → Fuse
 FusePersists honest failures old new failed =
     Persists (honest old.inner) (honest new.inner) (failures_of failures old) (failures_of failures new) failed
 
--- The effect of a call: the number of calls up to the failing one falls by one. The failing call fails, and
--- the device that gets the calls is unchanged. Any other call is forwarded to that device: no failure is
--- counted that it did not get, and the call fails only if its failures rose.
+-- The effect of a call: the number of calls up to the failing one falls by one, and stays 0 if it is 0. The
+-- failing call fails, and the device that gets the calls is unchanged. Any other call is forwarded to that
+-- device: no failure is counted that it did not get, and the call fails only if its failures rose.
 pub record FuseEffect {D : Type 0} (failures : D → ℕ) (old new : Fuse D) (failed : Type 0) : Type 0 where
   pub left : new.left ≡ old.left - 1
   pub fails : old.left ≡ 1 → failed × (new.inner ≡ old.inner)
