@@ -13,6 +13,7 @@ use Rattle.ag_grammar.specs.grammars.Tree.{Forest, Tree, node}
 use Rattle.origins.specs.Arising.{Table, is_arising}
 use Rattle.origins.specs.Causes.{HasCause, IsRuleAt, IsSource, here, passed, place_path, tree_at}
 use Rattle.causes.specs.Chains.{GoesTo, IsChain, IsPassedFrom, Reading, itself, longer}
+use Rattle.causes.proofs.Instances.{kinds_differ, last_same}
 use Rattle.causes.specs.Laws.{CauseIsFound, IsFound, in_tree}
 
 -- a chain with one rule more at its beginning
@@ -22,19 +23,6 @@ prepend : (R : Reading) (places : List ℕ) (target : Target) (there : List ℕ)
 prepend R places target there from link itself = longer places target 0 there from itself link
 prepend R places target there from link (longer between via n beyond origin chain last) =
     longer between via (suc n) beyond origin (prepend R places target there from link chain) last
-
--- two lists with a last number
-last_same : (xs ys : List ℕ) (x y : ℕ) → xs ++ x ∷ [] ≡ ys ++ y ∷ [] → (xs ≡ ys) × (x ≡ y)
-last_same [] [] x y e = (refl, cc)
-last_same [] (b ∷ []) x y e = absurd (let bad : ⊥ = cc in bad)
-last_same [] (b ∷ c ∷ ys) x y e = absurd (let bad : ⊥ = cc in bad)
-last_same (a ∷ []) [] x y e = absurd (let bad : ⊥ = cc in bad)
-last_same (a ∷ c ∷ xs) [] x y e = absurd (let bad : ⊥ = cc in bad)
-last_same (a ∷ xs) (b ∷ ys) x y e =
-    let head : a ≡ b = cc in
-    let tail : xs ++ x ∷ [] ≡ ys ++ y ∷ [] = cc in
-    let h = last_same xs ys x y tail in
-    (ap (λ (zs : List ℕ). a ∷ zs) h.0 ∙ ap (λ (z : ℕ). z ∷ ys) head, h.1)
 
 -- An attribute at a place of the node of a path is of a kind.
 record IsOfKind (g : Grammar) (t : Tree) (path : List ℕ) (o : Target) (kind : Kind) : Type 0 where
@@ -59,9 +47,6 @@ one_kind g t path other o p k l a b same place attr =
     ∙ ap (λ (j : ℕ). slice_get (item_kinds g (item_at b.of j)) o.attr) place
     ∙ ap (slice_get (item_kinds g (item_at b.of p.place))) attr ∙ b.kind_is in
     cc
-
-kinds_differ : Inherited ≡ Synthesized → ⊥
-kinds_differ e = let bad : ⊥ = cc in bad
 
 module _ (g : Grammar) (t : Tree) where
   -- from an argument to the rule that computes its instance

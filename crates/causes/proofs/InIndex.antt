@@ -13,7 +13,7 @@ use Rattle.ag_grammar.specs.declared.grammar.Production.{Production}
 use Rattle.ag_grammar.specs.declared.grammar.Rule.{Rule}
 use Rattle.ag_grammar.specs.declared.grammar.Target.{Target}
 use Rattle.ag_grammar.specs.grammars.Accepted.{IsAccepted, IsNormal}
-use Rattle.ag_grammar.specs.grammars.AttributeGrammar.{Grammar, stored_items}
+use Rattle.ag_grammar.specs.grammars.AttributeGrammar.{Grammar, IsProduction, stored_items}
 use Rattle.ag_grammar.specs.grammars.Passes.{IsLegal, Passes}
 use Rattle.ag_grammar.specs.grammars.Running.{IsLastPass}
 use Rattle.ag_grammar.specs.grammars.Solution.{NoRule, SolvesAll, AtEachNodeOf, Valuation, WellAt, at, below, children}
@@ -70,16 +70,16 @@ child_at (more t ts) vs zero kid e =
 child_at (more t ts) vs (suc i) kid e = child_at ts (rest vs) i kid e
 
 -- one step more on a path
-tree_further : (t : Option Tree) (path : List ℕ) (i : ℕ) → tree_at t (path ++ i ∷ []) ≡ child_of (tree_at t path) i
+pub tree_further : (t : Option Tree) (path : List ℕ) (i : ℕ) → tree_at t (path ++ i ∷ []) ≡ child_of (tree_at t path) i
 tree_further t [] i = refl
 tree_further t (j ∷ path) i = tree_further (child_of t j) path i
 
-values_further : (v : Valuation) (path : List ℕ) (i : ℕ) → values_at v (path ++ i ∷ []) ≡ below i (values_at v path)
+pub values_further : (v : Valuation) (path : List ℕ) (i : ℕ) → values_at v (path ++ i ∷ []) ≡ below i (values_at v path)
 values_further v [] i = refl
 values_further v (j ∷ path) i = values_further (below j v) path i
 
 -- the tree at the end of a path fits an item and is recorded
-abbrev IsSomeRecorded : Grammar → Passes → ℕ → Option Tree → Valuation → Type 0
+abbrev pub IsSomeRecorded : Grammar → Passes → ℕ → Option Tree → Valuation → Type 0
 IsSomeRecorded g m k None v = Unit {0}
 IsSomeRecorded g m k (Some t) v = (x : Item) × IsRecorded g m k x t v
 
@@ -98,13 +98,13 @@ some_child_recorded g m k (Some (node p ts)) v i (item.Terminal a, r) = elim r.f
 some_child_recorded g m k (Some (node p ts)) v i (item.Symbol s, r) = child_recorded g m k (stored_items r.fits.0.items) ts
     (children v) i r.fits.3 r.texts.1 r.well.1
 
-recorded_at : (g : Grammar) (m : Passes) (k : ℕ) (path : List ℕ) (t : Option Tree) (v : Valuation) → IsSomeRecorded g m k t v
+pub recorded_at : (g : Grammar) (m : Passes) (k : ℕ) (path : List ℕ) (t : Option Tree) (v : Valuation) → IsSomeRecorded g m k t v
     → IsSomeRecorded g m k (tree_at t path) (values_at v path)
 recorded_at g m k [] t v r = r
 recorded_at g m k (i ∷ path) t v r = recorded_at g m k path (child_of t i) (below i v) (some_child_recorded g m k t v i r)
 
 -- the same of the item alone
-abbrev IsSomeFit : Grammar → Option Tree → Type 0
+abbrev pub IsSomeFit : Grammar → Option Tree → Type 0
 IsSomeFit g None = Unit {0}
 IsSomeFit g (Some t) = (x : Item) × Fits g x t
 
@@ -120,7 +120,7 @@ some_child_fits g (Some (leaf c x)) i f = tt
 some_child_fits g (Some (node p ts)) i (item.Terminal a, f) = elim f [ ]
 some_child_fits g (Some (node p ts)) i (item.Symbol s, f) = child_fits g (stored_items f.0.items) ts i f.3
 
-fits_at : (g : Grammar) (path : List ℕ) (t : Option Tree) → IsSomeFit g t → IsSomeFit g (tree_at t path)
+pub fits_at : (g : Grammar) (path : List ℕ) (t : Option Tree) → IsSomeFit g t → IsSomeFit g (tree_at t path)
 fits_at g [] t f = f
 fits_at g (i ∷ path) t f = fits_at g path (child_of t i) (some_child_fits g t i f)
 
@@ -240,7 +240,7 @@ does_same g q e f target (rule_does.Arises number) same d =
     record { rule = d.rule; there = d.there; gives = d.gives; arises = sym (ap (arises d.rule.expr.0) env) ∙ d.arises }
 
 -- a body that is found before an offset
-found_body : (content : List ℕ) (end : ℕ) (body another : List ℕ) → next_before version_two content end ≡ Ok (Some body)
+pub found_body : (content : List ℕ) (end : ℕ) (body another : List ℕ) → next_before version_two content end ≡ Ok (Some body)
     → body_before version_two content end ≡ Ok another → body ≡ another
 unfolding next_before
 found_body content end body another next before = by_header (nat_eq end header_bytes) (body_before version_two content end) next
@@ -255,18 +255,19 @@ found_body content end body another next before = by_header (nat_eq end header_b
         sym one ∙ other
     by_header false (Err fault) e h = absurd (let bad : ⊥ = cc in bad)
 
--- what a rule does by the record of a node, it does by the values of the tree
-in_tree_at : (g : Grammar) (m : Passes) (k : ℕ) (t : Tree) (v : Valuation) (places : List ℕ) (target : Target) (does : Next)
-    (body : List ℕ) (p : ℕ) (vs : List Value) (path : List ℕ) (tree : Tree) (w : Valuation) (x : Item) → IsAccepted g
-    → IsLegal g m → IsLastPass k m → w ≡ values_at v path → places ≡ map suc path → tree_at (Some t) path ≡ Some tree
-    → IsRecorded g m k x tree w → body ≡ record_of g m k tree w → IsNode g body p vs → DoesNextAt g p vs target does
-    → IsInTree g t v places target does
-in_tree_at g m k t v places target does body p vs path (leaf c y) w x accepted legal last values counted there recorded is node_is
-    next = absurd (node_is_no_token p c _ _ (sym node_is.same ∙ is))
-in_tree_at g m k t v places target does body p vs path (node r ts) w (item.Terminal a) accepted legal last values counted there
-    recorded is node_is next = elim recorded.fits [ ]
-in_tree_at g m k t v places target does body p vs path (node r ts) w (item.Symbol s) accepted legal last values counted there
-    recorded is node_is next =
+-- The values of a record are those of a node of a tree: the rules of its production have the same arguments by both.
+pub record IsRowAt (g : Grammar) (p : ℕ) (vs : List Value) (r : ℕ) (w : Valuation) : Type 0 where
+  pub of : Production
+  pub of_record : IsProduction g p of
+  pub of_node : IsProduction g r of
+  pub same : (i : ℕ) (rule : Rule) → slice_get of.rules i ≡ Some rule
+      → environment rule (table_of g of vs) ≡ environment rule (at w)
+
+pub row_at : (g : Grammar) (m : Passes) (k : ℕ) (body : List ℕ) (p : ℕ) (vs : List Value) (r : ℕ) (ts : Forest) (w : Valuation)
+    (x : Item) → IsAccepted g → IsLegal g m → IsLastPass k m → IsRecorded g m k x (node r ts) w
+    → body ≡ record_of g m k (node r ts) w → IsNode g body p vs → IsRowAt g p vs r w
+row_at g m k body p vs r ts w (item.Terminal a) accepted legal last recorded is node_is = elim recorded.fits [ ]
+row_at g m k body p vs r ts w (item.Symbol s) accepted legal last recorded is node_is =
     let f = recorded.fits in
     let own = values_up_to k (left_passes m (slice_get g.productions r)) (w []) in
     let copies = copies_of g m k ts (children w) in
@@ -277,20 +278,42 @@ in_tree_at g m k t v places target does body p vs path (node r ts) w (item.Symbo
     (values_well k (left_passes m (slice_get g.productions r)) (w []) recorded.well.0)
     (copies_well g m k ts (children w) recorded.texts.1 recorded.well.1) in
     let apart = one_body p r vs (own ++ copies) (omega arith) (omega arith) node_is.well all_well (sym node_is.same ∙ is) in
-    let q = next.production in
+    let q = node_is.production in
     let production : f.0 ≡ q = let z : Some f.0 ≡ Some q = sym f.1 ∙ ap (slice_get g.productions) (sym apart.0)
-    ∙ next.there in cc in
+    ∙ node_is.there in cc in
     let there_q : slice_get g.productions r ≡ Some q = f.1 ∙ ap Some production in
     let fits : FitsAll g (stored_items q.items) ts = subst (λ (z : Production). FitsAll g (stored_items z.items) ts) production
     f.3 in
     let vs_is : vs ≡ row g m k q ts w = apart.1 ∙ ap (λ (ps : List ℕ). values_up_to k ps (w []) ++ copies)
     (ap (left_passes m) there_q) in
-    let normal : IsNormal g q = accepted.normal p q next.there in
-    let by_values : DoesNext q.rules (table_of g q (row g m k q ts w)) target does = subst
-    (λ (z : List Value). DoesNext q.rules (table_of g q z) target does) vs_is next.next in
-    let by_tree : DoesNext q.rules (at w) target does = does_same g q (table_of g q (row g m k q ts w)) (at w) target does
-    (λ i rule is_rule. same_environment rule (table_of g q (row g m k q ts w)) (at w)
-    (λ j o arg. argument_value g m k legal last q ts w o fits recorded.texts.1 (normal i rule is_rule j o arg))) by_values in
+    let normal : IsNormal g q = accepted.normal p q node_is.there in
+    record {
+      of = q;
+      of_record = node_is.there;
+      of_node = there_q;
+      same = λ i rule is_rule. same_environment rule (table_of g q vs) (at w) (λ j o arg.
+          ap (λ (z : List Value). table_of g q z o.place o.attr) vs_is
+          ∙ argument_value g m k legal last q ts w o fits recorded.texts.1 (normal i rule is_rule j o arg));
+    }
+
+-- what a rule does by the record of a node, it does by the values of the tree
+in_tree_at : (g : Grammar) (m : Passes) (k : ℕ) (t : Tree) (v : Valuation) (places : List ℕ) (target : Target) (does : Next)
+    (body : List ℕ) (p : ℕ) (vs : List Value) (path : List ℕ) (tree : Tree) (w : Valuation) (x : Item) → IsAccepted g
+    → IsLegal g m → IsLastPass k m → w ≡ values_at v path → places ≡ map suc path → tree_at (Some t) path ≡ Some tree
+    → IsRecorded g m k x tree w → body ≡ record_of g m k tree w → IsNode g body p vs → DoesNextAt g p vs target does
+    → IsInTree g t v places target does
+in_tree_at g m k t v places target does body p vs path (leaf c y) w x accepted legal last values counted there recorded is node_is
+    next = absurd (node_is_no_token p c _ _ (sym node_is.same ∙ is))
+in_tree_at g m k t v places target does body p vs path (node r ts) w x accepted legal last values counted there recorded is
+    node_is next =
+    let record_row = row_at g m k body p vs r ts w x accepted legal last recorded is node_is in
+    let q = record_row.of in
+    let both : Some next.production ≡ Some q = sym next.there ∙ record_row.of_record in
+    let one : next.production ≡ q = cc in
+    let by_record : DoesNext q.rules (table_of g q vs) target does = subst
+    (λ (z : Production). DoesNext z.rules (table_of g z vs) target does) one next.next in
+    let by_tree : DoesNext q.rules (at w) target does =
+    does_same g q (table_of g q vs) (at w) target does record_row.same by_record in
     record {
       path = path;
       counted = counted;
@@ -298,7 +321,7 @@ in_tree_at g m k t v places target does body p vs path (node r ts) w (item.Symbo
       trees = ts;
       there = there;
       of = q;
-      is = there_q;
+      is = record_row.of_node;
       next = subst (λ (z : Valuation). DoesNext q.rules (at z) target does) values by_tree;
     }
 

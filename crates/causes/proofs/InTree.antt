@@ -10,7 +10,7 @@ use Rattle.causes.specs.Chains.{GoesTo, IsChain, IsPassedFrom, itself, longer}
 use Rattle.causes.specs.Laws.{FoundIsCause, IsInTree, in_tree}
 
 -- places that count from 1 come from one path
-same_path : (xs ys : List ℕ) → map suc xs ≡ map suc ys → xs ≡ ys
+pub same_path : (xs ys : List ℕ) → map suc xs ≡ map suc ys → xs ≡ ys
 same_path [] [] e = refl
 same_path [] (y ∷ ys) e = absurd (let bad : ⊥ = cc in bad)
 same_path (x ∷ xs) [] e = absurd (let bad : ⊥ = cc in bad)

@@ -1,5 +1,10 @@
 pub mod ChainSteps
+pub mod Complete
+pub mod Dependence
+pub mod Errors
 pub mod Found
 pub mod InIndex
 pub mod InTree
+pub mod Instances
+pub mod Relations
 pub mod Stops

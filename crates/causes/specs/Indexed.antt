@@ -105,10 +105,10 @@ pub record HasNoChildAt (g : Grammar) (index : TreeIndex) (places : List ℕ) (p
   pub none : HasNoChild g index number place
 
 -- No node has a rule for an argument of a rule at the node at the end of some places: it is an attribute of the root itself, or
--- of a
--- child that the node does not have.
+-- of a child that the node does not have.
 abbrev pub GoesNowhere : Grammar → TreeIndex → List ℕ → Target → Type 0
-GoesNowhere g index places argument = ((argument.place ≡ 0) × (places ≡ [])) ⊎ HasNoChildAt g index places argument.place
+GoesNowhere g index places argument = ((argument.place ≡ 0) × (places ≡ []))
+    ⊎ ((0 < argument.place) × HasNoChildAt g index places argument.place)
 
 -- A rule passes on the error of such an argument.
 pub record IsPassedFromNowhere (g : Grammar) (index : TreeIndex) (content places : List ℕ) (target : Target) : Type 0 where

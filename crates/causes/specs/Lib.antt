@@ -1,3 +1,4 @@
 pub mod Chains
 pub mod Indexed
 pub mod Laws
+pub mod Rules

@@ -5,6 +5,7 @@ ghost use Rattle.ag_grammar.specs.declared.limits.TheConstants.{MAX_NODES};
 ghost use Rattle.causes.specs.Chains.{Follows, GoesTo, IsCause, in_content, places_of};
 ghost use Rattle.causes.specs.Indexed.{GoesNowhere, HasNoChildAt, HasNoRecord, IsCauseIn, IsEndAt, IsNumberAt};
 ghost use Rattle.causes.specs.Indexed.{IsWithoutError, IsWithoutRecord, Leads, LeadsNowhere, Stops, StopsAfter, in_file};
+ghost use Rattle.causes.specs.Rules.{ComputesNoErrorIn};
 ghost use Rattle.causes.specs.declared.chain.Step.TheVariants as to;
 ghost use Rattle.treefile.specs.devices.Device.{LeavesContent, Persists, WhenHonest};
 
@@ -281,7 +282,8 @@ impl<'a> Chain<'a> {
 /// on. `device` contains the file of the last pass, and `index` is its index.
 ///
 /// Returns `None` if the target has no rule, the rule's value is not an error, or the file does not have the chain;
-/// and after 16,777,216 rules, 16 for each of `MAX_NODES` nodes.
+/// and after 16,777,216 rules, 16 for each of `MAX_NODES` nodes. If the values in the file are a solution, it has
+/// the chain, which has fewer rules.
 /// Fails with R1 if a record on it is damaged, with D1 if a call of the device fails, and if memory is
 /// refused. Reads a record for each rule in the chain.
 pub fn find_cause<D: Device>(
@@ -307,6 +309,11 @@ pub fn find_cause<D: Device>(
     ensures none { IfOk result (λ cause. IfNone cause (WhenHonest (D.is_honest device.new)
         (LeadsNowhere grammar.now index.now start.now.places.now ⊎ StopsAfter grammar.now index.now
         (D.content device.old) start.now.places.now start.now.target (16 * MAX_NODES)))) }
+    // So in a tree of at most MAX_NODES nodes, whose file it is and whose values are a solution, the rule at those
+    // places does not compute an error
+    ensures complete { IfOk result (λ cause. IfNone cause (WhenHonest (D.is_honest device.new)
+        (ComputesNoErrorIn grammar.now index.now (D.content device.old) start.now.places.now
+        start.now.target))) }
     ensures content { LeavesContent (D.is_honest device.new)
         (D.content device.old) (D.content device.new) }
     ensures persists { Persists (D.is_honest device.old) (D.is_honest device.new)

@@ -5,6 +5,7 @@ use Rattle.ag_grammar.specs.grammars.AttributeGrammar.{Grammar}
 use Rattle.tree_index.specs.declared.index.TreeIndex.{TreeIndex}
 use Rattle.causes.proofs.ChainSteps.{arises_in, reads_on}
 use Rattle.ag_grammar.specs.declared.limits.TheConstants.{MAX_NODES}
+use Rattle.causes.proofs.Complete.{none_complete}
 use Rattle.causes.proofs.InIndex.{cause_in, cause_in_tree}
 use Rattle.causes.proofs.Stops.{stops_after}
 use Rattle.causes.proofs.chain.find_cause.Given as given
@@ -128,3 +129,21 @@ returns-clause-none g c = λ honest. inr (record {
   chain = c.loop-steps.invariant.chain honest;
   stops = inl c.loop-steps-test.false;
 })
+
+pub returns-then-not-branch-clause-complete : goal.returns-then-not-branch-clause-complete
+returns-then-not-branch-clause-complete g c = λ honest.
+    let start = c.args.start.now in
+    none_complete c.args.grammar.now c.args.index.now (g.D.Device.content c.args.device.now) start.places.now start.target
+    (inl (c.in_ok-go_down.ensures.none c.if-not-branch.true))
+
+pub returns-in-Nothing-clause-complete : goal.returns-in-Nothing-clause-complete
+returns-in-Nothing-clause-complete g c = λ honest.
+    let start = c.args.start.now in
+    none_complete c.args.grammar.now c.args.index.now (g.D.Device.content c.args.device.now) start.places.now start.target
+    (returns-in-Nothing-clause-none g c honest)
+
+pub returns-clause-complete : goal.returns-clause-complete
+returns-clause-complete g c = λ honest.
+    let start = c.args.start.now in
+    none_complete c.args.grammar.now c.args.index.now (g.D.Device.content c.args.device.now) start.places.now start.target
+    (returns-clause-none g c honest)
