@@ -18,8 +18,8 @@ by_slot places head j i o k is u = (
 
 pub returns-in_ok-push-in-Some : goal.returns-in_ok-push-in-Some
 returns-in_ok-push-in-Some c =
-    adds_same _ (IsByArgument c.args.places.now c.args.strike c.args.place c.args.strike.arg c.args.argument) c.args.found.now.items
-    c.push.new.self.items
+    adds_same _ (IsByArgument c.args.places.now c.args.strike c.args.place c.args.strike.arg c.args.argument)
+    c.args.found.now.items c.push.new.self.items
     (by_slot c.args.places.now c.args.strike c.args.place c.args.strike.arg c.args.argument c.in-Some.slot
     (sym c.slot_at.ensures ∙ c.in-Some.is))
     (subst
