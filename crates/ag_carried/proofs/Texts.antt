@@ -27,6 +27,13 @@ well_text bytes h = record {
   light = let w = weight-Text bytes in let s : 5 + length bytes ≤ max_weight = h.short in omega (arith, w, s);
 }
 
+-- a text of at most 256 bytes is well
+pub well_short_text : (bytes : List ℕ) → is_utf8 bytes ≡ true → length bytes ≤ 256 → IsWell (v.Text bytes)
+well_short_text bytes utf8 short = well_text bytes (record {
+  utf8 = utf8;
+  short = omega (arith, short);
+})
+
 -- one text after another is UTF-8
 pub joined_utf8 : (a b : List ℕ) → is_utf8 a ≡ true → is_utf8 b ≡ true → is_utf8 (a ++ b) ≡ true
 joined_utf8 a b f g = is_utf8-from_IsUtf8 (a ++ b) (IsUtf8-append a b (IsUtf8-from_is_utf8 a f) (IsUtf8-from_is_utf8 b g))

@@ -1,10 +1,11 @@
 -- The value of a `Carried`, for each form of storage. All of this is this project's.
-use Rattle.ag_value.specs.declared.value.Value.{Value, Num, Text}
+use Rattle.ag_value.specs.declared.value.Value.{Value, Fault, Num, Text}
 use Rattle.ag_carried.specs.declared.carried.Form.{Form}
 
 -- the value
 abbrev pub form_value : Form → Value
 form_value (Form.Number n) = Num n
-form_value (Form.Inline value) = value
+form_value (Form.Fault code) = Fault code
+form_value (Form.Small small) = small.value
 form_value (Form.Shared shared) = shared.value
 form_value (Form.Text text) = Text text

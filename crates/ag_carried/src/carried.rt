@@ -5,39 +5,43 @@ ghost use Rattle.std.specs.Prelude.{MatchOption, MatchResult, OnErr, OnOk, ℕ};
 ghost use Rattle.ag_value.specs.Measure.{weight_of};
 ghost use Rattle.ag_value.specs.Spelling.{spelling_of};
 ghost use Rattle.ag_value.specs.Well.{IsWell};
+ghost use Rattle.ag_value.specs.declared.value.ErrorCode.{ErrorCode};
 ghost use Rattle.ag_value.specs.declared.value.Value.{Value as AttributeValue, Fault, Num, Text as TextValue};
 
 use crate::encoded::Encoded;
-use crate::shared_text::SharedText;
+use crate::shared_text::{SharedText, prefix_of_text};
 use crate::spelled::Spelled;
 use ag_value::{ErrorCode, NoMemory, Value, ValueFault, copy, decode, encode, same, weight};
 use std::alloc::Global;
 use std::marker::Model;
+use std::mem::replace;
 use std::rc::Rc;
 
-/// The greatest weight, in bytes, of a value that is stored inline. A shared one takes two further
-/// allocations.
-const MAX_INLINE_WEIGHT: u64 = 24;
+/// The greatest weight, in bytes, of a value that is stored without its encoding. A heavier one takes
+/// one more allocation.
+const MAX_SMALL_WEIGHT: u64 = 24;
 
-/// The greatest length in bytes of a text that is stored inline without being weighed.
-const MAX_INLINE_TEXT: usize = 16;
+/// The greatest length in bytes of a text that is stored without its encoding, and is not weighed.
+const MAX_SMALL_TEXT: usize = 16;
 
 /// How a value is stored.
 #[derive(Debug, Drop)]
 enum Form {
     /// A number.
     Number(i64),
-    /// Another small value.
-    Inline(Value),
+    /// An error.
+    Fault(ErrorCode),
+    /// Another small value, shared.
+    Small(Rc<Value>),
     /// A large value, shared beside its encoding.
     Shared(Rc<Spelled>),
     /// A text whose bytes are shared.
     Text(SharedText),
 }
 
-/// A value that is passed from node to node. Contracts see the value. `share` of a large value or a
-/// shared text neither copies nor walks it, and `encode` copies bytes: owners share one value, which is
-/// stored beside its encoding, or the bytes of one text.
+/// A value that is passed from node to node. Contracts see the value. Numbers and errors are stored
+/// inline, and every other value is shared by its owners: `share` neither copies nor walks it. A large
+/// one is stored beside its encoding, so `encode` copies bytes. It has 24 bytes.
 #[derive(Debug, Drop)]
 pub struct Carried {
     form: Form,
@@ -57,14 +61,13 @@ impl Model for Carried {
     ghost view = { λ c. form_value c.form };
 }
 
-/// Returns whether a value is stored inline without being weighed: a number, an error, a short text,
-/// an empty list or table.
-#[inline(always)]
+/// Returns whether a value is small and need not be weighed: a number, an error, a short text, an empty
+/// list or table.
 fn is_light(value: &Value) -> bool {
     match value {
         Value::Num(_) => true,
         Value::Fault(_) => true,
-        Value::Text(text) => text.as_str().len() <= MAX_INLINE_TEXT,
+        Value::Text(text) => text.as_str().len() <= MAX_SMALL_TEXT,
         Value::List(items) => items.as_slice().is_empty(),
         Value::Table(pairs) => pairs.as_slice().is_empty(),
     }
@@ -80,16 +83,38 @@ fn number_in(value: &Value) -> Option<i64>
     }
 }
 
-/// Stores a value inline.
-#[inline(always)]
-fn inline_value(value: Value) -> Carried
-    ensures { result ≡ value }
+/// Returns the error that a value is, or `None` for a value of another kind.
+fn fault_in(value: &Value) -> Option<ErrorCode>
+    ensures { MatchOption result ((e : ErrorCode) → value.now ≡ Fault e → ⊥) (λ e. value.now ≡ Fault e) }
 {
-    let form = match value {
-        Value::Num(number) => Form::Number(number),
-        other => Form::Inline(other),
-    };
-    Carried { form }
+    match value {
+        Value::Fault(code) => Some(*code),
+        _ => None,
+    }
+}
+
+/// Stores a small value: a number or an error inline, and another one in shared memory. Fails with
+/// NoMemory.
+#[inline(always)]
+fn small_value(alloc: Global, value: Value) -> Result<Carried, NoMemory>
+    ensures { IfOk result (λ c. c ≡ value) }
+{
+    match value {
+        Value::Num(number) => Ok(Carried::number(number)),
+        Value::Fault(code) => Ok(Carried::fault(code)),
+        other => in_shared_memory(alloc, other),
+    }
+}
+
+/// Moves a value into shared memory. Fails with NoMemory.
+#[inline(never)]
+fn in_shared_memory(alloc: Global, value: Value) -> Result<Carried, NoMemory>
+    ensures { IfOk result (λ c. c ≡ value) }
+{
+    let shared = Rc::new(alloc, value)?;
+    Ok(Carried {
+        form: Form::Small(shared),
+    })
 }
 
 /// Moves a value and its encoding into shared memory. Fails with NoMemory.
@@ -102,25 +127,35 @@ fn shared_value(alloc: Global, spelled: Spelled) -> Result<Carried, NoMemory>
     })
 }
 
-/// Returns a value for which `is_light` is false as a carried one. Fails with NoMemory.
+/// Returns a value as a carried one, as `Carried::new` does. Not inlined. Fails with NoMemory.
 #[inline(never)]
-fn weigh_and_store(alloc: Global, value: Value) -> Result<Carried, NoMemory>
+fn store(alloc: Global, value: Value) -> Result<Carried, NoMemory>
     requires { IsWell value }
     ensures { IfOk result (λ c. c ≡ value) }
 {
+    if is_light(&value) {
+        return small_value(alloc, value);
+    }
     let weight = weight(&value);
     store_by_weight(alloc, value, weight)
 }
 
-/// Returns a value as a carried one, stored inline or shared as `weight` decides. Fails with NoMemory.
+/// Returns a value as a carried one, stored beside its encoding or not, as `weight` decides. Fails with
+/// NoMemory.
 fn store_by_weight(alloc: Global, value: Value, weight: u64) -> Result<Carried, NoMemory>
     requires { IsWell value }
     ensures { IfOk result (λ c. c ≡ value) }
 {
-    if weight <= MAX_INLINE_WEIGHT {
-        return Ok(inline_value(value));
+    if weight <= MAX_SMALL_WEIGHT {
+        return small_value(alloc, value);
     }
     shared_value(alloc, Spelled::new(alloc, value, weight)?)
+}
+
+/// Drops a value.
+#[inline(never)]
+fn drop_form(form: Form) {
+    drop(form);
 }
 
 impl Carried {
@@ -139,32 +174,31 @@ impl Carried {
     pub fn fault(code: ErrorCode) -> Carried
         ensures { result ≡ Fault code }
     {
-        inline_value(Value::Fault(code))
+        Carried {
+            form: Form::Fault(code),
+        }
     }
 
-    /// Returns a well value as a carried one. Takes memory for a large one, and encodes it. Fails with
-    /// NoMemory.
+    /// Returns a well value as a carried one. Takes memory unless it is a number or an error, and encodes
+    /// a large one. Fails with NoMemory.
     #[inline(always)]
     pub fn new(alloc: Global, value: Value) -> Result<Carried, NoMemory>
         requires { IsWell value }
         ensures { IfOk result (λ c. c ≡ value) }
     {
-        if is_light(&value) {
-            return Ok(inline_value(value));
+        match value {
+            Value::Num(number) => Ok(Carried::number(number)),
+            Value::Fault(code) => Ok(Carried::fault(code)),
+            other => store(alloc, other),
         }
-        weigh_and_store(alloc, value)
     }
 
     /// Returns a well value whose weight is known, as `new` does.
-    #[inline(always)]
     pub fn with_weight(alloc: Global, value: Value, weight: u64) -> Result<Carried, NoMemory>
         requires well { IsWell value }
         requires weight { weight ≡ weight_of value }
         ensures { IfOk result (λ c. c ≡ value) }
     {
-        if is_light(&value) {
-            return Ok(inline_value(value));
-        }
         store_by_weight(alloc, value, weight)
     }
 
@@ -184,19 +218,19 @@ impl Carried {
     {
         match &self.form {
             Form::Text(text) => Some(text),
-            Form::Number(_) | Form::Inline(_) | Form::Shared(_) => None,
+            Form::Number(_) | Form::Fault(_) | Form::Small(_) | Form::Shared(_) => None,
         }
     }
 
-    /// Returns the value, or `None` if it is a number or a shared text, which are not stored as a
-    /// `Value`; `to_value` returns those.
+    /// Returns the value, or `None` if it is a number, an error or a shared text, which are not stored
+    /// as a `Value`; `to_value` returns those.
     #[inline(always)]
     pub fn as_value(&self) -> Option<&Value>
         ensures { IfSome result (λ v. v.now ≡ self.now) }
     {
         match &self.form {
-            Form::Number(_) | Form::Text(_) => None,
-            Form::Inline(value) => Some(value),
+            Form::Number(_) | Form::Fault(_) | Form::Text(_) => None,
+            Form::Small(value) => Some(&**value),
             Form::Shared(shared) => Some(shared.value()),
         }
     }
@@ -208,9 +242,22 @@ impl Carried {
     {
         match &self.form {
             Form::Number(number) => Some(*number),
-            Form::Inline(value) => number_in(value),
+            Form::Fault(_) | Form::Text(_) => None,
+            Form::Small(value) => number_in(&**value),
             Form::Shared(shared) => number_in(shared.value()),
-            Form::Text(_) => None,
+        }
+    }
+
+    /// Returns the error, or `None` for a value of another kind.
+    #[inline(always)]
+    pub fn as_fault(&self) -> Option<ErrorCode>
+        ensures { MatchOption result ((e : ErrorCode) → self.now ≡ Fault e → ⊥) (λ e. self.now ≡ Fault e) }
+    {
+        match &self.form {
+            Form::Fault(code) => Some(*code),
+            Form::Number(_) | Form::Text(_) => None,
+            Form::Small(value) => fault_in(&**value),
+            Form::Shared(shared) => fault_in(shared.value()),
         }
     }
 
@@ -221,33 +268,46 @@ impl Carried {
     {
         match &mut self.form {
             Form::Number(old) => *old = number,
-            other => *other = Form::Number(number),
+            other => drop_form(replace(other, Form::Number(number))),
         }
     }
 
-    /// Drops the value. A number, which owns no memory, is dropped in one step.
+    /// Drops the value. A number or an error, which owns no memory, is dropped in one step.
     #[inline(always)]
     pub fn release(self) {
         let Carried { form } = self;
-        let Form::Number(_) = form else {
-            drop(form);
-            return;
-        };
+        match form {
+            Form::Number(_) | Form::Fault(_) => {}
+            other => drop_form(other),
+        }
     }
 
-    /// Returns the same value for one more owner: a large one is shared. Takes memory for a text, a
-    /// list or a table that is stored inline. Fails with NoMemory if memory runs out or the value has
+    /// Returns the same value for one more owner. Takes no memory. Fails with NoMemory if the value has
     /// 2^64 - 1 owners.
     #[inline(always)]
-    pub fn share(&self, alloc: Global) -> Result<Carried, NoMemory>
+    pub fn share(&self, _alloc: Global) -> Result<Carried, NoMemory>
         ensures { IfOk result (λ c. c ≡ self.now) }
     {
         match &self.form {
             Form::Number(number) => Ok(Carried::number(*number)),
-            Form::Inline(value) => Ok(inline_value(copy(alloc, value)?)),
-            Form::Shared(shared) => Ok(Carried::of_shared(shared.clone()?)),
-            Form::Text(text) => Ok(Carried::from_text(text.share()?)),
+            Form::Fault(code) => Ok(Carried::fault(*code)),
+            _ => self.share_any(),
         }
+    }
+
+    /// Returns the same value for one more owner, as `share` does. Not inlined.
+    #[inline(never)]
+    fn share_any(&self) -> Result<Carried, NoMemory>
+        ensures { IfOk result (λ c. c ≡ self.now) }
+    {
+        let form = match &self.form {
+            Form::Number(number) => Form::Number(*number),
+            Form::Fault(code) => Form::Fault(*code),
+            Form::Small(value) => Form::Small(value.clone()?),
+            Form::Shared(shared) => Form::Shared(shared.clone()?),
+            Form::Text(text) => Form::Text(text.share()?),
+        };
+        Ok(Carried { form })
     }
 
     /// Returns a shared value as a carried one.
@@ -274,7 +334,7 @@ impl Carried {
         match &self.form {
             Form::Shared(shared) => Ok(Some(Encoded::of(shared.clone()?))),
             Form::Text(text) => Ok(Some(Encoded::of_text(text.share()?))),
-            Form::Number(_) | Form::Inline(_) => Ok(None),
+            Form::Number(_) | Form::Fault(_) | Form::Small(_) => Ok(None),
         }
     }
 
@@ -284,7 +344,8 @@ impl Carried {
     {
         match &self.form {
             Form::Number(number) => Ok(Value::Num(*number)),
-            Form::Inline(value) => copy(alloc, value),
+            Form::Fault(code) => Ok(Value::Fault(*code)),
+            Form::Small(value) => copy(alloc, &**value),
             Form::Shared(shared) => copy(alloc, shared.value()),
             Form::Text(text) => Ok(Value::Text(text.to_text(alloc)?)),
         }
@@ -298,7 +359,11 @@ impl Carried {
         let Carried { form } = self;
         match form {
             Form::Number(number) => Ok(Value::Num(number)),
-            Form::Inline(value) => Ok(value),
+            Form::Fault(code) => Ok(Value::Fault(code)),
+            Form::Small(shared) => match Rc::try_unwrap(shared) {
+                Ok(value) => Ok(value),
+                Err(shared) => copy(alloc, &*shared),
+            },
             Form::Shared(shared) => match Rc::try_unwrap(shared) {
                 Ok(spelled) => Ok(spelled.into_value()),
                 Err(shared) => copy(alloc, shared.value()),
@@ -327,13 +392,15 @@ impl Carried {
             (Form::Shared(one), Form::Shared(another)) => one.same(another),
             (Form::Number(number), _) => other.is_number(*number),
             (_, Form::Number(number)) => self.is_number(*number),
-            (Form::Inline(one), Form::Inline(another)) => same(one, another),
-            (Form::Inline(one), Form::Shared(another)) => same(one, another.value()),
-            (Form::Shared(one), Form::Inline(another)) => same(one.value(), another),
+            (Form::Fault(code), _) => other.is_fault(*code),
+            (_, Form::Fault(code)) => self.is_fault(*code),
+            (Form::Small(one), Form::Small(another)) => same(&**one, &**another),
+            (Form::Small(one), Form::Shared(another)) => same(&**one, another.value()),
+            (Form::Shared(one), Form::Small(another)) => same(one.value(), &**another),
             (Form::Text(one), Form::Text(another)) => one.same(another),
-            (Form::Text(text), Form::Inline(value)) => text.is_value(value),
+            (Form::Text(text), Form::Small(value)) => text.is_value(&**value),
             (Form::Text(text), Form::Shared(shared)) => text.is_value(shared.value()),
-            (Form::Inline(value), Form::Text(text)) => text.is_value(value),
+            (Form::Small(value), Form::Text(text)) => text.is_value(&**value),
             (Form::Shared(shared), Form::Text(text)) => text.is_value(shared.value()),
         }
     }
@@ -348,6 +415,16 @@ impl Carried {
         }
     }
 
+    /// Returns whether the value is an error that equals another.
+    fn is_fault(&self, code: ErrorCode) -> bool
+        ensures { IsTrue result ↔ (self.now ≡ Fault code) }
+    {
+        match self.as_fault() {
+            Some(own) => own == code,
+            None => false,
+        }
+    }
+
     /// Appends the encoding of a well value. For a large one these are the bytes stored beside it.
     /// Fails with NoMemory; `out` is then unchanged.
     #[inline(always)]
@@ -358,7 +435,8 @@ impl Carried {
     {
         match &self.form {
             Form::Number(number) => encode(&Value::Num(*number), out),
-            Form::Inline(value) => encode(value, out),
+            Form::Fault(code) => encode(&Value::Fault(*code), out),
+            Form::Small(value) => encode(&**value, out),
             Form::Shared(shared) => {
                 out.extend_from_slice(shared.bytes())?;
                 Ok(())
@@ -384,8 +462,8 @@ impl Carried {
         Ok((with_encoding(alloc, value, &input[..len])?, len))
     }
 
-    /// Reads a value as `read` does. If `self` is shared and the input begins with its encoding,
-    /// returns `self` for one more owner, and decodes nothing.
+    /// Reads a value as `read` does. If `self` is shared or a short text, and the input begins with its
+    /// encoding, returns `self` for one more owner, and decodes nothing.
     pub fn read_beside(&self, alloc: Global, input: &[u8]) -> Result<(Carried, usize), ValueFault>
         ensures well { IfOk result (λ found. IsWell found.0) }
         ensures within { IfOk result (λ found. found.1 ≤ length input.now) }
@@ -407,9 +485,31 @@ impl Carried {
                     return Ok((Carried::from_text(text.share()?), len));
                 }
             }
-            Form::Number(_) | Form::Inline(_) => {}
+            Form::Small(value) => {
+                if let Some(len) = prefix_of_small(&**value, input) {
+                    let form = Form::Small(value.clone()?);
+                    return Ok((Carried { form }, len));
+                }
+            }
+            Form::Number(_) | Form::Fault(_) => {}
         }
         Carried::read(alloc, input)
+    }
+}
+
+/// Returns the length of the encoding of a short text in bytes, if the input begins with it. Returns `None`
+/// for a value that is no short text. Takes no memory.
+fn prefix_of_small(value: &Value, input: &[u8]) -> Option<usize>
+    ensures within { IfSome result (λ len. len ≤ length input.now) }
+    ensures spelled { IfSome result (λ len. take len input.now ≡ spelling_of value.now) }
+    ensures well { IfSome result (λ _. IsWell value.now) }
+    ensures only { IfSome result (λ len. (other : AttributeValue) (rest : List ℕ) → IsWell other
+        → input.now ≡ spelling_of other ++ rest
+        → (value.now ≡ other) × (len ≡ length (spelling_of other))) }
+{
+    match value {
+        Value::Text(text) => prefix_of_text(text.as_str(), input),
+        _ => None,
     }
 }
 
@@ -420,8 +520,8 @@ fn with_encoding(alloc: Global, value: Value, encoding: &[u8]) -> Result<Carried
     requires encoding { encoding.now ≡ spelling_of value }
     ensures { IfOk result (λ c. c ≡ value) }
 {
-    if is_light(&value) || encoding.len() as u64 <= MAX_INLINE_WEIGHT {
-        return Ok(inline_value(value));
+    if encoding.len() as u64 <= MAX_SMALL_WEIGHT {
+        return small_value(alloc, value);
     }
     shared_value(alloc, Spelled::from_encoding(alloc, value, encoding)?)
 }

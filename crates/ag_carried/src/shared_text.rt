@@ -1,6 +1,6 @@
 //! Texts that are joined without a copy of their bytes.
 
-ghost use Rattle.std.specs.Prelude.{◌≡◌, ◌++◌, ◌↔◌, ◌+◌, ◌<◌, ◌≤◌, drop, length, slice_index, take};
+ghost use Rattle.std.specs.Prelude.{◌≡◌, ◌++◌, ◌↔◌, ◌+◌, ◌^◌, ◌<◌, ◌≤◌, drop, length, slice_index, take};
 ghost use Rattle.std.specs.Prelude.{IfNone, IfOk, IfSome, IsTrue, List, OnErr, OnOk, ℕ};
 ghost use Rattle.ag_value.specs.Measure.{max_weight, weight_of};
 ghost use Rattle.ag_value.specs.Spelling.{spelling_of};
@@ -188,4 +188,55 @@ impl SharedText {
         }
         None
     }
+}
+
+/// Returns the bytes of a short text's encoding that come before those of the text.
+#[tactic(auto, using(crate::proofs::Texts::header_is))]
+fn header_of(text: &str) -> [u8; HEADER_LENGTH]
+    requires { length text.now ≤ 256 }
+    ensures { spelling_of (TextValue text.now) ≡ result ++ text.now }
+{
+    let len = (text.len() as u32).to_be_bytes();
+    [1, len[0], len[1], len[2], len[3]]
+}
+
+/// Returns whether a text has at most `MAX_FLAT_TEXT` bytes. Such a text is within the limits.
+fn is_flat(text: &str) -> bool
+    ensures len { IsTrue result → length text.now ≤ 256 }
+    ensures well { IsTrue result → IsWell (TextValue text.now) }
+{
+    text.len() <= MAX_FLAT_TEXT
+}
+
+/// Returns whether the input begins with the encoding of a short text.
+fn begins_with(input: &[u8], text: &str) -> bool
+    requires { length text.now ≤ 256 }
+    ensures within { IsTrue result → 5 + length text.now ≤ length input.now }
+    ensures prefix { IsTrue result
+        → take (5 + length text.now) input.now ≡ spelling_of (TextValue text.now) }
+{
+    let header = header_of(text);
+    let len = HEADER_LENGTH + text.len();
+    if input.len() < len {
+        return false;
+    }
+    let (prefix, rest) = input[..len].split_at(HEADER_LENGTH);
+    prefix == &header[..] && rest == text.as_bytes()
+}
+
+/// Returns the length of the encoding of a text in bytes, if the text has at most `MAX_FLAT_TEXT` bytes and
+/// the input begins with its encoding. Takes no memory.
+#[tactic(auto, using(crate::proofs::Encodings::encodings))]
+pub(crate) fn prefix_of_text(text: &str, input: &[u8]) -> Option<usize>
+    ensures within { IfSome result (λ len. len ≤ length input.now) }
+    ensures spelled { IfSome result (λ len. take len input.now ≡ spelling_of (TextValue text.now)) }
+    ensures well { IfSome result (λ _. IsWell (TextValue text.now)) }
+    ensures only { IfSome result (λ len. (value : AttributeValue) (rest : List ℕ) → IsWell value
+        → input.now ≡ spelling_of value ++ rest
+        → (TextValue text.now ≡ value) × (len ≡ length (spelling_of value))) }
+{
+    if is_flat(text) && begins_with(input, text) {
+        return Some(HEADER_LENGTH + text.len());
+    }
+    None
 }

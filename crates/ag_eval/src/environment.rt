@@ -66,7 +66,7 @@ fn scalar_of(carried: &Carried) -> Option<Scalar>
 {
     match carried.as_number() {
         Some(number) => Some(Scalar::Number(number)),
-        None => Scalar::from_value(carried.as_value()?),
+        None => Some(Scalar::Fault(carried.as_fault()?)),
     }
 }
 

@@ -161,6 +161,7 @@ impl Window {
 
     /// Returns the length of the body whose frame ends at the offset, if all of that frame was
     /// read: then it fits after the header, and in the buffer. Else returns `None`.
+    #[inline(always)]
     #[tactic(auto, using(crate::proofs::EndingAt::body_at_hand))]
     fn buffered_length(&self) -> Option<usize>
         ensures found { (content : List ℕ) → EndsAt content self.now.at (unread self.now) →

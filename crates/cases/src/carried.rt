@@ -46,12 +46,13 @@ fn weighed_answer(alloc: Global, value: &Value) -> Result<String, Mistake> {
     lent_answer(alloc, &Carried::with_weight(alloc, copied, weight)?)
 }
 
-/// Shows the number or the value that a `Carried` returns. Fails with `Unfit` unless it returns exactly one of
-/// them.
+/// Shows the number, the error or the value that a `Carried` returns. Fails with `Unfit` unless it returns
+/// exactly one of them.
 fn lent_answer(alloc: Global, carried: &Carried) -> Result<String, Mistake> {
-    match (carried.as_number(), carried.as_value()) {
-        (Some(number), None) => Ok(show(alloc, &Value::Num(number))?),
-        (None, Some(value)) => Ok(show(alloc, value)?),
+    match (carried.as_number(), carried.as_fault(), carried.as_value()) {
+        (Some(number), None, None) => Ok(show(alloc, &Value::Num(number))?),
+        (None, Some(code), None) => Ok(show(alloc, &Value::Fault(code))?),
+        (None, None, Some(value)) => Ok(show(alloc, value)?),
         _ => Err(Mistake::Unfit),
     }
 }

@@ -60,6 +60,7 @@ impl Device for SharedDevice {
         Ok(self.bytes.len())
     }
 
+    #[inline(always)]
     fn append(&mut self, bytes: &[u8]) -> Result<(), DeviceFault> {
         match self.bytes.append(bytes) {
             Ok(()) => Ok(()),

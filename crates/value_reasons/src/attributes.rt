@@ -8,7 +8,7 @@ use crate::rule_at_node::RuleAtNode;
 use ag_carried::Carried;
 use ag_grammar::limits::MAX_ATTRIBUTES;
 use ag_grammar::{Item, Target};
-use ag_value::{NoMemory, Value};
+use ag_value::NoMemory;
 use causes::{Cause, ChainStart, find_cause, rule_for};
 use message_texts::display::PlainText;
 use std::alloc::Global;
@@ -300,7 +300,7 @@ impl<'a> ExplainedTree<'a> {
 /// Returns whether there is a value that is an error.
 fn is_error(value: Option<&Carried>) -> bool {
     match value {
-        Some(value) => matches!(value.as_value(), Some(Value::Fault(_))),
+        Some(value) => value.as_fault().is_some(),
         None => false,
     }
 }

@@ -375,7 +375,7 @@ impl Machine {
     }
 
     /// Executes the next instruction of the innermost open node, and in three cases the following
-    /// one in the same step: a `Go` after a `Get`, an `End` after a `Def`, and after an `End` the
+    /// one in the same step: a `Go` after a `Get`, an `End` after a rule, and after an `End` the
     /// `Put` of the ended node's record in its parent. Returns the node that continues, or `None`
     /// if the root is done. Fails as the instructions do.
     #[inline(always)]
@@ -416,12 +416,9 @@ impl Machine {
                 let after_step = self.get(context, node, place, from)?;
                 return Ok(Some(self.enter_if_next(context, after_step)?));
             }
-            Instr::Set {
-                place: _,
-                attr: _,
-                rule,
-            } => return Ok(Some(self.run_rule(context, node, rule, meter)?)),
-            Instr::Def { attr: _, rule } => self.run_rule(context, node, rule, meter)?,
+            Instr::Set { rule, .. } | Instr::Def { rule, .. } => {
+                self.run_rule(context, node, rule, meter)?
+            }
             Instr::Go(place) => return Ok(Some(self.enter_child(context, node, place)?)),
             Instr::Put(place) => return Ok(Some(self.put(context, node, place, to)?)),
             Instr::End => node,
