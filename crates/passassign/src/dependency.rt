@@ -53,30 +53,22 @@ fn slot_at(places: &[Item], attribute: Target) -> Option<usize>
     }
 }
 
-/// Appends the dependency of a rule's target at place `place` on argument `arg` of the rule, if the
-/// argument is an attribute of a symbol. `head` is a strike of the target by this rule; its argument
-/// is replaced.
+/// Appends the dependency of a rule's target at place `place` on an argument of the rule, if the
+/// argument is an attribute of a symbol. `strike` is the strike of the target by this argument.
 fn append_argument(
     found: &mut Vec<Dependency>,
     places: &[Item],
-    head: Strike,
+    strike: Strike,
     place: u16,
-    arg: u16,
     argument: Target,
 ) -> Result<(), NoMemory>
-    ensures { OnOk result (Adds (IsByArgument places.now head place arg argument)
+    ensures { OnOk result (Adds (IsByArgument places.now strike place strike.arg argument)
         found.old.items found.new.items) }
 {
     match slot_at(places, argument) {
         Some(slot) => {
             found.push(Dependency {
-                strike: Strike {
-                    symbol: head.symbol,
-                    attr: head.attr,
-                    production: head.production,
-                    rule: head.rule,
-                    arg,
-                },
+                strike,
                 place,
                 argument: slot,
                 from: argument.place,
@@ -101,7 +93,11 @@ fn append_arguments(
         found.old.items found.new.items) }
 {
     for (index, argument) in args.iter().enumerate() {
-        append_argument(found, places, head, place, index as u16, *argument)?;
+        let strike = Strike {
+            arg: index as u16,
+            ..head
+        };
+        append_argument(found, places, strike, place, *argument)?;
     }
     Ok(())
 }

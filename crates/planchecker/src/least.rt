@@ -2,7 +2,7 @@
 
 ghost use Rattle.std.specs.Prelude.{ℕ, ◌≡◌, ◌+◌, ◌^◌, ◌<◌, ◌≤◌, ◌↔◌, IsTrue, Some, length};
 ghost use Rattle.std.specs.Prelude.{slice_get};
-ghost use Rattle.ag_grammar.specs.grammars.Passes.{IsLegal, Passes};
+ghost use Rattle.ag_grammar.specs.grammars.Passes.{IsLegal, Passes, direction_of};
 ghost use Rattle.passassign.proofs.making.NoEarlier.{later_from};
 ghost use Rattle.passassign.specs.Least.{partial_of};
 ghost use Rattle.passassign.specs.PassStrikes.{AreStrikesAt, AreStrikesOf, HasPassAfter};
@@ -27,9 +27,15 @@ struct PassCandidates<'a> {
 }
 
 impl Candidates for PassCandidates<'_> {
+    ghost direction = { λ x. direction_of x.pass };
+
     ghost candidates = { λ x. HasPassFrom (passes_of x.assignment.now) x.pass };
 
     ghost later = { λ x. HasPassAfter (passes_of x.assignment.now) x.pass };
+
+    fn direction(&self) -> Direction {
+        Direction::of_pass(self.pass)
+    }
 
     fn is_candidate(&self, symbol: u16, attr: u16) -> bool {
         match self.assignment.pass_of(Item::Symbol(symbol), attr) {
@@ -87,7 +93,7 @@ fn are_strikes_at(grammar: &Grammar, assignment: &Assignment, pass: u16, strikes
         ↔ AreStrikesAt grammar.now (passes_of assignment.now) pass strikes.now }
 {
     let candidates = PassCandidates { assignment, pass };
-    match marks_of(grammar, Direction::of_pass(pass), &candidates, strikes) {
+    match marks_of(grammar, &candidates, strikes) {
         Some(struck) => are_later_struck(assignment.rows(), pass, &struck),
         None => false,
     }

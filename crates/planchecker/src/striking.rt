@@ -5,6 +5,7 @@
 //! same child as the rule's target, or at a child that the direction visits later.
 
 ghost use Rattle.std.specs.Prelude.{ℕ, ◌≡◌, ◌↔◌, IfSome, IsSome, IsTrue, Some, slice_get, take};
+ghost use Rattle.ag_grammar.specs.declared.direction.Direction.{Direction as TheDirection};
 ghost use Rattle.ag_grammar.specs.declared.grammar.Item.TheVariants as item;
 ghost use Rattle.ag_grammar.specs.grammars.AttributeGrammar.{item_at};
 ghost use Rattle.passassign.specs.Certificate.{IsGoodWhere, IsOneOf, IsReasonWhere, IsStruckBy};
@@ -19,11 +20,18 @@ use passassign::{Strike, is_same_or_later};
 /// The attributes that are candidates for a pass, and the later ones among them: those that the pass
 /// has to strike, since they have a later pass or none.
 pub(crate) trait Candidates {
+    /// The direction of the pass.
+    ghost direction: { Self → TheDirection };
+
     /// The candidates, by their symbols' numbers and their own.
     ghost candidates: { Self → ℕ → ℕ → Type 0 };
 
     /// Those of the candidates that the pass has to strike.
     ghost later: { Self → ℕ → ℕ → Type 0 };
+
+    /// Returns the direction of the pass.
+    fn direction(&self) -> Direction
+        ensures { result ≡ direction self.now };
 
     /// Returns whether an attribute is a candidate.
     fn is_candidate(&self, symbol: u16, attr: u16) -> bool
@@ -61,21 +69,20 @@ fn is_item_candidate<C: Candidates>(candidates: &C, item: Option<Item>, attr: u1
 /// Returns whether an argument of a rule is a reason why a pass can't compute the rule's target, which
 /// is at place `place`.
 fn is_reason<C: Candidates>(
-    direction: Direction,
     candidates: &C,
     struck: &Marks,
     production: &Production,
     place: u16,
     argument: Target,
 ) -> bool
-    ensures { IsTrue result ↔ IsReasonWhere direction (C.candidates candidates.now)
-        (IsMarked struck.now) production.now place argument }
+    ensures { IsTrue result ↔ IsReasonWhere (C.direction candidates.now)
+        (C.candidates candidates.now) (IsMarked struck.now) production.now place argument }
 {
     let item = production.item_at(argument.place);
     if is_item_struck(struck, item, argument.attr) {
         return true;
     }
-    is_same_or_later(direction, place, argument.place)
+    is_same_or_later(candidates.direction(), place, argument.place)
         && is_item_candidate(candidates, item, argument.attr)
 }
 
@@ -92,15 +99,9 @@ fn is_symbol(production: &Production, place: u16, symbol: u16) -> bool
 
 /// Returns whether a strike is good if these attributes are struck: its production, rule and argument
 /// exist, the rule is one for its attribute, and the argument is a reason.
-fn is_good<C: Candidates>(
-    grammar: &Grammar,
-    direction: Direction,
-    candidates: &C,
-    struck: &Marks,
-    strike: Strike,
-) -> bool
-    ensures { IsTrue result ↔ IsGoodWhere grammar.now direction (C.candidates candidates.now)
-        (IsMarked struck.now) strike }
+fn is_good<C: Candidates>(grammar: &Grammar, candidates: &C, struck: &Marks, strike: Strike) -> bool
+    ensures { IsTrue result ↔ IsGoodWhere grammar.now (C.direction candidates.now)
+        (C.candidates candidates.now) (IsMarked struck.now) strike }
 {
     let Some(production) = grammar.productions().get(strike.production as usize) else {
         return false;
@@ -115,44 +116,30 @@ fn is_good<C: Candidates>(
     if !is_symbol(production, target.place, strike.symbol) || target.attr != strike.attr {
         return false;
     }
-    is_reason(
-        direction,
-        candidates,
-        struck,
-        production,
-        target.place,
-        *argument,
-    )
+    is_reason(candidates, struck, production, target.place, *argument)
 }
 
 /// Returns whether a strike may come next if these attributes are struck: it is of another attribute
 /// that the pass has to strike, and it is good.
-fn is_next<C: Candidates>(
-    grammar: &Grammar,
-    direction: Direction,
-    candidates: &C,
-    struck: &Marks,
-    strike: Strike,
-) -> bool
-    ensures { IsTrue result ↔ IsNextWhere grammar.now direction (C.candidates candidates.now)
-        (C.later candidates.now) (IsMarked struck.now) strike }
+fn is_next<C: Candidates>(grammar: &Grammar, candidates: &C, struck: &Marks, strike: Strike) -> bool
+    ensures { IsTrue result ↔ IsNextWhere grammar.now (C.direction candidates.now)
+        (C.candidates candidates.now) (C.later candidates.now) (IsMarked struck.now) strike }
 {
     candidates.is_later(strike.symbol, strike.attr)
         && !struck.has(strike.symbol as usize, strike.attr as usize)
-        && is_good(grammar, direction, candidates, struck, strike)
+        && is_good(grammar, candidates, struck, strike)
 }
 
 /// Returns marks of the attributes that a list strikes, or `None` if one of the strikes may not come next
 /// after those before it. Does not allocate.
 pub(crate) fn marks_of<C: Candidates>(
     grammar: &Grammar,
-    direction: Direction,
     candidates: &C,
     strikes: &[Strike],
 ) -> Option<Marks>
     ensures good { IsSome result ↔ ((i : ℕ) (x : TheStrike) → slice_get strikes.now i ≡ Some x
-        → IsNext grammar.now direction (C.candidates candidates.now) (C.later candidates.now)
-        (take i strikes.now) x) }
+        → IsNext grammar.now (C.direction candidates.now) (C.candidates candidates.now)
+        (C.later candidates.now) (take i strikes.now) x) }
     ensures marks { IfSome result
         (λ m. (s a : ℕ) → IsMarked m s a ↔ IsStruckBy strikes.now s a) }
 {
@@ -160,7 +147,7 @@ pub(crate) fn marks_of<C: Candidates>(
     let _productions = grammar.productions();
     let mut struck = Marks::new();
     for strike in strikes {
-        if !is_next(grammar, direction, candidates, &struck, *strike) {
+        if !is_next(grammar, candidates, &struck, *strike) {
             return None;
         }
         struck.mark(strike.symbol as usize, strike.attr as usize);

@@ -89,7 +89,12 @@ pub fn put(
     let depth = table.depth();
     match (table.into_value(), key) {
         (Value::Table(pairs), Value::Text(key)) => {
-            put_pair(alloc, pairs, key.as_str(), value, weight, depth)
+            let table = MeasuredPairs {
+                pairs,
+                weight,
+                depth,
+            };
+            put_pair(alloc, table, key.as_str(), value)
         }
         _ => Ok(Measured::new(Value::Fault(ErrorCode::Kind))),
     }
@@ -105,23 +110,33 @@ fn has_at(pairs: &[(Text, Value)], index: usize, key: &str) -> bool
     }
 }
 
-/// Adds a pair to a table, or replaces the value of its key, given the weight and the depth of the
-/// table.
-fn put_pair(
-    alloc: Global,
+/// The pairs of a table, with its weight and its depth.
+#[derive(Drop)]
+struct MeasuredPairs {
     pairs: Items<(Text, Value)>,
-    key: &str,
-    item: Measured,
     weight: u64,
     depth: u32,
+}
+
+/// Adds a pair to a table, or replaces the value of its key.
+fn put_pair(
+    alloc: Global,
+    table: MeasuredPairs,
+    key: &str,
+    item: Measured,
 ) -> Result<Measured, NoMemory>
-    requires table { IsWell (value.Table pairs) }
+    requires table { IsWell (value.Table table.pairs) }
     requires short { length key.now ≤ max_weight }
     requires no_fault { fault_of item ≡ None }
-    requires weighed { weight ≡ weight_of (value.Table pairs) }
-    requires depth_exact { depth ≡ depth_of (value.Table pairs) }
-    ensures { IfOk result (λ m. m ≡ fit (value.Table (with_pair key.now item pairs))) }
+    requires weighed { table.weight ≡ weight_of (value.Table table.pairs) }
+    requires depth_exact { table.depth ≡ depth_of (value.Table table.pairs) }
+    ensures { IfOk result (λ m. m ≡ fit (value.Table (with_pair key.now item table.pairs))) }
 {
+    let MeasuredPairs {
+        pairs,
+        weight,
+        depth,
+    } = table;
     let index = index_of(pairs.as_slice(), key);
     if has_at(pairs.as_slice(), index, key) {
         return Ok(replaced(pairs, index, item.into_value()));

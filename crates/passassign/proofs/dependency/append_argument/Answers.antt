@@ -18,17 +18,17 @@ by_slot places head j i o k is u = (
 
 pub returns-in_ok-push-in-Some : goal.returns-in_ok-push-in-Some
 returns-in_ok-push-in-Some c =
-    adds_same _ (IsByArgument c.args.places.now c.args.head c.args.place c.args.arg c.args.argument) c.args.found.now.items
-    c.push.new.self.items
-    (by_slot c.args.places.now c.args.head c.args.place c.args.arg c.args.argument c.in-Some.slot
+    adds_same _ (IsByArgument c.args.places.now c.args.strike c.args.place c.args.strike.arg c.args.argument)
+    c.args.found.now.items c.push.new.self.items
+    (by_slot c.args.places.now c.args.strike c.args.place c.args.strike.arg c.args.argument c.in-Some.slot
     (sym c.slot_at.ensures ∙ c.in-Some.is))
     (subst
-    (Adds (λ u. u ≡ dependency_of c.args.head c.args.place c.args.arg c.in-Some.slot c.args.argument.place)
+    (Adds (λ u. u ≡ dependency_of c.args.strike c.args.place c.args.strike.arg c.in-Some.slot c.args.argument.place)
     c.args.found.now.items) (sym c.in_ok-push-in-Some.ensures.items)
     (adds_push c.args.found.now.items
-    (dependency_of c.args.head c.args.place c.args.arg c.in-Some.slot c.args.argument.place)))
+    (dependency_of c.args.strike c.args.place c.args.strike.arg c.in-Some.slot c.args.argument.place)))
 
 pub returns-in-None : goal.returns-in-None
 returns-in-None c =
-    adds_none (IsByArgument c.args.places.now c.args.head c.args.place c.args.arg c.args.argument) c.args.found.now.items
+    adds_none (IsByArgument c.args.places.now c.args.strike c.args.place c.args.strike.arg c.args.argument) c.args.found.now.items
     (λ u h. let e : None ≡ Some h.0 = sym c.in-None.is ∙ c.slot_at.ensures ∙ h.1 in let bad : ⊥ = cc in bad)

@@ -7,10 +7,10 @@ use Rattle.planchecker.proofs.least.are_strikes_at.Goals as goal
 pub returns-in-None : goal.returns-in-None
 returns-in-None c =
     inexact _ _ _ _ (later_from (passes_of c.args.assignment.now) c.args.pass) _
-    (rw c.of_pass.ensures at (is_no c.in-None.ensures.good))
+    (is_no c.in-None.ensures.good)
 
 pub returns-in-Some : goal.returns-in-Some
 returns-in-Some c =
     exact _ _ _ _ (later_from (passes_of c.args.assignment.now) c.args.pass) _ _
-    (rw c.of_pass.ensures at (is_yes c.in-Some.ensures.good)) c.in-Some.ensures.marks
+    (is_yes c.in-Some.ensures.good) c.in-Some.ensures.marks
     (rw c.rows.ensures at c.are_later_struck.ensures)

@@ -11,11 +11,11 @@ use Rattle.ag_grammar.proofs.values.Tables.{rising_table}
 use Rattle.ag_eval.proofs.builtins.tables.put_pair.Goals as goal
 
 pub index_of-index-requires : goal.index_of-index-requires
-index_of-index-requires c = rw c.as_slice.ensures (rising_table _ c.args.pairs refl c.requires.table)
+index_of-index-requires c = rw c.as_slice.ensures (rising_table _ c.args.table.pairs refl c.requires.table)
 
 pub fit-requires : goal.fit-requires
 fit-requires c =
-    let pairs = c.args.pairs in
+    let pairs = c.args.table.pairs in
     let key = c.args.key.now in
     let i = c.index_of-index.result in
     let x : Value = c.args.item in
@@ -27,7 +27,7 @@ fit-requires c =
     c.in_ok-pairs.ensures ∙ ap (λ v. insert pairs i (key, v)) c.into_value-2.ensures.value in
     let fits =
     fits-inserted pairs c.in_ok-pairs.pairs i key x
-    (c.args.weight + 4 + length key + c.weight.result) c.max-depth.result growth_result c.requires.table well
+    (c.args.table.weight + 4 + length key + c.weight.result) c.max-depth.result growth_result c.requires.table well
     c.requires.short (omega arith) (omega arith) in
     record {
       item =
