@@ -33,7 +33,8 @@ module _ (k : Task) where
   pub on_close : {p base : ℕ} {f : OpenProduction} {fs : List OpenProduction} {i n : ℕ} {rs : Output} (out : Output)
       → WhenHonest k.honest (out.bytes ≡ rs.bytes ++ node_frame p (drop base rs.texts)) → out.texts ≡ take base rs.texts
       → Reading k p base [] (f ∷ fs) i n rs → Between k (f ∷ fs) i n out
-  on_close {p = p} {base = base} {f = f} {fs = fs} {i = i} {n = n} {rs = rs} out put cut r = go r.under r.shows r.begins r.held r.occurs r.sound r.complete
+  on_close {p = p} {base = base} {f = f} {fs = fs} {i = i} {n = n} {rs = rs} out put cut r =
+      go r.under r.shows r.begins r.held r.occurs r.sound r.complete
     where
       go : (os : List Open) → Shows g os (f ∷ fs) → base ≡ length (kept os) → Agrees k (open_at p r.done [] ∷ os) i n rs
           → FitsStack k.grammar (open_at p r.done []) os

@@ -108,7 +108,8 @@ module _ (k : Task) where
   -- if a node is to be opened and a limit is reached, each tree that has the node below the open nodes is
   -- beyond it
   beyond_node : {s : ℕ} {fs : List OpenProduction} {i n : ℕ} {rs : Output}
-      (size : Tree → ℕ) (begun : List Open → ℕ) (limit : ℕ) → IsAccepted k.grammar → (a : AtSymbol k s fs i n rs) → limit ≤ begun a.under
+      (size : Tree → ℕ) (begun : List Open → ℕ) (limit : ℕ) → IsAccepted k.grammar → (a : AtSymbol k s fs i n rs)
+      → limit ≤ begun a.under
       → ((c : Tree) (ws : List Lexeme) (t : Tree) → Continues k.grammar a.under c ws t → limit < size t)
       → LeavesOnly k.grammar k.words size begun limit
   beyond_node {i = i} size begun limit accepted a full passed =

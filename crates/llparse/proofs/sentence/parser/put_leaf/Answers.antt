@@ -29,12 +29,14 @@ returns-in_err-map_err-clause-adds g c h =
     let x = c.in_ok-from_str.field-0 in
     let same : x ≡ c.args.leaf.now.lex.now = cc c.in_ok-from_str.ensures in
     rw p.1 (stopped (g.D.Device.content c.args.device.now) (g.D.Device.content c.put.new.device) p.0
-    (one_added ParseFault (g.D.Device.content c.args.device.now) (g.D.Device.content c.put.new.device) (token_body c.args.leaf.now.class x)
+    (one_added ParseFault (g.D.Device.content c.args.device.now) (g.D.Device.content c.put.new.device)
+    (token_body c.args.leaf.now.class x)
     (of_leaf c.args.leaf.now.class x (text_well x (subst IsTokenText (sym same) c.requires.text))) (c.in_ok-put.ensures.frame h)))
 
 pub returns-clause-adds : goal.returns-clause-adds
 returns-clause-adds g c h =
     let x = c.in_ok-from_str.field-0 in
     let same : x ≡ c.args.leaf.now.lex.now = cc c.in_ok-from_str.ensures in
-    one_added ParseFault (g.D.Device.content c.args.device.now) (g.D.Device.content c.put.new.device) (token_body c.args.leaf.now.class x)
+    one_added ParseFault (g.D.Device.content c.args.device.now) (g.D.Device.content c.put.new.device)
+    (token_body c.args.leaf.now.class x)
     (of_leaf c.args.leaf.now.class x (text_well x (subst IsTokenText (sym same) c.requires.text))) (c.in_ok-put.ensures.frame h)

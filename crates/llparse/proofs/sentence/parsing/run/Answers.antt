@@ -37,9 +37,11 @@ returns-in_err-node-clause-refused g c =
     (stuck k.grammar c.args.sentence.now k.honest k.prefix 0 c.in_err-node.field-0.0
     (subst (λ (h : TokenReader). c.in_err-node.field-0.0 ≡ Unexpected (offset_at h.list h.taken)) made
     c.in_err-node.ensures.offset)
-    (turn.not_begun k c.args.language.now.tables.now c.requires.tables c.start-start.result c.start-start.ensures.value c.start-start.ensures.accepted
+    (turn.not_begun k c.args.language.now.tables.now c.requires.tables c.start-start.result c.start-start.ensures.value
+    c.start-start.ensures.accepted
     (subst
-    (λ (h : TokenReader). choice_of c.args.language.now.tables.now c.start-start.result (ahead_of (drop h.taken (words_of h.list))) ≡ None)
+    (λ (h : TokenReader).
+    choice_of c.args.language.now.tables.now c.start-start.result (ahead_of (drop h.taken (words_of h.list))) ≡ None)
     made c.in_err-node.ensures.none)))
 
 pub loop-terminal-init : goal.loop-terminal-init
@@ -52,7 +54,8 @@ loop-terminal-init g c =
       occurs =
           λ honest below.
           turn.begun (task_of c.args.language.now.grammar.now c.args.sentence.now honest (g.D.Device.content c.args.device.now))
-          c.args.language.now.tables.now c.requires.tables c.start-start.result c.start-start.ensures.value c.in_ok-node.node c.new-parser.result
+          c.args.language.now.tables.now c.requires.tables c.start-start.result c.start-start.ensures.value
+          c.in_ok-node.node c.new-parser.result
           (omega arith) (omega arith) made.waiting made.texts
           (ap (λ (h : TokenReader). h.taken) made.tokens) made.count c.in_ok-node.ensures.begins
           c.in_ok-node.ensures.base
@@ -197,7 +200,9 @@ loop-terminal-preserved g c =
     record {
       occurs =
           λ honest below. subst
-          (λ fs. Between (task_of c.args.language.now.grammar.now c.args.sentence.now honest (g.D.Device.content c.args.device.now)) fs c.loop-terminal.parser.tokens.taken c.loop-terminal.parser.count
+          (λ fs. Between
+          (task_of c.args.language.now.grammar.now c.args.sentence.now honest (g.D.Device.content c.args.device.now))
+          fs c.loop-terminal.parser.tokens.taken c.loop-terminal.parser.count
           (record { bytes = g.D.Device.content c.put_node.new.device; texts = c.truncate.new.self.items }))
           (on_top c.pop.new.self.items c.loop-terminal.parser.waiting.items c.in-Some.outer
           c.in-Some.ensures.items)

@@ -9,7 +9,8 @@ use Rattle.normalform.proofs.numbers.numbering.Numbering.productions_of.Goals as
 pub loop-production-preserved : goal.loop-production-preserved
 loop-production-preserved c =
     let more =
-    map_push (spec.production_of c.args.self.now.declared c.args.self.now.literals) c.loop-production.yielded c.in-Some.production in
+    map_push (spec.production_of c.args.self.now.declared c.args.self.now.literals)
+    c.loop-production.yielded c.in-Some.production in
     record {
       numbered =
           c.in_ok-push.ensures.items ∙ cc (more, c.loop-production.invariant.numbered, c.in_ok-production_of.ensures.numbered);
