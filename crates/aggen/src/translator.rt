@@ -28,9 +28,7 @@ ghost use Rattle.passrun.specs.Rounds.{LeavesSomeFile};
 ghost use Rattle.passrun.specs.upgrading.Upgrading.{IsUpgraded};
 
 use crate::checking::grammar_of;
-use crate::translations::evaluating::run_tree;
 use crate::translations::report::Report;
-use crate::translations::translating::{last_text, leave_files};
 use ag_fault::{BuildFault, Fault, StuckGrammar};
 use ag_grammar::Grammar;
 use ag_scan::scan;
@@ -125,6 +123,11 @@ impl Translator {
         ensures { IsLeastPlan self.now result.now.0 result.now.1 }
     {
         &self.plan
+    }
+
+    /// Returns the allocator that it was built with.
+    pub(crate) fn alloc(&self) -> Global {
+        self.alloc
     }
 
     /// Clears the device, and writes the file of pass 0 of the sentence's one tree to it. Returns
@@ -232,8 +235,8 @@ impl Translator {
             D.is_honest D.failures b.old b.new (IsErrOf result Fault.Device) }
     {
         let plan = self.plan();
-        let report = leave_files(self.alloc, self, plan, sentence, a, b)?;
-        let text = last_text(self.alloc, self.grammar(), plan, report.last, a, b)?;
+        let report = self.leave_files(plan, sentence, a, b)?;
+        let text = self.last_text(plan, report.last, a, b)?;
         write_text(out, text.as_str())?;
         Ok(report)
     }
@@ -294,8 +297,8 @@ impl Translator {
             (IsErrOf result Fault.Device) }
     {
         let plan = self.plan();
-        let report = run_tree(self.alloc, self, plan, tree, a, b)?;
-        let text = last_text(self.alloc, self.grammar(), plan, report.last, a, b)?;
+        let report = self.run_tree(plan, tree, a, b)?;
+        let text = self.last_text(plan, report.last, a, b)?;
         write_text(out, text.as_str())?;
         Ok(report)
     }

@@ -14,7 +14,6 @@ use ag_eval::Meter;
 use ag_fault::Fault;
 use passrun::{Last, run_all, run_pass};
 use planchecker::Plan;
-use std::alloc::Global;
 use treefile::Device;
 
 /// Returns the other device.
@@ -27,43 +26,45 @@ fn other(last: Last) -> Last
     }
 }
 
-/// Runs all passes of the plan over the tree whose file is on the device `tree`: pass 1 from there
-/// to `b`, and the others alternately from `b` to `a` and back. Returns the report. Fails as
-/// `run_pass` and `run_all` do.
-pub(crate) fn run_tree<T: Device, D: Device>(
-    alloc: Global,
-    translator: &Translator,
-    plan: &Plan,
-    tree: &mut T,
-    a: &mut D,
-    b: &mut D,
-) -> Result<Report, Fault>
-    requires least { IsLeastPlan translator.now plan.now.0 plan.now.1 }
-    ensures left { IfOk result (λ report. LeavesFilesOfTree translator.now plan.now.0
-        (T.is_honest tree.new) (D.is_honest a.new) (D.is_honest b.new) (T.content tree.old)
-        (D.content a.new) (D.content b.new) report) }
-    ensures refused { IfErr result (λ e. IsTreeFaultBeforeText translator.now (T.is_honest tree.new)
-        (D.is_honest a.new) (D.is_honest b.new) (T.content tree.old) e) }
-    ensures content { LeavesContent (T.is_honest tree.new)
-        (T.content tree.old) (T.content tree.new) }
-    ensures a_left { WhenHonest (D.is_honest a.new)
-        (LeavesSomeFile (D.content a.old) (D.content a.new)) }
-    ensures b_left { WhenHonest (D.is_honest b.new)
-        (LeavesSomeFile (D.content b.old) (D.content b.new)) }
-    ensures devices { ThreePersist T.is_honest T.failures tree.old tree.new
-        D.is_honest D.failures a.old a.new D.is_honest D.failures b.old b.new
-        (IsErrOf result Fault.Device) }
-{
-    let grammar = translator.grammar();
-    let mut meter = Meter::new();
-    let first = run_pass(alloc, grammar, plan, 1, tree, b, &mut meter)?;
-    let (last, others) = run_all(alloc, grammar, plan, 2, b, a, &mut meter)?;
-    Ok(Report {
-        nodes: first.nodes,
-        passes: plan.assignment().passes(),
-        evals: meter.count(),
-        read: first.read + others.read,
-        written: first.written + others.written,
-        last: other(last),
-    })
+impl Translator {
+    /// Runs all passes of the plan over the tree whose file is on the device `tree`: pass 1 from there
+    /// to `b`, and the others alternately from `b` to `a` and back. Returns the report. Fails as
+    /// `run_pass` and `run_all` do.
+    pub(crate) fn run_tree<T: Device, D: Device>(
+        &self,
+        plan: &Plan,
+        tree: &mut T,
+        a: &mut D,
+        b: &mut D,
+    ) -> Result<Report, Fault>
+        requires least { IsLeastPlan self.now plan.now.0 plan.now.1 }
+        ensures left { IfOk result (λ report. LeavesFilesOfTree self.now plan.now.0
+            (T.is_honest tree.new) (D.is_honest a.new) (D.is_honest b.new) (T.content tree.old)
+            (D.content a.new) (D.content b.new) report) }
+        ensures refused { IfErr result (λ e. IsTreeFaultBeforeText self.now (T.is_honest tree.new)
+            (D.is_honest a.new) (D.is_honest b.new) (T.content tree.old) e) }
+        ensures content { LeavesContent (T.is_honest tree.new)
+            (T.content tree.old) (T.content tree.new) }
+        ensures a_left { WhenHonest (D.is_honest a.new)
+            (LeavesSomeFile (D.content a.old) (D.content a.new)) }
+        ensures b_left { WhenHonest (D.is_honest b.new)
+            (LeavesSomeFile (D.content b.old) (D.content b.new)) }
+        ensures devices { ThreePersist T.is_honest T.failures tree.old tree.new
+            D.is_honest D.failures a.old a.new D.is_honest D.failures b.old b.new
+            (IsErrOf result Fault.Device) }
+    {
+        let alloc = self.alloc();
+        let grammar = self.grammar();
+        let mut meter = Meter::new();
+        let first = run_pass(alloc, grammar, plan, 1, tree, b, &mut meter)?;
+        let (last, others) = run_all(alloc, grammar, plan, 2, b, a, &mut meter)?;
+        Ok(Report {
+            nodes: first.nodes,
+            passes: plan.assignment().passes(),
+            evals: meter.count(),
+            read: first.read + others.read,
+            written: first.written + others.written,
+            last: other(last),
+        })
+    }
 }

@@ -1,10 +1,7 @@
-use Rattle.std.proofs.Common.{List, ℕ, Ok, Err, sym, subst, ◌∙◌}
+use Rattle.std.proofs.Common.{List, ℕ, sym, subst, ◌∙◌}
 use Rattle.std.proofs.lemmas.Result.{err_from_is_err_and}
 use Rattle.std.specs.Io.KnownBytes.{Appends}
-use Rattle.ag_grammar.specs.grammars.AttributeGrammar.{Grammar}
 use Rattle.agoutput.specs.Writing.{AppendsBeginning}
-use Rattle.passrun.specs.Rounds.{last_content}
-use Rattle.roottext.specs.Roots.{MatchesRoot}
 use Rattle.aggen.proofs.Composed.{begins, files_supposed, root_refused, translates}
 use Rattle.aggen.proofs.Begun.{some}
 use Rattle.passrun.specs.Rounds.{LeavesSomeFile}
@@ -27,12 +24,7 @@ returns-in_err-text-clause-refused g c =
     (g.D.Device.content c.leave_files.new.b) c.in_ok-report.report
     c.in_err-text.ensures.devices.first.honest c.in_err-text.ensures.devices.second.honest
     files.left) _ _ c.in_err-text.field-0.0
-    (λ x y.
-    subst
-    (λ (z : Grammar). MatchesRoot z c.plan-plan.result.now.0
-    (last_content c.in_ok-report.report.last (g.D.Device.content c.leave_files.new.a)
-    (g.D.Device.content c.leave_files.new.b)) (Err c.in_err-text.field-0.0)) c.grammar.ensures.grammar
-    (c.in_err-text.ensures.root x y)))
+    (λ x y. c.in_err-text.ensures.root x y))
 
 pub returns-in_err-write_text-clause-refused : goal.returns-in_err-write_text-clause-refused
 returns-in_err-write_text-clause-refused g c =
@@ -50,12 +42,7 @@ returns-in_err-write_text-clause-refused g c =
     c.in_ok-text.ensures.devices.first.honest c.in_ok-text.ensures.devices.second.honest
     files.left) (g.W.Write.contents c.args.out.now)
     (g.W.Write.contents c.write_text.new.out) c.in_ok-text.text
-    (λ x y.
-    subst
-    (λ (z : Grammar). MatchesRoot z c.plan-plan.result.now.0
-    (last_content c.in_ok-report.report.last (g.D.Device.content c.leave_files.new.a)
-    (g.D.Device.content c.leave_files.new.b)) (Ok c.in_ok-text.text)) c.grammar.ensures.grammar
-    (c.in_ok-text.ensures.root x y))
+    (λ x y. c.in_ok-text.ensures.root x y)
     (subst
     (λ (bytes : List ℕ). AppendsBeginning (g.W.Write.contents c.args.out.now) (g.W.Write.contents c.write_text.new.out) bytes)
     c.as_str.ensures c.in_err-write_text.ensures.err))
@@ -78,12 +65,7 @@ returns-clause-translates g c =
     (g.W.Write.contents c.write_text.new.out) c.in_ok-text.text
     (λ x. c.in_ok-text.ensures.a_content x)
     (λ y. c.in_ok-text.ensures.b_content y)
-    (λ x y.
-    subst
-    (λ (z : Grammar). MatchesRoot z c.plan-plan.result.now.0
-    (last_content c.in_ok-report.report.last (g.D.Device.content c.leave_files.new.a)
-    (g.D.Device.content c.leave_files.new.b)) (Ok c.in_ok-text.text)) c.grammar.ensures.grammar
-    (c.in_ok-text.ensures.root x y))
+    (λ x y. c.in_ok-text.ensures.root x y)
     (subst (λ (bytes : List ℕ). Appends (g.W.Write.contents c.args.out.now) (g.W.Write.contents c.write_text.new.out) bytes)
     c.as_str.ensures c.in_ok-write_text.ensures.ok)
 

@@ -8,7 +8,7 @@ use Rattle.passrun.specs.passing.Ahead.{IsRunFault}
 use Rattle.aggen.proofs.Composed.{are_left, never_refused, one_tree}
 use Rattle.passrun.proofs.course.Stepping.{left_again}
 use Rattle.aggen.proofs.Left.{no_parse_of_run}
-use Rattle.aggen.proofs.translations.translating.leave_files.Goals as goal
+use Rattle.aggen.proofs.translator.Translator.leave_files.Goals as goal
 
 -- honest devices return a file that no pass rejects
 pub returns-in_err-last-clause-refused : goal.returns-in_err-last-clause-refused
@@ -16,7 +16,7 @@ returns-in_err-last-clause-refused g c =
     let p = err_from_is_err_and c.from_residual-in_err-last.result c.from_residual-in_err-last.ensures.1 in
     let tree = c.in_ok-nodes.ensures.tree in
     rw (p.1, p.2)
-    (never_refused c.args.translator.now c.args.sentence.now c.args.plan.now.0 c.args.plan.now.1 c.grammar.ensures.accepted
+    (never_refused c.args.self.now c.args.sentence.now c.args.plan.now.0 c.args.plan.now.1 c.grammar.ensures.accepted
     c.requires.least.plan tree.0 (g.D.Device.content c.parse_tree.new.device) c.in_err-last.field-0.0
     (g.D.Device.is_honest c.run_all.new.a) (g.D.Device.is_honest c.run_all.new.b) tree.1.tree.tree
     (c.in_ok-nodes.ensures.limits tree.0 tree.1)
@@ -39,11 +39,11 @@ returns-clause-left g c =
     record {
       tree = tree.0;
       one =
-          one_tree c.args.translator.now c.args.sentence.now tree.0 tree.1 c.in_ok-nodes.ensures.one
+          one_tree c.args.self.now c.args.sentence.now tree.0 tree.1 c.in_ok-nodes.ensures.one
           (c.in_ok-nodes.ensures.limits tree.0 tree.1);
       greatest = greatest;
       left = λ x y.
-          let ran : HasRunAll c.args.translator.now (passes_of c.args.plan.now.0) 0 c.passes.result
+          let ran : HasRunAll c.args.self.now (passes_of c.args.plan.now.0) 0 c.passes.result
           (g.D.Device.content c.parse_tree.new.device) c.in_ok-last.last (g.D.Device.content c.run_all.new.a)
           (g.D.Device.content c.run_all.new.b) (c.run_all.new.meter - c.new-meter.result) c.in_ok-last.passed =
           subst
@@ -52,7 +52,7 @@ returns-clause-left g c =
           (g.D.Device.content c.run_all.new.b)
           (c.run_all.new.meter - c.new-meter.result) c.in_ok-last.passed) c.grammar.ensures.grammar
           (c.in_ok-last.ensures.passed c.passes.result greatest x y) in
-          are_left c.args.translator.now c.args.sentence.now c.args.plan.now.0 c.args.plan.now.1 c.grammar.ensures.accepted
+          are_left c.args.self.now c.args.sentence.now c.args.plan.now.0 c.args.plan.now.1 c.grammar.ensures.accepted
           c.requires.least.plan tree.0 (g.D.Device.content c.parse_tree.new.device) (g.D.Device.content c.run_all.new.a)
           (g.D.Device.content c.run_all.new.b)
           (record {
@@ -66,7 +66,7 @@ returns-clause-left g c =
           }) c.in_ok-last.passed greatest tree.1.tree.tree
           (c.in_ok-nodes.ensures.file tree.0 tree.1 (c.in_ok-last.ensures.devices.first.honest x))
           (subst
-          (λ n. HasRunAll c.args.translator.now
+          (λ n. HasRunAll c.args.self.now
           (passes_of c.args.plan.now.0) 0 c.passes.result
           (g.D.Device.content c.parse_tree.new.device) c.in_ok-last.last
           (g.D.Device.content c.run_all.new.a)

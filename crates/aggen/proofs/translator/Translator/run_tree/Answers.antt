@@ -10,7 +10,7 @@ use Rattle.passrun.proofs.Totals.{greatest_is_last}
 use Rattle.aggen.proofs.Composed.{some_pass}
 use Rattle.aggen.proofs.Evaluated.{are_left_of_tree, first_refused, never_later}
 use Rattle.passrun.proofs.course.Stepping.{left_again}
-use Rattle.aggen.proofs.translations.evaluating.run_tree.Goals as goal
+use Rattle.aggen.proofs.translator.Translator.run_tree.Goals as goal
 
 -- there is a pass
 pub run_pass-requires-clause-last : goal.run_pass-requires-clause-last
@@ -18,7 +18,7 @@ run_pass-requires-clause-last g c =
     let lists = c.requires.least.plan.shape.lists in (
       lists.pass_count,
       lists.greatest,
-      some_pass c.args.translator.now
+      some_pass c.args.self.now
           (passes_of c.args.plan.now.0) lists.pass_count c.grammar-grammar.ensures.accepted c.requires.least.plan.legal
           (greatest_is_last lists.pass_count c.args.plan.now.0 lists.greatest),
     )
@@ -27,7 +27,7 @@ pub run_all-requires-clause-last : goal.run_all-requires-clause-last
 run_all-requires-clause-last g c =
     let lists = c.requires.least.plan.shape.lists in
     let some =
-    some_pass c.args.translator.now
+    some_pass c.args.self.now
     (passes_of c.args.plan.now.0) lists.pass_count c.grammar-grammar.ensures.accepted c.requires.least.plan.legal
     (greatest_is_last lists.pass_count c.args.plan.now.0 lists.greatest) in
     (lists.pass_count, lists.greatest, omega arith)
@@ -36,7 +36,7 @@ pub returns-in_err-first-clause-refused : goal.returns-in_err-first-clause-refus
 returns-in_err-first-clause-refused g c =
     let p = err_from_is_err_and c.from_residual.result c.from_residual.ensures.1 in
     rw (p.1, p.2)
-    (first_refused c.args.translator.now c.args.plan.now.0 c.args.plan.now.1 c.grammar-grammar.ensures.accepted
+    (first_refused c.args.self.now c.args.plan.now.0 c.args.plan.now.1 c.grammar-grammar.ensures.accepted
     c.requires.least.plan (g.T.Device.content c.args.tree.now) c.in_err-first.field-0.0
     (g.T.Device.is_honest c.run_pass.new.from) (g.D.Device.is_honest c.args.a.now)
     (g.D.Device.is_honest c.run_pass.new.to)
@@ -51,7 +51,7 @@ returns-in_err-last-clause-refused g c =
     let p = err_from_is_err_and c.from_residual-in_err-last.result c.from_residual-in_err-last.ensures.1 in
     let first = c.in_ok-first.ensures in
     rw (p.1, p.2)
-    (never_later c.args.translator.now c.args.plan.now.0 c.args.plan.now.1 c.grammar-grammar.ensures.accepted
+    (never_later c.args.self.now c.args.plan.now.0 c.args.plan.now.1 c.grammar-grammar.ensures.accepted
     c.requires.least.plan (g.T.Device.content c.args.tree.now)
     (g.D.Device.content c.run_pass.new.to) c.in_ok-first.first.nodes
     (c.run_pass.new.meter - c.new-meter.result) c.in_err-last.field-0.0 (g.T.Device.is_honest c.run_pass.new.from)
@@ -83,14 +83,14 @@ returns-clause-left g c =
     record {
       greatest = greatest;
       left = λ t x y.
-          let passed : IsPassed (setting_of c.args.translator.now c.args.plan.now 1) (g.T.Device.content c.args.tree.now)
+          let passed : IsPassed (setting_of c.args.self.now c.args.plan.now 1) (g.T.Device.content c.args.tree.now)
           (g.D.Device.content c.run_pass.new.to) c.in_ok-first.first.nodes (c.run_pass.new.meter - c.new-meter.result) =
           subst
           (λ (z : Grammar). IsPassed (setting_of z c.args.plan.now 1) (g.T.Device.content c.args.tree.now)
           (g.D.Device.content c.run_pass.new.to) c.in_ok-first.first.nodes
           (c.run_pass.new.meter - c.new-meter.result)) c.grammar-grammar.ensures.grammar
           (first.passed t (c.in_ok-last.ensures.devices.first.honest y)) in
-          let ran : HasRunAll c.args.translator.now (passes_of c.args.plan.now.0) 1 c.passes.result
+          let ran : HasRunAll c.args.self.now (passes_of c.args.plan.now.0) 1 c.passes.result
           (g.D.Device.content c.run_pass.new.to) c.in_ok-last.last (g.D.Device.content c.run_all.new.a)
           (g.D.Device.content c.run_all.new.b) (c.run_all.new.meter - c.run_pass.new.meter) c.in_ok-last.others =
           subst
@@ -100,7 +100,7 @@ returns-clause-left g c =
           (c.run_all.new.meter - c.run_pass.new.meter) c.in_ok-last.others)
           c.grammar-grammar.ensures.grammar
           (c.in_ok-last.ensures.passed c.passes.result greatest y x) in
-          are_left_of_tree c.args.translator.now c.args.plan.now.0 c.args.plan.now.1 c.grammar-grammar.ensures.accepted
+          are_left_of_tree c.args.self.now c.args.plan.now.0 c.args.plan.now.1 c.grammar-grammar.ensures.accepted
           c.requires.least.plan (g.T.Device.content c.args.tree.now) (g.D.Device.content c.run_pass.new.to)
           (g.D.Device.content c.run_all.new.b) (g.D.Device.content c.run_all.new.a)
           (c.run_pass.new.meter - c.new-meter.result)
