@@ -32,8 +32,8 @@ pub fn made_is_at_most()
     ensures { MadeIsAtMost }
 {}
 
-/// States that an attribute to which passes made from pass 1 on have assigned no pass yet has no pass
-/// in a legal partial assignment that is earlier than the next one to be made.
+/// States that an attribute that the passes before pass k leave open has no pass before k in any legal
+/// partial assignment.
 pub fn left_is_later()
     ensures { LeftIsLater }
 {}

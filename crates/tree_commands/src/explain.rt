@@ -95,7 +95,7 @@ struct ExplanationRun<'a> {
     is_chosen: bool,
 }
 
-impl ExplanationRun<'_> {
+impl<'a> ExplanationRun<'a> {
     /// Prints the explanation of a node of the tree file on a device, or the rules in which errors arise.
     fn run<R: Print, D: Device>(
         self,
@@ -116,15 +116,19 @@ impl ExplanationRun<'_> {
             return Err(no_node(alloc, grammar, &index, places.as_slice()));
         };
         self.check(alloc, words, &index, node)?;
+        let indexed = IndexedRun {
+            run: self,
+            index: &index,
+        };
         let printed = if words.errors {
-            self.print_errors(rt, alloc, &index, device)
+            indexed.print_errors(rt, alloc, device)
         } else {
             let request = NodeRequest {
                 places: places.as_slice(),
                 names: words.attributes.as_slice(),
                 width: WIDTH,
             };
-            self.print_node(rt, alloc, &index, &request, device)
+            indexed.print_node(rt, alloc, &request, device)
         };
         match printed {
             Ok(()) => Ok(()),
@@ -181,45 +185,12 @@ impl ExplanationRun<'_> {
     }
 
     /// Returns how the records of the tree file are read.
-    fn format(&self, index: &TreeIndex) -> FileFormat<'_> {
+    fn format(self, index: &TreeIndex) -> FileFormat<'a> {
         FileFormat {
             grammar: self.translator.grammar(),
             plan: self.translator.plan(),
             pass: index.pass(),
         }
-    }
-
-    /// Prints the rules in which errors arise.
-    fn print_errors<R: Print, D: Device>(
-        self,
-        rt: &R,
-        alloc: Global,
-        index: &TreeIndex,
-        device: &mut D,
-    ) -> Result<(), ShowFault> {
-        let tree = ExplainedTree::new(alloc, self.source, self.format(index), index)?;
-        let mut out = io::writer(rt);
-        let mut text = String::new(alloc);
-        self.write_path(&mut text, index.pass())?;
-        write_text(&mut out, text.as_str()).map_err(|_| ShowFault::Write)?;
-        write_errors(&tree, device, &mut out)
-    }
-
-    /// Prints the values of a node.
-    fn print_node<R: Print, D: Device>(
-        self,
-        rt: &R,
-        alloc: Global,
-        index: &TreeIndex,
-        request: &NodeRequest<'_>,
-        device: &mut D,
-    ) -> Result<(), ShowFault> {
-        let tree = ExplainedTree::new(alloc, self.source, self.format(index), index)?;
-        let mut out = io::writer(rt);
-        let mut text = String::new(alloc);
-        self.write_path(&mut text, index.pass())?;
-        tree.write_node(&mut text, request, device)?;
-        write_text(&mut out, text.as_str()).map_err(|_| ShowFault::Write)
     }
 
     /// Writes the path of the tree file and its pass, if the file was chosen in a folder.
@@ -230,5 +201,50 @@ impl ExplanationRun<'_> {
         let path = PlainText(self.path);
         let passes = self.translator.plan().assignment().passes();
         writeln!(out, "{path}  pass {pass} of {passes}")
+    }
+}
+
+/// A tree file that is explained, with its index.
+#[derive(Clone, Copy)]
+struct IndexedRun<'a> {
+    run: ExplanationRun<'a>,
+    index: &'a TreeIndex,
+}
+
+impl<'a> IndexedRun<'a> {
+    /// Returns the tree file with its grammar, and the text with which the output begins. Fails if memory is refused.
+    fn begin(self, alloc: Global) -> Result<(ExplainedTree<'a>, String), ShowFault> {
+        let format = self.run.format(self.index);
+        let tree = ExplainedTree::new(alloc, self.run.source, format, self.index)?;
+        let mut text = String::new(alloc);
+        self.run.write_path(&mut text, self.index.pass())?;
+        Ok((tree, text))
+    }
+
+    /// Prints the rules in which errors arise.
+    fn print_errors<R: Print, D: Device>(
+        self,
+        rt: &R,
+        alloc: Global,
+        device: &mut D,
+    ) -> Result<(), ShowFault> {
+        let (tree, text) = self.begin(alloc)?;
+        let mut out = io::writer(rt);
+        write_text(&mut out, text.as_str()).map_err(|_| ShowFault::Write)?;
+        write_errors(&tree, device, &mut out)
+    }
+
+    /// Prints the values of a node.
+    fn print_node<R: Print, D: Device>(
+        self,
+        rt: &R,
+        alloc: Global,
+        request: &NodeRequest<'_>,
+        device: &mut D,
+    ) -> Result<(), ShowFault> {
+        let (tree, mut text) = self.begin(alloc)?;
+        tree.write_node(&mut text, request, device)?;
+        let mut out = io::writer(rt);
+        write_text(&mut out, text.as_str()).map_err(|_| ShowFault::Write)
     }
 }

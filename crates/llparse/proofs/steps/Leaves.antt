@@ -34,7 +34,8 @@ module _ (k : Task) where
       → WhenHonest k.honest (out.bytes ≡ rs.bytes ++ leaf_frame c x) → out.texts ≡ rs.texts ++ Text x ∷ [] → n < k.nodes
       → suc (length fs) < k.depth
       → Reading k p base (item.Terminal (Class c) ∷ ys) fs i n rs → Reading k p base ys fs (i + 1) (n + 1) out
-  on_class {p = p} {c = c} {x = x} {ys = ys} {fs = fs} {i = i} {out = out} {rest = rest} next text put grown more_nodes more_levels r =
+  on_class {p = p} {c = c} {x = x} {ys = ys} {fs = fs} {i = i} {out = out} {rest = rest} next text put grown more_nodes
+      more_levels r =
       let after = following k.words i (Class c, x) rest next in
       let s = r.occurs in
       let same = length-shows g r.under fs r.shows in

@@ -27,8 +27,8 @@ pub record IsStuckAt (g : Grammar) (words : List Lexeme) (index : ℕ) : Type 0 
       → IsTreeWith g (take index words ++ rest) t → ⊥
 
 -- The words leave only trees whose size is beyond a limit. At some index the limit is reached: a tree whose
--- words are those before the index, and then some others, has a node there, and the nodes above it have
--- reached the limit. And each tree whose words are those before the index, and then any that continue with
+-- words are those before the index, and then some others, has a node there, and what `begun` counts of the open
+-- nodes above it has reached the limit. And each tree whose words are those before the index, and then any that continue with
 -- the look-ahead there, is beyond the limit; the given words are such words, so each tree of them is beyond
 -- the limit. The words that continue with the look-ahead may be those of no tree, and then no tree has the
 -- words. An index where no such tree has reached the limit can't be the index of this record, so a token that

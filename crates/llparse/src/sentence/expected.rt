@@ -128,8 +128,9 @@ fn can_accept(
     }
 }
 
-/// A parser that has taken some tokens of a sentence, and its innermost open node. No node is open
-/// before the first token, since that token chooses the root's production, and after the root's end.
+/// A parser that has taken some tokens of a sentence, and its innermost open node. It is `None` only
+/// before the first token, since that token chooses the root's production. After the last token it is
+/// the node of that token, which may be at its end.
 #[derive(Drop)]
 struct Position<'t> {
     parser: Parser<'t>,

@@ -165,7 +165,7 @@ pub(crate) fn put_node<D: Device>(
     ensures device { BreaksWriter D.is_honest D.failures device.old device.new
         writer.new.is_broken (IsErrOf result ParseFault.Device) }
 {
-    // Most nodes have no texts, and putting a record without values needs fewer conditions.
+    // Most nodes have no texts: with a constant list `put`, which is inlined, tests nothing else.
     if texts.is_empty() {
         writer.put(device, Kind::Node, production, &[])?;
         return Ok(());
