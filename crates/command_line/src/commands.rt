@@ -339,7 +339,7 @@ fn quiet<'a>(alloc: Global) -> Arg<'a> {
         .long(QUIET)
         .action(ArgAction::SetTrue)
         .global(true)
-        .help("Prints no message of a refusal, so that only the status shows it")
+        .help("Shows no progress, and prints no message of a refusal")
 }
 
 /// Returns the program's command with all its subcommands. Fails if memory is refused.
