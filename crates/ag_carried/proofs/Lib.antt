@@ -1,2 +1,3 @@
 pub mod Encodings
+pub mod Tables
 pub mod Texts

@@ -6,9 +6,11 @@ ghost use Rattle.ag_value.specs.Measure.{weight_of};
 ghost use Rattle.ag_value.specs.Spelling.{spelling_of};
 ghost use Rattle.ag_value.specs.Well.{IsWell};
 ghost use Rattle.ag_value.specs.declared.value.ErrorCode.{ErrorCode};
-ghost use Rattle.ag_value.specs.declared.value.Value.{Value as AttributeValue, Fault, Num, Text as TextValue};
+ghost use Rattle.ag_value.specs.declared.value.Value.{Value as AttributeValue, Fault, Num};
+ghost use Rattle.ag_value.specs.declared.value.Value.{Table as TableValue, Text as TextValue};
 
 use crate::encoded::Encoded;
+use crate::shared_table::prefix_of_table;
 use crate::shared_text::{SharedText, prefix_of_text};
 use crate::spelled::Spelled;
 use ag_value::{ErrorCode, NoMemory, Value, ValueFault, copy, decode, encode, same, weight};
@@ -16,6 +18,7 @@ use std::alloc::Global;
 use std::marker::Model;
 use std::mem::replace;
 use std::rc::Rc;
+use table_tree::TableTree;
 
 /// The greatest weight, in bytes, of a value that is stored without its encoding. A heavier one takes
 /// one more allocation.
@@ -37,6 +40,8 @@ enum Form {
     Shared(Rc<Spelled>),
     /// A text whose bytes are shared.
     Text(SharedText),
+    /// A table whose pairs are shared.
+    Table(TableTree),
 }
 
 /// A value that is passed from node to node. Contracts see the value. Numbers and errors are stored
@@ -211,6 +216,15 @@ impl Carried {
         }
     }
 
+    /// Returns a table whose versions share their pairs as a carried value. Takes no memory.
+    pub fn from_table(table: TableTree) -> Carried
+        ensures { result ≡ TableValue table }
+    {
+        Carried {
+            form: Form::Table(table),
+        }
+    }
+
     /// Returns the shared text, or `None` if the value is stored otherwise.
     #[inline(always)]
     pub fn as_text(&self) -> Option<&SharedText>
@@ -218,18 +232,29 @@ impl Carried {
     {
         match &self.form {
             Form::Text(text) => Some(text),
-            Form::Number(_) | Form::Fault(_) | Form::Small(_) | Form::Shared(_) => None,
+            _ => None,
         }
     }
 
-    /// Returns the value, or `None` if it is a number, an error or a shared text, which are not stored
-    /// as a `Value`; `to_value` returns those.
+    /// Returns the table as a tree, or `None` if the value is stored otherwise.
+    #[inline(always)]
+    pub fn as_table(&self) -> Option<&TableTree>
+        ensures { IfSome result (λ t. self.now ≡ TableValue t.now) }
+    {
+        match &self.form {
+            Form::Table(table) => Some(table),
+            _ => None,
+        }
+    }
+
+    /// Returns the value, or `None` if it is a number, an error, a shared text or a tree, which are not
+    /// stored as a `Value`; `to_value` returns those.
     #[inline(always)]
     pub fn as_value(&self) -> Option<&Value>
         ensures { IfSome result (λ v. v.now ≡ self.now) }
     {
         match &self.form {
-            Form::Number(_) | Form::Fault(_) | Form::Text(_) => None,
+            Form::Number(_) | Form::Fault(_) | Form::Text(_) | Form::Table(_) => None,
             Form::Small(value) => Some(&**value),
             Form::Shared(shared) => Some(shared.value()),
         }
@@ -242,7 +267,7 @@ impl Carried {
     {
         match &self.form {
             Form::Number(number) => Some(*number),
-            Form::Fault(_) | Form::Text(_) => None,
+            Form::Fault(_) | Form::Text(_) | Form::Table(_) => None,
             Form::Small(value) => number_in(&**value),
             Form::Shared(shared) => number_in(shared.value()),
         }
@@ -255,7 +280,7 @@ impl Carried {
     {
         match &self.form {
             Form::Fault(code) => Some(*code),
-            Form::Number(_) | Form::Text(_) => None,
+            Form::Number(_) | Form::Text(_) | Form::Table(_) => None,
             Form::Small(value) => fault_in(&**value),
             Form::Shared(shared) => fault_in(shared.value()),
         }
@@ -306,6 +331,7 @@ impl Carried {
             Form::Small(value) => Form::Small(value.clone()?),
             Form::Shared(shared) => Form::Shared(shared.clone()?),
             Form::Text(text) => Form::Text(text.share()?),
+            Form::Table(table) => Form::Table(table.share()?),
         };
         Ok(Carried { form })
     }
@@ -319,10 +345,11 @@ impl Carried {
         }
     }
 
-    /// Returns whether the value is shared: a large value, or a text that is a `SharedText`.
+    /// Returns whether the value is shared: a large value, a text that is a `SharedText`, or a table that
+    /// is a tree.
     #[inline(always)]
     pub fn is_shared(&self) -> bool {
-        matches!(&self.form, Form::Shared(_) | Form::Text(_))
+        matches!(&self.form, Form::Shared(_) | Form::Text(_) | Form::Table(_))
     }
 
     /// Returns the encoding of a shared value, as one more owner, or `None` if the value is stored
@@ -334,6 +361,7 @@ impl Carried {
         match &self.form {
             Form::Shared(shared) => Ok(Some(Encoded::of(shared.clone()?))),
             Form::Text(text) => Ok(Some(Encoded::of_text(text.share()?))),
+            Form::Table(table) => Ok(Some(Encoded::of_table(table.share()?))),
             Form::Number(_) | Form::Fault(_) | Form::Small(_) => Ok(None),
         }
     }
@@ -348,11 +376,12 @@ impl Carried {
             Form::Small(value) => copy(alloc, &**value),
             Form::Shared(shared) => copy(alloc, shared.value()),
             Form::Text(text) => Ok(Value::Text(text.to_text(alloc)?)),
+            Form::Table(table) => Ok(Value::Table(table.to_table(alloc)?)),
         }
     }
 
-    /// Returns the value. Takes memory, for a copy, only if the value has other owners or is a shared
-    /// text. Fails with NoMemory.
+    /// Returns the value. Takes memory, for a copy, only if the value has other owners, is a shared
+    /// text or is a tree. Fails with NoMemory.
     pub fn into_value(self, alloc: Global) -> Result<Value, NoMemory>
         ensures { IfOk result (λ v. v ≡ self) }
     {
@@ -369,6 +398,7 @@ impl Carried {
                 Err(shared) => copy(alloc, shared.value()),
             },
             Form::Text(text) => Ok(Value::Text(text.to_text(alloc)?)),
+            Form::Table(table) => Ok(Value::Table(table.to_table(alloc)?)),
         }
     }
 
@@ -402,6 +432,12 @@ impl Carried {
             (Form::Text(text), Form::Shared(shared)) => text.is_value(shared.value()),
             (Form::Small(value), Form::Text(text)) => text.is_value(&**value),
             (Form::Shared(shared), Form::Text(text)) => text.is_value(shared.value()),
+            (Form::Table(one), Form::Table(another)) => one.same(another),
+            (Form::Table(table), Form::Small(value)) => table.is_value(&**value),
+            (Form::Table(table), Form::Shared(shared)) => table.is_value(shared.value()),
+            (Form::Small(value), Form::Table(table)) => table.is_value(&**value),
+            (Form::Shared(shared), Form::Table(table)) => table.is_value(shared.value()),
+            (Form::Table(_), Form::Text(_)) | (Form::Text(_), Form::Table(_)) => false,
         }
     }
 
@@ -442,6 +478,7 @@ impl Carried {
                 Ok(())
             }
             Form::Text(text) => Ok(text.append_encoding(out)?),
+            Form::Table(table) => table.append_encoding(out),
         }
     }
 
@@ -483,6 +520,11 @@ impl Carried {
             Form::Text(text) => {
                 if let Some(len) = text.prefix_of(input) {
                     return Ok((Carried::from_text(text.share()?), len));
+                }
+            }
+            Form::Table(table) => {
+                if let Some(len) = prefix_of_table(table, input) {
+                    return Ok((Carried::from_table(table.share()?), len));
                 }
             }
             Form::Small(value) => {

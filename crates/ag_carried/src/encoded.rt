@@ -1,10 +1,10 @@
-//! The encoding of a large value or a shared text, shared by its owners.
+//! The encoding of a large value, a shared text or a table, shared by its owners.
 
 ghost use Rattle.std.specs.Prelude.{◌≡◌, ◌++◌, ◌+◌, ◌<◌, ◌≤◌, ℕ, drop, length, slice_index, take};
 ghost use Rattle.std.specs.Prelude.{IfOk, OnErr, OnOk};
 ghost use Rattle.ag_value.specs.Spelling.{spelling_of};
 ghost use Rattle.ag_value.specs.Well.{IsWell};
-ghost use Rattle.ag_value.specs.declared.value.Value.{Text as TextValue};
+ghost use Rattle.ag_value.specs.declared.value.Value.{Table as TableValue, Text as TextValue};
 
 use crate::carried::Carried;
 use crate::shared_text::SharedText;
@@ -13,6 +13,7 @@ use ag_value::NoMemory;
 use std::alloc::AllocError;
 use std::marker::Model;
 use std::rc::Rc;
+use table_tree::TableTree;
 
 /// The value whose encoding is shared.
 #[derive(Debug, Drop)]
@@ -21,10 +22,12 @@ enum Source {
     Spelled(Rc<Spelled>),
     /// A text. The bytes of the encoding before it are computed from its length.
     Text(SharedText),
+    /// A table, whose pairs are stored beside their encodings.
+    Table(TableTree),
 }
 
-/// The encoding of a large value or a shared text, which is an owner of that value too. Contracts see
-/// the bytes.
+/// The encoding of a large value, a shared text or a table, which is an owner of that value too. Contracts
+/// see the bytes.
 #[derive(Debug, Drop)]
 pub struct Encoded {
     source: Source,
@@ -62,6 +65,15 @@ impl Encoded {
         }
     }
 
+    /// Returns the encoding of a table.
+    pub(crate) fn of_table(table: TableTree) -> Encoded
+        ensures { result ≡ spelling_of (TableValue table) }
+    {
+        Encoded {
+            source: Source::Table(table),
+        }
+    }
+
     /// Returns the number of bytes. Takes no memory.
     #[inline(always)]
     pub fn len(&self) -> usize
@@ -71,6 +83,7 @@ impl Encoded {
         match &self.source {
             Source::Spelled(shared) => byte_count(shared.bytes()),
             Source::Text(text) => text.encoding_len(),
+            Source::Table(table) => table.encoding_len(),
         }
     }
 
@@ -85,6 +98,7 @@ impl Encoded {
                 out.copy_from_slice(&shared.bytes()[from..from + count]);
             }
             Source::Text(text) => text.copy_encoding(from, out),
+            Source::Table(table) => table.copy_part(from, out),
         }
     }
 
@@ -97,6 +111,10 @@ impl Encoded {
         match &self.source {
             Source::Spelled(shared) => out.extend_from_slice(shared.bytes()),
             Source::Text(text) => text.append_encoding(out),
+            Source::Table(table) => match table.append_encoding(out) {
+                Ok(()) => Ok(()),
+                Err(_) => Err(AllocError),
+            },
         }
     }
 
@@ -112,6 +130,12 @@ impl Encoded {
                     return Err(AllocError);
                 };
                 Ok(Encoded::of_text(text))
+            }
+            Source::Table(table) => {
+                let Ok(table) = table.share() else {
+                    return Err(AllocError);
+                };
+                Ok(Encoded::of_table(table))
             }
         }
     }
@@ -132,6 +156,11 @@ impl Encoded {
                 let well = text.len();
                 let _ = well;
                 Ok(Carried::from_text(text.share()?))
+            }
+            Source::Table(table) => {
+                let well = table.encoding_len();
+                let _ = well;
+                Ok(Carried::from_table(table.share()?))
             }
         }
     }

@@ -1,10 +1,10 @@
 -- The nodes of a rope. All of this is this project's.
 use Rattle.std.specs.Prelude.{slice_index, ◌≡◌, ℕ, ◌+◌, ◌<◌, List, ◌++◌, length}
-use Rattle.rope.specs.declared.rope.Node.{Node}
-use Rattle.rope.specs.declared.rope.Node.TheVariants.{Joined, Piece}
+use Rattle.rope.specs.declared.rope.RopeNode.{RopeNode}
+use Rattle.rope.specs.declared.rope.RopeNode.TheVariants.{Joined, Piece}
 
 -- the bytes of a piece, or those of two ropes one after the other
-abbrev pub bytes_of : Node → List ℕ
+abbrev pub bytes_of : RopeNode → List ℕ
 bytes_of (Piece piece) = piece.value.items
 bytes_of (Joined pair) = pair.value.left ++ pair.value.right
 
@@ -13,7 +13,7 @@ abbrev pub AreBytes : List ℕ → Type 0
 AreBytes bytes = (i : ℕ) → slice_index bytes i < 256
 
 -- neither of two ropes is empty, and the length stored beside them is that of both
-abbrev pub IsNode : Node → Type 0
+abbrev pub IsNode : RopeNode → Type 0
 IsNode (Piece piece) = AreBytes piece.value.items
 IsNode (Joined pair) =
     (pair.value.len ≡ length pair.value.left + length pair.value.right) × (0 < length pair.value.left)

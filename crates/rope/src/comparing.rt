@@ -2,7 +2,7 @@
 
 ghost use Rattle.std.specs.Prelude.{◌≡◌, ◌↔◌, ◌+◌, ◌≤◌, drop, length, take, IsTrue};
 
-use crate::rope::{Node, Rope};
+use crate::rope::{Rope, RopeNode};
 
 /// The number of bytes of a block in which two ropes that are cut at different places are compared.
 const BLOCK: usize = 1024;
@@ -19,7 +19,10 @@ impl Rope {
         }
         let mut one = self;
         let mut another = other;
-        while let (Node::Joined(pair), Node::Joined(other_pair)) = (&one.node, &another.node) {
+        while let (RopeNode::Joined(pair), RopeNode::Joined(other_pair)) = (
+            &one.node,
+            &another.node,
+        ) {
             let pair = pair.as_ref();
             let other_pair = other_pair.as_ref();
             let (left, right) = (&pair.left, &pair.right);
@@ -55,7 +58,7 @@ impl Rope {
         }
         let mut rope = self;
         let mut rest = bytes;
-        while let Node::Joined(pair) = &rope.node {
+        while let RopeNode::Joined(pair) = &rope.node {
             let pair = pair.as_ref();
             let (left, right) = (&pair.left, &pair.right);
             let (prefix, suffix) = rest.split_at(left.len());
@@ -73,7 +76,7 @@ impl Rope {
                 rest = prefix;
             }
         }
-        let Node::Piece(piece) = &rope.node else {
+        let RopeNode::Piece(piece) = &rope.node else {
             unreachable!()
         };
         piece.as_slice() == rest
@@ -86,10 +89,10 @@ fn same_by_blocks(one: &Rope, another: &Rope) -> bool
     requires { length one.now ≡ length another.now }
     ensures { IsTrue result ↔ (one.now ≡ another.now) }
 {
-    if let Node::Piece(piece) = &one.node {
+    if let RopeNode::Piece(piece) = &one.node {
         return another.has_bytes(piece.as_slice());
     }
-    if let Node::Piece(piece) = &another.node {
+    if let RopeNode::Piece(piece) = &another.node {
         return one.has_bytes(piece.as_slice());
     }
     let len = one.len();

@@ -2,7 +2,7 @@
 
 ghost use Rattle.std.specs.Prelude.{◌≡◌, ◌++◌, ◌+◌, ◌≤◌, drop, length, take, OnErr, OnOk};
 
-use crate::rope::{Node, Rope};
+use crate::rope::{Rope, RopeNode};
 use std::alloc::AllocError;
 
 impl Rope {
@@ -24,7 +24,7 @@ impl Rope {
         let mut from = from;
         let mut at = 0;
         let mut end = out.len();
-        while let Node::Joined(pair) = &rope.node {
+        while let RopeNode::Joined(pair) = &rope.node {
             let pair = pair.as_ref();
             let (left, right) = (&pair.left, &pair.right);
             let len = left.len();
@@ -49,7 +49,7 @@ impl Rope {
                 rope = left;
             }
         }
-        let Node::Piece(piece) = &rope.node else {
+        let RopeNode::Piece(piece) = &rope.node else {
             unreachable!()
         };
         let last = from + (end - at);
@@ -61,7 +61,7 @@ impl Rope {
         ensures ok { OnOk result (out.new.items ≡ out.old.items ++ self.now) }
         ensures err { OnErr result (out.new.items ≡ out.old.items) }
     {
-        if let Node::Piece(piece) = &self.node {
+        if let RopeNode::Piece(piece) = &self.node {
             return out.extend_from_slice(piece.as_slice());
         }
         let start = out.len();

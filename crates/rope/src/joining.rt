@@ -2,7 +2,7 @@
 
 ghost use Rattle.std.specs.Prelude.{◌≡◌, ◌++◌, ◌+◌, ◌<◌, ◌^◌, length, IfOk, IfSome};
 
-use crate::rope::{Node, Rope};
+use crate::rope::{Rope, RopeNode};
 use std::alloc::{AllocError, Global};
 
 /// The greatest length in bytes of a piece that is made of two.
@@ -19,12 +19,12 @@ impl Rope {
         requires { length left + length right < 2 ^ 64 }
         ensures { IfOk result (λ rope. rope ≡ left ++ right) }
     {
-        if let Node::Piece(piece) = &left.node {
+        if let RopeNode::Piece(piece) = &left.node {
             if let Some(joined) = extend_first(alloc, piece.as_slice(), &right, MAX_LEVELS)? {
                 return Ok(joined);
             }
         }
-        if let Node::Piece(piece) = &right.node {
+        if let RopeNode::Piece(piece) = &right.node {
             if let Some(joined) = extend_last(alloc, &left, piece.as_slice(), MAX_LEVELS)? {
                 return Ok(joined);
             }
@@ -45,8 +45,8 @@ fn extend_first(
     ensures { IfOk result (λ found. IfSome found (λ joined. joined ≡ bytes.now ++ rope.now)) }
 {
     match &rope.node {
-        Node::Piece(piece) => joined_piece(alloc, bytes, piece.as_slice()),
-        Node::Joined(pair) => {
+        RopeNode::Piece(piece) => joined_piece(alloc, bytes, piece.as_slice()),
+        RopeNode::Joined(pair) => {
             if levels == 0 {
                 return Ok(None);
             }
@@ -71,8 +71,8 @@ fn extend_last(
     ensures { IfOk result (λ found. IfSome found (λ joined. joined ≡ rope.now ++ bytes.now)) }
 {
     match &rope.node {
-        Node::Piece(piece) => joined_piece(alloc, piece.as_slice(), bytes),
-        Node::Joined(pair) => {
+        RopeNode::Piece(piece) => joined_piece(alloc, piece.as_slice(), bytes),
+        RopeNode::Joined(pair) => {
             if levels == 0 {
                 return Ok(None);
             }

@@ -13,22 +13,22 @@ use std::rc::Rc;
 /// over the other one, so the depth of recursion is at most the number of bits of the length.
 #[cycle(rope)]
 pub struct Rope {
-    pub(crate) node: Node,
+    pub(crate) node: RopeNode,
 }
 
 /// The root of a rope.
 #[cycle(rope)]
-pub(crate) enum Node {
+pub(crate) enum RopeNode {
     /// Bytes in one vector.
     Piece(Rc<Vec<u8>>),
     /// Two ropes.
-    Joined(Rc<Pair>),
+    Joined(Rc<JoinedRopes>),
 }
 
 /// Two ropes, both not empty, one after the other.
 #[cycle(rope)]
 #[derive(Drop)]
-pub(crate) struct Pair {
+pub(crate) struct JoinedRopes {
     pub(crate) left: Rope,
     pub(crate) right: Rope,
     /// The number of bytes of both.
@@ -65,13 +65,13 @@ impl Drop for Rope {
         loop {
             let Rope { node } = self;
             let pair = match node {
-                Node::Piece(_) => return,
-                Node::Joined(pair) => pair,
+                RopeNode::Piece(_) => return,
+                RopeNode::Joined(pair) => pair,
             };
             let Some(pair) = Rc::into_inner(pair) else {
                 return;
             };
-            let Pair { left, right, .. } = pair;
+            let JoinedRopes { left, right, .. } = pair;
             if left.len() <= right.len() {
                 drop(left);
                 self = right;
@@ -90,7 +90,7 @@ impl Rope {
     {
         let piece = Rc::new(alloc, bytes)?;
         Ok(Rope {
-            node: Node::Piece(piece),
+            node: RopeNode::Piece(piece),
         })
     }
 
@@ -100,8 +100,8 @@ impl Rope {
         ensures bytes { AreBytes self.now }
     {
         match &self.node {
-            Node::Piece(piece) => piece.len(),
-            Node::Joined(pair) => pair.len,
+            RopeNode::Piece(piece) => piece.len(),
+            RopeNode::Joined(pair) => pair.len,
         }
     }
 
@@ -111,8 +111,8 @@ impl Rope {
         ensures { IfOk result (λ rope. rope ≡ self.now) }
     {
         let node = match &self.node {
-            Node::Piece(piece) => Node::Piece(piece.clone()?),
-            Node::Joined(pair) => Node::Joined(pair.clone()?),
+            RopeNode::Piece(piece) => RopeNode::Piece(piece.clone()?),
+            RopeNode::Joined(pair) => RopeNode::Joined(pair.clone()?),
         };
         Ok(Rope { node })
     }
@@ -129,9 +129,9 @@ impl Rope {
             return Ok(left);
         }
         let len = left.len() + right.len();
-        let pair = Rc::new(alloc, Pair { left, right, len })?;
+        let pair = Rc::new(alloc, JoinedRopes { left, right, len })?;
         Ok(Rope {
-            node: Node::Joined(pair),
+            node: RopeNode::Joined(pair),
         })
     }
 }

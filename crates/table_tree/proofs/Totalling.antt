@@ -1,7 +1,7 @@
 -- The totals of the parts of a table.
 use Rattle.std.proofs.Common.{◌≡◌, ℕ, ◌+◌, ◌<◌, ◌≤◌, List, [], ◌∷◌, ◌++◌, map, refl, ◌∙◌}
 use Rattle.std.proofs.Common.{arith, length-append}
-use Rattle.std.proofs.Common.{true, false, nat_lt, Some, Err}
+use Rattle.std.proofs.Common.{true, false, nat_lt, Option, Some, None, Err}
 use Rattle.std.proofs.lemmas.Bool.{le-ltb, lt-ltb}
 use Rattle.std.proofs.lemmas.List.Sums.{sum_by-cons}
 use Rattle.ag_grammar.specs.values.Fitting.{fit}
@@ -13,14 +13,14 @@ use Rattle.ag_value.specs.Well.{IsWell}
 use Rattle.ag_value.proofs.Layers.{depth-Table, weight-Table}
 use Rattle.ag_value.proofs.Weights.{few_pairs}
 use Rattle.table_tree.specs.Entries.{IsEntry}
-use Rattle.table_tree.specs.Putting.{IsLimitFault, IsPut}
+use Rattle.table_tree.specs.Putting.{IsFaultOf, IsLimitFault, IsPut}
 use Rattle.table_tree.specs.declared.putting.PutFault.{PutFault}
 use Rattle.table_tree.specs.declared.putting.PutFault.TheVariants as fault
 use Rattle.table_tree.specs.Totals.{AreJoined, AreSmall, AreTotals}
 use Rattle.table_tree.specs.declared.totals.Totals.{Totals}
 use Rattle.table_tree.proofs.Keys.{Pair}
 use Rattle.table_tree.proofs.Tables.{depth_of_pair, greatest_append, sum_append}
-use Rattle.table_tree.proofs.With.{with_lighter}
+use Rattle.table_tree.proofs.With.{with_lighter, with_shallower}
 use Rattle.ag_grammar.specs.values.Tables.{with_pair}
 
 -- the totals of the pairs before a pair, of the pair, and of those after it
@@ -89,41 +89,62 @@ pub entry_light : (key : List ℕ) (value : Value) (bytes : List ℕ) (depth : �
     → weight_of_pair (key, value) ≤ 2097156
 entry_light key value bytes depth is = let short = is.short in let light = is.well.light in omega arith
 
+-- the limit that a table exceeds, by its totals
+pub fault_of : (ps : List Pair) (t : Totals) (f : Option PutFault) → AreTotals ps t → IsLimitFault t f → IsFaultOf ps f
+fault_of ps t None are is =
+    let d = are.depth_is in
+    let e = depth-Table ps in
+    let b = are.bytes_are in
+    let w = weight-Table ps in
+    let shallow = is.0 in
+    let light = is.1 in
+    (omega arith, omega arith)
+fault_of ps t (Some fault.TooDeep) are is = let d = are.depth_is in let e = depth-Table ps in omega arith
+fault_of ps t (Some fault.TooHeavy) are is =
+    let d = are.depth_is in
+    let e = depth-Table ps in
+    let b = are.bytes_are in
+    let w = weight-Table ps in
+    let shallow = is.0 in
+    let heavy = is.1 in
+    (omega arith, omega arith)
+fault_of ps t (Some fault.NoMemory) are is = is
+
+-- a table in which a key has a value exceeds no limit if its pairs and this one would not
+pub room : (key : List ℕ) (x : Value) (ps : List Pair) (none added own most : Totals) → AreTotals [] none
+    → AreTotals ((key, x) ∷ []) added → AreTotals ps own → AreJoined none added own most → IsLimitFault most None
+    → IsFaultOf (with_pair key x ps) None
+room key x ps none added own most n a o j is =
+    let lighter = with_lighter key x weight_of_pair ps in
+    let shallower = with_shallower key x depth_of_pair ps in
+    let alone = sum_by-cons (λ n. n) (weight_of_pair (key, x)) [] in
+    let d = depth-Table (with_pair key x ps) in
+    let w = weight-Table (with_pair key x ps) in
+    let bytes = j.bytes_are in
+    let bytes-0 = n.bytes_are in
+    let bytes-1 = a.bytes_are in
+    let bytes-2 = o.bytes_are in
+    let depth = j.depth_is in
+    let depth-0 = n.depth_is in
+    let depth-1 = a.depth_is in
+    let depth-2 = o.depth_is in
+    let shallow = is.0 in
+    let light = is.1 in
+    (omega arith, omega arith)
+
 -- a table within the limits, or beyond them
-pub fit_deep : (ps : List Pair) (t : Totals) → AreTotals ps t → max_value_depth ≤ t.depth → fit (v.Table ps) ≡ v.Fault Deep
-fit_deep ps t are deep =
-    let d = are.depth_is in
-    let e = depth-Table ps in
-    let over : nat_lt max_value_depth (depth_of (v.Table ps)) ≡ true =
-    lt-ltb max_value_depth (depth_of (v.Table ps)) (omega arith) in
-    rw over refl
-
-pub fit_heavy : (ps : List Pair) (t : Totals) → AreTotals ps t → t.depth < max_value_depth → max_weight < 5 + t.bytes
-    → fit (v.Table ps) ≡ v.Fault Big
-fit_heavy ps t are shallow heavy =
-    let d = are.depth_is in
-    let e = depth-Table ps in
-    let b = are.bytes_are in
-    let w = weight-Table ps in
-    let flat : nat_lt max_value_depth (depth_of (v.Table ps)) ≡ false =
-    le-ltb max_value_depth (depth_of (v.Table ps)) (omega arith) in
-    let over : nat_lt max_weight (weight_of (v.Table ps)) ≡ true = lt-ltb max_weight (weight_of (v.Table ps)) (omega arith) in
-    rw (flat, over) refl
-
-pub fit_within : (ps : List Pair) (t : Totals) → AreTotals ps t → t.depth < max_value_depth → 5 + t.bytes ≤ max_weight
-    → fit (v.Table ps) ≡ v.Table ps
-fit_within ps t are shallow light =
-    let d = are.depth_is in
-    let e = depth-Table ps in
-    let b = are.bytes_are in
-    let w = weight-Table ps in
-    let flat : nat_lt max_value_depth (depth_of (v.Table ps)) ≡ false =
-    le-ltb max_value_depth (depth_of (v.Table ps)) (omega arith) in
-    let under : nat_lt max_weight (weight_of (v.Table ps)) ≡ false = le-ltb max_weight (weight_of (v.Table ps)) (omega arith) in
+pub fit_within : (ps : List Pair) → IsFaultOf ps None → fit (v.Table ps) ≡ v.Table ps
+fit_within ps is =
+    let flat : nat_lt max_value_depth (depth_of (v.Table ps)) ≡ false = le-ltb max_value_depth (depth_of (v.Table ps)) is.0 in
+    let under : nat_lt max_weight (weight_of (v.Table ps)) ≡ false = le-ltb max_weight (weight_of (v.Table ps)) is.1 in
     rw (flat, under) refl
 
-pub put_fault : (ps : List Pair) (t : Totals) (f : PutFault) → AreTotals ps t → IsLimitFault t (Some f)
-    → IsPut (fit (v.Table ps)) (Err f)
-put_fault ps t fault.TooDeep are is = fit_deep ps t are is
-put_fault ps t fault.TooHeavy are is = fit_heavy ps t are is.0 is.1
-put_fault ps t fault.NoMemory are is = tt
+pub put_fault : (ps : List Pair) (f : PutFault) → IsFaultOf ps (Some f) → IsPut (fit (v.Table ps)) (Err f)
+put_fault ps fault.TooDeep is =
+    let over : nat_lt max_value_depth (depth_of (v.Table ps)) ≡ true = lt-ltb max_value_depth (depth_of (v.Table ps)) is in
+    rw over refl
+put_fault ps fault.TooHeavy is =
+    let flat : nat_lt max_value_depth (depth_of (v.Table ps)) ≡ false = le-ltb max_value_depth (depth_of (v.Table ps)) is.0 in
+    let over : nat_lt max_weight (weight_of (v.Table ps)) ≡ true = lt-ltb max_weight (weight_of (v.Table ps)) is.1 in
+    rw (flat, over) refl
+put_fault ps fault.NoMemory is = tt

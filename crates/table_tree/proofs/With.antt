@@ -1,5 +1,5 @@
 -- A table in which a key has a value, by the parts of the table.
-use Rattle.std.proofs.Common.{◌≡◌, ℕ, ◌+◌, ◌<◌, ◌≤◌, Bool, true, false, cond, List, [], ◌∷◌, ◌++◌, length, map, sum, filter, find}
+use Rattle.std.proofs.Common.{◌≡◌, ℕ, ◌+◌, ◌<◌, ◌≤◌, Bool, true, false, cond, List, [], ◌∷◌, ◌++◌, length, map, sum, filter, find, max}
 use Rattle.std.proofs.Common.{Option, Some, None, refl, sym, ap, ◌∙◌, subst, append_assoc, arith, length-append}
 use Rattle.std.proofs.lemmas.Bool.{and_parts}
 use Rattle.std.proofs.lemmas.List.{append-nil}
@@ -21,7 +21,8 @@ use Rattle.table_tree.proofs.Keys.{before_greater, before_less, before_middle, b
 use Rattle.table_tree.proofs.Keys.{is_same}
 use Rattle.table_tree.proofs.Keys.{left_of_after, left_of_before, left_of_same, none_of_after, none_of_before, not_back, order}
 use Rattle.table_tree.proofs.Keys.{right_of_after, right_of_before, right_of_same, same_equal, sorted_around, sorted_filter}
-use Rattle.table_tree.proofs.Tables.{all_append, depth_of_pair, is_text, sum_append, table_of, well_of, well_prefix, well_suffix}
+use Rattle.table_tree.proofs.Tables.{all_append, depth_of_pair, greatest_append, is_text, sum_append, table_of, well_of}
+use Rattle.table_tree.proofs.Tables.{well_prefix, well_suffix}
 
 -- pairs before the key come before
 with_prefix : (key : List ℕ) (x : Value) (ps qs : List Pair) → AreBefore key ps
@@ -144,6 +145,24 @@ with_lighter key x f ps =
     let sides = sides_lighter key f ps in
     let parts = sum_append f (filter (is_left key) ps) ((key, x) ∷ filter (is_right key) ps) in
     let one = sum_by-cons (λ n. n) (f (key, x)) (map f (filter (is_right key) ps)) in
+    omega arith
+
+filter_shallower : (f : Pair → ℕ) (test : Pair → Bool) (ps : List Pair)
+    → greatest (map f (filter test ps)) ≤ greatest (map f ps)
+filter_shallower f test [] = omega arith
+filter_shallower f test (p ∷ ps) = go (test p) (filter_shallower f test ps)
+  where
+    go : (b : Bool) → greatest (map f (filter test ps)) ≤ greatest (map f ps)
+        → greatest (map f (cond b (p ∷ filter test ps) (filter test ps))) ≤ greatest (map f (p ∷ ps))
+    go true rest = omega arith
+    go false rest = omega arith
+
+pub with_shallower : (key : List ℕ) (x : Value) (f : Pair → ℕ) (ps : List Pair)
+    → greatest (map f (with_pair key x ps)) ≤ max (f (key, x)) (greatest (map f ps))
+with_shallower key x f ps =
+    let left = filter_shallower f (is_left key) ps in
+    let right = filter_shallower f (is_right key) ps in
+    let parts = greatest_append f (filter (is_left key) ps) ((key, x) ∷ filter (is_right key) ps) in
     omega arith
 
 -- ---- it is well if it is within the limits

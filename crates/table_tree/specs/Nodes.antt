@@ -6,11 +6,11 @@ use Rattle.ag_value.specs.declared.value.Value.TheVariants as value
 use Rattle.ag_value.specs.Spelling.{joined, spelling_of_pair}
 use Rattle.table_tree.specs.Totals.{AreBytes, AreTotals}
 use Rattle.table_tree.specs.declared.totals.Totals.{Totals}
-use Rattle.table_tree.specs.declared.tree.Node.{Node}
-use Rattle.table_tree.specs.declared.tree.Node.TheVariants.{Leaf, Fork}
+use Rattle.table_tree.specs.declared.tree.TableNode.{TableNode}
+use Rattle.table_tree.specs.declared.tree.TableNode.TheVariants.{Leaf, Fork}
 
 -- the pairs in the order of their keys
-abbrev pub pairs_of : Node → List (List ℕ × Value)
+abbrev pub pairs_of : TableNode → List (List ℕ × Value)
 pairs_of Leaf = []
 pairs_of (Fork rc) = rc.value.left ++ rc.value.entry.value ∷ rc.value.right
 
@@ -22,6 +22,6 @@ pub record IsTotalled (pairs : List (List ℕ × Value)) (totals : Totals) (bloc
   pub block_is : IfSome block (λ encoded. encoded ≡ joined (map spelling_of_pair pairs))
 
 -- the pairs of a fork are a well table, and its totals and its block are theirs
-abbrev pub IsNode : Node → Type 0
+abbrev pub IsNode : TableNode → Type 0
 IsNode Leaf = Unit {0}
 IsNode (Fork rc) = IsTotalled (pairs_of (Fork rc)) rc.value.totals rc.value.block

@@ -1,6 +1,6 @@
 -- The result of putting a pair into a table. All of this is this project's.
 use Rattle.std.specs.Prelude.{◌≡◌, ◌+◌, ◌<◌, ◌≤◌, ℕ, List, Option, Some, None, Result, Ok, Err}
-use Rattle.ag_value.specs.Measure.{max_value_depth, max_weight}
+use Rattle.ag_value.specs.Measure.{depth_of, max_value_depth, max_weight, weight_of}
 use Rattle.ag_value.specs.declared.value.ErrorCode.TheVariants.{Big, Deep}
 use Rattle.ag_value.specs.declared.value.Value.{Value}
 use Rattle.ag_value.specs.declared.value.Value.TheVariants as value
@@ -15,6 +15,14 @@ IsPut expected (Ok pairs) = expected ≡ value.Table pairs
 IsPut expected (Err fault.TooDeep) = expected ≡ value.Fault Deep
 IsPut expected (Err fault.TooHeavy) = expected ≡ value.Fault Big
 IsPut expected (Err fault.NoMemory) = Unit {0}
+
+-- the limit that a table exceeds: first that of the depth, then that of the weight
+abbrev pub IsFaultOf : List (List ℕ × Value) → Option PutFault → Type 0
+IsFaultOf pairs None = (depth_of (value.Table pairs) ≤ max_value_depth) × (weight_of (value.Table pairs) ≤ max_weight)
+IsFaultOf pairs (Some fault.TooDeep) = max_value_depth < depth_of (value.Table pairs)
+IsFaultOf pairs (Some fault.TooHeavy) =
+    (depth_of (value.Table pairs) ≤ max_value_depth) × (max_weight < weight_of (value.Table pairs))
+IsFaultOf pairs (Some fault.NoMemory) = ⊥
 
 -- the limit that a table with these totals exceeds: first that of the depth, then that of the weight
 abbrev pub IsLimitFault : Totals → Option PutFault → Type 0

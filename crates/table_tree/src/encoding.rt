@@ -82,6 +82,10 @@ impl TableTree {
             (out.new.items ≡ out.old.items ++ joined (map spelling_of_pair self.now)) }
         ensures extends { Extends out.old.items out.new.items }
     {
+        if let Some(block) = self.block() {
+            out.extend_from_slice(block)?;
+            return Ok(());
+        }
         let Some(root) = self.root() else {
             return Ok(());
         };
@@ -90,12 +94,15 @@ impl TableTree {
         root.right.append_pairs(out)
     }
 
-    /// Returns the bytes from an offset of the encodings of the pairs to the end of the encoding of a
-    /// pair. They are at least one.
+    /// Returns the bytes from an offset of the encodings of the pairs to the end of a block or of the
+    /// encoding of a pair. They are at least one.
     fn piece_at(&self, offset: usize) -> &[u8]
         requires { offset < length (joined (map spelling_of_pair self.now)) }
         ensures { IsPiece (drop offset (joined (map spelling_of_pair self.now))) result.now }
     {
+        if let Some(block) = self.block() {
+            return &block[offset..];
+        }
         let Some(root) = self.root() else {
             unreachable!()
         };

@@ -59,6 +59,9 @@ impl TableTree {
         requires { length bytes.now ≡ length (joined (map spelling_of_pair self.now)) }
         ensures { IsTrue result ↔ (bytes.now ≡ joined (map spelling_of_pair self.now)) }
     {
+        if let Some(block) = self.block() {
+            return bytes == block;
+        }
         let Some(root) = self.root() else {
             return true;
         };

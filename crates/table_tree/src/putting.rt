@@ -6,7 +6,7 @@ ghost use Rattle.ag_grammar.specs.values.Tables.{with_pair};
 ghost use Rattle.ag_value.specs.Measure.{max_weight};
 ghost use Rattle.ag_value.specs.Well.{IsWell, is_item};
 ghost use Rattle.ag_value.specs.declared.value.Value.TheVariants as v;
-ghost use Rattle.table_tree.specs.Putting.{IsLimitFault, IsPut};
+ghost use Rattle.table_tree.specs.Putting.{IsFaultOf, IsLimitFault, IsPut};
 ghost use Rattle.table_tree.specs.Totals.{AreTotals};
 ghost use Rattle.table_tree.specs.declared.putting.PutFault.TheVariants as put_fault;
 
@@ -50,11 +50,24 @@ impl TableTree {
     {
         let entry = Entry::new(alloc, Text::from_str(alloc, key)?, value)?;
         let entry = Rc::new(alloc, entry)?;
-        if let Some(fault) = limit_fault(self.totals_with(entry.as_ref())) {
+        if let Some(fault) = self.fault_with(entry.as_ref()) {
             return Err(fault);
         }
         let table = self.with_entry(alloc, entry)?;
         Ok(table)
+    }
+
+    /// Returns the limit of well values that the table in which the key of an entry has its value exceeds,
+    /// if there is one. Takes constant time if the pairs of the table and this one are within the limits.
+    fn fault_with(&self, entry: &Entry) -> Option<PutFault>
+        ensures fault { IsFaultOf (with_pair entry.now.0 entry.now.1 self.now) result }
+        ensures well { IsWell (v.Table self.now) }
+    {
+        let most = Totals::joined(Totals::none(), entry.totals(), self.totals());
+        match limit_fault(most) {
+            None => None,
+            Some(_) => limit_fault(self.totals_with(entry)),
+        }
     }
 
     /// Returns the totals of the table in which the key of an entry has its value.

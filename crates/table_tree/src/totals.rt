@@ -1,7 +1,7 @@
 //! The totals of the pairs of a table.
 
-ghost use Rattle.std.specs.Prelude.{◌+◌, ◌<◌, ◌^◌};
-ghost use Rattle.table_tree.specs.Totals.{AreJoined};
+ghost use Rattle.std.specs.Prelude.{◌+◌, ◌<◌, ◌^◌, []};
+ghost use Rattle.table_tree.specs.Totals.{AreJoined, AreTotals};
 
 /// The totals of some pairs.
 #[derive(Clone, Copy, Debug)]
@@ -15,6 +15,18 @@ pub(crate) struct Totals {
 }
 
 impl Totals {
+    /// Returns the totals of no pairs.
+    #[inline(always)]
+    pub fn none() -> Totals
+        ensures { AreTotals [] result }
+    {
+        Totals {
+            pairs: 0,
+            bytes: 0,
+            depth: 0,
+        }
+    }
+
     /// Returns the totals of pairs, one pair and further pairs, from the totals of each.
     pub fn joined(before: Totals, pair: Totals, after: Totals) -> Totals
         requires pairs { before.pairs + pair.pairs + after.pairs < 2 ^ 32 }

@@ -16,10 +16,15 @@ use std::fmt;
 use std::marker::Model;
 use std::rc::Rc;
 
-/// The least and the greatest number of bytes of a block.
-const MIN_BLOCK: usize = 128;
+/// The least and the greatest number of bytes of a long block. `append_encoding` mostly copies these.
+const MIN_BLOCK: usize = 1024;
 
-const MAX_BLOCK: usize = 512;
+const MAX_BLOCK: usize = 2048;
+
+/// The least and the greatest number of bytes of a short block. Long blocks are made of short ones.
+const MIN_SHORT_BLOCK: usize = 256;
+
+const MAX_SHORT_BLOCK: usize = 512;
 
 /// A well table: its pairs in the order of their keys, as a balanced tree whose nodes have several
 /// owners. Contracts see the list of the pairs. A table made of another shares all nodes with it but
@@ -27,21 +32,21 @@ const MAX_BLOCK: usize = 512;
 #[cycle(tree)]
 #[derive(Drop)]
 pub struct TableTree {
-    node: Node,
+    node: TableNode,
 }
 
 /// What a tree consists of.
 #[cycle(tree)]
 #[derive(Drop)]
-enum Node {
+enum TableNode {
     Leaf,
-    Fork(Rc<Branch>),
+    Fork(Rc<TableBranch>),
 }
 
 /// A pair between the pairs before it and those after it.
 #[cycle(tree)]
 #[derive(Drop)]
-struct Branch {
+struct TableBranch {
     left: TableTree,
     entry: Rc<Entry>,
     right: TableTree,
@@ -49,7 +54,7 @@ struct Branch {
     totals: Totals,
     /// The number of nodes on the longest way down from this one, itself included.
     height: u8,
-    /// The encodings of all these pairs, if they have at least 128 and at most 512 bytes.
+    /// The encodings of all these pairs, if they have the length of a long or a short block.
     block: Option<Items<u8>>,
 }
 
@@ -97,7 +102,9 @@ impl TableTree {
     pub fn new() -> TableTree
         ensures { result ≡ [] }
     {
-        TableTree { node: Node::Leaf }
+        TableTree {
+            node: TableNode::Leaf,
+        }
     }
 
     /// Returns the same table for one more owner, in constant time. Takes no memory. Fails with NoMemory
@@ -106,9 +113,9 @@ impl TableTree {
         ensures { IfOk result (λ table. table ≡ self.now) }
     {
         match &self.node {
-            Node::Leaf => Ok(TableTree::new()),
-            Node::Fork(branch) => Ok(TableTree {
-                node: Node::Fork(branch.clone()?),
+            TableNode::Leaf => Ok(TableTree::new()),
+            TableNode::Fork(branch) => Ok(TableTree {
+                node: TableNode::Fork(branch.clone()?),
             }),
         }
     }
@@ -145,12 +152,8 @@ impl TableTree {
         ensures bytes { AreBytes (joined (map spelling_of_pair self.now)) }
     {
         match &self.node {
-            Node::Leaf => Totals {
-                pairs: 0,
-                bytes: 0,
-                depth: 0,
-            },
-            Node::Fork(branch) => branch.as_ref().totals,
+            TableNode::Leaf => Totals::none(),
+            TableNode::Fork(branch) => branch.as_ref().totals,
         }
     }
 
@@ -158,8 +161,8 @@ impl TableTree {
     /// number of pairs plus 2. No contract says so.
     pub fn height(&self) -> u8 {
         match &self.node {
-            Node::Leaf => 0,
-            Node::Fork(branch) => branch.as_ref().height,
+            TableNode::Leaf => 0,
+            TableNode::Fork(branch) => branch.as_ref().height,
         }
     }
 
@@ -170,8 +173,8 @@ impl TableTree {
         ensures well { IfSome result (λ _. IsWell (v.Table self.now)) }
     {
         match &self.node {
-            Node::Leaf => None,
-            Node::Fork(branch) => match &branch.as_ref().block {
+            TableNode::Leaf => None,
+            TableNode::Fork(branch) => match &branch.as_ref().block {
                 Some(block) => Some(block.as_slice()),
                 None => None,
             },
@@ -185,8 +188,8 @@ impl TableTree {
             IsSplit self.now root.left.now root.entry.now.value root.right.now) }
     {
         match &self.node {
-            Node::Leaf => None,
-            Node::Fork(branch) => {
+            TableNode::Leaf => None,
+            TableNode::Fork(branch) => {
                 let branch = branch.as_ref();
                 Some(Root {
                     left: &branch.left,
@@ -213,7 +216,7 @@ impl TableTree {
         let block = block_of(alloc, &left, entry.as_ref(), &right, totals)?;
         let branch = Rc::new(
             alloc,
-            Branch {
+            TableBranch {
                 left,
                 entry,
                 right,
@@ -223,9 +226,15 @@ impl TableTree {
             },
         )?;
         Ok(TableTree {
-            node: Node::Fork(branch),
+            node: TableNode::Fork(branch),
         })
     }
+}
+
+/// Returns whether a number of bytes is the length of a long or a short block.
+#[inline(always)]
+fn is_block_length(len: usize) -> bool {
+    (MIN_BLOCK <= len && len <= MAX_BLOCK) || (MIN_SHORT_BLOCK <= len && len <= MAX_SHORT_BLOCK)
 }
 
 /// Returns the encodings of the pairs of a table, of a pair and of the pairs of another table, if they
@@ -241,7 +250,7 @@ fn block_of(
         bytes ≡ joined (map spelling_of_pair (left.now ++ entry.now ∷ right.now)))) }
 {
     let len = totals.bytes as usize;
-    if len < MIN_BLOCK || len > MAX_BLOCK {
+    if !is_block_length(len) {
         return Ok(None);
     }
     let mut bytes = Vec::with_capacity(alloc, len)?;

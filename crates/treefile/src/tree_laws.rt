@@ -151,8 +151,9 @@ pub fn refusals_are_true()
     ensures header { NoFileHasNoTree }
 {}
 
-/// States that the values of a record follow one another: a body is a record exactly if it has the
-/// right number of well values, and it is none if a value is missing or bytes are left over.
+/// States that the values of a record follow one another: a body is a record of a symbol exactly if it
+/// has a production of that symbol and the right number of well values, and it is none if a value is
+/// missing or bytes are left over.
 pub fn records_are_read()
     ensures listed { ListedRecord }
     ensures missing { ValueIsMissing }

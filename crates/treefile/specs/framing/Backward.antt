@@ -19,7 +19,7 @@ pass_in version content = if is_tree_file version content then Ok (pass_of conte
 abbrev pub before_frame : ℕ → List ℕ → ℕ
 before_frame at body = at - length_bytes - length body
 
--- the body as an option, to which the header is `None`
+-- the result with its body as `Some`; `next_before` gives `None` where the header ends
 abbrev pub some_body : Result (List ℕ) FrameFault → Result (Option (List ℕ)) FrameFault
 some_body (Ok body) = Ok (Some body)
 some_body (Err fault) = Err fault

@@ -1,6 +1,7 @@
 -- Reading a tree file from its end to its header: the records that are still expected, of the items whose
 -- trees were not read yet. The letters are those of `Records.antt`; d is a direction, e gives the values of a node's attributes,
--- and x is an item or a child. All of this is this project's.
+-- and x is an item or a child; in `IsRecordOf` x is also the text of a token, and in `Expects`, `AreThere` and `Breaks` a child
+-- with its level. All of this is this project's.
 use Rattle.std.specs.Prelude.{ℕ, suc, ◌≡◌, ◌+◌, ◌-◌, ◌<◌, ◌≤◌, ◌⊎◌, Bool, true, false, List, [], ◌∷◌, ◌++◌, All, length, take}
 use Rattle.std.specs.Prelude.{drop, Option, Some, None, Result, Ok, Err, refl}
 use Rattle.std.proofs.Common.{inl, inr, lit<}

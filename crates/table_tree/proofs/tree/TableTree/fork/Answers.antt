@@ -2,7 +2,7 @@ use Rattle.std.proofs.Common.{◌∷◌, ◌++◌, [], IfSome, ◌≡◌, arith,
 use Rattle.table_tree.specs.Nodes.{IsTotalled}
 use Rattle.ag_value.specs.Spelling.{spelling_of_pair}
 use Rattle.table_tree.specs.Totals.{AreBytes, AreTotals}
-use Rattle.table_tree.specs.declared.tree.Branch.{Branch}
+use Rattle.table_tree.specs.declared.tree.TableBranch.{TableBranch}
 use Rattle.table_tree.proofs.Keys.{Pair}
 use Rattle.table_tree.proofs.Bytes.{bytes_around}
 use Rattle.table_tree.proofs.Encoded.{encodings}
@@ -25,7 +25,7 @@ joined-totals-requires-clause-bytes c =
 
 pub invariant_of-result : goal.invariant_of-result
 invariant_of-result c =
-    subst (λ (b : Branch). IsTotalled (b.left ++ b.entry.value ∷ b.right) b.totals b.block)
+    subst (λ (b : TableBranch). IsTotalled (b.left ++ b.entry.value ∷ b.right) b.totals b.block)
     (sym c.in_ok-branch.ensures.ok) (record {
       well = c.requires;
       are =

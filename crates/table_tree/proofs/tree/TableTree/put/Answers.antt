@@ -1,9 +1,10 @@
-use Rattle.std.proofs.Common.{◌≡◌, ◌∙◌, List, ap, arith, subst, sym}
+use Rattle.std.proofs.Common.{◌≡◌, ◌∙◌, List, Some, None, ap, arith, subst, sym}
 use Rattle.std.proofs.lemmas.Str.{is_utf8-from_IsUtf8}
 use Rattle.ag_grammar.specs.values.Tables.{with_pair}
+use Rattle.ag_value.proofs.Layers.{depth-Table, weight-Table}
 use Rattle.ag_value.specs.Well.{IsWell}
 use Rattle.ag_value.specs.declared.value.Value.TheVariants as v
-use Rattle.table_tree.specs.Totals.{AreTotals}
+use Rattle.table_tree.specs.Putting.{IsFaultOf}
 use Rattle.table_tree.proofs.Keys.{Pair}
 use Rattle.table_tree.proofs.Totalling.{fit_within, put_fault}
 use Rattle.table_tree.proofs.With.{well_with}
@@ -14,25 +15,25 @@ returns-in-Some c =
     let key : List _ = c.args.key.now in
     let entry : c.in_ok-entry-2.entry.value ≡ (key, c.args.value) =
     c.in_ok-entry-2.ensures.ok ∙ (c.in_ok-entry.ensures ∙ ap (λ k. (k, c.args.value)) c.in_ok-from_str.ensures) in
-    let totals : AreTotals (with_pair key c.args.value c.args.self.now) c.totals_with.result =
-    subst (λ (p : Pair). AreTotals (with_pair p.0 p.1 c.args.self.now) c.totals_with.result) (c.as_ref.ensures ∙ entry)
-    c.totals_with.ensures.totals in
-    put_fault (with_pair key c.args.value c.args.self.now) c.totals_with.result c.in-Some.fault totals c.in-Some.ensures
+    let fault : IsFaultOf (with_pair key c.args.value c.args.self.now) (Some c.in-Some.fault) =
+    subst (λ (p : Pair). IsFaultOf (with_pair p.0 p.1 c.args.self.now) (Some c.in-Some.fault)) (c.as_ref.ensures ∙ entry)
+    c.in-Some.ensures.fault in
+    put_fault (with_pair key c.args.value c.args.self.now) c.in-Some.fault fault
 
 pub with_entry-requires : goal.with_entry-requires
 with_entry-requires c =
     let key : List _ = c.args.key.now in
     let entry : c.in_ok-entry-2.entry.value ≡ (key, c.args.value) =
     c.in_ok-entry-2.ensures.ok ∙ (c.in_ok-entry.ensures ∙ ap (λ k. (k, c.args.value)) c.in_ok-from_str.ensures) in
-    let totals : AreTotals (with_pair key c.args.value c.args.self.now) c.totals_with.result =
-    subst (λ (p : Pair). AreTotals (with_pair p.0 p.1 c.args.self.now) c.totals_with.result) (c.as_ref.ensures ∙ entry)
-    c.totals_with.ensures.totals in
-    let deepest = totals.depth_is in
-    let bytes = totals.bytes_are in
-    let shallow = c.in_default.ensures.0 in
-    let light = c.in_default.ensures.1 in
+    let fits : IsFaultOf (with_pair key c.args.value c.args.self.now) None =
+    subst (λ (p : Pair). IsFaultOf (with_pair p.0 p.1 c.args.self.now) None) (c.as_ref.ensures ∙ entry)
+    c.in_default.ensures.fault in
+    let shallow = fits.0 in
+    let light = fits.1 in
+    let depth = depth-Table (with_pair key c.args.value c.args.self.now) in
+    let weight = weight-Table (with_pair key c.args.value c.args.self.now) in
     subst (λ (p : Pair). IsWell (v.Table (with_pair p.0 p.1 c.args.self.now))) (sym entry)
-    (well_with key c.args.value c.args.self.now c.totals_with.ensures.well (is_utf8-from_IsUtf8 key c.utf8.key)
+    (well_with key c.args.value c.args.self.now c.in_default.ensures.well (is_utf8-from_IsUtf8 key c.utf8.key)
     c.requires.item (omega arith) (omega arith))
 
 pub returns : goal.returns
@@ -40,9 +41,8 @@ returns c =
     let key : List _ = c.args.key.now in
     let entry : c.in_ok-entry-2.entry.value ≡ (key, c.args.value) =
     c.in_ok-entry-2.ensures.ok ∙ (c.in_ok-entry.ensures ∙ ap (λ k. (k, c.args.value)) c.in_ok-from_str.ensures) in
-    let totals : AreTotals (with_pair key c.args.value c.args.self.now) c.totals_with.result =
-    subst (λ (p : Pair). AreTotals (with_pair p.0 p.1 c.args.self.now) c.totals_with.result) (c.as_ref.ensures ∙ entry)
-    c.totals_with.ensures.totals in
-    fit_within (with_pair key c.args.value c.args.self.now) c.totals_with.result totals c.in_default.ensures.0
-    c.in_default.ensures.1
+    let fits : IsFaultOf (with_pair key c.args.value c.args.self.now) None =
+    subst (λ (p : Pair). IsFaultOf (with_pair p.0 p.1 c.args.self.now) None) (c.as_ref.ensures ∙ entry)
+    c.in_default.ensures.fault in
+    fit_within (with_pair key c.args.value c.args.self.now) fits
     ∙ ap v.Table (sym (c.in_ok-table.ensures ∙ ap (λ (p : Pair). with_pair p.0 p.1 c.args.self.now) entry))
