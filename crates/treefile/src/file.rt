@@ -1,6 +1,6 @@
 //! A device over a file, which buffers appended bytes.
 
-ghost use Rattle.std.specs.Prelude.{◌≡◌, ◌≤◌, ◌+◌, ◌++◌, ◌⊎◌, [], length, slice_range};
+ghost use Rattle.std.specs.Prelude.{◌≡◌, ◌<◌, ◌≤◌, ◌+◌, ◌^◌, ◌++◌, ◌⊎◌, [], length, slice_range};
 ghost use Rattle.std.specs.Prelude.{Ok, Err, IfErr, IfOk, IsErrOf, OnErr, OnOk};
 ghost use Rattle.std.specs.Io.KnownBytes.{Appends, Keeps};
 ghost use Rattle.treefile.specs.devices.Appending.{AppendsToFile};
@@ -10,6 +10,7 @@ ghost use Rattle.treefile.specs.devices.Files.{FilePersists, IsNew, StaysBroken,
 
 use crate::device::{Device, DeviceFault};
 use noted_file::{CallRecord, NotedFile};
+use shared_bytes::SharedBytes;
 use std::alloc::Global;
 use std::fs::{OpenFile, OpenOptions};
 use std::io::{self, Read, Seek, Write};
@@ -156,6 +157,23 @@ impl<F: Read + Write + Seek + OpenFile> FileDevice<F> {
         }
     }
 
+    /// Appends the bytes of `parts` to the buffer, as `buffer_bytes` does with bytes.
+    fn buffer_parts(&mut self, parts: &SharedBytes) -> Result<(), DeviceFault>
+        requires { length self.old.buffered + length parts.now < 2 ^ 64 }
+        ensures ok { OnOk result (self.new
+            ≡ record self.old { buffered = self.old.buffered ++ parts.now }) }
+        ensures err { OnErr result (self.new ≡ self.old) }
+        ensures memory { IfErr result (λ e. e ≡ DeviceFault.NoMemory) }
+    {
+        let start = self.buffered.len();
+        let end = start + parts.len() as usize;
+        if self.buffered.resize(end, 0).is_err() {
+            return Err(DeviceFault::NoMemory);
+        }
+        parts.read_at(0, &mut self.buffered[start..]);
+        Ok(())
+    }
+
     /// Appends bytes as `append` does, also if they do not fit in the buffer: writes the buffered bytes to
     /// the file first, and bytes that fill a buffer directly. Fails with `Failed` if the file is only read,
     /// or if this write or an earlier one failed, and with `NoMemory` if memory is refused.
@@ -262,6 +280,27 @@ impl<F: Read + Write + Seek + OpenFile> Device for FileDevice<F> {
             return self.append_slowly(bytes);
         }
         self.buffer_bytes(bytes)
+    }
+
+    fn append_parts(&mut self, parts: &SharedBytes, buffer: &mut Vec<u8>) -> Result<(), DeviceFault>
+        ensures content { WhenHonest (is_honest_of self.new)
+            (DeviceAppends parts.now (content_of self.old) (content_of self.new) result) }
+        ensures persists { FilePersists self.old self.new (IsErrOf result DeviceFault.Failed) }
+        ensures file { AppendsToFile F.contents parts.now self.old self.new result }
+    {
+        if self.access != Access::Writing {
+            return Err(self.fail());
+        }
+        let room = MAX_BUFFERED_BYTES.saturating_sub(self.buffered.len());
+        if parts.len() < room as u64 {
+            // saves a copy
+            return self.buffer_parts(parts);
+        }
+        buffer.clear();
+        let Ok(()) = parts.append_to(buffer) else {
+            return Err(DeviceFault::NoMemory);
+        };
+        self.append(buffer.as_slice())
     }
 
     fn read_at(&mut self, at: u64, out: &mut [u8]) -> Result<(), DeviceFault>
