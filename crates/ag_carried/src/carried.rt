@@ -247,8 +247,8 @@ impl Carried {
         }
     }
 
-    /// Returns the value, or `None` if it is a number, an error, a shared text or a tree, which are not
-    /// stored as a `Value`; `to_value` returns those.
+    /// Returns the value, or `None` if it is a number, an error, a shared text or a tree, which are
+    /// not stored as a `Value`; `to_value` returns those.
     #[inline(always)]
     pub fn as_value(&self) -> Option<&Value>
         ensures { IfSome result (λ v. v.now ≡ self.now) }
@@ -345,8 +345,8 @@ impl Carried {
         }
     }
 
-    /// Returns whether the value is shared: a large value, a text that is a `SharedText`, or a table that
-    /// is a tree.
+    /// Returns whether the value is shared: a large value, a text that is a `SharedText`, or a table
+    /// that is a tree.
     #[inline(always)]
     pub fn is_shared(&self) -> bool {
         matches!(&self.form, Form::Shared(_) | Form::Text(_) | Form::Table(_))

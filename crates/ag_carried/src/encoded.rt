@@ -26,8 +26,8 @@ enum Source {
     Table(TableTree),
 }
 
-/// The encoding of a large value, a shared text or a table, which is an owner of that value too. Contracts
-/// see the bytes.
+/// The encoding of a large value, a shared text or a table, which is an owner of that value too.
+/// Contracts see the bytes.
 #[derive(Debug, Drop)]
 pub struct Encoded {
     source: Source,

@@ -7,8 +7,8 @@ ghost use Rattle.ag_value.specs.declared.value.Value.{Value as AttributeValue, T
 
 use table_tree::TableTree;
 
-/// The greatest number of pairs of a table that operations keep flat. A larger one that `put` makes is a
-/// tree.
+/// The greatest number of pairs of a table that operations keep flat. A larger one that `put` makes
+/// is a tree.
 pub const MAX_FLAT_TABLE: usize = 16;
 
 /// Returns the length of a table's encoding in bytes, if the input begins with it. Takes no memory.

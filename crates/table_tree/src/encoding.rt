@@ -95,7 +95,7 @@ impl TableTree {
     }
 
     /// Returns the bytes from an offset of the encodings of the pairs to the end of a block or of the
-    /// encoding of a pair. They are at least one.
+    /// encoding of a pair. There is at least one.
     fn piece_at(&self, offset: usize) -> &[u8]
         requires { offset < length (joined (map spelling_of_pair self.now)) }
         ensures { IsPiece (drop offset (joined (map spelling_of_pair self.now))) result.now }

@@ -57,8 +57,9 @@ impl TableTree {
         Ok(table)
     }
 
-    /// Returns the limit of well values that the table in which the key of an entry has its value exceeds,
-    /// if there is one. Takes constant time if the pairs of the table and this one are within the limits.
+    /// Returns the limit of well values that the table in which the key of an entry has its value
+    /// exceeds, if there is one. Takes constant time if the pairs of the table and this one are within
+    /// the limits.
     fn fault_with(&self, entry: &Entry) -> Option<PutFault>
         ensures fault { IsFaultOf (with_pair entry.now.0 entry.now.1 self.now) result }
         ensures well { IsWell (v.Table self.now) }

@@ -16,13 +16,14 @@ use std::fmt;
 use std::marker::Model;
 use std::rc::Rc;
 
-/// The least and the greatest number of bytes of a long block. `append_encoding` mostly copies these.
-const MIN_BLOCK: usize = 1024;
+/// The least and the greatest number of bytes of a long block. `append_encoding` mostly copies
+/// these.
+const MIN_BLOCK: usize = 768;
 
 const MAX_BLOCK: usize = 2048;
 
 /// The least and the greatest number of bytes of a short block. Long blocks are made of short ones.
-const MIN_SHORT_BLOCK: usize = 256;
+const MIN_SHORT_BLOCK: usize = 192;
 
 const MAX_SHORT_BLOCK: usize = 512;
 

@@ -66,5 +66,5 @@ returns t c =
     let own : c.bytes-bytes.result.now ≡ spelling_of_pair p = c.bytes-bytes.ensures ∙ ap spelling_of_pair c.deref.ensures in
     let long = ap length own in
     piece_after c.args.self.now root.left.now p root.right.now c.args.offset
-    (c.args.offset - c.totals-before.result.bytes - length c.bytes-bytes.result.now) c.piece_at-2.result.now c.in-Some-root.ensures
-    (omega arith) (omega arith) c.piece_at-2.ensures
+    (c.args.offset - c.totals-before.result.bytes - length c.bytes-bytes.result.now) c.piece_at-2.result.now
+    c.in-Some-root.ensures (omega arith) (omega arith) c.piece_at-2.ensures
