@@ -25,6 +25,7 @@ pub struct Back {
     pass: u16,
     records: u64,
     fault: Option<FrameFault>,
+    can_lend: bool,
 }
 
 impl Model for Back {
@@ -119,6 +120,7 @@ impl Back {
             pass,
             records: 0,
             fault: None,
+            can_lend: device.lend_before(end).is_some(),
         })
     }
 
@@ -175,6 +177,13 @@ impl Back {
                 Err(fault)
             }
         }
+    }
+
+    /// Returns whether the device lent the last body of the file when the reader was started. If not,
+    /// `lend_back` need not be called: a device that has shared values lends that body.
+    #[inline(always)]
+    pub fn can_lend(&self) -> bool {
+        self.can_lend
     }
 
     /// Lends the same body as the next call of `back` would, but from the memory of the device, if the

@@ -141,13 +141,11 @@ place_is c q (suc b) row x some found at =
     let r : row ≡ record { item = x; start = copy_start c q (suc b); width = copied_width c x; known = known_width c x } = cc in
     (ap (λ r. r.item) r, ap (λ r. r.start) r, ap (λ r. r.width) r, ap (λ r. r.known) r)
 
--- There is a row at the place of a child.
-pub place_there : (c : Setting) (q : Production) (j : ℕ) (x : Item) → item_at q j ≡ Some x → (answer : Option PlaceRow)
-    → answer ≡ slice_get (place_rows c q) j → answer ≡ None → ⊥
-place_there c q zero x at answer found none =
-    let e : ◌≡◌ {A = Option PlaceRow} None (Some (record { item = item.Symbol q.left; start = 0; width = 0; known = 0 })) =
-    sym none ∙ found in let bad : ⊥ = cc in bad
-place_there c q (suc b) x at answer found none =
-    let e : ◌≡◌ {A = Option PlaceRow} None
-    (Some (record { item = x; start = copy_start c q (suc b); width = copied_width c x; known = known_width c x })) =
-    sym none ∙ found ∙ place_found c q b x at in let bad : ⊥ = cc in bad
+-- A layout has a row for the place of an item.
+pub place_within : (c : Setting) (p : ℕ) (q : Production) (row : ProductionRow) (j : ℕ) (x : Item) → IsRowOf c p q row
+    → item_at q j ≡ Some x → j < length row.places
+place_within c p q row zero x is at =
+    slice_get_within row.places zero (record { item = item.Symbol q.left; start = 0; width = 0; known = 0 })
+    (ap (λ rows. slice_get rows zero) is.places)
+place_within c p q row (suc b) x is at =
+    slice_get_within row.places (suc b) _ (ap (λ rows. slice_get rows (suc b)) is.places ∙ place_found c q b x at)

@@ -29,12 +29,13 @@ use Rattle.passcode.specs.Rows.{Lists}
 use Rattle.passcode.specs.Settings.{Setting, list_at, setting_of}
 use Rattle.passcode.specs.Sound.{IsSound}
 use Rattle.passrun.specs.declared.layouts.building.PlaceRow.{PlaceRow}
+use Rattle.passrun.specs.declared.layouts.building.ProductionRow.{ProductionRow}
 use Rattle.passrun.specs.declared.layouts.building.RuleSlots.{RuleSlots}
 use Rattle.passrun.specs.declared.passing.machine.Machine.{Machine}
 use Rattle.passrun.specs.declared.passing.open_node.OpenNode.{OpenNode}
 use Rattle.passrun.specs.reading.Fetching.{HasFetched}
 use Rattle.passrun.specs.layouts.BuiltLayouts.{place_rows}
-use Rattle.passrun.specs.layouts.Layouts.{AreSlotsOf}
+use Rattle.passrun.specs.layouts.Layouts.{AreSlotsOf, IsRowAt}
 use Rattle.passrun.specs.passing.Nodes.{after_step}
 use Rattle.passrun.specs.Passed.{IsRunning}
 use Rattle.passrun.specs.passing.RunInvariant.{ContinuesAs, IsConsistent, RunInvariant}
@@ -47,7 +48,7 @@ use Rattle.passrun.specs.layouts.Slots.{copied_width, copy_start, known_width, t
 use Rattle.treefile.proofs.records.Values.{count_of_values}
 use Rattle.passrun.proofs.places.Agreeing.{Agree}
 use Rattle.passrun.proofs.course.Counted.{passing_counted}
-use Rattle.passrun.proofs.places.Entries.{place_is, place_there}
+use Rattle.passrun.proofs.places.Entries.{place_is, place_within}
 use Rattle.passrun.proofs.steps.Facts.{HasOwn, HasPlace, HasRule, HasWaited, given_rule, get_place, own_row, put_place, waited}
 use Rattle.passrun.proofs.Recorded.{empty_is}
 use Rattle.passrun.proofs.steps.Ruled.{given_runs, rule_named}
@@ -196,11 +197,11 @@ module _ (c : Setting) (sound : IsSound c) where
       get_place c sound m.root x (reverse m.waiting.items) m.values.items r.running.transcript
       (meter - m.begun) r.running.todo j at r.running.invariant
 
-  pub no_item : (honest : Bool) (content : List ℕ) (m : Machine) (x : OpenNode) (j : ℕ) (answer : Option PlaceRow)
-      → RunsFrom c honest content m (Some x) → slice_get (list_at c x.production) x.at ≡ Some (instr.Get j) → Answers c x j answer
-      → answer ≡ None → ⊥
-  no_item honest content m x j answer runs at is none = let h = get_at honest content m x j runs at in
-      place_there c h.production j h.item h.occurs answer (is h.production h.there) none
+  pub item_within : (honest : Bool) (content : List ℕ) (m : Machine) (x : OpenNode) (j : ℕ) (row : ProductionRow)
+      → RunsFrom c honest content m (Some x) → slice_get (list_at c x.production) x.at ≡ Some (instr.Get j)
+      → IsRowAt c x.production row → j < length row.places
+  item_within honest content m x j row runs at is = let h = get_at honest content m x j runs at in
+      place_within c x.production h.production row j h.item (is h.production h.there) h.occurs
 
   -- The returned row is that of the place.
   pub got_place : (honest : Bool) (content : List ℕ) (m : Machine) (x : OpenNode) (j : ℕ) (row : PlaceRow)
@@ -259,10 +260,10 @@ module _ (c : Setting) (sound : IsSound c) where
       put_place c sound m.root x (reverse m.waiting.items) m.values.items r.running.transcript
       (meter - m.begun) r.running.todo j at r.running.invariant
 
-  pub no_row : (m : Machine) (x : OpenNode) (j : ℕ) (answer : Option PlaceRow) → RunsSomehow c m (Some x)
-      → slice_get (list_at c x.production) x.at ≡ Some (instr.Put j) → Answers c x j answer → answer ≡ None → ⊥
-  no_row m x j answer runs at is none = let h = put_at m x j runs at in
-      place_there c h.production j h.item h.occurs answer (is h.production h.there) none
+  pub row_within : (m : Machine) (x : OpenNode) (j : ℕ) (row : ProductionRow) → RunsSomehow c m (Some x)
+      → slice_get (list_at c x.production) x.at ≡ Some (instr.Put j) → IsRowAt c x.production row → j < length row.places
+  row_within m x j row runs at is = let h = put_at m x j runs at in
+      place_within c x.production h.production row j h.item (is h.production h.there) h.occurs
 
   pub put_is : (m : Machine) (x : OpenNode) (j : ℕ) (row : PlaceRow) → RunsSomehow c m (Some x)
       → slice_get (list_at c x.production) x.at ≡ Some (instr.Put j) → Answers c x j (Some row) → IsPlace c x j row m.values.items
@@ -391,10 +392,10 @@ module _ (c : Setting) (sound : IsSound c) where
       (subst (λ xs. RunInvariant c m.root (x ∷ xs) m.values.items r.running.transcript (meter - m.begun) r.running.todo) stack
       r.running.invariant)
 
-  pub no_waited : (y : OpenNode) (base : ℕ) (values : List Value) (answer : Option PlaceRow) → HasWaited c y base values
-      → Answers c y y.place answer → answer ≡ None → ⊥
-  no_waited y base values answer h is none =
-      place_there c h.production y.place h.item h.occurs answer (is h.production h.there) none
+  pub waited_within : (y : OpenNode) (base : ℕ) (values : List Value) (row : ProductionRow) → HasWaited c y base values
+      → IsRowAt c y.production row → y.place < length row.places
+  waited_within y base values row h is =
+      place_within c y.production h.production row y.place h.item (is h.production h.there) h.occurs
 
   pub waited_place : (y : OpenNode) (base : ℕ) (values : List Value) (row : PlaceRow) → HasWaited c y base values
       → Answers c y y.place (Some row) → (y.base + row.start + row.width ≤ base) × (base + row.width ≤ length values)

@@ -65,26 +65,18 @@ impl PassContext<'_> {
             ≡ Some result }
         ensures room { node.at + 1 < 2 ^ 64 }
     {
-        let list = self.list(layout, node);
-        if node.at < list.len() {
-            return list[node.at];
-        }
-        unreachable!()
+        self.list(layout, node)[node.at]
     }
 
-    /// Returns the item at a place of an open node and the range of its copies; `None` if the
-    /// production has no such place. The node's production has this layout.
-    pub(crate) fn place(
-        &self,
-        layout: &ProductionRow,
-        node: OpenNode,
-        place: u16,
-    ) -> Option<PlaceRow>
+    /// Returns the item at a place of an open node and the range of its copies. The node's production
+    /// has this layout.
+    pub(crate) fn place(&self, layout: &ProductionRow, node: OpenNode, place: u16) -> PlaceRow
         requires layout { IsRowAt (setting self.now) node.production layout.now }
+        requires there { place < length layout.now.places }
         ensures { (q : Production) → IsProduction self.now.setting.grammar.now node.production q →
-            result ≡ slice_get (place_rows (setting self.now) q) place }
+            Some result ≡ slice_get (place_rows (setting self.now) q) place }
     {
-        layout.places.as_slice().get(place as usize).copied()
+        layout.places.as_slice()[place as usize]
     }
 
     /// Returns the number of values in the row of a production's node.

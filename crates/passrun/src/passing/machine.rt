@@ -107,9 +107,7 @@ impl Machine {
             (D.failures from.old) (D.failures from.new) (IsErrOf result RunFault.Device) }
     {
         let layout = context.row(node.production);
-        let Some(row) = context.place(layout, node, place) else {
-            unreachable!();
-        };
+        let row = context.place(layout, node, place);
         let open_count = self.waiting.len() + 1;
         let end = self.back.end();
         let start = self.values.len();
@@ -164,9 +162,7 @@ impl Machine {
             (E.failures to.old) (E.failures to.new) (IsErrOf result RunFault.Device) }
     {
         let layout = context.row(node.production);
-        let Some(row) = context.place(layout, node, place) else {
-            unreachable!();
-        };
+        let row = context.place(layout, node, place);
         let Item::Terminal(_) = row.item else {
             return Ok(node.after_step(node.child));
         };
@@ -301,9 +297,7 @@ impl Machine {
         let values = following(self.values.as_slice(), node.base);
         put_record(Kind::Node, node.production, values, &mut self.writer, to)?;
         let layout = context.row(outer.production);
-        let Some(row) = context.place(layout, outer, outer.place) else {
-            unreachable!();
-        };
+        let row = context.place(layout, outer, outer.place);
         let copied = outer.base + row.start as usize;
         move_copies(&mut self.values, node.base, copied, row.width as usize);
         Ok(Some(outer))
@@ -323,9 +317,7 @@ impl Machine {
         let Instr::Put(place) = context.instruction(layout, node) else {
             return node;
         };
-        let Some(row) = context.place(layout, node, place) else {
-            unreachable!();
-        };
+        let row = context.place(layout, node, place);
         let Item::Symbol(_) = row.item else {
             return node;
         };

@@ -1,6 +1,7 @@
 //! Reads the next record of the file, which a pass reads backward, as that of an expected item.
 
-ghost use Rattle.std.specs.Prelude.{◌≡◌, ◌≤◌, None, IfErr, IfOk, IsErrOf};
+ghost use Rattle.std.specs.Prelude.{◌≡◌, ◌<◌, ◌≤◌, None, IfErr, IfOk, IsErrOf};
+ghost use Rattle.ag_grammar.specs.grammars.Tree.{max_depth, max_nodes};
 ghost use Rattle.backreader.specs.BackState.{IsOver};
 ghost use Rattle.passrun.specs.reading.Fetching.{HasFetched, IsUnfetched};
 ghost use Rattle.passrun.specs.layouts.Contexts.{CanRun, setting};
@@ -27,6 +28,81 @@ pub(crate) struct ExpectedRecord {
     pub(crate) location: ChildLocation,
     /// The number of open nodes above it.
     pub(crate) open_count: usize,
+}
+
+/// Reads the next record as `fetch` does, from a copy of its bytes, without regard to the limits.
+#[inline(always)]
+fn fetch_copied<D: Device>(
+    context: &PassContext<'_>,
+    expected: ExpectedRecord,
+    back: &mut Back,
+    values: &mut Vec<Carried>,
+    from: &mut D,
+) -> Result<u16, RunFault>
+    requires context { CanRun context.now }
+    requires over { WhenHonest (D.is_honest from.old) (IsOver (D.content from.old) back.old) }
+    requires version { back.old.progress.version ≡ version_two }
+    requires unbroken { back.old.progress.fault ≡ None }
+    requires deep { expected.open_count < max_depth }
+    requires few { back.old.progress.records < max_nodes }
+    ensures fetched { IfOk result (λ p. HasFetched (setting context.now) expected.item p
+        expected.open_count (D.is_honest from.new) (D.content from.old) back.old back.new
+        values.old.items values.new.items) }
+    ensures refused { IfErr result (λ f. WhenHonest (D.is_honest from.new)
+        (IsUnfetched (setting context.now) expected.item expected.open_count
+        (D.content from.old) back.old f)) }
+    ensures content { LeavesContent (D.is_honest from.new)
+        (D.content from.old) (D.content from.new) }
+    ensures persists { Persists (D.is_honest from.old) (D.is_honest from.new)
+        (D.failures from.old) (D.failures from.new) (IsErrOf result RunFault.Device) }
+{
+    let end = back.end();
+    let Some(body) = back.back(from)? else {
+        return Err(RunFault::Damaged(end));
+    };
+    match read_record(context, expected.item, expected.location, body, values) {
+        Ok(number) => Ok(number),
+        Err(RecordFault::Damaged) => Err(RunFault::Damaged(end)),
+        Err(RecordFault::NoMemory) => Err(RunFault::NoMemory),
+    }
+}
+
+/// Reads the next record as `fetch_copied` does, but from the memory of the device if the device
+/// lends it.
+#[inline(never)]
+fn fetch_lent<D: Device>(
+    context: &PassContext<'_>,
+    expected: ExpectedRecord,
+    back: &mut Back,
+    values: &mut Vec<Carried>,
+    from: &mut D,
+) -> Result<u16, RunFault>
+    requires context { CanRun context.now }
+    requires over { WhenHonest (D.is_honest from.old) (IsOver (D.content from.old) back.old) }
+    requires version { back.old.progress.version ≡ version_two }
+    requires unbroken { back.old.progress.fault ≡ None }
+    requires deep { expected.open_count < max_depth }
+    requires few { back.old.progress.records < max_nodes }
+    ensures fetched { IfOk result (λ p. HasFetched (setting context.now) expected.item p
+        expected.open_count (D.is_honest from.new) (D.content from.old) back.old back.new
+        values.old.items values.new.items) }
+    ensures refused { IfErr result (λ f. WhenHonest (D.is_honest from.new)
+        (IsUnfetched (setting context.now) expected.item expected.open_count
+        (D.content from.old) back.old f)) }
+    ensures content { LeavesContent (D.is_honest from.new)
+        (D.content from.old) (D.content from.new) }
+    ensures persists { Persists (D.is_honest from.old) (D.is_honest from.new)
+        (D.failures from.old) (D.failures from.new) (IsErrOf result RunFault.Device) }
+{
+    let end = back.end();
+    let Some(body) = back.lend_back(from) else {
+        return fetch_copied(context, expected, back, values, from);
+    };
+    match read_lent(context, expected.item, expected.location, body, values) {
+        Ok(number) => Ok(number),
+        Err(RecordFault::Damaged) => Err(RunFault::Damaged(end)),
+        Err(RecordFault::NoMemory) => Err(RunFault::NoMemory),
+    }
 }
 
 /// Reads the next record as the expected one, and appends its row to the values. Returns the number
@@ -65,20 +141,8 @@ pub(crate) fn fetch<D: Device>(
     if back.records() >= u64::from(MAX_NODES) {
         return Err(RunFault::TooManyNodes);
     }
-    let end = back.end();
-    if let Some(body) = back.lend_back(from) {
-        return match read_lent(context, expected.item, expected.location, body, values) {
-            Ok(number) => Ok(number),
-            Err(RecordFault::Damaged) => Err(RunFault::Damaged(end)),
-            Err(RecordFault::NoMemory) => Err(RunFault::NoMemory),
-        };
+    if back.can_lend() {
+        return fetch_lent(context, expected, back, values, from);
     }
-    let Some(body) = back.back(from)? else {
-        return Err(RunFault::Damaged(end));
-    };
-    match read_record(context, expected.item, expected.location, body, values) {
-        Ok(number) => Ok(number),
-        Err(RecordFault::Damaged) => Err(RunFault::Damaged(end)),
-        Err(RecordFault::NoMemory) => Err(RunFault::NoMemory),
-    }
+    fetch_copied(context, expected, back, values, from)
 }

@@ -4,7 +4,7 @@ use Rattle.std.proofs.lemmas.Option.{slice_get_within}
 use Rattle.ag_value.specs.Well.{IsWell}
 use Rattle.passrun.specs.layouts.Contexts.{setting}
 use Rattle.passrun.proofs.steps.Supposed.{leads_to}
-use Rattle.passrun.proofs.steps.MachineSteps.{ended_leads, no_waited, none_popped, own_of, popped_none, put_room, root_leads}
+use Rattle.passrun.proofs.steps.MachineSteps.{ended_leads, waited_within, none_popped, own_of, popped_none, put_room, root_leads}
 use Rattle.passrun.proofs.steps.MachineSteps.{some_is, waited_for, waited_place, whole_of}
 use Rattle.passrun.proofs.places.Widths.{few_values}
 use Rattle.passrun.proofs.course.Working.{ended_less}
@@ -49,14 +49,14 @@ row-layout-requires-clause-there g c =
     c.in-Some.outer c.requires.runs c.requires.next c.in-Some.ensures.items in
     slice_get_within c.args.context.now.setting.grammar.now.productions c.in-Some.outer.production h.production h.there
 
-pub unreachable-requires : goal.unreachable-requires
-unreachable-requires g c =
+pub place-row-requires-clause-there : goal.place-row-requires-clause-there
+place-row-requires-clause-there g c =
     let context = setting c.args.context.now in
     let h =
     waited_for context c.requires.context.sound c.args.self.now c.pop.new.self.items c.args.node c.in-Some.outer
     c.requires.runs c.requires.next c.in-Some.ensures.items in
-    no_waited context c.requires.context.sound c.in-Some.outer c.args.node.base c.args.self.now.values.items c.place.result h
-    c.place.ensures c.in_default-place.is
+    waited_within context c.requires.context.sound c.in-Some.outer c.args.node.base c.args.self.now.values.items
+    c.row-layout.result.now h c.row-layout.ensures
 
 pub move_copies-requires-clause-prefix : goal.move_copies-requires-clause-prefix
 move_copies-requires-clause-prefix g c =
@@ -65,7 +65,7 @@ move_copies-requires-clause-prefix g c =
     waited_for context c.requires.context.sound c.args.self.now c.pop.new.self.items c.args.node c.in-Some.outer
     c.requires.runs c.requires.next c.in-Some.ensures.items in
     (waited_place context c.requires.context.sound c.in-Some.outer c.args.node.base c.args.self.now.values.items
-    c.in-Some-place.row h c.in-Some-place.ensures).0
+    c.place-row.result h c.place-row.ensures).0
 
 pub move_copies-requires-clause-row : goal.move_copies-requires-clause-row
 move_copies-requires-clause-row g c =
@@ -74,7 +74,7 @@ move_copies-requires-clause-row g c =
     waited_for context c.requires.context.sound c.args.self.now c.pop.new.self.items c.args.node c.in-Some.outer
     c.requires.runs c.requires.next c.in-Some.ensures.items in
     (waited_place context c.requires.context.sound c.in-Some.outer c.args.node.base c.args.self.now.values.items
-    c.in-Some-place.row h c.in-Some-place.ensures).1
+    c.place-row.result h c.place-row.ensures).1
 
 pub returns-clause-runs : goal.returns-clause-runs
 returns-clause-runs g c =
@@ -84,9 +84,9 @@ returns-clause-runs g c =
     (ended_leads (setting c.args.context.now) c.requires.context.sound c.args.self.now c.move_copies.new.values c.pop.new.self
     c.put_record.new.writer (g.E.Device.is_honest c.put_record.new.to) (g.E.Device.is_honest c.put_record.new.to)
     (g.E.Device.content c.args.to.now)
-    (g.E.Device.content c.put_record.new.to) c.args.node c.in-Some.outer c.in-Some-place.row
-    c.following-values.result.now (c.in-Some.outer.base + c.in-Some-place.row.start)
-    c.requires.runs c.requires.next c.in-Some.ensures.items c.in-Some-place.ensures refl
+    (g.E.Device.content c.put_record.new.to) c.args.node c.in-Some.outer c.place-row.result
+    c.following-values.result.now (c.in-Some.outer.base + c.place-row.result.start)
+    c.requires.runs c.requires.next c.in-Some.ensures.items c.place-row.ensures refl
     (c.following-values.ensures ∙ ap (drop c.args.node.base) c.as_slice.ensures.value) c.in_ok-put_record.ensures.put refl
     c.move_copies.ensures)
 

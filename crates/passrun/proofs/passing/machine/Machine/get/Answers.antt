@@ -6,15 +6,15 @@ use Rattle.passrun.specs.layouts.Contexts.{setting}
 use Rattle.passrun.specs.passing.Places.{kept_values}
 use Rattle.passrun.proofs.Refusing.{get_differs, get_refused, read_row}
 use Rattle.passrun.proofs.steps.Supposed.{from_supposed, leads_from}
-use Rattle.passrun.proofs.steps.MachineSteps.{got_place, got_leads, has_agreed, no_item}
+use Rattle.passrun.proofs.steps.MachineSteps.{got_place, got_leads, has_agreed, item_within}
 use Rattle.passrun.proofs.course.Working.{got_less}
 use Rattle.passrun.proofs.passing.machine.Machine.get.Goals as goal
 
-pub unreachable-requires : goal.unreachable-requires
-unreachable-requires g c =
-    no_item (setting c.args.context.now) c.requires.context.sound (g.D.Device.is_honest c.args.from.now)
-    (g.D.Device.content c.args.from.now) c.args.self.now c.args.node c.args.place c.place.result c.requires.runs
-    c.requires.next c.place.ensures c.in_default.is
+pub place-row-requires-clause-there : goal.place-row-requires-clause-there
+place-row-requires-clause-there g c =
+    item_within (setting c.args.context.now) c.requires.context.sound (g.D.Device.is_honest c.args.from.now)
+    (g.D.Device.content c.args.from.now) c.args.self.now c.args.node c.args.place c.row-layout.result.now c.requires.runs
+    c.requires.next c.row-layout.ensures
 
 pub returns-in_err-number-clause-refused : goal.returns-in_err-number-clause-refused
 returns-in_err-number-clause-refused g c =
@@ -25,17 +25,17 @@ returns-in_err-number-clause-refused g c =
     rw (p.1, p.2)
     (get_refused context c.requires.context.sound (g.D.Device.is_honest c.fetch.new.from)
     (g.D.Device.content c.args.from.now) c.args.self.now c.args.node c.args.place
-    (c.len-open_count.result + 1) c.in-Some.row c.in_err-number.field-0.0
+    (c.len-open_count.result + 1) c.place-row.result c.in_err-number.field-0.0
     (from_supposed context (g.D.Device.is_honest c.args.from.now) (g.D.Device.is_honest c.fetch.new.from)
     (g.D.Device.content c.args.from.now) c.args.self.now
     (Some c.args.node) c.in_err-number.ensures.persists.honest c.requires.runs) c.requires.next
-    c.in-Some.ensures count c.in_err-number.ensures.refused)
+    c.place-row.ensures count c.in_err-number.ensures.refused)
 
 pub matches_copy-requires-clause-known : goal.matches_copy-requires-clause-known
 matches_copy-requires-clause-known g c =
     (got_place (setting c.args.context.now) c.requires.context.sound (g.D.Device.is_honest c.args.from.now)
-    (g.D.Device.content c.args.from.now) c.args.self.now c.args.node c.args.place c.in-Some.row c.requires.runs
-    c.requires.next c.in-Some.ensures).known
+    (g.D.Device.content c.args.from.now) c.args.self.now c.args.node c.args.place c.place-row.result c.requires.runs
+    c.requires.next c.place-row.ensures).known
 
 pub matches_copy-requires-clause-copied : goal.matches_copy-requires-clause-copied
 matches_copy-requires-clause-copied g c =
@@ -43,10 +43,10 @@ matches_copy-requires-clause-copied g c =
     let m = c.args.self.now in
     let i =
     got_place context c.requires.context.sound (g.D.Device.is_honest c.args.from.now)
-    (g.D.Device.content c.args.from.now) m c.args.node c.args.place c.in-Some.row c.requires.runs c.requires.next
-    c.in-Some.ensures in
+    (g.D.Device.content c.args.from.now) m c.args.node c.args.place c.place-row.result c.requires.runs c.requires.next
+    c.place-row.ensures in
     let h = c.in_ok-number.ensures.fetched in
-    let more = read_row context c.in-Some.row.item c.in_ok-number.number h.body m.values.items c.fetch.new.values.items h.taken in
+    let more = read_row context c.place-row.result.item c.in_ok-number.number h.body m.values.items c.fetch.new.values.items h.taken in
     let l = ap length more.1 ∙ length-append m.values.items more.0 in
     let n = ap length c.as_slice.ensures.value in
     let start = i.start in
@@ -58,7 +58,7 @@ matches_copy-requires-clause-start g c =
     let context = setting c.args.context.now in
     let m = c.args.self.now in
     let h = c.in_ok-number.ensures.fetched in
-    let more = read_row context c.in-Some.row.item c.in_ok-number.number h.body m.values.items c.fetch.new.values.items h.taken in
+    let more = read_row context c.place-row.result.item c.in_ok-number.number h.body m.values.items c.fetch.new.values.items h.taken in
     let l = ap length more.1 ∙ length-append m.values.items more.0 in
     let n = ap length c.as_slice.ensures.value in
     omega (arith, m.values.ok.0)
@@ -67,7 +67,7 @@ pub returns-then-not-matches_copy-clause-refused : goal.returns-then-not-matches
 returns-then-not-matches_copy-clause-refused g c = λ honest.
     let context = setting c.args.context.now in
     let m = c.args.self.now in
-    let row = c.in-Some.row in
+    let row = c.place-row.result in
     let content = g.D.Device.content c.args.from.now in
     let read = c.fetch.new.values.items in
     let vs = c.as_slice.result.now in
@@ -79,7 +79,7 @@ returns-then-not-matches_copy-clause-refused g c = λ honest.
     (c.len-open_count.result + 1) row c.fetch.new.back read (drop copied vs)
     (drop c.len-start.result vs) copied c.len-start.result c.matches_copy.result
     (from_supposed context (g.D.Device.is_honest c.args.from.now) (g.D.Device.is_honest c.fetch.new.from) content m
-    (Some c.args.node) c.in_ok-number.ensures.persists.honest c.requires.runs) c.requires.next c.in-Some.ensures
+    (Some c.args.node) c.in_ok-number.ensures.persists.honest c.requires.runs) c.requires.next c.place-row.ensures
     (omega (arith, m.waiting.ok.0)) c.in_ok-number.ensures.fetched c.matches_copy.ensures
     (λ yes. let z = sym c.if-not-matches_copy.true ∙ yes in cc) (ap (drop copied) c.as_slice.ensures.value)
     (ap (drop c.len-start.result) c.as_slice.ensures.value) refl start honest)
@@ -88,7 +88,7 @@ pub returns-clause-runs : goal.returns-clause-runs
 returns-clause-runs g c =
     let context = setting c.args.context.now in
     let m = c.args.self.now in
-    let row = c.in-Some.row in
+    let row = c.place-row.result in
     let read = c.fetch.new.values.items in
     let h = c.in_ok-number.ensures.fetched in
     let vs = c.as_slice.result.now in
@@ -104,7 +104,7 @@ returns-clause-runs g c =
     (g.D.Device.is_honest c.fetch.new.from) (g.D.Device.is_honest c.fetch.new.from) (g.D.Device.content c.args.from.now)
     (g.D.Device.content c.fetch.new.from) c.args.node c.after_step.result c.args.place c.in_ok-number.number
     (c.len-open_count.result + 1) row read
-    c.requires.next c.in-Some.ensures h (omega (arith, m.waiting.ok.0))
+    c.requires.next c.place-row.ensures h (omega (arith, m.waiting.ok.0))
     (λ q there begins. has_agreed context q c.args.node c.args.place row.item c.in_ok-number.number h.body m.values.items read
     (drop copied vs) (drop c.len-start.result vs) copied c.len-start.result c.matches_copy.result h.taken
     c.matches_copy.ensures c.if-not-matches_copy.false
@@ -118,5 +118,5 @@ returns-clause-less g c =
     got_less (setting c.args.context.now) c.requires.context.sound c.args.self.now c.fetch.new.back c.truncate_row.new.values
     c.fetch.new.values.items (g.D.Device.is_honest c.fetch.new.from)
     (g.D.Device.content c.args.from.now) c.args.node c.after_step.result c.args.place c.in_ok-number.number
-    (c.len-open_count.result + 1) c.in-Some.row.item
+    (c.len-open_count.result + 1) c.place-row.result.item
     c.requires.next c.in_ok-number.ensures.fetched c.after_step.ensures

@@ -1,10 +1,9 @@
 use Rattle.std.specs.Option.{option_map}
-use Rattle.std.proofs.Common.{List, Bor, ℕ, ap, arith, ◌∙◌}
-use Rattle.backreader.specs.BackState.{BackState}
+use Rattle.std.proofs.Common.{List, Bor, ℕ}
 use Rattle.std.proofs.lemmas.Result.{err_from_is_err_and}
 use Rattle.passrun.specs.layouts.Contexts.{setting}
 use Rattle.passrun.proofs.course.Ahead.{frame_unfetched}
-use Rattle.passrun.proofs.reading.fetching.fetch.Goals as goal
+use Rattle.passrun.proofs.reading.fetching.fetch_copied.Goals as goal
 
 pub returns-in_err-body-clause-refused : goal.returns-in_err-body-clause-refused
 returns-in_err-body-clause-refused g c =
@@ -12,9 +11,5 @@ returns-in_err-body-clause-refused g c =
     rw (p.1, p.2)
     (λ honest. frame_unfetched (setting c.args.context.now) c.args.expected.item c.args.expected.open_count
     (g.D.Device.content c.args.from.now) c.args.back.now
-    (option_map (λ (body : Bor (List ℕ)). body.now)) c.in_err-body.field-0.0 c.if-expected-ge-MAX_DEPTH.false
-    (omega (arith, c.records.ensures))
-    (rw c.requires.version at
-    (rw c.in_default.ensures.none at
-    (c.in_err-body.ensures.exact (ap (λ (b : BackState). b.progress.fault) c.in_default.ensures.none
-    ∙ c.requires.unbroken) honest))))
+    (option_map (λ (body : Bor (List ℕ)). body.now)) c.in_err-body.field-0.0 c.requires.deep c.requires.few
+    (rw c.requires.version at (c.in_err-body.ensures.exact c.requires.unbroken honest)))
