@@ -18,10 +18,9 @@ use crate::builtins::numbers::{
     decimal, difference, difference_of, number, product, product_of, quotient, quotient_of,
     remainder, remainder_of, sum, sum_of,
 };
-use crate::builtins::tables;
 use crate::builtins::tables::{get, has, keys};
 use crate::builtins::texts::join;
-use crate::builtins::trees;
+use crate::builtins::{tables, trees};
 use crate::concatenation::concatenate;
 use crate::measured::Measured;
 use crate::operand::{Held, Operand};
@@ -236,7 +235,11 @@ fn call_with_shared(
 
 /// Computes the value of a call of one argument for a table that is a tree. Only `keys` takes memory.
 #[tactic(auto, unfolding(ag_grammar::specs::values::Arguments::leftmost))]
-fn call_with_table(alloc: Global, call: UnaryCall, argument: &TableTree) -> Result<Measured, NoMemory>
+fn call_with_table(
+    alloc: Global,
+    call: UnaryCall,
+    argument: &TableTree,
+) -> Result<Measured, NoMemory>
     ensures { IfOk result (λ m. m ≡ unary_call_result call (value.Table argument.now)) }
 {
     let value = match call {

@@ -126,8 +126,14 @@ impl<'e> Held<'e> {
                 carried: Some(carried),
             }));
         }
+        if let Some(number) = carried.as_number() {
+            return Ok(Held::Owned(Measured::new(Value::Num(number))));
+        }
         if let Some(text) = carried.as_text() {
             return Ok(Held::Shared(text.share()?));
+        }
+        if let Some(table) = carried.as_table() {
+            return Ok(Held::LentTable(table));
         }
         Ok(Held::Owned(Measured::new(carried.to_value(alloc)?)))
     }
@@ -216,20 +222,20 @@ impl<'e> Held<'e> {
                 let _len = text.len();
                 Ok(Carried::from_text(text))
             }
-            Held::LentTable(table) => carried_table(alloc, table.share()?),
-            Held::Table(table) => carried_table(alloc, table),
+            Held::LentTable(table) => Ok(carried_table(table.share()?)),
+            Held::Table(table) => Ok(carried_table(table)),
         }
     }
 }
 
 /// Returns a table that is a tree as a carried value.
-fn carried_table(alloc: Global, table: TableTree) -> Result<Carried, NoMemory>
-    ensures value { IfOk result (λ c. c ≡ value.Table table) }
-    ensures well { IfOk result (λ c. IsWell c) }
+fn carried_table(table: TableTree) -> Carried
+    ensures value { result ≡ value.Table table }
+    ensures well { IsWell result }
 {
     // for the prover: the table is within the limits
     let _weight = table.weight();
-    Carried::new(alloc, Value::Table(table.to_table(alloc)?))
+    Carried::from_table(table)
 }
 
 /// The value of a part of an expression: a held value, or that of a binding by its number from the

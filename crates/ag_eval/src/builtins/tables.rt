@@ -16,12 +16,10 @@ use crate::builtins::comparing::truth;
 use crate::builtins::trees;
 use crate::measured::Measured;
 use crate::operand::Held;
+use ag_carried::MAX_FLAT_TABLE;
 use ag_value::{ErrorCode, Items, NoMemory, Text, Value};
 use std::alloc::Global;
 use table_tree::TableTree;
-
-/// The greatest number of pairs of a table that `put` keeps flat.
-const MAX_FLAT_TABLE: usize = 16;
 
 /// Returns the number of keys before a key, which is its index in a table.
 fn index_of(pairs: &[(Text, Value)], key: &str) -> usize

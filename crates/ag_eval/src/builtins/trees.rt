@@ -17,6 +17,7 @@ use std::alloc::Global;
 use table_tree::{PutFault, TableTree};
 
 /// Computes `len(t)`.
+#[tactic(auto, using(ag_grammar::proofs::values::Wells::short))]
 pub fn length(table: &TableTree) -> Value
     ensures value { result ≡ length_of (value.Table table.now) }
     ensures well { IsWell result }
@@ -27,6 +28,7 @@ pub fn length(table: &TableTree) -> Value
 }
 
 /// Computes `get(t, k)`: the key's value, lent.
+#[tactic(auto, using(crate::proofs::Trees::got))]
 pub fn get<'a>(table: &'a TableTree, key: &Value) -> Held<'a>
     ensures { held_value result ≡ get_result (value.Table table.now) key.now }
 {
@@ -62,6 +64,7 @@ pub fn keys(alloc: Global, table: &TableTree) -> Result<Value, NoMemory>
 
 /// Computes `put(t, k, v)`: a tree that shares nodes with this one. Takes memory for the nodes on the way
 /// to the key.
+#[tactic(auto, using(ag_grammar::proofs::values::Wells::short, ag_grammar::proofs::values::Growing::item_of))]
 pub fn put<'a>(
     alloc: Global,
     table: &TableTree,
