@@ -48,7 +48,7 @@ pub fn fault<'e>(code: ErrorCode) -> Operand<'e>
 }
 
 /// Computes the value of an operator for two operands. Takes memory if `++` extends its left
-/// argument, and for a plain copy of a text whose bytes are shared.
+/// argument, and for a plain copy of a text whose bytes are shared or of a tree.
 pub fn apply<'e>(
     alloc: Global,
     operator: Operator,
@@ -252,7 +252,7 @@ fn call_with_table(
 }
 
 /// Computes the value of a call of two operands. Takes memory for a value that it makes, and for a
-/// plain copy of a text whose bytes are shared.
+/// plain copy of a text whose bytes are shared or of a tree.
 pub fn call_binary<'e>(
     alloc: Global,
     call: BinaryCall,
@@ -273,7 +273,7 @@ pub fn call_binary<'e>(
 }
 
 /// Computes `append(l, v)`: the list is extended, and copied first if it is lent or bound. The item
-/// is moved, or copied if it is lent, bound or shared.
+/// is moved, or copied if it is lent, bound, shared or a tree.
 #[tactic(auto, using(crate::proofs::Arguments::no_faults))]
 fn call_append<'e>(
     alloc: Global,
@@ -398,7 +398,7 @@ fn or_else<'e>(value: Operand<'e>, other: Operand<'e>, bindings: &Bindings<'e>) 
 }
 
 /// Computes `put(t, k, v)`: a tree shares its nodes with the result. A flat table is extended, and copied
-/// first if it is lent or bound. The value is moved, or copied if it is lent, bound or shared.
+/// first if it is lent or bound. The value is moved, or copied if it is lent, bound, shared or a tree.
 #[tactic(auto, using(crate::proofs::Arguments::no_faults))]
 pub fn call_put<'e>(
     alloc: Global,

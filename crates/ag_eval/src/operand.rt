@@ -178,7 +178,7 @@ impl<'e> Held<'e> {
         }
     }
 
-    /// Returns the value as an owned one: a copy if it is lent or shared, or a tree.
+    /// Returns the value as an owned one: a copy if it is lent, shared or a tree.
     pub fn into_owned(self, alloc: Global) -> Result<Measured, NoMemory>
         ensures { IfOk result (λ m. m ≡ held_value self.entry) }
     {
@@ -306,7 +306,7 @@ impl<'e> Operand<'e> {
         }
     }
 
-    /// Returns the value as an owned one: a copy if it is lent, bound or shared, or a tree.
+    /// Returns the value as an owned one: a copy if it is lent, bound, shared or a tree.
     pub fn into_owned(self, alloc: Global, bindings: &Bindings<'e>) -> Result<Measured, NoMemory>
         requires { IsIn bindings.now self }
         ensures { IfOk result (λ m. m ≡ operand_value bindings.now self.entry) }
