@@ -6,4 +6,5 @@ pub mod Keys
 pub mod Putting
 pub mod Spelled
 pub mod Texts
+pub mod Trees
 pub mod Values

@@ -32,6 +32,7 @@ loan_value (loan.Carried c) = c.now
 abbrev pub ref_value : ValueRef → Value
 ref_value (reference.Plain v) = v.now
 ref_value (reference.Shared text) = value.Text text.now
+ref_value (reference.Table table) = value.Table table.now
 
 -- the plain value, lent or copied
 abbrev pub plain_value : Plain → Value
@@ -43,12 +44,16 @@ abbrev pub held_value : Held → Value
 held_value (held.Lent v) = v
 held_value (held.Owned v) = v
 held_value (held.Shared text) = value.Text text
+held_value (held.LentTable table) = value.Table table.now
+held_value (held.Table table) = value.Table table
 
 -- whether the value is lent
 abbrev pub is_lent : Held → Bool
 is_lent (held.Lent v) = true
 is_lent (held.Owned v) = false
 is_lent (held.Shared text) = false
+is_lent (held.LentTable table) = true
+is_lent (held.Table table) = false
 
 -- the value of an operand, by the values of the bindings
 abbrev pub operand_value : List Value → Operand → Value

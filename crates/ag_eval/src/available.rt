@@ -106,7 +106,7 @@ impl<'e, V: Lender> Evaluation<'e, V> {
         ensures well { IfSome result (λ v. IsWell v.now) }
     {
         match self.tree() {
-            Node::Literal(literal) => literal_value(literal).lent(),
+            Node::Literal(literal) => literal_value(literal).lent()?.as_value(),
             Node::Occurrence(k) => self.occurrence(*k),
             _ => None,
         }

@@ -8,3 +8,4 @@ pub mod lists;
 pub mod numbers;
 pub mod tables;
 pub mod texts;
+pub mod trees;

@@ -18,9 +18,9 @@ use crate::builtins::numbers::{
     decimal, difference, difference_of, number, product, product_of, quotient, quotient_of,
     remainder, remainder_of, sum, sum_of,
 };
-use crate::builtins::tables;
 use crate::builtins::tables::{get, has, keys};
 use crate::builtins::texts::join;
+use crate::builtins::{tables, trees};
 use crate::concatenation::concatenate;
 use crate::measured::Measured;
 use crate::operand::{Held, Operand};
@@ -30,6 +30,7 @@ use ag_carried::SharedText;
 use ag_grammar::{BinaryCall, Operator, UnaryCall};
 use ag_value::{ErrorCode, NoMemory, Value};
 use std::alloc::Global;
+use table_tree::TableTree;
 
 /// Makes an operand of an owned value.
 fn owned_operand<'e>(value: Value) -> Operand<'e>
@@ -47,7 +48,7 @@ pub fn fault<'e>(code: ErrorCode) -> Operand<'e>
 }
 
 /// Computes the value of an operator for two operands. Takes memory if `++` extends its left
-/// argument, and for a plain copy of a text whose bytes are shared.
+/// argument, and for a plain copy of a text whose bytes are shared or of a tree.
 pub fn apply<'e>(
     alloc: Global,
     operator: Operator,
@@ -189,6 +190,7 @@ fn unary_value(alloc: Global, call: UnaryCall, argument: ValueRef<'_>) -> Result
     match argument {
         ValueRef::Plain(value) => call_with_plain(alloc, call, value),
         ValueRef::Shared(text) => call_with_shared(alloc, call, text),
+        ValueRef::Table(table) => call_with_table(alloc, call, table),
     }
 }
 
@@ -231,8 +233,26 @@ fn call_with_shared(
     Ok(Measured::new(value))
 }
 
+/// Computes the value of a call of one argument for a table that is a tree. Only `keys` takes memory.
+#[tactic(auto, unfolding(ag_grammar::specs::values::Arguments::leftmost))]
+fn call_with_table(
+    alloc: Global,
+    call: UnaryCall,
+    argument: &TableTree,
+) -> Result<Measured, NoMemory>
+    ensures { IfOk result (λ m. m ≡ unary_call_result call (value.Table argument.now)) }
+{
+    let value = match call {
+        UnaryCall::Len => trees::length(argument),
+        UnaryCall::Keys => trees::keys(alloc, argument)?,
+        UnaryCall::IsError => truth(false),
+        UnaryCall::Text | UnaryCall::Number => Value::Fault(ErrorCode::Kind),
+    };
+    Ok(Measured::new(value))
+}
+
 /// Computes the value of a call of two operands. Takes memory for a value that it makes, and for a
-/// plain copy of a text whose bytes are shared.
+/// plain copy of a text whose bytes are shared or of a tree.
 pub fn call_binary<'e>(
     alloc: Global,
     call: BinaryCall,
@@ -253,7 +273,7 @@ pub fn call_binary<'e>(
 }
 
 /// Computes `append(l, v)`: the list is extended, and copied first if it is lent or bound. The item
-/// is moved, or copied if it is lent, bound or shared.
+/// is moved, or copied if it is lent, bound, shared or a tree.
 #[tactic(auto, using(crate::proofs::Arguments::no_faults))]
 fn call_append<'e>(
     alloc: Global,
@@ -299,14 +319,50 @@ fn call_reading<'e>(
     if let Some(outside) = first.from_outside(&*bindings) {
         return Ok(Operand::Held(reading_result(alloc, call, outside, second.get())?));
     }
-    let first = first.get(&*bindings).to_plain(alloc)?;
-    let held = reading_result(alloc, call, first.get(), second.get())?;
+    let held = reading_result(alloc, call, first.get(&*bindings), second.get())?;
     Ok(Operand::owned(held.into_owned(alloc)?))
 }
 
 /// Computes the value of a call that only reads its arguments, for arguments that are not errors; a
 /// part of the first one is lent.
 fn reading_result<'a>(
+    alloc: Global,
+    call: BinaryCall,
+    first: ValueRef<'a>,
+    second: &Value,
+) -> Result<Held<'a>, NoMemory>
+    requires no_append { call ≢ BinaryCall.Append }
+    requires no_orelse { call ≢ BinaryCall.OrElse }
+    requires no_fault { leftmost (ref_value first ∷ second.now ∷ []) ≡ None }
+    requires first { IsWell (ref_value first) }
+    ensures { IfOk result (λ h. held_value h
+        ≡ binary_call_result call (ref_value first.entry) second.now) }
+{
+    match first {
+        ValueRef::Plain(value) => read_plain(alloc, call, value, second),
+        ValueRef::Table(table) => Ok(read_table(call, table, second)),
+        // no call reads a part of a text
+        ValueRef::Shared(_) => Ok(Held::fault(ErrorCode::Kind)),
+    }
+}
+
+/// Computes the value of such a call whose first argument is a table that is a tree.
+fn read_table<'a>(call: BinaryCall, table: &'a TableTree, second: &Value) -> Held<'a>
+    requires no_append { call ≢ BinaryCall.Append }
+    requires no_orelse { call ≢ BinaryCall.OrElse }
+    requires no_fault { leftmost (value.Table table.now ∷ second.now ∷ []) ≡ None }
+    ensures { held_value result ≡ binary_call_result call (value.Table table.now) second.now }
+{
+    match call {
+        BinaryCall::Get => trees::get(table, second),
+        BinaryCall::Has => Held::Owned(Measured::new(trees::has(table, second))),
+        // `nth` and `join` take lists, and the other calls keep their arguments
+        _ => Held::fault(ErrorCode::Kind),
+    }
+}
+
+/// Computes the value of such a call whose first argument is a plain value.
+fn read_plain<'a>(
     alloc: Global,
     call: BinaryCall,
     first: &'a Value,
@@ -341,8 +397,8 @@ fn or_else<'e>(value: Operand<'e>, other: Operand<'e>, bindings: &Bindings<'e>) 
     }
 }
 
-/// Computes `put(t, k, v)`: the table is extended, and copied first if it is lent or bound. The
-/// value is moved, or copied if it is lent, bound or shared.
+/// Computes `put(t, k, v)`: a tree shares its nodes with the result. A flat table is extended, and copied
+/// first if it is lent or bound. The value is moved, or copied if it is lent, bound, shared or a tree.
 #[tactic(auto, using(crate::proofs::Arguments::no_faults))]
 pub fn call_put<'e>(
     alloc: Global,
@@ -364,7 +420,10 @@ pub fn call_put<'e>(
         return Ok(fault(code));
     }
     let key = key.to_plain(alloc)?;
-    let table = table.into_owned(alloc, &*bindings)?;
     let item = item.into_owned(alloc, &*bindings)?;
-    Ok(Operand::owned(tables::put(alloc, table, key.get(), item)?))
+    if let ValueRef::Table(tree) = table.get(&*bindings) {
+        return Ok(Operand::Held(trees::put(alloc, tree, key.get(), item)?));
+    }
+    let table = table.into_owned(alloc, &*bindings)?;
+    Ok(Operand::Held(tables::put(alloc, table, key.get(), item)?))
 }

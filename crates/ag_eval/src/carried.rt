@@ -17,10 +17,11 @@ use std::alloc::Global;
 /// Computes the value of an expression as `eval` does, for an `env` that lends carried values, and
 /// raises the meter by one evaluation, also if memory is refused. If the value is that of an
 /// occurrence (`$0.env`, also as chosen by `if`, `let` or `orelse`), it is shared and not copied.
-/// A text of more than 256 bytes that `++` made keeps the shared bytes of its operands.
+/// A text of more than 256 bytes that `++` made keeps the shared bytes of its operands, and a table of
+/// more than 16 pairs that `put` extended keeps the nodes that it shares.
 ///
 /// Takes memory as `eval` does, and for the encoding of a large value that the evaluation made, unless that
-/// is such a text. Fails with `NoMemory` if memory is refused.
+/// is such a text or table. Fails with `NoMemory` if memory is refused.
 #[inline(always)]
 pub fn eval_carried<C: CarriedEnvironment>(
     alloc: Global,

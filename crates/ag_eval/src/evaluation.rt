@@ -93,7 +93,7 @@ impl<'e, V: Lender> Evaluation<'e, V> {
     }
 
     /// Returns the value of the occurrence with this number: lent, shared if it is a text whose bytes
-    /// are shared, or a copy if it is a number that is not stored as a value.
+    /// are shared, or a copy if it is a number or an error that is not stored as a value.
     #[inline(always)]
     fn held_occurrence(&self, k: usize) -> Result<Held<'e>, NoMemory>
         requires { k < length self.now.expr.now.1 }
@@ -368,7 +368,8 @@ fn decided(condition: ValueRef<'_>) -> Result<bool, ErrorCode>
 /// a value that the expression made; and of a value that it made and bound, if another name is
 /// bound to it too. A text of more than 256 bytes that `++` makes shares the bytes of its operands;
 /// it is copied if it is the result, an item of a list or table, a key or a separator, or an
-/// argument of `number` or `<`.
+/// argument of `number` or `<`. A table of more than 16 pairs that `put` extends becomes a tree that shares
+/// its nodes; it is copied if it is the result, or an item of a list or table.
 #[inline(always)]
 pub fn eval<V: Environment>(
     alloc: Global,

@@ -13,11 +13,12 @@ ghost use Rattle.ag_eval.specs.Operands.{IsIn, held_value, is_lent, operand_valu
 use crate::bindings::Bindings;
 use crate::builtins::faults::fault_of;
 use crate::measured::Measured;
-use crate::value_ref::{ValueRef, copied_text};
+use crate::value_ref::{ValueRef, copied_table, copied_text};
 use ag_carried::{Carried, SharedText};
 use ag_value::{ErrorCode, NoMemory, Value, copy};
 use std::alloc::Global;
 use std::marker::Model;
+use table_tree::TableTree;
 
 /// A well value that is lent by the environment or by the expression, with the carried value that
 /// stores it, if there is one.
@@ -86,12 +87,14 @@ impl<'e> Lent<'e> {
 }
 
 /// A well value that is lent by the environment or the expression, or that is owned, or a text whose
-/// bytes are shared.
+/// bytes are shared, or a table that is a tree: lent by the environment, or with nodes that are shared.
 #[derive(Debug, Drop)]
 pub enum Held<'e> {
     Lent(Lent<'e>),
     Owned(Measured),
     Shared(SharedText),
+    LentTable(&'e TableTree),
+    Table(TableTree),
 }
 
 impl<'e> Held<'e> {
@@ -111,7 +114,7 @@ impl<'e> Held<'e> {
     }
 
     /// Lends a carried value, or shares it if it is a text whose bytes are shared, or copies it if it
-    /// is a number.
+    /// is a number or an error.
     #[inline(always)]
     pub fn from_carried(alloc: Global, carried: &'e Carried) -> Result<Held<'e>, NoMemory>
         requires { IsWell carried.now }
@@ -123,8 +126,14 @@ impl<'e> Held<'e> {
                 carried: Some(carried),
             }));
         }
+        if let Some(number) = carried.as_number() {
+            return Ok(Held::Owned(Measured::new(Value::Num(number))));
+        }
         if let Some(text) = carried.as_text() {
             return Ok(Held::Shared(text.share()?));
+        }
+        if let Some(table) = carried.as_table() {
+            return Ok(Held::LentTable(table));
         }
         Ok(Held::Owned(Measured::new(carried.to_value(alloc)?)))
     }
@@ -138,18 +147,21 @@ impl<'e> Held<'e> {
             Held::Lent(lent) => ValueRef::Plain(lent.get()),
             Held::Owned(owned) => ValueRef::Plain(owned.get()),
             Held::Shared(text) => ValueRef::from_text(text),
+            Held::LentTable(table) => ValueRef::from_table(*table),
+            Held::Table(table) => ValueRef::from_table(table),
         }
     }
 
     /// Returns the value if it is lent, with the lifetime of the loan.
-    pub fn lent(&self) -> Option<&'e Value>
+    pub fn lent(&self) -> Option<ValueRef<'e>>
         ensures lends { is_some result ≡ is_lent self.now }
-        ensures value { IfSome result (λ v. v.now ≡ held_value self.now) }
-        ensures well { IfSome result (λ v. IsWell v.now) }
+        ensures value { IfSome result (λ v. ref_value v ≡ held_value self.now) }
+        ensures well { IfSome result (λ v. IsWell (ref_value v)) }
     {
         match self {
-            Held::Lent(lent) => Some(lent.get()),
-            Held::Owned(_) | Held::Shared(_) => None,
+            Held::Lent(lent) => Some(ValueRef::Plain(lent.get())),
+            Held::LentTable(table) => Some(ValueRef::from_table(*table)),
+            Held::Owned(_) | Held::Shared(_) | Held::Table(_) => None,
         }
     }
 
@@ -161,10 +173,12 @@ impl<'e> Held<'e> {
             Held::Lent(lent) => Ok(Held::Lent(lent.again())),
             Held::Owned(owned) => Ok(Held::Owned(Measured::new(copy(alloc, owned.get())?))),
             Held::Shared(text) => Ok(Held::Shared(text.share()?)),
+            Held::LentTable(table) => Ok(Held::LentTable(*table)),
+            Held::Table(table) => Ok(Held::Table(table.share()?)),
         }
     }
 
-    /// Returns the value as an owned one: a copy if it is lent or shared.
+    /// Returns the value as an owned one: a copy if it is lent, shared or a tree.
     pub fn into_owned(self, alloc: Global) -> Result<Measured, NoMemory>
         ensures { IfOk result (λ m. m ≡ held_value self.entry) }
     {
@@ -172,6 +186,8 @@ impl<'e> Held<'e> {
             Held::Lent(lent) => Ok(Measured::new(copy(alloc, lent.get())?)),
             Held::Owned(owned) => Ok(owned),
             Held::Shared(text) => copied_text(alloc, &text),
+            Held::LentTable(table) => copied_table(alloc, table),
+            Held::Table(table) => copied_table(alloc, &table),
         }
     }
 
@@ -206,8 +222,20 @@ impl<'e> Held<'e> {
                 let _len = text.len();
                 Ok(Carried::from_text(text))
             }
+            Held::LentTable(table) => Ok(carried_table(table.share()?)),
+            Held::Table(table) => Ok(carried_table(table)),
         }
     }
+}
+
+/// Returns a table that is a tree as a carried value.
+fn carried_table(table: TableTree) -> Carried
+    ensures value { result ≡ value.Table table }
+    ensures well { IsWell result }
+{
+    // for the prover: the table is within the limits
+    let _weight = table.weight();
+    Carried::from_table(table)
 }
 
 /// The value of a part of an expression: a held value, or that of a binding by its number from the
@@ -255,11 +283,11 @@ impl<'e> Operand<'e> {
 
     /// Returns the value if the environment or the expression lends it, with the lifetime of that
     /// loan.
-    pub fn from_outside(&self, bindings: &Bindings<'e>) -> Option<&'e Value>
+    pub fn from_outside(&self, bindings: &Bindings<'e>) -> Option<ValueRef<'e>>
         requires { IsIn bindings.now self.now }
         ensures lends { (held : HeldValue) → self.now ≡ Operand.Held held → is_some result ≡ is_lent held }
-        ensures value { IfSome result (λ v. v.now ≡ operand_value bindings.now self.now) }
-        ensures well { IfSome result (λ v. IsWell v.now) }
+        ensures value { IfSome result (λ v. ref_value v ≡ operand_value bindings.now self.now) }
+        ensures well { IfSome result (λ v. IsWell (ref_value v)) }
     {
         match self {
             Operand::Held(held) => held.lent(),
@@ -278,7 +306,7 @@ impl<'e> Operand<'e> {
         }
     }
 
-    /// Returns the value as an owned one: a copy if it is lent, bound or shared.
+    /// Returns the value as an owned one: a copy if it is lent, bound, shared or a tree.
     pub fn into_owned(self, alloc: Global, bindings: &Bindings<'e>) -> Result<Measured, NoMemory>
         requires { IsIn bindings.now self }
         ensures { IfOk result (λ m. m ≡ operand_value bindings.now self.entry) }

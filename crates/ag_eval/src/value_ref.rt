@@ -1,5 +1,5 @@
-//! Values that are read: plain ones, which are stored as a `Value`, and texts whose bytes are shared. The
-//! functions that return a `Result` fail with `NoMemory` if memory is refused.
+//! Values that are read: plain ones, which are stored as a `Value`, texts whose bytes are shared, and
+//! tables that are trees. The functions that return a `Result` fail with `NoMemory` if memory is refused.
 
 ghost use Rattle.std.specs.Prelude.{◌≡◌, ◌≤◌, IfOk, IfSome, MatchOption, length, false, true};
 ghost use Rattle.ag_value.specs.Measure.{max_weight};
@@ -13,12 +13,14 @@ use crate::operand::Lent;
 use ag_carried::SharedText;
 use ag_value::{NoMemory, Value};
 use std::alloc::Global;
+use table_tree::TableTree;
 
-/// A value that is read: a plain one, or a text whose bytes are shared.
+/// A value that is read: a plain one, a text whose bytes are shared, or a table that is a tree.
 #[derive(Clone, Copy)]
 pub enum ValueRef<'a> {
     Plain(&'a Value),
     Shared(&'a SharedText),
+    Table(&'a TableTree),
 }
 
 impl<'a> ValueRef<'a> {
@@ -32,6 +34,16 @@ impl<'a> ValueRef<'a> {
         ValueRef::Shared(text)
     }
 
+    /// Lends a table that is a tree.
+    pub fn from_table(table: &'a TableTree) -> ValueRef<'a>
+        ensures value { ref_value result ≡ value.Table table.entry.now }
+        ensures well { IsWell (ref_value result) }
+    {
+        // for the prover: the table is within the limits
+        let _weight = table.weight();
+        ValueRef::Table(table)
+    }
+
     /// Returns the value if it is a plain one.
     #[inline(always)]
     pub fn as_value(self) -> Option<&'a Value>
@@ -39,7 +51,7 @@ impl<'a> ValueRef<'a> {
     {
         match self {
             ValueRef::Plain(value) => Some(value),
-            ValueRef::Shared(_) => None,
+            ValueRef::Shared(_) | ValueRef::Table(_) => None,
         }
     }
 
@@ -56,10 +68,12 @@ impl<'a> ValueRef<'a> {
             ValueRef::Plain(Value::Text(text)) => Some(text.as_str().len()),
             ValueRef::Plain(_) => None,
             ValueRef::Shared(text) => Some(text.len()),
+            ValueRef::Table(_) => None,
         }
     }
 
-    /// Returns the value as a plain one. Takes memory for a copy of a text whose bytes are shared.
+    /// Returns the value as a plain one. Takes memory for a copy of a text whose bytes are shared, and of
+    /// a tree.
     pub fn to_plain(self, alloc: Global) -> Result<Plain<'a>, NoMemory>
         requires { IsWell (ref_value self) }
         ensures { IfOk result (λ p. plain_value p ≡ ref_value self.entry) }
@@ -67,11 +81,12 @@ impl<'a> ValueRef<'a> {
         match self {
             ValueRef::Plain(value) => Ok(Plain::Lent(Lent::new(value))),
             ValueRef::Shared(text) => Ok(Plain::Copied(copied_text(alloc, text)?)),
+            ValueRef::Table(table) => Ok(Plain::Copied(copied_table(alloc, table)?)),
         }
     }
 }
 
-/// A plain well value: lent, or a copy of a text whose bytes are shared.
+/// A plain well value: lent, or a copy of a text whose bytes are shared or of a tree.
 #[derive(Drop)]
 pub enum Plain<'a> {
     Lent(Lent<'a>),
@@ -98,4 +113,13 @@ pub fn copied_text(alloc: Global, text: &SharedText) -> Result<Measured, NoMemor
     // for the prover: the text is within the limits
     let _len = text.len();
     Ok(Measured::new(Value::Text(text.to_text(alloc)?)))
+}
+
+/// Copies a table that is a tree into a plain value.
+pub fn copied_table(alloc: Global, table: &TableTree) -> Result<Measured, NoMemory>
+    ensures { IfOk result (λ m. m ≡ value.Table table.now) }
+{
+    // for the prover: the table is within the limits
+    let _weight = table.weight();
+    Ok(Measured::new(Value::Table(table.to_table(alloc)?)))
 }

@@ -30,8 +30,8 @@ pub fn equal(left: &Value, right: &Value) -> Value
     truth(same(left, right))
 }
 
-/// Computes `a == b`, where a text may have shared bytes. Takes memory, for a copy, only for such a
-/// text beside a plain text of the same length.
+/// Computes `a == b`, where a text may have shared bytes and a table may be a tree. Takes memory, for a
+/// copy, only for such a text beside a plain text of the same length.
 pub fn equal_shared(
     alloc: Global,
     left: ValueRef<'_>,
@@ -56,6 +56,11 @@ fn same_values(alloc: Global, left: ValueRef<'_>, right: ValueRef<'_>) -> Result
         (ValueRef::Shared(one), ValueRef::Shared(other)) => Ok(one.same(other)),
         (ValueRef::Shared(text), ValueRef::Plain(plain)) => has_bytes(alloc, plain, text),
         (ValueRef::Plain(plain), ValueRef::Shared(text)) => has_bytes(alloc, plain, text),
+        (ValueRef::Table(one), ValueRef::Table(other)) => Ok(one.same(other)),
+        (ValueRef::Table(table), ValueRef::Plain(plain)) => Ok(table.is_value(plain)),
+        (ValueRef::Plain(plain), ValueRef::Table(table)) => Ok(table.is_value(plain)),
+        (ValueRef::Table(_), ValueRef::Shared(_)) => Ok(false),
+        (ValueRef::Shared(_), ValueRef::Table(_)) => Ok(false),
     }
 }
 

@@ -32,7 +32,7 @@ pub fn length(value: &Value) -> Value
 }
 
 /// Returns a length as a number.
-fn count(length: usize) -> Value
+pub fn count(length: usize) -> Value
     requires { length ≤ max_weight }
     ensures value { result ≡ value.Num (pos length) }
     ensures well { IsWell result }

@@ -13,10 +13,13 @@ ghost use Rattle.ag_grammar.specs.values.Tables.{IsIndex, get_result, has_result
 ghost use Rattle.ag_grammar.specs.values.Tables.{pair_with, put_result, with_pair};
 
 use crate::builtins::comparing::truth;
+use crate::builtins::trees;
 use crate::measured::Measured;
 use crate::operand::Held;
+use ag_carried::MAX_FLAT_TABLE;
 use ag_value::{ErrorCode, Items, NoMemory, Text, Value};
 use std::alloc::Global;
+use table_tree::TableTree;
 
 /// Returns the number of keys before a key, which is its index in a table.
 fn index_of(pairs: &[(Text, Value)], key: &str) -> usize
@@ -72,10 +75,41 @@ pub fn has(table: &Value, key: &Value) -> Value
     }
 }
 
-/// Computes `put(t, k, v)`: the table gets the pair, or the key a new value. Takes memory for the
-/// growth.
+/// Computes `put(t, k, v)`: the table gets the pair, or the key a new value. A table of more than
+/// `MAX_FLAT_TABLE` pairs becomes a tree. Takes memory for the growth, or for the tree.
+pub fn put<'a>(
+    alloc: Global,
+    table: Measured,
+    key: &Value,
+    value: Measured,
+) -> Result<Held<'a>, NoMemory>
+    requires key { IsWell key.now }
+    requires no_fault { fault_of value ≡ None }
+    ensures { IfOk result (λ h. held_value h ≡ put_result table key.now value) }
+{
+    if pair_count(table.get()) <= MAX_FLAT_TABLE {
+        return Ok(Held::Owned(put_flat(alloc, table, key, value)?));
+    }
+    match table.into_value() {
+        Value::Table(pairs) => {
+            let tree = TableTree::from_table(alloc, pairs)?;
+            trees::put(alloc, &tree, key, value)
+        }
+        _ => Ok(Held::fault(ErrorCode::Kind)),
+    }
+}
+
+/// Returns the number of pairs of a table, and 0 for a value of another kind.
+fn pair_count(value: &Value) -> usize {
+    match value {
+        Value::Table(pairs) => pairs.as_slice().len(),
+        _ => 0,
+    }
+}
+
+/// Computes `put(t, k, v)` for a table that stays flat.
 #[tactic(auto, using(ag_grammar::proofs::values::Wells::short))]
-pub fn put(
+fn put_flat(
     alloc: Global,
     table: Measured,
     key: &Value,

@@ -1,0 +1,15 @@
+use Rattle.std.proofs.Common.{◌≡◌, sym, ap, ◌∙◌}
+use Rattle.ag_value.specs.declared.value.Value.TheVariants as value
+use Rattle.ag_carried.proofs.Tables.{equal_pairs}
+use Rattle.ag_eval.specs.Operands.{ref_value}
+use Rattle.ag_eval.proofs.builtins.comparing.same_values.Goals as goal
+
+pub returns-in-Table-Table : goal.returns-in-Table-Table
+returns-in-Table-Table c =
+    let one = c.in-Table-Table.one.now in
+    let other = c.in-Table-Table.other.now in
+    let left : ref_value c.args.left ≡ value.Table one = ap ref_value c.in-Table-Table.is-0 in
+    let right : ref_value c.args.right ≡ value.Table other = ap ref_value c.in-Table-Table.is-1 in (
+      λ same. left ∙ (ap value.Table (c.same-in-Table-Table.ensures.0 same) ∙ sym right),
+      λ equal. c.same-in-Table-Table.ensures.1 (equal_pairs one other (sym left ∙ (equal ∙ right))),
+    )

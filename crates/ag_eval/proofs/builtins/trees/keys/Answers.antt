@@ -1,0 +1,9 @@
+use Rattle.std.proofs.Common.{refl}
+use Rattle.ag_value.specs.declared.value.Value.TheVariants as value
+use Rattle.ag_grammar.proofs.values.Tables.{well_keys}
+use Rattle.ag_eval.proofs.builtins.trees.keys.Goals as goal
+
+pub returns-clause-well : goal.returns-clause-well
+returns-clause-well c =
+    well_keys (value.Table c.args.table.now) c.args.table.now c.in_ok-keys.field-0 refl c.weight-weight.ensures.well
+    c.in_ok-keys.ensures
