@@ -46,7 +46,8 @@ matches_copy-requires-clause-copied g c =
     (g.D.Device.content c.args.from.now) m c.args.node c.args.place c.place-row.result c.requires.runs c.requires.next
     c.place-row.ensures in
     let h = c.in_ok-number.ensures.fetched in
-    let more = read_row context c.place-row.result.item c.in_ok-number.number h.body m.values.items c.fetch.new.values.items h.taken in
+    let more =
+    read_row context c.place-row.result.item c.in_ok-number.number h.body m.values.items c.fetch.new.values.items h.taken in
     let l = ap length more.1 ∙ length-append m.values.items more.0 in
     let n = ap length c.as_slice.ensures.value in
     let start = i.start in
@@ -58,7 +59,8 @@ matches_copy-requires-clause-start g c =
     let context = setting c.args.context.now in
     let m = c.args.self.now in
     let h = c.in_ok-number.ensures.fetched in
-    let more = read_row context c.place-row.result.item c.in_ok-number.number h.body m.values.items c.fetch.new.values.items h.taken in
+    let more =
+    read_row context c.place-row.result.item c.in_ok-number.number h.body m.values.items c.fetch.new.values.items h.taken in
     let l = ap length more.1 ∙ length-append m.values.items more.0 in
     let n = ap length c.as_slice.ensures.value in
     omega (arith, m.values.ok.0)

@@ -12,7 +12,8 @@ place-row-requires-clause-there c =
 pub returns-clause-runs : goal.returns-clause-runs
 returns-clause-runs c = λ meter honest content to_honest to.
     left_leads (setting c.args.context.now) c.requires.context.sound c.args.self.now to_honest to c.args.node c.after_step.result
-    c.in-Put.place c.in-Symbol.field-0 c.place-row.result c.requires.runs c.in-Put.ensures.there c.place-row.ensures c.in-Symbol.is
+    c.in-Put.place c.in-Symbol.field-0 c.place-row.result c.requires.runs c.in-Put.ensures.there c.place-row.ensures
+    c.in-Symbol.is
     c.after_step.ensures honest content meter
 
 pub returns-clause-most : goal.returns-clause-most
