@@ -1,5 +1,5 @@
 -- The entries of a layout.
-use Rattle.std.proofs.Common.{ℕ, zero, suc, ◌≡◌, ◌+◌, ◌<◌, List, [], ◌∷◌, Option, Some, None, map, slice_get, get_or, length}
+use Rattle.std.proofs.Common.{ℕ, zero, suc, ◌≡◌, ◌+◌, ◌<◌, List, [], ◌∷◌, Option, Some, map, slice_get, get_or, length}
 use Rattle.std.proofs.Common.{refl, ap, ◌∙◌, subst, sym, arith}
 use Rattle.std.proofs.lemmas.List.{length-map}
 use Rattle.std.proofs.lemmas.Option.{slice_get-get_or, slice_get_within}

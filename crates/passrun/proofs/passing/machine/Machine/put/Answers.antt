@@ -13,15 +13,15 @@ place-row-requires-clause-there g c =
     row_within (setting c.args.context.now) c.requires.context.sound c.args.self.now c.args.node c.args.place
     c.row-layout.result.now c.requires.runs c.requires.next c.row-layout.ensures
 
-pub returns-in_default-item-clause-runs : goal.returns-in_default-item-clause-runs
-returns-in_default-item-clause-runs g c =
-    let s = symbol_there c.place-row.result.item c.in_default-item.not-Terminal in
+pub returns-in_default-clause-runs : goal.returns-in_default-clause-runs
+returns-in_default-clause-runs g c =
+    let s = symbol_there c.place-row.result.item c.in_default.not-Terminal in
     left_leads (setting c.args.context.now) c.requires.context.sound c.args.self.now (g.E.Device.is_honest c.args.to.now)
     (g.E.Device.content c.args.to.now) c.args.node c.after_step.result c.args.place s.0 c.place-row.result c.requires.runs
     c.requires.next c.place-row.ensures s.1 c.after_step.ensures
 
-pub returns-in_default-item-clause-less : goal.returns-in_default-item-clause-less
-returns-in_default-item-clause-less g c =
+pub returns-in_default-clause-less : goal.returns-in_default-clause-less
+returns-in_default-clause-less g c =
     put_less (setting c.args.context.now) c.requires.context.sound c.args.self.now c.args.self.now.writer c.args.node
     c.after_step.result c.args.place c.requires.runs c.requires.next c.after_step.ensures
 
