@@ -1,5 +1,5 @@
--- The scanner as plain functions: the word at the beginning of characters, and all tokens of a text. They
--- agree with the definitions.
+-- The scanner as plain functions: the word at the beginning of characters, and all tokens of a text. That they agree with
+-- the definitions is the clause `tokens` of `scan`.
 use Rattle.std.specs.Prelude.{◌≡◌, ℕ, zero, suc, ◌+◌, ◌-◌, Bool, cond, nat_eq, nat_lt, ◌==◌, List, [], ◌∷◌, ◌++◌, length, take}
 use Rattle.std.specs.Prelude.{drop, Option, Some, None, slice_get, chars, encode_utf8_all}
 use Rattle.std.specs.Cmp.Lexicographic.{pointwise}

@@ -1,6 +1,6 @@
 //! The scanner: the tokens of a sentence, by longest match over the literals and the token classes
-//! of a grammar. A word is a part of the sentence that is the text of a literal or of the form of a
-//! class. A token is the longest word at its offset, with its terminal.
+//! of a grammar. A word is a part of the sentence that is the text of a literal, or has the form of a
+//! class that the grammar uses. A token is the longest word at its offset, with its terminal.
 #![tactic(auto)]
 
 mod cutting;

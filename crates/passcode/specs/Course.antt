@@ -47,9 +47,9 @@ place_of q k t = suc (nth (direction_of k) (arity q) t)
 abbrev pub IsVisited : Production → ℕ → ℕ → ℕ → Type 0
 IsVisited q k n j = (t : ℕ) × (t < n) × (j ≡ place_of q k t)
 
--- The value of an argument of pass p at a place doesn't change any more: it is of an earlier pass, or is on the left side, or at
--- a child in which the pass has run. An argument on the left side is inherited, since the grammar is normal, so its value was set
--- before the pass came to this node.
+-- The value of an argument of pass p, at most k, at a place doesn't change any more in pass k: p is an earlier pass, or the
+-- argument is on the left side, or at a child in which the pass has run. (That p is at most k is added by `IsAvailable`.) An
+-- argument on the left side is inherited, since the grammar is normal, so its value was set before the pass came to this node.
 abbrev pub IsFinal : Production → ℕ → State → ℕ → ℕ → Type 0
 IsFinal q k s j p = (p < k) ⊎ ((j ≡ 0) ⊎ IsVisited q k (run_count s.phase s.turn) j)
 

@@ -1,13 +1,13 @@
 //! The phase of a node while a pass runs its list.
 
-/// The phase of a node: which part of a child's instructions was run last.
+/// The phase of a node of a symbol: which part of a child's instructions was run last.
 #[derive(Clone, Copy, Debug, PartialEq, Eq)]
 pub enum Phase {
     /// Between two children, before the first one, or after the last one and before `End`.
     Between,
-    /// At a child that is a node, after its `Get` and before its `Go`.
+    /// At a child that is a symbol, after its `Get` and before its `Go`.
     Got,
-    /// At a child before its `Put`: after the `Go` of a node, or after the `Get` of a token.
+    /// At a child before its `Put`: after the `Go` of a symbol, or after the `Get` of a token.
     Gone,
     /// After `End`.
     Ended,
