@@ -4,7 +4,7 @@ use Rattle.std.proofs.Common.{slice_index_or, refl, sym, ◌∙◌, arith}
 use Rattle.std.specs.Int.{w32, to_be_bytes}
 use Rattle.std.specs.Str.{is_utf8}
 use Rattle.std.proofs.lemmas.Str.{IsUtf8-append, IsUtf8-from_is_utf8, is_utf8-from_IsUtf8}
-use Rattle.ag_carried.specs.SharedText.{IsShortText}
+use Rattle.ag_carried.specs.SharedText.{IsTextWithinLimits}
 use Rattle.ag_value.specs.Measure.{max_weight, weight_of}
 use Rattle.ag_value.specs.Spelling.{spelling_of}
 use Rattle.ag_value.specs.Well.{IsWell}
@@ -13,14 +13,14 @@ use Rattle.ag_value.proofs.Lengths.{length-spelling}
 use Rattle.ag_value.proofs.Layers.{depth-Text, fault-Text, item-Text, spelling-Text, weight-Text}
 
 -- a well text is within the limits
-pub short_text : (bytes : List ℕ) → IsWell (v.Text bytes) → IsShortText bytes
+pub short_text : (bytes : List ℕ) → IsWell (v.Text bytes) → IsTextWithinLimits bytes
 short_text bytes well = record {
   utf8 = sym (item-Text bytes) ∙ (sym (rw (fault-Text bytes) refl) ∙ well.formed);
   short = let light : weight_of (v.Text bytes) ≤ max_weight = well.light in omega (arith, light, weight-Text bytes);
 }
 
 -- a text within the limits is well
-pub well_text : (bytes : List ℕ) → IsShortText bytes → IsWell (v.Text bytes)
+pub well_text : (bytes : List ℕ) → IsTextWithinLimits bytes → IsWell (v.Text bytes)
 well_text bytes h = record {
   formed = rw (fault-Text bytes) (item-Text bytes ∙ h.utf8);
   shallow = let d = depth-Text bytes in omega (arith, d);

@@ -1,5 +1,5 @@
 -- The value of a `Carried`, for each form of storage. All of this is this project's.
-use Rattle.ag_value.specs.declared.value.Value.{Value, Fault, Num, Table, Text}
+use Rattle.ag_value.specs.declared.value.Value.{Value, Fault, List, Num, Table, Text}
 use Rattle.ag_carried.specs.declared.carried.Form.{Form}
 
 -- the value
@@ -7,6 +7,7 @@ abbrev pub form_value : Form → Value
 form_value (Form.Number n) = Num n
 form_value (Form.Fault code) = Fault code
 form_value (Form.Small small) = small.value
-form_value (Form.Shared shared) = shared.value
+form_value (Form.Spelled spelled) = spelled.value
 form_value (Form.Text text) = Text text
 form_value (Form.Table table) = Table table
+form_value (Form.List list) = List list

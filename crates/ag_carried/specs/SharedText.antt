@@ -4,6 +4,6 @@ use Rattle.std.specs.Str.{is_utf8}
 use Rattle.ag_value.specs.Measure.{max_weight}
 
 -- a text within the limits: UTF-8, and not too long for the five bytes before it in its encoding
-pub record IsShortText (bytes : List ℕ) : Type 0 where
+pub record IsTextWithinLimits (bytes : List ℕ) : Type 0 where
   pub utf8 : is_utf8 bytes ≡ true
   pub short : 5 + length bytes ≤ max_weight

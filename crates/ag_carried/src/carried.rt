@@ -7,20 +7,23 @@ ghost use Rattle.ag_value.specs.Spelling.{spelling_of};
 ghost use Rattle.ag_value.specs.Well.{IsWell};
 ghost use Rattle.ag_value.specs.declared.value.ErrorCode.{ErrorCode};
 ghost use Rattle.ag_value.specs.declared.value.Value.{Value as AttributeValue, Fault, Num};
-ghost use Rattle.ag_value.specs.declared.value.Value.{Table as TableValue, Text as TextValue};
+ghost use Rattle.ag_value.specs.declared.value.Value.{List as ListValue, Table as TableValue};
+ghost use Rattle.ag_value.specs.declared.value.Value.{Text as TextValue};
+ghost use Rattle.ag_carried.specs.Prefixes.{IsPrefix};
 
 use crate::encoded::Encoded;
-use crate::shared_table::prefix_of_table;
 use crate::shared_text::{SharedText, prefix_of_text};
 use crate::spelled::Spelled;
+use crate::trees::{prefix_of_list, prefix_of_table};
 use ag_value::{ErrorCode, NoMemory, Value, ValueFault, copy, decode, encode, same, weight};
+use list_tree::ListTree;
 use std::alloc::Global;
 use std::marker::Model;
 use std::mem::replace;
 use std::rc::Rc;
 use table_tree::TableTree;
 
-/// The greatest weight, in bytes, of a value that is stored without its encoding. A heavier one takes
+/// The greatest weight, in bytes, of a `Value` that is stored without its encoding. A heavier one takes
 /// one more allocation.
 const MAX_SMALL_WEIGHT: u64 = 24;
 
@@ -34,14 +37,16 @@ enum Form {
     Number(i64),
     /// An error.
     Fault(ErrorCode),
-    /// Another small value, shared.
+    /// Another small value.
     Small(Rc<Value>),
-    /// A large value, shared beside its encoding.
-    Shared(Rc<Spelled>),
-    /// A text whose bytes are shared.
+    /// A large value beside its encoding.
+    Spelled(Rc<Spelled>),
+    /// A text made of parts, which other texts share.
     Text(SharedText),
-    /// A table whose pairs are shared.
+    /// A table that is a tree, whose nodes other tables share.
     Table(TableTree),
+    /// A list that is a tree, whose nodes other lists share.
+    List(ListTree),
 }
 
 /// A value that is passed from node to node. Contracts see the value. Numbers and errors are stored
@@ -128,7 +133,7 @@ fn shared_value(alloc: Global, spelled: Spelled) -> Result<Carried, NoMemory>
 {
     let shared = Rc::new(alloc, spelled)?;
     Ok(Carried {
-        form: Form::Shared(shared),
+        form: Form::Spelled(shared),
     })
 }
 
@@ -207,7 +212,7 @@ impl Carried {
         store_by_weight(alloc, value, weight)
     }
 
-    /// Returns a shared text as a carried value. Takes no memory.
+    /// Returns a text made of parts as a carried value. Takes no memory.
     pub fn from_text(text: SharedText) -> Carried
         ensures { result ≡ TextValue text }
     {
@@ -216,7 +221,7 @@ impl Carried {
         }
     }
 
-    /// Returns a table whose versions share their pairs as a carried value. Takes no memory.
+    /// Returns a table that is a tree as a carried value. Takes no memory.
     pub fn from_table(table: TableTree) -> Carried
         ensures { result ≡ TableValue table }
     {
@@ -225,7 +230,16 @@ impl Carried {
         }
     }
 
-    /// Returns the shared text, or `None` if the value is stored otherwise.
+    /// Returns a list that is a tree as a carried value. Takes no memory.
+    pub fn from_list(list: ListTree) -> Carried
+        ensures { result ≡ ListValue list }
+    {
+        Carried {
+            form: Form::List(list),
+        }
+    }
+
+    /// Returns the text made of parts, or `None` if the value is stored otherwise.
     #[inline(always)]
     pub fn as_text(&self) -> Option<&SharedText>
         ensures { IfSome result (λ t. self.now ≡ TextValue t.now) }
@@ -247,16 +261,28 @@ impl Carried {
         }
     }
 
-    /// Returns the value, or `None` if it is a number, an error, a shared text or a tree, which are
-    /// not stored as a `Value`; `to_value` returns those.
+    /// Returns the list as a tree, or `None` if the value is stored otherwise.
+    #[inline(always)]
+    pub fn as_list(&self) -> Option<&ListTree>
+        ensures { IfSome result (λ l. self.now ≡ ListValue l.now) }
+    {
+        match &self.form {
+            Form::List(list) => Some(list),
+            _ => None,
+        }
+    }
+
+    /// Returns the value, or `None` if it is a number, an error, a text made of parts or a tree, which
+    /// are not stored as a `Value`; `to_value` returns those.
     #[inline(always)]
     pub fn as_value(&self) -> Option<&Value>
         ensures { IfSome result (λ v. v.now ≡ self.now) }
     {
         match &self.form {
-            Form::Number(_) | Form::Fault(_) | Form::Text(_) | Form::Table(_) => None,
             Form::Small(value) => Some(&**value),
-            Form::Shared(shared) => Some(shared.value()),
+            Form::Spelled(spelled) => Some(spelled.value()),
+            Form::Number(_) | Form::Fault(_) => None,
+            Form::Text(_) | Form::Table(_) | Form::List(_) => None,
         }
     }
 
@@ -267,9 +293,20 @@ impl Carried {
     {
         match &self.form {
             Form::Number(number) => Some(*number),
-            Form::Fault(_) | Form::Text(_) | Form::Table(_) => None,
+            _ => self.number_in_value(),
+        }
+    }
+
+    /// Returns the number, as `as_number` does. Not inlined.
+    #[inline(never)]
+    fn number_in_value(&self) -> Option<i64>
+        ensures { MatchOption result ((n : ℤ) → self.now ≡ Num n → ⊥) (λ n. self.now ≡ Num n) }
+    {
+        match &self.form {
+            Form::Number(number) => Some(*number),
             Form::Small(value) => number_in(&**value),
-            Form::Shared(shared) => number_in(shared.value()),
+            Form::Spelled(spelled) => number_in(spelled.value()),
+            Form::Fault(_) | Form::Text(_) | Form::Table(_) | Form::List(_) => None,
         }
     }
 
@@ -280,9 +317,9 @@ impl Carried {
     {
         match &self.form {
             Form::Fault(code) => Some(*code),
-            Form::Number(_) | Form::Text(_) | Form::Table(_) => None,
             Form::Small(value) => fault_in(&**value),
-            Form::Shared(shared) => fault_in(shared.value()),
+            Form::Spelled(spelled) => fault_in(spelled.value()),
+            Form::Number(_) | Form::Text(_) | Form::Table(_) | Form::List(_) => None,
         }
     }
 
@@ -329,39 +366,44 @@ impl Carried {
             Form::Number(number) => Form::Number(*number),
             Form::Fault(code) => Form::Fault(*code),
             Form::Small(value) => Form::Small(value.clone()?),
-            Form::Shared(shared) => Form::Shared(shared.clone()?),
+            Form::Spelled(spelled) => Form::Spelled(spelled.clone()?),
             Form::Text(text) => Form::Text(text.share()?),
             Form::Table(table) => Form::Table(table.share()?),
+            Form::List(list) => Form::List(list.share()?),
         };
         Ok(Carried { form })
     }
 
-    /// Returns a shared value as a carried one.
-    pub(crate) fn of_shared(shared: Rc<Spelled>) -> Carried
-        ensures { result ≡ shared.value }
+    /// Returns a value beside its encoding as a carried one.
+    pub(crate) fn of_spelled(spelled: Rc<Spelled>) -> Carried
+        ensures { result ≡ spelled.value }
     {
         Carried {
-            form: Form::Shared(shared),
+            form: Form::Spelled(spelled),
         }
     }
 
-    /// Returns whether the value is shared: a large value, a text that is a `SharedText`, or a table
-    /// that is a tree.
+    /// Returns whether `encoded` returns the encoding: of a large value, a text made of parts or a tree.
     #[inline(always)]
     pub fn is_shared(&self) -> bool {
-        matches!(&self.form, Form::Shared(_) | Form::Text(_) | Form::Table(_))
+        matches!(
+            &self.form,
+            Form::Spelled(_) | Form::Text(_) | Form::Table(_) | Form::List(_)
+        )
     }
 
-    /// Returns the encoding of a shared value, as one more owner, or `None` if the value is stored
-    /// otherwise. Takes no memory, and fails with NoMemory if the value has 2^64 - 1 owners.
+    /// Returns the encoding of a large value, of a text made of parts or of a tree, for one more owner,
+    /// or `None` for another value. Takes no memory, and fails with NoMemory if the value has 2^64 - 1
+    /// owners.
     #[inline(always)]
     pub fn encoded(&self) -> Result<Option<Encoded>, NoMemory>
         ensures { IfOk result (λ found. IfSome found (λ e. e ≡ spelling_of self.now)) }
     {
         match &self.form {
-            Form::Shared(shared) => Ok(Some(Encoded::of(shared.clone()?))),
+            Form::Spelled(spelled) => Ok(Some(Encoded::of(spelled.clone()?))),
             Form::Text(text) => Ok(Some(Encoded::of_text(text.share()?))),
             Form::Table(table) => Ok(Some(Encoded::of_table(table.share()?))),
+            Form::List(list) => Ok(Some(Encoded::of_list(list.share()?))),
             Form::Number(_) | Form::Fault(_) | Form::Small(_) => Ok(None),
         }
     }
@@ -374,14 +416,15 @@ impl Carried {
             Form::Number(number) => Ok(Value::Num(*number)),
             Form::Fault(code) => Ok(Value::Fault(*code)),
             Form::Small(value) => copy(alloc, &**value),
-            Form::Shared(shared) => copy(alloc, shared.value()),
+            Form::Spelled(spelled) => copy(alloc, spelled.value()),
             Form::Text(text) => Ok(Value::Text(text.to_text(alloc)?)),
             Form::Table(table) => Ok(Value::Table(table.to_table(alloc)?)),
+            Form::List(list) => Ok(Value::List(list.to_list(alloc)?)),
         }
     }
 
-    /// Returns the value. Takes memory, for a copy, only if the value has other owners, is a shared
-    /// text or is a tree. Fails with NoMemory.
+    /// Returns the value. Takes memory, for a copy, only if the value has other owners, is a text made of
+    /// parts or is a tree. Fails with NoMemory.
     pub fn into_value(self, alloc: Global) -> Result<Value, NoMemory>
         ensures { IfOk result (λ v. v ≡ self) }
     {
@@ -393,12 +436,13 @@ impl Carried {
                 Ok(value) => Ok(value),
                 Err(shared) => copy(alloc, &*shared),
             },
-            Form::Shared(shared) => match Rc::try_unwrap(shared) {
+            Form::Spelled(shared) => match Rc::try_unwrap(shared) {
                 Ok(spelled) => Ok(spelled.into_value()),
                 Err(shared) => copy(alloc, shared.value()),
             },
             Form::Text(text) => Ok(Value::Text(text.to_text(alloc)?)),
             Form::Table(table) => Ok(Value::Table(table.to_table(alloc)?)),
+            Form::List(list) => Ok(Value::List(list.to_list(alloc)?)),
         }
     }
 
@@ -419,25 +463,32 @@ impl Carried {
         ensures { IsTrue result ↔ (self.now ≡ other.now) }
     {
         match (&self.form, &other.form) {
-            (Form::Shared(one), Form::Shared(another)) => one.same(another),
+            (Form::Spelled(one), Form::Spelled(another)) => one.same(another),
             (Form::Number(number), _) => other.is_number(*number),
             (_, Form::Number(number)) => self.is_number(*number),
             (Form::Fault(code), _) => other.is_fault(*code),
             (_, Form::Fault(code)) => self.is_fault(*code),
             (Form::Small(one), Form::Small(another)) => same(&**one, &**another),
-            (Form::Small(one), Form::Shared(another)) => same(&**one, another.value()),
-            (Form::Shared(one), Form::Small(another)) => same(one.value(), &**another),
+            (Form::Small(one), Form::Spelled(another)) => same(&**one, another.value()),
+            (Form::Spelled(one), Form::Small(another)) => same(one.value(), &**another),
             (Form::Text(one), Form::Text(another)) => one.same(another),
             (Form::Text(text), Form::Small(value)) => text.is_value(&**value),
-            (Form::Text(text), Form::Shared(shared)) => text.is_value(shared.value()),
+            (Form::Text(text), Form::Spelled(spelled)) => text.is_value(spelled.value()),
             (Form::Small(value), Form::Text(text)) => text.is_value(&**value),
-            (Form::Shared(shared), Form::Text(text)) => text.is_value(shared.value()),
+            (Form::Spelled(spelled), Form::Text(text)) => text.is_value(spelled.value()),
             (Form::Table(one), Form::Table(another)) => one.same(another),
             (Form::Table(table), Form::Small(value)) => table.is_value(&**value),
-            (Form::Table(table), Form::Shared(shared)) => table.is_value(shared.value()),
+            (Form::Table(table), Form::Spelled(spelled)) => table.is_value(spelled.value()),
             (Form::Small(value), Form::Table(table)) => table.is_value(&**value),
-            (Form::Shared(shared), Form::Table(table)) => table.is_value(shared.value()),
+            (Form::Spelled(spelled), Form::Table(table)) => table.is_value(spelled.value()),
+            (Form::List(one), Form::List(another)) => one.same(another),
+            (Form::List(list), Form::Small(value)) => list.is_value(&**value),
+            (Form::List(list), Form::Spelled(spelled)) => list.is_value(spelled.value()),
+            (Form::Small(value), Form::List(list)) => list.is_value(&**value),
+            (Form::Spelled(spelled), Form::List(list)) => list.is_value(spelled.value()),
             (Form::Table(_), Form::Text(_)) | (Form::Text(_), Form::Table(_)) => false,
+            (Form::Table(_), Form::List(_)) | (Form::List(_), Form::Table(_)) => false,
+            (Form::Text(_), Form::List(_)) | (Form::List(_), Form::Text(_)) => false,
         }
     }
 
@@ -473,12 +524,13 @@ impl Carried {
             Form::Number(number) => encode(&Value::Num(*number), out),
             Form::Fault(code) => encode(&Value::Fault(*code), out),
             Form::Small(value) => encode(&**value, out),
-            Form::Shared(shared) => {
-                out.extend_from_slice(shared.bytes())?;
+            Form::Spelled(spelled) => {
+                out.extend_from_slice(spelled.bytes())?;
                 Ok(())
             }
             Form::Text(text) => Ok(text.append_encoding(out)?),
             Form::Table(table) => table.append_encoding(out),
+            Form::List(list) => list.append_encoding(out),
         }
     }
 
@@ -499,8 +551,9 @@ impl Carried {
         Ok((with_encoding(alloc, value, &input[..len])?, len))
     }
 
-    /// Reads a value as `read` does. If `self` is shared or a short text, and the input begins with its
-    /// encoding, returns `self` for one more owner, and decodes nothing.
+    /// Reads a value as `read` does. If the input begins with the encoding of `self`, and `self` is a large
+    /// value, a text or a tree, returns `self` for one more owner, and decodes nothing.
+    #[tactic(auto, using(crate::proofs::Encodings::encodings))]
     pub fn read_beside(&self, alloc: Global, input: &[u8]) -> Result<(Carried, usize), ValueFault>
         ensures well { IfOk result (λ found. IsWell found.0) }
         ensures within { IfOk result (λ found. found.1 ≤ length input.now) }
@@ -511,43 +564,32 @@ impl Carried {
             (λ found. found ≡ (value, length (spelling_of value)))
             (λ e. e ≡ ValueFault.NoMemory) }
     {
-        match &self.form {
-            Form::Shared(shared) => {
-                if let Some(len) = shared.prefix_of(input) {
-                    return Ok((Carried::of_shared(shared.clone()?), len));
-                }
-            }
-            Form::Text(text) => {
-                if let Some(len) = text.prefix_of(input) {
-                    return Ok((Carried::from_text(text.share()?), len));
-                }
-            }
-            Form::Table(table) => {
-                if let Some(len) = prefix_of_table(table, input) {
-                    return Ok((Carried::from_table(table.share()?), len));
-                }
-            }
-            Form::Small(value) => {
-                if let Some(len) = prefix_of_small(&**value, input) {
-                    let form = Form::Small(value.clone()?);
-                    return Ok((Carried { form }, len));
-                }
-            }
-            Form::Number(_) | Form::Fault(_) => {}
+        match self.prefix_of(input) {
+            Some(len) => Ok((self.share_any()?, len)),
+            None => Carried::read(alloc, input),
         }
-        Carried::read(alloc, input)
+    }
+
+    /// Returns the length of the encoding in bytes, if the value is a large one, a text or a tree, and the
+    /// input begins with its encoding. Takes no memory.
+    fn prefix_of(&self, input: &[u8]) -> Option<usize>
+        ensures { IfSome result (IsPrefix self.now input.now) }
+    {
+        match &self.form {
+            Form::Spelled(spelled) => spelled.prefix_of(input),
+            Form::Text(text) => text.prefix_of(input),
+            Form::Table(table) => prefix_of_table(table, input),
+            Form::List(list) => prefix_of_list(list, input),
+            Form::Small(value) => prefix_of_small(&**value, input),
+            Form::Number(_) | Form::Fault(_) => None,
+        }
     }
 }
 
 /// Returns the length of the encoding of a short text in bytes, if the input begins with it. Returns `None`
-/// for a value that is no short text. Takes no memory.
+/// for any other value. Takes no memory.
 fn prefix_of_small(value: &Value, input: &[u8]) -> Option<usize>
-    ensures within { IfSome result (λ len. len ≤ length input.now) }
-    ensures spelled { IfSome result (λ len. take len input.now ≡ spelling_of value.now) }
-    ensures well { IfSome result (λ _. IsWell value.now) }
-    ensures only { IfSome result (λ len. (other : AttributeValue) (rest : List ℕ) → IsWell other
-        → input.now ≡ spelling_of other ++ rest
-        → (value.now ≡ other) × (len ≡ length (spelling_of other))) }
+    ensures { IfSome result (IsPrefix value.now input.now) }
 {
     match value {
         Value::Text(text) => prefix_of_text(text.as_str(), input),

@@ -1,15 +1,17 @@
-//! The encoding of a large value, a shared text or a table, shared by its owners.
+//! The encoding of a large value, a text made of parts or a tree, shared by its owners.
 
 ghost use Rattle.std.specs.Prelude.{◌≡◌, ◌++◌, ◌+◌, ◌<◌, ◌≤◌, ℕ, drop, length, slice_index, take};
 ghost use Rattle.std.specs.Prelude.{IfOk, OnErr, OnOk};
 ghost use Rattle.ag_value.specs.Spelling.{spelling_of};
 ghost use Rattle.ag_value.specs.Well.{IsWell};
-ghost use Rattle.ag_value.specs.declared.value.Value.{Table as TableValue, Text as TextValue};
+ghost use Rattle.ag_value.specs.declared.value.Value.{List as ListValue, Table as TableValue};
+ghost use Rattle.ag_value.specs.declared.value.Value.{Text as TextValue};
 
 use crate::carried::Carried;
 use crate::shared_text::SharedText;
 use crate::spelled::Spelled;
 use ag_value::NoMemory;
+use list_tree::ListTree;
 use std::alloc::AllocError;
 use std::marker::Model;
 use std::rc::Rc;
@@ -24,9 +26,11 @@ enum Source {
     Text(SharedText),
     /// A table, whose pairs are stored beside their encodings.
     Table(TableTree),
+    /// A list, which is stored beside the encodings of its items.
+    List(ListTree),
 }
 
-/// The encoding of a large value, a shared text or a table, which is an owner of that value too.
+/// The encoding of a large value, a text made of parts or a tree, which is an owner of that value too.
 /// Contracts see the bytes.
 #[derive(Debug, Drop)]
 pub struct Encoded {
@@ -56,7 +60,7 @@ impl Encoded {
         }
     }
 
-    /// Returns the encoding of a shared text.
+    /// Returns the encoding of a text made of parts.
     pub(crate) fn of_text(text: SharedText) -> Encoded
         ensures { result ≡ spelling_of (TextValue text) }
     {
@@ -74,6 +78,15 @@ impl Encoded {
         }
     }
 
+    /// Returns the encoding of a list.
+    pub(crate) fn of_list(list: ListTree) -> Encoded
+        ensures { result ≡ spelling_of (ListValue list) }
+    {
+        Encoded {
+            source: Source::List(list),
+        }
+    }
+
     /// Returns the number of bytes. Takes no memory.
     #[inline(always)]
     pub fn len(&self) -> usize
@@ -84,6 +97,7 @@ impl Encoded {
             Source::Spelled(shared) => byte_count(shared.bytes()),
             Source::Text(text) => text.encoding_len(),
             Source::Table(table) => table.encoding_len(),
+            Source::List(list) => list.encoding_len(),
         }
     }
 
@@ -99,6 +113,7 @@ impl Encoded {
             }
             Source::Text(text) => text.copy_encoding(from, out),
             Source::Table(table) => table.copy_part(from, out),
+            Source::List(list) => list.copy_part(from, out),
         }
     }
 
@@ -111,10 +126,8 @@ impl Encoded {
         match &self.source {
             Source::Spelled(shared) => out.extend_from_slice(shared.bytes()),
             Source::Text(text) => text.append_encoding(out),
-            Source::Table(table) => match table.append_encoding(out) {
-                Ok(()) => Ok(()),
-                Err(_) => Err(AllocError),
-            },
+            Source::Table(table) => table.append_encoding(out).map_err(|_| AllocError),
+            Source::List(list) => list.append_encoding(out).map_err(|_| AllocError),
         }
     }
 
@@ -137,36 +150,47 @@ impl Encoded {
                 };
                 Ok(Encoded::of_table(table))
             }
+            Source::List(list) => {
+                let Ok(list) = list.share() else {
+                    return Err(AllocError);
+                };
+                Ok(Encoded::of_list(list))
+            }
         }
     }
 
-    /// Returns the well value that has this encoding, as one more owner. Takes no memory, and fails
+    /// Returns the value that has this encoding, for one more owner. Takes no memory, and fails
     /// with NoMemory if the value has 2^64 - 1 owners.
     pub fn value(&self) -> Result<Carried, NoMemory>
         ensures well { IfOk result (λ c. IsWell c) }
         ensures encoding { IfOk result (λ c. spelling_of c ≡ self.now) }
     {
         match &self.source {
-            Source::Spelled(shared) => {
-                let well = shared.value();
-                let _ = well;
-                Ok(Carried::of_shared(shared.clone()?))
+            Source::Spelled(spelled) => {
+                // for the prover: the value is well
+                let _well = spelled.value();
+                Ok(Carried::of_spelled(spelled.clone()?))
             }
             Source::Text(text) => {
-                let well = text.len();
-                let _ = well;
+                // for the prover: the text is well
+                let _well = text.len();
                 Ok(Carried::from_text(text.share()?))
             }
             Source::Table(table) => {
-                let well = table.encoding_len();
-                let _ = well;
+                // for the prover: the table is well
+                let _well = table.weight();
                 Ok(Carried::from_table(table.share()?))
+            }
+            Source::List(list) => {
+                // for the prover: the list is well
+                let _well = list.weight();
+                Ok(Carried::from_list(list.share()?))
             }
         }
     }
 }
 
-/// Returns the number of bytes.
+/// Returns the number of bytes, and states in its contract that they are bytes.
 #[inline(always)]
 pub(crate) fn byte_count(bytes: &[u8]) -> usize
     ensures len { result ≡ length bytes.now }

@@ -1,11 +1,12 @@
 //! Texts that are joined without a copy of their bytes.
 
 ghost use Rattle.std.specs.Prelude.{◌≡◌, ◌++◌, ◌↔◌, ◌+◌, ◌^◌, ◌<◌, ◌≤◌, drop, length, slice_index, take};
-ghost use Rattle.std.specs.Prelude.{IfNone, IfOk, IfSome, IsTrue, List, OnErr, OnOk, ℕ};
+ghost use Rattle.std.specs.Prelude.{IfNone, IfOk, IfSome, IsTrue, OnErr, OnOk, ℕ};
 ghost use Rattle.ag_value.specs.Measure.{max_weight, weight_of};
 ghost use Rattle.ag_value.specs.Spelling.{spelling_of};
 ghost use Rattle.ag_value.specs.Well.{IsWell};
-ghost use Rattle.ag_value.specs.declared.value.Value.{Value as AttributeValue, Text as TextValue};
+ghost use Rattle.ag_value.specs.declared.value.Value.{Text as TextValue};
+ghost use Rattle.ag_carried.specs.Prefixes.{IsPrefix};
 
 use crate::encoded::byte_count;
 use ag_value::{MAX_WEIGHT, NoMemory, Text, Value};
@@ -13,8 +14,7 @@ use rope::Rope;
 use std::alloc::{AllocError, Global};
 use std::marker::Model;
 
-/// The greatest length in bytes of a text that operations make flat. A longer one that `++` makes is a
-/// `SharedText`.
+/// The greatest length in bytes of a text that `++` makes flat. A longer one is a `SharedText`.
 pub const MAX_FLAT_TEXT: usize = 256;
 
 /// The number of bytes before those of a text in its encoding: the kind and the length.
@@ -23,7 +23,7 @@ const HEADER_LENGTH: usize = 5;
 /// The greatest length in bytes of a text within the limits.
 const MAX_LENGTH: usize = MAX_WEIGHT as usize - HEADER_LENGTH;
 
-/// A well text with several owners, which share its bytes. Contracts see the bytes.
+/// A well text made of parts, which other texts share. Contracts see the bytes.
 #[derive(Debug, Drop)]
 pub struct SharedText {
     rope: Rope,
@@ -31,17 +31,17 @@ pub struct SharedText {
 
 impl Model for SharedText {
     ghost use Rattle.std.specs.Prelude.{List, ℕ};
-    ghost use Rattle.ag_carried.specs.SharedText.{IsShortText};
+    ghost use Rattle.ag_carried.specs.SharedText.{IsTextWithinLimits};
 
     ghost Value = { List ℕ };
 
     ghost view = { λ t. t.rope };
 
-    ghost invariant = { λ t. IsShortText t.rope };
+    ghost invariant = { λ t. IsTextWithinLimits t.rope };
 }
 
 impl SharedText {
-    /// Makes a shared text of a well one, whose bytes are moved. Fails with NoMemory.
+    /// Makes a text of one part of a well text, whose bytes are moved. Fails with NoMemory.
     pub fn new(alloc: Global, text: Text) -> Result<SharedText, NoMemory>
         requires { IsWell (TextValue text) }
         ensures { IfOk result (λ shared. shared ≡ text) }
@@ -69,8 +69,8 @@ impl SharedText {
         Ok(SharedText { rope })
     }
 
-    /// Joins two texts in constant time, or returns `None` if the result would be too heavy. A short
-    /// text becomes part of the last or first piece of the other one. Fails with NoMemory.
+    /// Joins two texts in constant time, or returns `None` if the result would be too heavy. Copies at
+    /// most 256 bytes, of two pieces that become one. Fails with NoMemory.
     pub fn join(
         alloc: Global,
         left: SharedText,
@@ -168,14 +168,8 @@ impl SharedText {
     }
 
     /// Returns the length of the encoding in bytes, if the input begins with it. Takes no memory.
-    #[tactic(auto, using(crate::proofs::Encodings::encodings))]
     pub(crate) fn prefix_of(&self, input: &[u8]) -> Option<usize>
-        ensures within { IfSome result (λ len. len ≤ length input.now) }
-        ensures spelled { IfSome result (λ len. take len input.now ≡ spelling_of (TextValue self.now)) }
-        ensures well { IfSome result (λ _. IsWell (TextValue self.now)) }
-        ensures only { IfSome result (λ len. (value : AttributeValue) (rest : List ℕ) → IsWell value
-            → input.now ≡ spelling_of value ++ rest
-            → (TextValue self.now ≡ value) × (len ≡ length (spelling_of value))) }
+        ensures { IfSome result (IsPrefix (TextValue self.now) input.now) }
     {
         let header = self.header();
         let len = HEADER_LENGTH + self.len();
@@ -226,14 +220,8 @@ fn begins_with(input: &[u8], text: &str) -> bool
 
 /// Returns the length of the encoding of a text in bytes, if the text has at most `MAX_FLAT_TEXT` bytes and
 /// the input begins with its encoding. Takes no memory.
-#[tactic(auto, using(crate::proofs::Encodings::encodings))]
 pub(crate) fn prefix_of_text(text: &str, input: &[u8]) -> Option<usize>
-    ensures within { IfSome result (λ len. len ≤ length input.now) }
-    ensures spelled { IfSome result (λ len. take len input.now ≡ spelling_of (TextValue text.now)) }
-    ensures well { IfSome result (λ _. IsWell (TextValue text.now)) }
-    ensures only { IfSome result (λ len. (value : AttributeValue) (rest : List ℕ) → IsWell value
-        → input.now ≡ spelling_of value ++ rest
-        → (TextValue text.now ≡ value) × (len ≡ length (spelling_of value))) }
+    ensures { IfSome result (IsPrefix (TextValue text.now) input.now) }
 {
     if is_flat(text) && begins_with(input, text) {
         return Some(HEADER_LENGTH + text.len());

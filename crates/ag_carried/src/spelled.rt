@@ -1,9 +1,9 @@
 //! A value beside its spelling, the bytes that encode it.
 
-ghost use Rattle.std.specs.Prelude.{◌≡◌, ◌++◌, ◌↔◌, ◌≤◌, length, take, IfOk, IfSome, IsTrue, List, ℕ};
+ghost use Rattle.std.specs.Prelude.{◌≡◌, ◌↔◌, IfOk, IfSome, IsTrue};
 ghost use Rattle.ag_value.specs.Spelling.{spelling_of};
 ghost use Rattle.ag_value.specs.Well.{IsWell};
-ghost use Rattle.ag_value.specs.declared.value.Value.{Value as AttributeValue};
+ghost use Rattle.ag_carried.specs.Prefixes.{IsPrefix};
 
 use ag_value::{NoMemory, Value, encode};
 use std::alloc::Global;
@@ -86,21 +86,12 @@ impl Spelled {
     }
 
     /// Returns the length of the encoding in bytes, if the input begins with it.
-    #[tactic(auto, using(crate::proofs::Encodings::encodings))]
     pub fn prefix_of(&self, input: &[u8]) -> Option<usize>
-        ensures within { IfSome result (λ len. len ≤ length input.now) }
-        ensures spelled { IfSome result (λ len. take len input.now ≡ spelling_of self.now) }
-        ensures well { IfSome result (λ _. IsWell self.now) }
-        ensures only { IfSome result (λ len. (value : AttributeValue) (rest : List ℕ) → IsWell value
-            → input.now ≡ spelling_of value ++ rest
-            → (self.now ≡ value) × (len ≡ length (spelling_of value))) }
+        ensures { IfSome result (IsPrefix self.now input.now) }
     {
         let bytes = self.bytes.as_slice();
         let len = bytes.len();
-        if input.len() < len {
-            return None;
-        }
-        if &input[..len] == bytes {
+        if len <= input.len() && &input[..len] == bytes {
             return Some(len);
         }
         None

@@ -3,6 +3,7 @@ pub mod Chained
 pub mod Decided
 pub mod Innermost
 pub mod Keys
+pub mod Lists
 pub mod Putting
 pub mod Spelled
 pub mod Texts

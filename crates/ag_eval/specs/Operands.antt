@@ -33,6 +33,7 @@ abbrev pub ref_value : ValueRef → Value
 ref_value (reference.Plain v) = v.now
 ref_value (reference.Shared text) = value.Text text.now
 ref_value (reference.Table table) = value.Table table.now
+ref_value (reference.List list) = value.List list.now
 
 -- the plain value, lent or copied
 abbrev pub plain_value : Plain → Value
@@ -46,6 +47,8 @@ held_value (held.Owned v) = v
 held_value (held.Shared text) = value.Text text
 held_value (held.LentTable table) = value.Table table.now
 held_value (held.Table table) = value.Table table
+held_value (held.LentList list) = value.List list.now
+held_value (held.List list) = value.List list
 
 -- whether the value is lent
 abbrev pub is_lent : Held → Bool
@@ -54,6 +57,8 @@ is_lent (held.Owned v) = false
 is_lent (held.Shared text) = false
 is_lent (held.LentTable table) = true
 is_lent (held.Table table) = false
+is_lent (held.LentList list) = true
+is_lent (held.List list) = false
 
 -- the value of an operand, by the values of the bindings
 abbrev pub operand_value : List Value → Operand → Value

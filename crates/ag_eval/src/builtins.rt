@@ -4,8 +4,9 @@
 
 pub mod comparing;
 pub mod faults;
+pub mod list_trees;
 pub mod lists;
 pub mod numbers;
+pub mod table_trees;
 pub mod tables;
 pub mod texts;
-pub mod trees;

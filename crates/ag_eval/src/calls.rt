@@ -20,15 +20,16 @@ use crate::builtins::numbers::{
 };
 use crate::builtins::tables::{get, has, keys};
 use crate::builtins::texts::join;
-use crate::builtins::{tables, trees};
+use crate::builtins::{list_trees, table_trees, tables};
 use crate::concatenation::concatenate;
 use crate::measured::Measured;
 use crate::operand::{Held, Operand};
 use crate::scalar::Scalar;
-use crate::value_ref::{ValueRef, copied_text};
-use ag_carried::SharedText;
+use crate::value_ref::{ValueRef, copied_list, copied_text};
+use ag_carried::{MAX_FLAT_LIST, SharedText};
 use ag_grammar::{BinaryCall, Operator, UnaryCall};
 use ag_value::{ErrorCode, NoMemory, Value};
+use list_tree::ListTree;
 use std::alloc::Global;
 use table_tree::TableTree;
 
@@ -47,8 +48,8 @@ pub fn fault<'e>(code: ErrorCode) -> Operand<'e>
     Operand::Held(Held::fault(code))
 }
 
-/// Computes the value of an operator for two operands. Takes memory if `++` extends its left
-/// argument, and for a plain copy of a text whose bytes are shared or of a tree.
+/// Computes the value of an operator for two operands. Takes memory for what `++` makes, and for a plain
+/// copy of a text whose bytes are shared or of a tree.
 pub fn apply<'e>(
     alloc: Global,
     operator: Operator,
@@ -191,6 +192,7 @@ fn unary_value(alloc: Global, call: UnaryCall, argument: ValueRef<'_>) -> Result
         ValueRef::Plain(value) => call_with_plain(alloc, call, value),
         ValueRef::Shared(text) => call_with_shared(alloc, call, text),
         ValueRef::Table(table) => call_with_table(alloc, call, table),
+        ValueRef::List(list) => Ok(Measured::new(call_with_list(call, list))),
     }
 }
 
@@ -243,12 +245,25 @@ fn call_with_table(
     ensures { IfOk result (λ m. m ≡ unary_call_result call (value.Table argument.now)) }
 {
     let value = match call {
-        UnaryCall::Len => trees::length(argument),
-        UnaryCall::Keys => trees::keys(alloc, argument)?,
+        UnaryCall::Len => table_trees::length(argument),
+        UnaryCall::Keys => table_trees::keys(alloc, argument)?,
         UnaryCall::IsError => truth(false),
         UnaryCall::Text | UnaryCall::Number => Value::Fault(ErrorCode::Kind),
     };
     Ok(Measured::new(value))
+}
+
+/// Computes the value of a call of one argument for a list that is a tree.
+#[tactic(auto, unfolding(ag_grammar::specs::values::Arguments::leftmost))]
+fn call_with_list(call: UnaryCall, argument: &ListTree) -> Value
+    ensures value { result ≡ unary_call_result call (value.List argument.now) }
+    ensures well { IsWell result }
+{
+    match call {
+        UnaryCall::Len => list_trees::length(argument),
+        UnaryCall::IsError => truth(false),
+        UnaryCall::Text | UnaryCall::Number | UnaryCall::Keys => Value::Fault(ErrorCode::Kind),
+    }
 }
 
 /// Computes the value of a call of two operands. Takes memory for a value that it makes, and for a
@@ -272,8 +287,9 @@ pub fn call_binary<'e>(
     }
 }
 
-/// Computes `append(l, v)`: the list is extended, and copied first if it is lent or bound. The item
-/// is moved, or copied if it is lent, bound, shared or a tree.
+/// Computes `append(l, v)`: a tree shares its nodes with the result. A flat list is extended, and copied
+/// first if it is lent or bound; one of `MAX_FLAT_LIST` items or more becomes a tree. The item is moved,
+/// or copied if it is lent, bound, shared or a tree.
 #[tactic(auto, using(crate::proofs::Arguments::no_faults))]
 fn call_append<'e>(
     alloc: Global,
@@ -289,8 +305,14 @@ fn call_append<'e>(
     if let Some(code) = fault_of_two(list.get(&*bindings), item.get(&*bindings)) {
         return Ok(fault(code));
     }
-    let list = list.into_owned(alloc, &*bindings)?;
     let item = item.into_owned(alloc, &*bindings)?;
+    if let Some(count) = list.get(&*bindings).list_len() {
+        if count >= MAX_FLAT_LIST {
+            let list = list.into_list(alloc, &*bindings)?;
+            return Ok(Operand::Held(list_trees::append(alloc, &list, item)?));
+        }
+    }
+    let list = list.into_owned(alloc, &*bindings)?;
     Ok(Operand::owned(append(list, item)?))
 }
 
@@ -341,6 +363,7 @@ fn reading_result<'a>(
     match first {
         ValueRef::Plain(value) => read_plain(alloc, call, value, second),
         ValueRef::Table(table) => Ok(read_table(call, table, second)),
+        ValueRef::List(list) => read_list(alloc, call, list, second),
         // no call reads a part of a text
         ValueRef::Shared(_) => Ok(Held::fault(ErrorCode::Kind)),
     }
@@ -354,10 +377,34 @@ fn read_table<'a>(call: BinaryCall, table: &'a TableTree, second: &Value) -> Hel
     ensures { held_value result ≡ binary_call_result call (value.Table table.now) second.now }
 {
     match call {
-        BinaryCall::Get => trees::get(table, second),
-        BinaryCall::Has => Held::Owned(Measured::new(trees::has(table, second))),
+        BinaryCall::Get => table_trees::get(table, second),
+        BinaryCall::Has => Held::Owned(Measured::new(table_trees::has(table, second))),
         // `nth` and `join` take lists, and the other calls keep their arguments
         _ => Held::fault(ErrorCode::Kind),
+    }
+}
+
+/// Computes the value of such a call whose first argument is a list that is a tree. Only `join` takes
+/// memory.
+fn read_list<'a>(
+    alloc: Global,
+    call: BinaryCall,
+    list: &'a ListTree,
+    second: &Value,
+) -> Result<Held<'a>, NoMemory>
+    requires no_append { call ≢ BinaryCall.Append }
+    requires no_orelse { call ≢ BinaryCall.OrElse }
+    requires no_fault { leftmost (value.List list.now ∷ second.now ∷ []) ≡ None }
+    ensures { IfOk result (λ h. held_value h ≡ binary_call_result call (value.List list.now) second.now) }
+{
+    match call {
+        BinaryCall::Nth => Ok(list_trees::nth(list, second)),
+        BinaryCall::Join => {
+            let copied = copied_list(alloc, list)?;
+            Ok(Held::Owned(join(alloc, copied.get(), second)?))
+        }
+        // `get` and `has` take tables, and the other calls keep their arguments
+        _ => Ok(Held::fault(ErrorCode::Kind)),
     }
 }
 
@@ -422,7 +469,7 @@ pub fn call_put<'e>(
     let key = key.to_plain(alloc)?;
     let item = item.into_owned(alloc, &*bindings)?;
     if let ValueRef::Table(tree) = table.get(&*bindings) {
-        return Ok(Operand::Held(trees::put(alloc, tree, key.get(), item)?));
+        return Ok(Operand::Held(table_trees::put(alloc, tree, key.get(), item)?));
     }
     let table = table.into_owned(alloc, &*bindings)?;
     Ok(Operand::Held(tables::put(alloc, table, key.get(), item)?))

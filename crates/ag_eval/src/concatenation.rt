@@ -1,4 +1,4 @@
-//! The operator `++`. A long text that it makes shares the bytes of its operands, so that a text that
+//! The operator `++`. A long text or list that it makes shares the parts of its operands, so that one that
 //! grows from node to node is not copied. The functions that return a `Result` fail with `NoMemory` if
 //! memory is refused.
 
@@ -8,16 +8,18 @@ ghost use Rattle.ag_grammar.specs.values.Fitting.{fit};
 ghost use Rattle.ag_grammar.specs.values.Lists.{concatenation};
 ghost use Rattle.ag_grammar.specs.values.Operators.{operation_result};
 ghost use Rattle.ag_grammar.specs.values.Texts.{bytes_of, is_text};
+ghost use Rattle.ag_eval.specs.Lists.{is_list};
 ghost use Rattle.ag_eval.specs.Operands.{Gives, IsIn, held_value, operand_value};
 
 use crate::bindings::Bindings;
 use crate::builtins::faults::fault_of_two;
+use crate::builtins::list_trees;
 use crate::builtins::lists::extend_list;
 use crate::builtins::texts::{bytes_of, extend_text};
 use crate::calls::fault;
 use crate::measured::Measured;
 use crate::operand::{Held, Operand};
-use ag_carried::{MAX_FLAT_TEXT, SharedText};
+use ag_carried::{MAX_FLAT_LIST, MAX_FLAT_TEXT, SharedText};
 use ag_grammar::Operator;
 use ag_value::{ErrorCode, MAX_WEIGHT, NoMemory};
 use std::alloc::Global;
@@ -25,10 +27,10 @@ use std::alloc::Global;
 /// The greatest length of a text in bytes.
 const MAX_TEXT: usize = MAX_WEIGHT as usize - 5;
 
-/// Computes `a ++ b`, or the leftmost error of the two. A text of up to `MAX_FLAT_TEXT` bytes and a
-/// list are the first operand, copied if it is lent or bound, and extended by the second. A longer
-/// text shares the bytes of both operands; those of an operand without shared bytes are moved, or
-/// copied if it is lent or bound.
+/// Computes `a ++ b`, or the leftmost error of the two. A text of up to `MAX_FLAT_TEXT` bytes and a list
+/// of up to `MAX_FLAT_LIST` items are the first operand, copied if it is lent or bound, and extended by
+/// the second. A longer text shares the bytes of both operands, and a longer list their nodes. An operand
+/// that has no such form yet is moved into it, or copied if it is lent or bound.
 pub fn concatenate<'e>(
     alloc: Global,
     left: Operand<'e>,
@@ -49,7 +51,7 @@ pub fn concatenate<'e>(
             Ok(Operand::Held(shared_text(alloc, left, right, bindings)?))
         }
         Some(_) => Ok(Operand::owned(flat_text(alloc, left, right, bindings)?)),
-        None => Ok(Operand::owned(extended_list(alloc, left, right, bindings)?)),
+        None => list_of_both(alloc, left, right, bindings),
     }
 }
 
@@ -90,6 +92,59 @@ fn flat_text<'e>(
     let left = left.into_owned(alloc, &*bindings)?;
     let right = right.get(&*bindings).to_plain(alloc)?;
     extend_text(alloc, left, bytes_of(right.get()))
+}
+
+/// Concatenates two operands that are not both texts.
+fn list_of_both<'e>(
+    alloc: Global,
+    left: Operand<'e>,
+    right: Operand<'e>,
+    bindings: &Bindings<'e>,
+) -> Result<Operand<'e>, NoMemory>
+    requires left { IsIn bindings.now left }
+    requires right { IsIn bindings.now right }
+    requires no_texts { is_text (operand_value bindings.now left) ≡ true
+        → is_text (operand_value bindings.now right) ≡ false }
+    ensures value { IfOk result (Gives bindings.now concatenation left.entry right.entry) }
+    ensures within { IfOk result (λ o. IsIn bindings.now o) }
+{
+    match joined_count(&left, &right, &*bindings) {
+        Some(count) if count > MAX_FLAT_LIST => {
+            Ok(Operand::Held(tree_of_both(alloc, left, right, bindings)?))
+        }
+        _ => Ok(Operand::owned(extended_list(alloc, left, right, bindings)?)),
+    }
+}
+
+/// Concatenates two lists, as trees.
+fn tree_of_both<'e>(
+    alloc: Global,
+    left: Operand<'e>,
+    right: Operand<'e>,
+    bindings: &Bindings<'e>,
+) -> Result<Held<'e>, NoMemory>
+    requires left { IsIn bindings.now left }
+    requires right { IsIn bindings.now right }
+    requires left_list { is_list (operand_value bindings.now left) ≡ true }
+    requires right_list { is_list (operand_value bindings.now right) ≡ true }
+    ensures { IfOk result (λ h. held_value h
+        ≡ concatenation (operand_value bindings.now left.entry) (operand_value bindings.now right.entry)) }
+{
+    let left = left.into_list(alloc, &*bindings)?;
+    let right = right.into_list(alloc, &*bindings)?;
+    list_trees::concatenate(alloc, &left, &right)
+}
+
+/// Returns the number of items of two lists together, or `None` unless both are lists.
+fn joined_count(left: &Operand<'_>, right: &Operand<'_>, bindings: &Bindings<'_>) -> Option<usize>
+    requires left { IsIn bindings.now left.now }
+    requires right { IsIn bindings.now right.now }
+    ensures { IfSome result (λ _. (is_list (operand_value bindings.now left.now) ≡ true)
+        × (is_list (operand_value bindings.now right.now) ≡ true)) }
+{
+    let first = left.get(bindings).list_len()?;
+    let second = right.get(bindings).list_len()?;
+    Some(first + second)
 }
 
 /// Extends the first operand by the contents of the second, unless both are texts.

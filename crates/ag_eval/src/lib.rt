@@ -2,8 +2,8 @@
 //! within the limits of weight and depth.
 //!
 //! During an evaluation the value of a part of the expression is an *operand*: lent by the environment or
-//! by the expression, owned, a text whose bytes are shared, a table that is a tree, or the value of a name
-//! that a `let` binds (a *binding*). A function that returns a `Result` with `NoMemory` fails only if
+//! by the expression, owned, a text whose bytes are shared, a table or list that is a tree, or the value of
+//! a name that a `let` binds (a *binding*). A function that returns a `Result` with `NoMemory` fails only if
 //! memory is refused.
 #![tactic(auto)]
 

@@ -8,14 +8,16 @@ ghost use Rattle.ag_value.specs.declared.value.Value.TheVariants as value;
 ghost use Rattle.ag_grammar.specs.values.Arguments.{fault_of};
 ghost use Rattle.ag_grammar.specs.values.Texts.{is_text};
 ghost use Rattle.ag_eval.specs.declared.operand.Held.{Held as HeldValue};
+ghost use Rattle.ag_eval.specs.Lists.{is_list};
 ghost use Rattle.ag_eval.specs.Operands.{IsIn, held_value, is_lent, operand_value, ref_value};
 
 use crate::bindings::Bindings;
 use crate::builtins::faults::fault_of;
 use crate::measured::Measured;
-use crate::value_ref::{ValueRef, copied_table, copied_text};
+use crate::value_ref::{ValueRef, copied_list, copied_table, copied_text};
 use ag_carried::{Carried, SharedText};
 use ag_value::{ErrorCode, NoMemory, Value, copy};
+use list_tree::ListTree;
 use std::alloc::Global;
 use std::marker::Model;
 use table_tree::TableTree;
@@ -87,7 +89,7 @@ impl<'e> Lent<'e> {
 }
 
 /// A well value that is lent by the environment or the expression, or that is owned, or a text whose
-/// bytes are shared, or a table that is a tree: lent by the environment, or with nodes that are shared.
+/// bytes are shared, or a table or list that is a tree: lent by the environment, or owned.
 #[derive(Debug, Drop)]
 pub enum Held<'e> {
     Lent(Lent<'e>),
@@ -95,6 +97,8 @@ pub enum Held<'e> {
     Shared(SharedText),
     LentTable(&'e TableTree),
     Table(TableTree),
+    LentList(&'e ListTree),
+    List(ListTree),
 }
 
 impl<'e> Held<'e> {
@@ -135,6 +139,9 @@ impl<'e> Held<'e> {
         if let Some(table) = carried.as_table() {
             return Ok(Held::LentTable(table));
         }
+        if let Some(list) = carried.as_list() {
+            return Ok(Held::LentList(list));
+        }
         Ok(Held::Owned(Measured::new(carried.to_value(alloc)?)))
     }
 
@@ -149,6 +156,8 @@ impl<'e> Held<'e> {
             Held::Shared(text) => ValueRef::from_text(text),
             Held::LentTable(table) => ValueRef::from_table(*table),
             Held::Table(table) => ValueRef::from_table(table),
+            Held::LentList(list) => ValueRef::from_list(*list),
+            Held::List(list) => ValueRef::from_list(list),
         }
     }
 
@@ -161,11 +170,13 @@ impl<'e> Held<'e> {
         match self {
             Held::Lent(lent) => Some(ValueRef::Plain(lent.get())),
             Held::LentTable(table) => Some(ValueRef::from_table(*table)),
-            Held::Owned(_) | Held::Shared(_) | Held::Table(_) => None,
+            Held::LentList(list) => Some(ValueRef::from_list(*list)),
+            Held::Owned(_) | Held::Shared(_) | Held::Table(_) | Held::List(_) => None,
         }
     }
 
-    /// Returns the value a second time: lent if it is lent, shared if it is shared, else a copy.
+    /// Returns the value a second time: lent if it is lent, shared if it is a shared text or a tree, else a
+    /// copy.
     pub fn again(&self, alloc: Global) -> Result<Held<'e>, NoMemory>
         ensures { IfOk result (λ h. held_value h ≡ held_value self.now) }
     {
@@ -175,6 +186,8 @@ impl<'e> Held<'e> {
             Held::Shared(text) => Ok(Held::Shared(text.share()?)),
             Held::LentTable(table) => Ok(Held::LentTable(*table)),
             Held::Table(table) => Ok(Held::Table(table.share()?)),
+            Held::LentList(list) => Ok(Held::LentList(*list)),
+            Held::List(list) => Ok(Held::List(list.share()?)),
         }
     }
 
@@ -188,6 +201,8 @@ impl<'e> Held<'e> {
             Held::Shared(text) => copied_text(alloc, &text),
             Held::LentTable(table) => copied_table(alloc, table),
             Held::Table(table) => copied_table(alloc, &table),
+            Held::LentList(list) => copied_list(alloc, list),
+            Held::List(list) => copied_list(alloc, &list),
         }
     }
 
@@ -204,6 +219,22 @@ impl<'e> Held<'e> {
             unreachable!()
         };
         SharedText::new(alloc, text)
+    }
+
+    /// Returns a list as a tree. A list that is none is copied if it is lent, and its items are moved.
+    pub fn into_list(self, alloc: Global) -> Result<ListTree, NoMemory>
+        requires { is_list (held_value self) ≡ true }
+        ensures { IfOk result (λ list. held_value self.entry ≡ value.List list) }
+    {
+        let held = match self {
+            Held::List(list) => return Ok(list),
+            Held::LentList(list) => return list.share(),
+            held => held,
+        };
+        let Value::List(items) = held.into_owned(alloc)?.into_value() else {
+            unreachable!()
+        };
+        ListTree::from_list(alloc, items)
     }
 
     /// Returns the value as a carried one, which is shared if a carried one lends it.
@@ -224,6 +255,8 @@ impl<'e> Held<'e> {
             }
             Held::LentTable(table) => Ok(carried_table(table.share()?)),
             Held::Table(table) => Ok(carried_table(table)),
+            Held::LentList(list) => Ok(carried_list(list.share()?)),
+            Held::List(list) => Ok(carried_list(list)),
         }
     }
 }
@@ -236,6 +269,16 @@ fn carried_table(table: TableTree) -> Carried
     // for the prover: the table is within the limits
     let _weight = table.weight();
     Carried::from_table(table)
+}
+
+/// Returns a list that is a tree as a carried value.
+fn carried_list(list: ListTree) -> Carried
+    ensures value { result ≡ value.List list }
+    ensures well { IsWell result }
+{
+    // for the prover: the list is within the limits
+    let _weight = list.weight();
+    Carried::from_list(list)
 }
 
 /// The value of a part of an expression: a held value, or that of a binding by its number from the
@@ -295,7 +338,8 @@ impl<'e> Operand<'e> {
         }
     }
 
-    /// Returns the value for a new binding or as a result: a copy if an existing binding owns it.
+    /// Returns the value for a new binding or as a result. That of an existing binding is returned a second
+    /// time, as `Held::again` does.
     pub fn into_held(self, alloc: Global, bindings: &Bindings<'e>) -> Result<Held<'e>, NoMemory>
         requires { IsIn bindings.now self }
         ensures { IfOk result (λ h. held_value h ≡ operand_value bindings.now self.entry) }
@@ -314,13 +358,23 @@ impl<'e> Operand<'e> {
         self.into_held(alloc, bindings)?.into_owned(alloc)
     }
 
-    /// Returns a text as one whose bytes are shared: a copy if it is lent, or if a binding owns it.
+    /// Returns a text as one whose bytes are shared. Another text is copied if it is lent, or if a binding
+    /// owns it.
     pub fn into_shared(self, alloc: Global, bindings: &Bindings<'e>) -> Result<SharedText, NoMemory>
         requires within { IsIn bindings.now self }
         requires text { is_text (operand_value bindings.now self) ≡ true }
         ensures { IfOk result (λ text. operand_value bindings.now self.entry ≡ value.Text text) }
     {
         self.into_held(alloc, bindings)?.into_shared(alloc)
+    }
+
+    /// Returns a list as a tree, as `Held::into_list` does.
+    pub fn into_list(self, alloc: Global, bindings: &Bindings<'e>) -> Result<ListTree, NoMemory>
+        requires within { IsIn bindings.now self }
+        requires list { is_list (operand_value bindings.now self) ≡ true }
+        ensures { IfOk result (λ list. operand_value bindings.now self.entry ≡ value.List list) }
+    {
+        self.into_held(alloc, bindings)?.into_list(alloc)
     }
 
     /// Returns the value as a carried one, which is shared if a carried one lends it.

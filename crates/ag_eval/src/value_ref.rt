@@ -1,26 +1,30 @@
 //! Values that are read: plain ones, which are stored as a `Value`, texts whose bytes are shared, and
-//! tables that are trees. The functions that return a `Result` fail with `NoMemory` if memory is refused.
+//! tables and lists that are trees. The functions that return a `Result` fail with `NoMemory` if memory is
+//! refused.
 
 ghost use Rattle.std.specs.Prelude.{◌≡◌, ◌≤◌, IfOk, IfSome, MatchOption, length, false, true};
 ghost use Rattle.ag_value.specs.Measure.{max_weight};
 ghost use Rattle.ag_value.specs.Well.{IsWell};
 ghost use Rattle.ag_value.specs.declared.value.Value.TheVariants as value;
 ghost use Rattle.ag_grammar.specs.values.Texts.{bytes_of, is_text};
+ghost use Rattle.ag_eval.specs.Lists.{is_list};
 ghost use Rattle.ag_eval.specs.Operands.{plain_value, ref_value};
 
 use crate::measured::Measured;
 use crate::operand::Lent;
 use ag_carried::SharedText;
 use ag_value::{NoMemory, Value};
+use list_tree::ListTree;
 use std::alloc::Global;
 use table_tree::TableTree;
 
-/// A value that is read: a plain one, a text whose bytes are shared, or a table that is a tree.
+/// A value that is read: a plain one, a text whose bytes are shared, or a table or list that is a tree.
 #[derive(Clone, Copy)]
 pub enum ValueRef<'a> {
     Plain(&'a Value),
     Shared(&'a SharedText),
     Table(&'a TableTree),
+    List(&'a ListTree),
 }
 
 impl<'a> ValueRef<'a> {
@@ -44,6 +48,16 @@ impl<'a> ValueRef<'a> {
         ValueRef::Table(table)
     }
 
+    /// Lends a list that is a tree.
+    pub fn from_list(list: &'a ListTree) -> ValueRef<'a>
+        ensures value { ref_value result ≡ value.List list.entry.now }
+        ensures well { IsWell (ref_value result) }
+    {
+        // for the prover: the list is within the limits
+        let _weight = list.weight();
+        ValueRef::List(list)
+    }
+
     /// Returns the value if it is a plain one.
     #[inline(always)]
     pub fn as_value(self) -> Option<&'a Value>
@@ -51,7 +65,7 @@ impl<'a> ValueRef<'a> {
     {
         match self {
             ValueRef::Plain(value) => Some(value),
-            ValueRef::Shared(_) | ValueRef::Table(_) => None,
+            ValueRef::Shared(_) | ValueRef::Table(_) | ValueRef::List(_) => None,
         }
     }
 
@@ -68,7 +82,22 @@ impl<'a> ValueRef<'a> {
             ValueRef::Plain(Value::Text(text)) => Some(text.as_str().len()),
             ValueRef::Plain(_) => None,
             ValueRef::Shared(text) => Some(text.len()),
-            ValueRef::Table(_) => None,
+            ValueRef::Table(_) | ValueRef::List(_) => None,
+        }
+    }
+
+    /// Returns the number of items of a list, or `None` for a value of another kind.
+    #[tactic(auto, using(ag_grammar::proofs::values::Wells::short))]
+    pub fn list_len(self) -> Option<usize>
+        requires { IsWell (ref_value self) }
+        ensures list { IfSome result (λ _. is_list (ref_value self.entry) ≡ true) }
+        ensures few { IfSome result (λ n. n ≤ max_weight) }
+    {
+        match self {
+            ValueRef::Plain(Value::List(items)) => Some(items.as_slice().len()),
+            ValueRef::Plain(_) => None,
+            ValueRef::List(list) => Some(list.len()),
+            ValueRef::Shared(_) | ValueRef::Table(_) => None,
         }
     }
 
@@ -82,6 +111,7 @@ impl<'a> ValueRef<'a> {
             ValueRef::Plain(value) => Ok(Plain::Lent(Lent::new(value))),
             ValueRef::Shared(text) => Ok(Plain::Copied(copied_text(alloc, text)?)),
             ValueRef::Table(table) => Ok(Plain::Copied(copied_table(alloc, table)?)),
+            ValueRef::List(list) => Ok(Plain::Copied(copied_list(alloc, list)?)),
         }
     }
 }
@@ -122,4 +152,13 @@ pub fn copied_table(alloc: Global, table: &TableTree) -> Result<Measured, NoMemo
     // for the prover: the table is within the limits
     let _weight = table.weight();
     Ok(Measured::new(Value::Table(table.to_table(alloc)?)))
+}
+
+/// Copies a list that is a tree into a plain value.
+pub fn copied_list(alloc: Global, list: &ListTree) -> Result<Measured, NoMemory>
+    ensures { IfOk result (λ m. m ≡ value.List list.now) }
+{
+    // for the prover: the list is within the limits
+    let _weight = list.weight();
+    Ok(Measured::new(Value::List(list.to_list(alloc)?)))
 }

@@ -1,5 +1,5 @@
 -- Reading a value from a prefix of some bytes, as a plain function on lists. It reads exactly the spellings
--- of values that are well except for their weight. Laws relate it to the spelling.
+-- of values that are well except for their weight. Lemmas in `proofs` relate it to the spelling.
 use Rattle.std.specs.Prelude.{◌≡◌, ℕ, zero, suc, List, [], ◌∷◌, ◌++◌, length, take, drop, map, Option, Some, None, Result, Ok}
 use Rattle.std.specs.Prelude.{Err, nat_lt, if◌then◌else◌}
 use Rattle.std.specs.Option.{option_and_then}

@@ -59,8 +59,8 @@ fn answer_of(
     }
 }
 
-/// Writes an answer to the caller's memory, and returns its status: 0 for a result, which is copied to `out`, or that of
-/// a refusal.
+/// Writes an answer to the caller's memory, and returns its status: 0 for a result, which is copied to
+/// `out`, or that of a refusal.
 pub fn write_answer(
     answer: Result<Vec<u8>, Refusal>,
     out: &mut [u8],

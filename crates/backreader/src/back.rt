@@ -186,10 +186,11 @@ impl Back {
         self.can_lend
     }
 
-    /// Lends the same body as the next call of `back` would, but from the memory of the device, if the
-    /// device has it there. Returns `None`, and changes nothing, if `back` has to be called instead:
-    /// also at the header, in a file of version 1, after a permanent fault, and if no frame ends at the
-    /// offset. Requires the device of `start`, with the same content if it is honest. Takes no memory.
+    /// Lends the same body as the next call of `back` would, but from the memory of the device. Returns
+    /// `None`, and changes nothing, if `back` has to be called instead: if the device doesn't lend the body
+    /// (`Device::lend_before`), at the header, in a file of version 1, after a permanent fault, and if no
+    /// frame ends at the offset. Requires the device of `start`, with the same content if it is honest.
+    /// Takes no memory.
     #[inline(always)]
     pub fn lend_back<'d, D: Device>(&mut self, device: &'d D) -> Option<Body<'d>>
         requires { WhenHonest (D.is_honest device.now) (IsOver (D.content device.now) self.old) }

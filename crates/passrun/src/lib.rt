@@ -41,4 +41,5 @@ pub use passing::ends::Passed;
 pub use passing::pass::run_pass;
 pub use reading::record::{RecordFault, read_node};
 pub use run_fault::RunFault;
+pub use setting::Setting;
 pub use upgrading::upgrade;

@@ -3,11 +3,13 @@
 use ag_grammar::Grammar;
 use planchecker::Plan;
 
-/// The setting of a pass: a grammar, a plan for it, and the number of the pass, from 1. It has no model:
-/// contracts see it by `pass_setting` (`specs/Settings.antt`), as the record `Setting` of `passcode`.
+/// The setting of a pass. Contracts see it by `pass_setting` (`specs/Settings.antt`), as the record
+/// `Setting` of `passcode`.
 #[derive(Clone, Copy)]
-pub(crate) struct Setting<'a> {
-    pub(crate) grammar: &'a Grammar,
-    pub(crate) plan: &'a Plan,
-    pub(crate) pass: u16,
+pub struct Setting<'a> {
+    pub grammar: &'a Grammar,
+    /// A plan for the grammar.
+    pub plan: &'a Plan,
+    /// The number of the pass, from 1.
+    pub pass: u16,
 }

@@ -1,5 +1,5 @@
-//! The chains of an assignment's strikes and of a certificate's: the attribute that a pass leaves to a later one, and the links
-//! that show why.
+//! The chains of an assignment's strikes and of a certificate's: the attribute that a pass leaves to a
+//! later one, and the links that show why.
 
 ghost use Rattle.std.specs.Prelude.{ℕ, ◌≡◌, ◌≤◌, ◌↔◌, IfOk, IfSome, IsTrue, None, Some, slice_get};
 ghost use Rattle.ag_grammar.specs.grammars.Passes.{direction_of};

@@ -1,5 +1,5 @@
-//! `read_back [--old] PATH` reads a tree file from its end and prints the number of its records; with `--old` the file is
-//! one of version 1. `benches/run` measures the program, and `tests/refused-memory` runs it with each of its requests
+//! `read_back [--old] PATH` reads a tree file from its end and prints the number of its records; with
+//! `--old` the file is one of version 1. `benches/run` measures the program, and `tests/refused-memory` runs it with each of its requests
 //! for memory refused. A call for which memory was refused is named on standard error and made a second time.
 #![tactic(auto)]
 
@@ -39,8 +39,8 @@ fn status(fault: FrameFault) -> u8 {
     }
 }
 
-/// Returns the number of records of the file that the command line names. Fails with D1 Device if the command line names
-/// none, or the file can't be opened.
+/// Returns the number of records of the file that the command line names. Fails with D1 Device if the
+/// command line names none, or the file can't be opened.
 fn run<R: Env + Eprint + Files + AllocGlobal>(rt: &R, alloc: Global) -> Result<u64, FrameFault> {
     let words = match std::env::args(rt) {
         Ok(words) => words,
@@ -67,7 +67,8 @@ fn run<R: Env + Eprint + Files + AllocGlobal>(rt: &R, alloc: Global) -> Result<u
     }
 }
 
-/// Returns the number of records of the tree file of a device. A call for which memory was refused is made a second time.
+/// Returns the number of records of the tree file of a device. A call for which memory was refused is
+/// made a second time.
 fn records<R: Eprint, D: Device>(
     rt: &R,
     alloc: Global,

@@ -15,7 +15,7 @@ use crate::fault::OutFault;
 use ag_carried::Carried;
 use ag_grammar::Grammar;
 use ag_value::{Text, Value};
-use passrun::{RecordFault, read_node};
+use passrun::{RecordFault, Setting, read_node};
 use planchecker::Plan;
 use std::alloc::Global;
 use treefile::{Device, FrameFault, last_body};
@@ -64,17 +64,14 @@ fn read_out(
         (x : TheValue) → IsRootRecord grammar.now plan.now.0 body.now x → ⊥ }
     ensures well { IfOk result (λ v. IsWell v) }
 {
-    let next_pass = plan.assignment().passes() + 1;
-    let mut values = Vec::new(alloc);
-    read_node(
-        alloc,
+    let last = plan.assignment().passes();
+    let next = Setting {
         grammar,
         plan,
-        next_pass,
-        grammar.start(),
-        body,
-        &mut values,
-    )?;
+        pass: last + 1,
+    };
+    let mut values = Vec::new(alloc);
+    read_node(alloc, &next, grammar.start(), body, &mut values)?;
     Ok(values.swap_remove(out))
 }
 

@@ -8,9 +8,9 @@ use std::fmt;
 use std::marker::Model;
 use std::rc::Rc;
 
-/// Bytes with several owners: one piece, or two ropes one after the other. `share` copies no
-/// byte, and `join` at most 256. The tree is not balanced: every function recurses into the side with fewer bytes and loops
-/// over the other one, so the depth of recursion is at most the number of bits of the length.
+/// Bytes with several owners: one piece, or two ropes one after the other. `share` copies no byte, and
+/// `join` at most 256. The tree is not balanced: every function recurses into the side with fewer bytes
+/// and loops over the other one, so the depth of recursion is at most the number of bits of the length.
 #[cycle(rope)]
 pub struct Rope {
     pub(crate) node: RopeNode,

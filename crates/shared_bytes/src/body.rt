@@ -1,8 +1,8 @@
 //! Borrowed parts of a list of own and shared bytes.
 
 ghost use Rattle.std.specs.Prelude.{◌≡◌, ◌++◌, ◌+◌, ◌-◌, ◌≤◌, ℕ, List, drop, length, take};
-ghost use Rattle.std.specs.Prelude.{slice_range, IfOk, IfSome, IsTrue, OnOk};
-ghost use Rattle.ag_value.specs.Spelling.{spelling_of};
+ghost use Rattle.std.specs.Prelude.{slice_range, IfOk, IfSome, IsTrue, OnErr, OnOk};
+ghost use Rattle.ag_value.specs.Spelling.{Extends, spelling_of};
 ghost use Rattle.ag_value.specs.Well.{IsWell};
 ghost use Rattle.shared_bytes.specs.Spliced.{AreSplices, CutAt, IsBeforeSplice, spliced};
 
@@ -299,12 +299,18 @@ impl<'a> Body<'a> {
         copy_own(&own[from..], place, offset, done, out);
     }
 
-    /// Appends a copy of all bytes to a vector. Fails with AllocError if memory runs out; some of them
-    /// may then be appended.
+    /// Appends a copy of all bytes to a vector. Fails with AllocError if memory runs out; the vector is
+    /// then unchanged.
     pub fn append_to(&self, out: &mut Vec<u8>) -> Result<(), AllocError>
-        ensures { OnOk result (out.new.items ≡ out.old.items ++ self.now) }
+        ensures ok { OnOk result (out.new.items ≡ out.old.items ++ self.now) }
+        ensures err { OnErr result (out.new.items ≡ out.old.items) }
     {
-        append_all(self.own, self.base, self.splices, out)
+        let start = out.len();
+        let Ok(()) = append_all(self.own, self.base, self.splices, out) else {
+            out.truncate(start);
+            return Err(AllocError);
+        };
+        Ok(())
     }
 
     /// Takes the value whose encoding is a prefix of the body: a shared one in one step, and one of own
@@ -354,7 +360,8 @@ impl<'a> Body<'a> {
 }
 
 /// Appends a copy of own bytes, the first of which has number `base`, and of the encodings between them.
-/// Fails with AllocError if memory runs out.
+/// Fails with AllocError if memory runs out, and may then have appended some of them.
+#[tactic(auto, using(ag_value::proofs::Extending::extending))]
 fn append_all(
     own: &[u8],
     base: usize,
@@ -362,7 +369,8 @@ fn append_all(
     out: &mut Vec<u8>,
 ) -> Result<(), AllocError>
     requires { (at : ℕ) × (total : ℕ) × AreSplices base at (base + length own.now) total splices.now }
-    ensures { OnOk result (out.new.items ≡ out.old.items ++ spliced base own.now splices.now) }
+    ensures ok { OnOk result (out.new.items ≡ out.old.items ++ spliced base own.now splices.now) }
+    ensures extends { Extends out.old.items out.new.items }
 {
     let mut from = 0;
     for splice in splices {

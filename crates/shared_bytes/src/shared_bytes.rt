@@ -190,10 +190,11 @@ impl SharedBytes {
         Body::whole(self.own.as_slice(), self.splices.as_slice(), self.len)
     }
 
-    /// Appends a copy of all bytes to a vector. Fails with AllocError if memory runs out; some of them
-    /// may then be appended.
+    /// Appends a copy of all bytes to a vector. Fails with AllocError if memory runs out; the vector is
+    /// then unchanged.
     pub fn append_to(&self, out: &mut Vec<u8>) -> Result<(), AllocError>
-        ensures { OnOk result (out.new.items ≡ out.old.items ++ self.now) }
+        ensures ok { OnOk result (out.new.items ≡ out.old.items ++ self.now) }
+        ensures err { OnErr result (out.new.items ≡ out.old.items) }
     {
         self.lend().append_to(out)
     }

@@ -12,6 +12,8 @@ mod cursors;
 #[cfg(test)]
 mod files;
 #[cfg(test)]
+mod list_trees;
+#[cfg(test)]
 mod reading_back;
 #[cfg(test)]
 mod table_trees;

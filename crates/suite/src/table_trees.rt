@@ -80,7 +80,7 @@ fn trees_are_balanced(rt: HostRuntime) -> Result<(), PutFault> {
         down = with_number(alloc, &down, count.saturating_sub(key))?;
         mixed = with_number(alloc, &mixed, key.wrapping_mul(2_654_435_769) % 65_536)?;
     }
-    // 1.45 times the binary logarithm of 4098 is 17.4
+    // 1.45 · log2(4098) is 17.4
     assert!(rt; up.height() <= 17 && down.height() <= 17 && mixed.height() <= 17);
     assert_eq!(rt; rebuilt(alloc, &mixed)?.height(), 13);
     Ok(())

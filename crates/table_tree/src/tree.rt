@@ -158,8 +158,8 @@ impl TableTree {
         }
     }
 
-    /// Returns the number of levels, which is meant to be at most 1.45 times the binary logarithm of the
-    /// number of pairs plus 2. No contract says so.
+    /// Returns the number of levels. For n pairs it is meant to be at most 1.45 · log2(n + 2). No contract
+    /// says so.
     pub fn height(&self) -> u8 {
         match &self.node {
             TableNode::Leaf => 0,

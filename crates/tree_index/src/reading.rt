@@ -25,8 +25,8 @@ use treefile::Device;
 /// The offset in bytes of the number of the pass in a header.
 const PASS_OFFSET: u64 = 4;
 
-/// The greatest number of bytes of a file whose bodies are copied, in large blocks, where they could be lent: one by one,
-/// which takes longer for small bodies.
+/// The greatest number of bytes of a file whose bodies are copied, in large blocks. They could be lent one
+/// by one, which takes longer for small bodies.
 const MAX_COPIED: u64 = 4_194_304;
 
 /// The greatest number of turns of a walk: one to each node below the root, one to leave each node, and one at

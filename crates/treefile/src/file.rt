@@ -165,13 +165,10 @@ impl<F: Read + Write + Seek + OpenFile> FileDevice<F> {
         ensures err { OnErr result (self.new ≡ self.old) }
         ensures memory { IfErr result (λ e. e ≡ DeviceFault.NoMemory) }
     {
-        let start = self.buffered.len();
-        let end = start + parts.len() as usize;
-        if self.buffered.resize(end, 0).is_err() {
-            return Err(DeviceFault::NoMemory);
+        match parts.append_to(&mut self.buffered) {
+            Ok(()) => Ok(()),
+            Err(_) => Err(DeviceFault::NoMemory),
         }
-        parts.read_at(0, &mut self.buffered[start..]);
-        Ok(())
     }
 
     /// Appends bytes as `append` does, also if they do not fit in the buffer: writes the buffered bytes to

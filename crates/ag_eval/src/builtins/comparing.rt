@@ -30,8 +30,8 @@ pub fn equal(left: &Value, right: &Value) -> Value
     truth(same(left, right))
 }
 
-/// Computes `a == b`, where a text may have shared bytes and a table may be a tree. Takes memory, for a
-/// copy, only for such a text beside a plain text of the same length.
+/// Computes `a == b`, where a text may have shared bytes, and a table or list may be a tree. Takes memory,
+/// for a copy, only for such a text beside a plain text of the same length.
 pub fn equal_shared(
     alloc: Global,
     left: ValueRef<'_>,
@@ -59,8 +59,12 @@ fn same_values(alloc: Global, left: ValueRef<'_>, right: ValueRef<'_>) -> Result
         (ValueRef::Table(one), ValueRef::Table(other)) => Ok(one.same(other)),
         (ValueRef::Table(table), ValueRef::Plain(plain)) => Ok(table.is_value(plain)),
         (ValueRef::Plain(plain), ValueRef::Table(table)) => Ok(table.is_value(plain)),
-        (ValueRef::Table(_), ValueRef::Shared(_)) => Ok(false),
-        (ValueRef::Shared(_), ValueRef::Table(_)) => Ok(false),
+        (ValueRef::List(one), ValueRef::List(other)) => Ok(one.same(other)),
+        (ValueRef::List(list), ValueRef::Plain(plain)) => Ok(list.is_value(plain)),
+        (ValueRef::Plain(plain), ValueRef::List(list)) => Ok(list.is_value(plain)),
+        (ValueRef::Table(_), ValueRef::Shared(_) | ValueRef::List(_)) => Ok(false),
+        (ValueRef::Shared(_), ValueRef::Table(_) | ValueRef::List(_)) => Ok(false),
+        (ValueRef::List(_), ValueRef::Table(_) | ValueRef::Shared(_)) => Ok(false),
     }
 }
 

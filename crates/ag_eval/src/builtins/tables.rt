@@ -13,7 +13,7 @@ ghost use Rattle.ag_grammar.specs.values.Tables.{IsIndex, get_result, has_result
 ghost use Rattle.ag_grammar.specs.values.Tables.{pair_with, put_result, with_pair};
 
 use crate::builtins::comparing::truth;
-use crate::builtins::trees;
+use crate::builtins::table_trees;
 use crate::measured::Measured;
 use crate::operand::Held;
 use ag_carried::MAX_FLAT_TABLE;
@@ -93,7 +93,7 @@ pub fn put<'a>(
     match table.into_value() {
         Value::Table(pairs) => {
             let tree = TableTree::from_table(alloc, pairs)?;
-            trees::put(alloc, &tree, key, value)
+            table_trees::put(alloc, &tree, key, value)
         }
         _ => Ok(Held::fault(ErrorCode::Kind)),
     }

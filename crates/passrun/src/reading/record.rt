@@ -10,7 +10,7 @@ ghost use Rattle.passrun.specs.reading.Reading.{AreTaken, AreUntaken, IsNoNodeBo
 ghost use Rattle.passrun.specs.reading.Reading.{IsTaken, IsUntaken, IsNodeRead, IsNoNode, PrependsTo};
 ghost use Rattle.passrun.specs.reading.Reading.{IsTextOf, IsTokenRead, IsNoToken, IsRead, IsNoRecord};
 ghost use Rattle.passrun.specs.Faults.{record_fault_of};
-ghost use Rattle.passcode.specs.Settings.{setting_of};
+ghost use Rattle.passrun.specs.Settings.{pass_setting};
 
 use crate::layouts::context::PassContext;
 use crate::layouts::hints::{ChildLocation, Hints, RowLocation};
@@ -20,7 +20,6 @@ use ag_carried::Carried;
 use ag_grammar::limits::MAX_TOKEN_BYTES;
 use ag_grammar::{Grammar, Item, Terminal};
 use ag_value::{Value, ValueFault, decode};
-use planchecker::Plan;
 use std::alloc::Global;
 use treefile::{Kind, split_body};
 
@@ -265,9 +264,9 @@ pub(crate) fn node_in<'b>(grammar: &Grammar, symbol: u16, body: &'b [u8]) -> Opt
     Some((number, spellings))
 }
 
-/// Reads the body of a node of a symbol from the file of pass k - 1, and appends its row to the
-/// values: first the node's own values, then the copies of its children's. For each attribute of
-/// pass k, the row has 0 as a placeholder. Returns the number of the node's production.
+/// Reads the body of a node of a symbol from the file of pass k - 1, where k is the setting's pass, and
+/// appends its row to the values: first the node's own values, then the copies of its children's. For
+/// each attribute of pass k, the row has 0 as a placeholder. Returns the number of the node's production.
 ///
 /// Fails with `Damaged` if the body is not the record of a node of the symbol in the file of that
 /// pass. Such a record has a production of the symbol, a well value for each attribute of a pass
@@ -276,36 +275,29 @@ pub(crate) fn node_in<'b>(grammar: &Grammar, symbol: u16, body: &'b [u8]) -> Opt
 /// memory for the values read, and for the passes of the production's values.
 pub fn read_node(
     alloc: Global,
-    grammar: &Grammar,
-    plan: &Plan,
-    k: u16,
+    setting: &Setting<'_>,
     symbol: u16,
     body: &[u8],
     values: &mut Vec<Carried>,
 ) -> Result<u16, RecordFault>
-    requires { 1 ≤ k }
-    ensures read { IfOk result (λ p. IsNodeRead (setting_of grammar.now plan.now k) symbol p
+    requires { 1 ≤ setting.now.pass }
+    ensures read { IfOk result (λ p. IsNodeRead (pass_setting setting.now) symbol p
         body.now values.old.items values.new.items) }
     ensures none { IsErrOf result RecordFault.Damaged →
-        IsNoNode (setting_of grammar.now plan.now k) symbol body.now }
+        IsNoNode (pass_setting setting.now) symbol body.now }
     ensures prefix { PrependsTo values.old.items values.new.items }
 {
-    let Some((number, spellings)) = node_in(grammar, symbol, body) else {
+    let Some((number, spellings)) = node_in(setting.grammar, symbol, body) else {
         return Err(RecordFault::Damaged);
     };
-    let production = &grammar.productions()[number as usize];
-    let setting = Setting {
-        grammar,
-        plan,
-        pass: k,
-    };
-    let Ok(passes) = row_passes(alloc, &setting, production) else {
+    let production = &setting.grammar.productions()[number as usize];
+    let Ok(passes) = row_passes(alloc, setting, production) else {
         return Err(RecordFault::NoMemory);
     };
     let hints = Hints::none(alloc);
     let row = RowLocation {
         hints: &&hints,
-        pass: k,
+        pass: setting.pass,
         production: number,
         parent: ChildLocation::default(),
         start: values.len(),

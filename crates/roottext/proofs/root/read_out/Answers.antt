@@ -10,8 +10,8 @@ pub returns-in_err-read_node-clause-none : goal.returns-in_err-read_node-clause-
 returns-in_err-read_node-clause-none c =
     let g = c.args.grammar.now in
     let plan = c.args.plan.now in
-    let last = c.passes-next_pass.result in
-    let greatest = subst (IsGreatest last) c.assignment.ensures c.passes-next_pass.ensures in
+    let last = c.passes-last.result in
+    let greatest = subst (IsGreatest last) c.assignment.ensures c.passes-last.ensures in
     let p = err_from_is_err_and c.from_residual.result c.from_residual.ensures.1 in
     rw (p.1, p.2)
     (λ damaged x root. no_root g plan.0 plan.1 last c.args.body.now greatest
@@ -23,8 +23,8 @@ pub swap_remove-requires : goal.swap_remove-requires
 swap_remove-requires c =
     let g = c.args.grammar.now in
     let plan = c.args.plan.now in
-    let last = c.passes-next_pass.result in
-    let greatest = subst (IsGreatest last) c.assignment.ensures c.passes-next_pass.ensures in
+    let last = c.passes-last.result in
+    let greatest = subst (IsGreatest last) c.assignment.ensures c.passes-last.ensures in
     let read =
     started (setting_of g plan (last + 1)) c.start.result c.in_ok-read_node.field-0 c.args.body.now c.new-values.result.items
     c.read_node.new.values.items c.start.ensures.value c.new-values.ensures.items c.in_ok-read_node.ensures.read in
@@ -37,8 +37,8 @@ pub returns-clause-read : goal.returns-clause-read
 returns-clause-read c =
     let g = c.args.grammar.now in
     let plan = c.args.plan.now in
-    let last = c.passes-next_pass.result in
-    let greatest = subst (IsGreatest last) c.assignment.ensures c.passes-next_pass.ensures in
+    let last = c.passes-last.result in
+    let greatest = subst (IsGreatest last) c.assignment.ensures c.passes-last.ensures in
     let read =
     started (setting_of g plan (last + 1)) c.start.result c.in_ok-read_node.field-0 c.args.body.now c.new-values.result.items
     c.read_node.new.values.items c.start.ensures.value c.new-values.ensures.items c.in_ok-read_node.ensures.read in

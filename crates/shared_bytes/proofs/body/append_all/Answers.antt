@@ -1,5 +1,6 @@
 use Rattle.std.proofs.Common.{◌≡◌, ◌+◌, ◌-◌, ◌++◌, ◌∷◌, ℕ, List, length, drop, refl, sym, ap, subst, ◌∙◌, arith}
 use Rattle.std.proofs.lemmas.List.{drop_more}
+use Rattle.ag_value.proofs.Extending.{by_one, by_two}
 use Rattle.shared_bytes.specs.Spliced.{AreSplices, spliced}
 use Rattle.shared_bytes.specs.declared.splice.Splice.{Splice}
 use Rattle.shared_bytes.proofs.Splicing.{one_copied}
@@ -27,6 +28,10 @@ loop-splice-preserved c =
           ∙ (one_copied c.args.base l.from next own l.out.items g rest h.0 refl
           ∙ (ap (λ (gs : List Splice). l.out.items ++ spliced (c.args.base + l.from) (drop l.from own) gs) (sym e)
           ∙ l.invariant.same));
+      extends = by_two c.args.out.now.items l.out.items c.append_to.new.out.items l.invariant.extends
+          (by_two l.out.items c.extend_from_slice.new.self.items c.append_to.new.out.items
+          (by_one l.out.items c.extend_from_slice.new.self.items _ c.in_ok-extend_from_slice.ensures.items)
+          (by_one c.extend_from_slice.new.self.items c.append_to.new.out.items g.bytes c.in_ok-append_to.ensures.ok));
       splices = (
         g.at + length g.bytes,
         l.invariant.splices.1,

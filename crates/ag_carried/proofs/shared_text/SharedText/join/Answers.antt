@@ -1,5 +1,5 @@
 use Rattle.std.proofs.Common.{◌++◌, length, length-append, subst, sym, ap, arith}
-use Rattle.ag_carried.specs.SharedText.{IsShortText}
+use Rattle.ag_carried.specs.SharedText.{IsTextWithinLimits}
 use Rattle.ag_carried.proofs.Texts.{joined_utf8}
 use Rattle.ag_value.proofs.Layers.{weight-Text}
 use Rattle.ag_carried.proofs.shared_text.SharedText.join.Goals as goal
@@ -19,7 +19,7 @@ pub invariant_of-result : goal.invariant_of-result
 invariant_of-result c =
     let left = c.left.inside.rope in
     let right = c.right.inside.rope in
-    subst IsShortText (sym c.in_ok-rope.ensures) record {
+    subst IsTextWithinLimits (sym c.in_ok-rope.ensures) record {
       utf8 = joined_utf8 left right c.left.invariant.utf8 c.right.invariant.utf8;
       short = omega (
         arith,

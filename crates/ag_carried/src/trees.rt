@@ -1,0 +1,37 @@
+//! Tables and lists that are trees: versions share their nodes.
+
+ghost use Rattle.std.specs.Prelude.{IfSome};
+ghost use Rattle.ag_value.specs.declared.value.Value.{List as ListValue, Table as TableValue};
+ghost use Rattle.ag_carried.specs.Prefixes.{IsPrefix};
+
+use list_tree::ListTree;
+use table_tree::TableTree;
+
+/// The greatest number of pairs that a table has before `put` while it stays flat. Of a larger one `put`
+/// makes a tree.
+pub const MAX_FLAT_TABLE: usize = 16;
+
+/// The greatest number of items of a list that `append` or `++` makes flat. A longer one is a tree.
+pub const MAX_FLAT_LIST: usize = 16;
+
+/// Returns the length of a table's encoding in bytes, if the input begins with it. Takes no memory.
+pub(crate) fn prefix_of_table(table: &TableTree, input: &[u8]) -> Option<usize>
+    ensures { IfSome result (IsPrefix (TableValue table.now) input.now) }
+{
+    let len = table.encoding_len();
+    if len <= input.len() && table.has_encoding(&input[..len]) {
+        return Some(len);
+    }
+    None
+}
+
+/// Returns the length of a list's encoding in bytes, if the input begins with it. Takes no memory.
+pub(crate) fn prefix_of_list(list: &ListTree, input: &[u8]) -> Option<usize>
+    ensures { IfSome result (IsPrefix (ListValue list.now) input.now) }
+{
+    let len = list.encoding_len();
+    if len <= input.len() && list.has_encoding(&input[..len]) {
+        return Some(len);
+    }
+    None
+}

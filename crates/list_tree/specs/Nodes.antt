@@ -1,0 +1,25 @@
+-- The items of a tree. All of this is this project's.
+use Rattle.std.specs.Prelude.{◌≡◌, ◌++◌, ◌∷◌, ◌+◌, ◌<◌, [], List, length}
+use Rattle.ag_value.specs.declared.value.Value.{Value}
+use Rattle.list_tree.specs.declared.items.ItemNode.{ItemNode}
+use Rattle.list_tree.specs.declared.items.ItemNode.TheVariants.{Empty, Fork, Item}
+
+-- the items in their order
+abbrev pub items_of : ItemNode → List Value
+items_of Empty = []
+items_of (Item item) = item.value ∷ []
+items_of (Fork branch) = branch.value.left ++ branch.value.right
+
+-- a list is two others, one after the other, of which neither is empty
+pub record IsCut (items left right : List Value) : Type 0 where
+  pub parts : items ≡ left ++ right
+  pub some_left : 0 < length left
+  pub some_right : 0 < length right
+
+-- neither side of a fork is empty, and the number stored beside them is that of the items of both
+abbrev pub IsNode : ItemNode → Type 0
+IsNode Empty = Unit {0}
+IsNode (Item item) = Unit {0}
+IsNode (Fork branch) =
+    (branch.value.len ≡ length branch.value.left + length branch.value.right) × (0 < length branch.value.left)
+    × (0 < length branch.value.right)

@@ -1,0 +1,130 @@
+//! List trees: what no clause says, that each call succeeds, and the balance.
+
+use ag_value::{NoMemory, Value, ValueFault, decode};
+use list_tree::ListTree;
+use std::alloc::Global;
+use std::test::Fail;
+
+/// The number of items of a long list.
+const LONG: u16 = 4096;
+
+/// Returns the list of one number, which is below 65,536.
+fn single(alloc: Global, number: u16) -> Result<ListTree, ValueFault> {
+    let [high, low] = number.to_be_bytes();
+    let encoding = [2, 0, 0, 0, 1, 0, 0, 0, 0, 0, 0, 0, high, low];
+    match decode(alloc, &encoding)?.0 {
+        Value::List(items) => Ok(ListTree::from_list(alloc, items)?),
+        _ => Err(ValueFault::Malformed),
+    }
+}
+
+/// Joins two lists. Fails with Malformed if they are too heavy together.
+fn joined(alloc: Global, left: &ListTree, right: &ListTree) -> Result<ListTree, ValueFault> {
+    match ListTree::join(alloc, left, right)? {
+        Some(list) => Ok(list),
+        None => Err(ValueFault::Malformed),
+    }
+}
+
+/// Returns the numbers from 0 on, appended one by one.
+fn numbers(alloc: Global, count: u16) -> Result<ListTree, ValueFault> {
+    let mut list = single(alloc, 0)?;
+    for number in 1..count {
+        list = joined(alloc, &list, &single(alloc, number)?)?;
+    }
+    Ok(list)
+}
+
+/// Returns a list that has the number 1 at least `least` times, up to 65,536: one item, joined with itself
+/// again and again.
+fn doubled(alloc: Global, least: usize) -> Result<ListTree, ValueFault> {
+    let mut list = single(alloc, 1)?;
+    for _ in 0..16 {
+        if list.len() >= least {
+            break;
+        }
+        list = joined(alloc, &list, &list)?;
+    }
+    Ok(list)
+}
+
+/// Returns the flat copy of a list as a tree.
+fn rebuilt(alloc: Global, list: &ListTree) -> Result<ListTree, NoMemory> {
+    let _weight = list.weight();
+    ListTree::from_list(alloc, list.to_list(alloc)?)
+}
+
+#[test]
+fn a_list_has_what_was_appended(rt: HostRuntime) -> Result<(), ValueFault> {
+    let alloc = rt.alloc();
+    let list = numbers(alloc, 300)?;
+    assert_eq!(rt; (list.len(), list.weight()), (300, 2705));
+    assert!(rt; matches!(list.get(0), Some(Value::Num(0))));
+    assert!(rt; matches!(list.get(299), Some(Value::Num(299))));
+    assert!(rt; list.get(300).is_none());
+    assert_eq!(rt; list.to_list(alloc)?.as_slice().len(), 300);
+    Ok(())
+}
+
+#[test]
+fn an_encoding_is_that_of_the_flat_list(rt: HostRuntime) -> Result<(), ValueFault> {
+    let alloc = rt.alloc();
+    let list = numbers(alloc, 2)?;
+    let mut bytes = Vec::new(alloc);
+    list.append_encoding(&mut bytes)?;
+    let expected = b"\x02\0\0\0\x02\0\0\0\0\0\0\0\0\0\0\0\0\0\0\0\0\0\x01";
+    assert!(rt; bytes.as_slice() == expected.as_slice());
+    assert!(rt; list.has_encoding(bytes.as_slice()) && !list.has_encoding(&bytes[..22]));
+    if list.weight() < 6 {
+        return Err(ValueFault::Malformed);
+    }
+    let mut part = [9; 3];
+    list.copy_part(3, &mut part);
+    assert_eq!(rt; part, [0, 2, 0]);
+    Ok(())
+}
+
+#[test]
+fn other_versions_stay(rt: HostRuntime) -> Result<(), ValueFault> {
+    let alloc = rt.alloc();
+    let old = numbers(alloc, 20)?;
+    let new = joined(alloc, &old, &single(alloc, 20)?)?;
+    assert_eq!(rt; (old.len(), new.len()), (20, 21));
+    assert!(rt; !old.same(&new) && new.same(&rebuilt(alloc, &new)?) && old.same(&old.share()?));
+    assert!(rt; new.is_value(&Value::List(new.to_list(alloc)?)));
+    assert!(rt; !old.is_value(&Value::List(new.to_list(alloc)?)));
+    Ok(())
+}
+
+#[test]
+fn lists_too_heavy_together_are_not_joined(rt: HostRuntime) -> Result<(), ValueFault> {
+    let alloc = rt.alloc();
+    let half = doubled(alloc, 65_536)?;
+    assert!(rt; ListTree::join(alloc, &half, &half)?.is_none());
+    assert!(rt; ListTree::join(alloc, &half, &numbers(alloc, 2)?)?.is_some());
+    Ok(())
+}
+
+#[test]
+fn trees_are_balanced(rt: HostRuntime) -> Result<(), ValueFault> {
+    let alloc = rt.alloc();
+    let mut at_end = single(alloc, 0)?;
+    let mut at_beginning = single(alloc, 0)?;
+    for number in 1..LONG {
+        let one = single(alloc, number)?;
+        at_end = joined(alloc, &at_end, &one)?;
+        at_beginning = joined(alloc, &one, &at_beginning)?;
+    }
+    // 1 + 1.45 · log2(4096) is 18.4
+    assert!(rt; at_end.height() <= 17 && at_beginning.height() <= 17);
+    assert_eq!(rt; rebuilt(alloc, &at_end)?.height(), 13);
+    let short = numbers(alloc, 3)?;
+    let mixed = joined(
+        alloc,
+        &joined(alloc, &short, &at_end)?,
+        &joined(alloc, &at_beginning, &short)?,
+    )?;
+    assert_eq!(rt; mixed.len(), 8198);
+    assert!(rt; mixed.height() <= 18);
+    Ok(())
+}
