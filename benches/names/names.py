@@ -73,11 +73,25 @@ def read_again():
     ])
 
 
-def linked(links):
-    """Returns the grammar with this number of nodes between a procedure and the next one, which only pass their values on."""
-    rules = "{ $0.count = $1.count; $0.sum = $1.sum; $0.wrong = $1.wrong; $1.env = $0.env; }"
+def chain(links, attributes, last):
+    """Returns the declarations and the productions of nodes Link0, Link1, .. that only pass their values on, down to a symbol."""
+    rules = "{ " + " ".join(f"$0.{it} = $1.{it};" for it in attributes) + " $1.env = $0.env; }\n"
     names = [f"Link{index}" for index in range(links)]
-    symbols = "".join(f"symbol {name} syn count, sum, wrong inh env;\n" for name in names)
-    productions = "".join(f"{name} = {below} {rules}\n" for name, below in zip(names, [*names[1:], "Procs"]))
-    changes = [("symbol Decls", symbols + "symbol Decls"), ('";" "}" Procs {', f'";" "}}" {names[0]} {{')]
+    symbols = "".join(f"symbol {name} syn {', '.join(attributes)} inh env;\n" for name in names)
+    return symbols, "".join(f"{name} = {below} {rules}" for name, below in zip(names, [*names[1:], last]))
+
+
+def linked_values(links):
+    """Returns the grammar with this number of nodes between a procedure and its value, which only pass their values on. The nodes of
+    one procedure are done before those of the next one begin."""
+    symbols, productions = chain(links, ["value", "wrong"], "Expr")
+    changes = [("symbol Decls", symbols + "symbol Decls"), ('Decls "return" Expr ";"', 'Decls "return" Link0 ";"')]
+    return replaced(NAMES, changes) + productions
+
+
+def linked_procedures(links):
+    """Returns the grammar with this number of nodes between a procedure and the next one, which only pass their values on. So the
+    nodes of all procedures are on the way from the root to the last one."""
+    symbols, productions = chain(links, ["count", "sum", "wrong"], "Procs")
+    changes = [("symbol Decls", symbols + "symbol Decls"), ('";" "}" Procs {', '";" "}" Link0 {')]
     return replaced(NAMES, changes) + productions
