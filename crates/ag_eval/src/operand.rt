@@ -221,7 +221,7 @@ impl<'e> Held<'e> {
         SharedText::new(alloc, text)
     }
 
-    /// Returns a list as a tree. A list that is none is copied if it is lent, and its items are moved.
+    /// Returns a list as a tree. A flat list is copied if it is lent, and its items are moved into the tree.
     pub fn into_list(self, alloc: Global) -> Result<ListTree, NoMemory>
         requires { is_list (held_value self) ≡ true }
         ensures { IfOk result (λ list. held_value self.entry ≡ value.List list) }

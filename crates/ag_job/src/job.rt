@@ -38,7 +38,8 @@ impl Job {
     /// directly before the LF of that line is ignored, and if it is the last line, its LF may be missing.
     ///
     /// Fails with J2 `Read` if the reader fails, J3 `TooLong` if it has more than 2,097,156 bytes, J1
-    /// `NoSeparator` if no line is exactly `%%`, and `NoMemory` if a request for memory is refused.
+    /// `NoSeparator` if no line is exactly `%%`, and `NoMemory` if a request for memory is refused, its own or
+    /// the reader's.
     pub fn read<R: Read + Drop>(alloc: Global, reader: R) -> Result<Job, JobFault>
         ensures job { IfOk result (λ job. IfSome (R.remaining reader)
             (λ bytes. IsJob bytes job.0 job.1)) }

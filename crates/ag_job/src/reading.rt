@@ -15,7 +15,7 @@ pub enum ReadFault {
 }
 
 /// Returns the first bytes of a reader: all up to its end, but at most `most` bytes. Fails with `Read` if
-/// the reader fails, and with `NoMemory` if a request for memory is refused.
+/// the reader fails, and with `NoMemory` if a request for memory is refused, its own or the reader's.
 pub fn read_prefix<R: Read + Drop>(
     alloc: Global,
     reader: R,

@@ -32,7 +32,7 @@ use treefile::{FileDevice, MemDevice, SharedDevice};
 ///
 /// Fails with D1 if the file can't be written out, and otherwise as `Translator::parse_tree` and
 /// `print_count` do. After S1 to S4 the file has the content that it had, after P1 to P3 a prefix
-/// of the file of pass 0. After O2 it has the tree, and a prefix of the line was printed.
+/// of a file of pass 0. After O2 it has the tree, and a prefix of the line was printed.
 pub fn parse_to_file<F: Read + Write + Seek + OpenFile, W: Write>(
     alloc: Global,
     translator: &Translator,

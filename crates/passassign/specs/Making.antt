@@ -18,7 +18,7 @@ AreFinished g d candidate xs = (x : Strike) → candidate x.symbol x.attr → Is
 
 -- Pass k extends a partial assignment: of the attributes without a pass some are struck, one by one, until no
 -- other can be, and the rest get pass k (after Jazayeri and Walter 1975). An attribute keeps its pass (`kept`), or it
--- gets pass k and is not struck (`gained`), or it is struck and has no pass after pass k (`left`).
+-- gets pass k and is not struck (`gained`), or it is struck and still has no pass (`left`).
 pub record IsPass (g : Grammar) (k : ℕ) (before after : Partial) (strikes : List Strike) : Type 0 where
   pub good : AreGood g (direction_of k) (IsOpen g before) [] strikes
   pub finished : AreFinished g (direction_of k) (IsOpen g before) strikes

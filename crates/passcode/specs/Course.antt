@@ -78,7 +78,8 @@ pub record IsTurnOf (q : Production) (k : ℕ) (s : State) (phase : Phase) (j : 
   pub place : j ≡ place_of q k s.turn
 
 -- An instruction may come next: the `Get` of the next child, then the `Set`s of that child, its `Go` if all of them were
--- run, and its `Put`; a `Def` anywhere; and `End` if all children are complete and all rules of the pass were run.
+-- run, and its `Put`; a `Def` anywhere before `End`; and `End` if all children are complete and all rules of the pass were
+-- run. The rule of a `Set` or `Def` may be run at that moment (`MayCompute`).
 abbrev pub MayRun : Passes → Production → ℕ → State → Instr → Type 0
 MayRun m q k s (instr.Get j) = IsTurnOf q k s Between j
 MayRun m q k s (instr.Set j a r) = IsTurnOf q k s Got j × MayCompute m q k s j a r

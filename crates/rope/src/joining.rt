@@ -8,8 +8,8 @@ use std::alloc::{AllocError, Global};
 /// The greatest length in bytes of a piece that is made of two.
 const MAX_PIECE: usize = 256;
 
-/// The greatest number of nodes between the root and a piece that is extended. The last piece of a text
-/// that grows at both ends is one node below its root, and the first piece two.
+/// The greatest depth of a piece that is extended: the root has depth 0. In a text that grows at both
+/// ends the last piece has depth 1, and the first piece depth 2.
 const MAX_LEVELS: u32 = 2;
 
 impl Rope {

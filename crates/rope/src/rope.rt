@@ -94,7 +94,8 @@ impl Rope {
         })
     }
 
-    /// Returns the number of bytes. Takes no memory.
+    /// Returns the number of bytes. Takes no memory. Its clause `bytes` says that each of them is below 256,
+    /// which the invariant knows and a caller may need.
     pub fn len(&self) -> usize
         ensures len { result ≡ length self.now }
         ensures bytes { AreBytes self.now }
@@ -117,7 +118,8 @@ impl Rope {
         Ok(Rope { node })
     }
 
-    /// Returns two ropes, one after the other, as a node with two sides. Fails with AllocError.
+    /// Returns two ropes, one after the other, as a node with two sides; if one is empty, the other alone.
+    /// Fails with AllocError.
     pub(crate) fn pair(alloc: Global, left: Rope, right: Rope) -> Result<Rope, AllocError>
         requires { length left + length right < 2 ^ 64 }
         ensures { IfOk result (λ rope. rope ≡ left ++ right) }

@@ -39,7 +39,7 @@ impl Screen {
     }
 
     /// Returns how messages are printed. They are marked on a terminal, unless the environment has the
-    /// variable `NO_COLOR` or the terminal is a dumb one, or as the command line says. Progress is shown
+    /// variable `NO_COLOR` with a text that is not empty or the terminal is a dumb one, or as the command line says. Progress is shown
     /// on a terminal, unless messages are off or the terminal is a dumb one.
     pub fn new<R: Env + AllocGlobal>(rt: &R, messages: Messages, is_terminal: bool) -> Screen {
         let is_marked = match messages.color {

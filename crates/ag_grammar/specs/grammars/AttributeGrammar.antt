@@ -48,7 +48,7 @@ IsProduction g p q = slice_get g.productions p ≡ Some q
 abbrev pub IsRule : Production → Rule → Type 0
 IsRule q r = Has q.rules r
 
--- o is the attribute that an argument of the rule refers to
+-- o is an argument of the rule: the rule reads this attribute, at this place
 abbrev pub IsArgument : Rule → Target → Type 0
 IsArgument r o = Has r.args o
 
