@@ -4,7 +4,7 @@ use crate::expected::END;
 use ag_expr::{Cursor, ExprFault, refusal};
 use std::fmt;
 
-/// The greatest number of terminals or attributes that a message names.
+/// The greatest number of names in most lists of a message: of terminals, symbols or occurrences.
 pub const MAX_NAMED: usize = 12;
 
 /// The greatest number of characters of a token that a message shows.

@@ -10,7 +10,7 @@ ghost use Rattle.normalform.specs.faults.Clauses as spec;
 ghost use Rattle.normalform.specs.faults.Faults.{AreAll};
 ghost use Rattle.normalform.specs.faults.Found.{IsFound, IsFoundAt};
 ghost use Rattle.normalform.specs.faults.Faults.{IsSmall, AreListedIn};
-ghost use Rattle.normalform.specs.numbers.Numbers.{symbol_of, symbol_names, number_in, production_of};
+ghost use Rattle.normalform.specs.numbers.Numbers.{symbol_of, declared_names, number_in, production_of};
 ghost use Rattle.normalform.specs.numbers.Numbers.{numbered};
 
 use crate::fault::NormalFault;
@@ -134,7 +134,7 @@ fn unreachable(
     requires edges { edges.now ≡ spec.reach_edges
         (spec.clauses_of (map symbol_of raw.now.symbols) raw.now.productions) }
     requires start { start
-        ≡ number_in (symbol_names (map symbol_of raw.now.symbols)) raw.now.start.name }
+        ≡ number_in (declared_names (map symbol_of raw.now.symbols)) raw.now.start.name }
     requires names { first_wrong (naming_checks raw.now) ≡ None }
     requires productive { AreAll (IsProductive (numbered raw.now)) raw.now }
     ensures found { IfOk result (λ o. IfSome o (λ n. IsFoundAt raw.now
@@ -192,7 +192,7 @@ fn number_productions(
 ) -> Result<(u16, Items<Production>), NoMemory>
     requires { IsSmall (map symbol_of symbols.now) literals.now }
     ensures start { IfOk result (λ r. r.0
-        ≡ number_in (symbol_names (map symbol_of symbols.now)) start.now.name) }
+        ≡ number_in (declared_names (map symbol_of symbols.now)) start.now.name) }
     ensures numbered { IfOk result (λ r. r.1
         ≡ map (production_of (map symbol_of symbols.now) literals.now) productions) }
     ensures listed { IfOk result (λ r. All AreListedIn r.1) }

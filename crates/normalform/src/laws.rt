@@ -5,7 +5,8 @@ ghost use Rattle.normalform.specs.Laws.{AcceptedWithoutFault, NoFaultWhereAccept
 ghost use Rattle.normalform.specs.Laws.{OneFirstFault, NoFirstFaultWithoutFault};
 ghost use Rattle.normalform.specs.Laws.{WorkedNumbers};
 
-/// States that if a raw grammar has no fault, the numbered grammar is accepted.
+/// States that if a raw grammar has no fault, the numbered grammar is accepted: for raw grammars that are
+/// readable, and whose numbered rules list their occurrences.
 #[tactic(auto, using(crate::proofs::numbered::Accepting::accepted_without_fault))]
 pub fn accepted_without_fault()
     ensures { AcceptedWithoutFault }

@@ -15,14 +15,15 @@ AreSplices base at end total [] = (base ≤ end) × (total ≡ at + (end - base)
 AreSplices base at end total (g ∷ gs) =
     (base ≤ g.own) × (g.own ≤ end) × (g.at ≡ at + (g.own - base)) × AreSplices g.own (g.at + length g.bytes) end total gs
 
--- Bytes may be split before own byte number `o`, which is at offset `pos`: exactly the first `k` splices come before it.
+-- Bytes may be cut at offset `pos`: exactly the first `o` own bytes and the first `k` splices come before it. The first
+-- `base` own bytes come before offset `at`.
 abbrev pub CutAt : ℕ → ℕ → List Splice → ℕ → ℕ → ℕ → Type 0
 CutAt base at [] zero o pos = (base ≤ o) × (pos ≡ at + (o - base))
 CutAt base at (g ∷ gs) zero o pos = (base ≤ o) × (pos ≡ at + (o - base)) × (o ≤ g.own)
 CutAt base at [] (suc k) o pos = ⊥
 CutAt base at (g ∷ gs) (suc k) o pos = CutAt g.own (g.at + length g.bytes) gs k o pos
 
--- an own byte comes before splice `k`, if there is one
+-- at least `own` own bytes come before splice `k`, if there is one
 abbrev pub IsBeforeSplice : List Splice → ℕ → ℕ → Type 0
 IsBeforeSplice gs k own = (x : Splice) → k < length gs → x ≡ get_or gs k x → own ≤ x.own
 

@@ -42,8 +42,8 @@ impl<'a> Model for Body<'a> {
         × (b.base + length b.own.now < 2 ^ 64) };
 }
 
-/// Returns the number of the own byte at `offset`, if own bytes `from` to `end` begin at offset `start`
-/// with no splice between them. Returns `None` if none of these is at `offset`.
+/// Returns the number of own bytes before `offset`, if own bytes `from` to `end` begin at offset `start`
+/// with no splice between them. Returns `None` if `offset` is before these bytes or past their end.
 fn own_from(from: usize, start: u64, end: usize, offset: u64) -> Option<usize>
     ensures following { IfSome result (λ own. from ≤ own) }
     ensures at { IfSome result (λ own. offset ≡ start + (own - from)) }
@@ -59,7 +59,7 @@ fn own_from(from: usize, start: u64, end: usize, offset: u64) -> Option<usize>
     Some(own)
 }
 
-/// Returns whether own byte `own` comes before splice `count`, or there are only `count` splices.
+/// Returns whether at least `own` own bytes come before splice `count`, or there are only `count` splices.
 fn is_before(splices: &[Splice], count: usize, own: usize) -> bool
     ensures { IsTrue result → IsBeforeSplice splices.now count own }
 {
@@ -79,7 +79,7 @@ struct Start {
     at: u64,
 }
 
-/// Returns the number of the own byte at `offset`, if it comes before all splices.
+/// Returns the number of own bytes before `offset`, if no splice comes before it.
 fn first_own(splices: &[Splice], start: Start, end: usize, offset: u64) -> Option<usize>
     ensures cut { IfSome result (λ own. CutAt start.base start.at splices.now 0 own offset) }
     ensures within { IfSome result (λ own. own ≤ end) }
@@ -91,7 +91,7 @@ fn first_own(splices: &[Splice], start: Start, end: usize, offset: u64) -> Optio
     Some(own)
 }
 
-/// Returns the number of the own byte at `offset`, if it comes after `count` splices.
+/// Returns the number of own bytes before `offset`, if exactly `count` splices come before it.
 fn next_own(
     splices: &[Splice],
     start: Start,
@@ -113,7 +113,8 @@ fn next_own(
     Some(own)
 }
 
-/// Returns the number of the own byte at `offset`, if `count` splices come before it, else `None`.
+/// Returns the number of own bytes before `offset`, if exactly `count` splices come before it, and
+/// otherwise `None`.
 fn own_at(splices: &[Splice], start: Start, end: usize, offset: u64, count: usize) -> Option<usize>
     ensures cut { IfSome result (λ own. CutAt start.base start.at splices.now count own offset) }
     ensures within { IfSome result (λ own. own ≤ end) }
@@ -129,20 +130,6 @@ fn own_at(splices: &[Splice], start: Start, end: usize, offset: u64, count: usiz
 }
 
 impl<'a> Body<'a> {
-    /// Returns a body whose bytes are all own ones. Takes no memory.
-    pub fn from_slice(own: &'a [u8]) -> Body<'a>
-        ensures { result ≡ own.entry.now }
-    {
-        let end = own.len() as u64;
-        Body {
-            own,
-            splices: &[],
-            base: 0,
-            at: 0,
-            end,
-        }
-    }
-
     /// Returns a body of all bytes of a list; `end` is their number.
     pub(crate) fn whole(own: &'a [u8], splices: &'a [Splice], end: u64) -> Body<'a>
         requires { AreSplices 0 0 (length own.now) end splices.now }
@@ -182,9 +169,8 @@ impl<'a> Body<'a> {
     }
 
     /// Splits the body at an offset from its first byte, after `count` of its shared values. Returns
-    /// `None` if the offset is inside a shared value, or if the number of shared values before it is not
-    /// `count`.
-    /// Takes no memory.
+    /// `None` if the offset is inside a shared value or past the last byte, or if the number of shared
+    /// values before it is not `count`; no clause says when. Takes no memory.
     pub fn cut(self, offset: u64, count: usize) -> Option<(Body<'a>, Body<'a>)>
         ensures parts { IfSome result (λ p. self.entry ≡ p.0 ++ p.1) }
         ensures size { IfSome result (λ p. length p.0 ≡ offset) }
@@ -218,7 +204,7 @@ impl<'a> Body<'a> {
     }
 
     /// Lends the encoding of the shared value with which the body begins, if it begins with one.
-    pub fn shared(&self) -> Option<&'a Encoded>
+    pub fn shared_prefix(&self) -> Option<&'a Encoded>
         ensures { IfSome result (λ bytes. take (length bytes.now) self.now ≡ bytes.now) }
     {
         match self.splices {
@@ -228,7 +214,7 @@ impl<'a> Body<'a> {
     }
 
     /// Lends the own bytes with which the body begins.
-    pub fn own(&self) -> &'a [u8]
+    pub fn own_prefix(&self) -> &'a [u8]
         ensures { take (length result.now) self.now ≡ result.now }
     {
         match self.splices {
@@ -322,7 +308,7 @@ impl<'a> Body<'a> {
         ensures encoded { IfOk result
             (λ found. IfSome found (λ p. self.now ≡ spelling_of p.0 ++ p.1)) }
     {
-        match self.shared() {
+        match self.shared_prefix() {
             Some(bytes) => self.take_shared(bytes),
             None => self.take_own(alloc),
         }
@@ -347,7 +333,7 @@ impl<'a> Body<'a> {
         ensures encoded { IfOk result
             (λ found. IfSome found (λ p. self.now ≡ spelling_of p.0 ++ p.1)) }
     {
-        let (value, length) = match Carried::read(alloc, self.own()) {
+        let (value, length) = match Carried::read(alloc, self.own_prefix()) {
             Ok(found) => found,
             Err(ValueFault::Malformed) => return Ok(None),
             Err(ValueFault::NoMemory) => return Err(NoMemory::NoMemory),

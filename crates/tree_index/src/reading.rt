@@ -167,7 +167,7 @@ fn fetch<D: Device>(
     let row = values.len();
     if mode.lends {
         if let Some(body) = back.lend_back(device) {
-            return match split_record(mode.format.grammar, item, body.own()) {
+            return match split_record(mode.format.grammar, item, body.own_prefix()) {
                 Some((number, _)) => Ok(Fetched {
                     item,
                     number,

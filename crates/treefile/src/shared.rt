@@ -135,7 +135,7 @@ fn body_before(bytes: &SharedBytes, at: u64) -> Option<Body<'_>>
 fn number_of(part: &Body<'_>) -> Option<u32>
     ensures { IfSome result (λ n. n ≡ from_be_bytes w32 part.now) }
 {
-    match part.own() {
+    match part.own_prefix() {
         [a, b, c, d] if part.len() == 4 => Some(u32::from_be_bytes([*a, *b, *c, *d])),
         _ => None,
     }

@@ -19,7 +19,7 @@ use Rattle.ag_grammar.specs.declared.raw.RawSymbol.{RawSymbol}
 use Rattle.normalform.specs.declared.fault.NormalFault.TheVariants as fault
 use Rattle.normalform.specs.faults.Faults.{first_wrong, name_check, item_checks, occurrence_check, rule_checks, unknown_in}
 use Rattle.normalform.specs.faults.Faults.{unknown_checks, doubled_names, doubled_checks}
-use Rattle.normalform.specs.numbers.Numbers.{number_in, symbol_of, symbol_names, item_of, placed, names_at, target_of, rule_of}
+use Rattle.normalform.specs.numbers.Numbers.{number_in, symbol_of, declared_names, item_of, placed, names_at, target_of, rule_of}
 use Rattle.normalform.specs.numbers.Numbers.{literals_of, numbered}
 use Rattle.normalform.proofs.found.Apart.{Apart, none_apart, apart_along, more_along, along_apart, apart_differ, differ_apart}
 use Rattle.normalform.proofs.numbered.Listed.{decides_texts, has_any}
@@ -141,11 +141,11 @@ named_rule raw q r named =
     (λ i o e. let s = named.arguments.each i o (target_of ss items o) e (at_mapped (target_of ss items) r.expr.1 i o e) in
     found_there raw q o s))
 
-name_right : (ss : List Symbol) (name : Named) → number_in (symbol_names ss) name.name < length ss
-    → first_wrong (name_check (symbol_names ss) name ∷ []) ≡ None
+name_right : (ss : List Symbol) (name : Named) → number_in (declared_names ss) name.name < length ss
+    → first_wrong (name_check (declared_names ss) name ∷ []) ≡ None
 name_right ss name lt =
-    right_is (name_check (symbol_names ss) name)
-    (below_known (symbol_names ss) name.name (rw (length-map ss (λ (s : Symbol). s.name)) lt))
+    right_is (name_check (declared_names ss) name)
+    (below_known (declared_names ss) name.name (rw (length-map ss (λ (s : Symbol). s.name)) lt))
 
 -- left sides are symbols
 pub lefts_known : (raw : RawGrammar) → first_wrong (unknown_checks (symbols raw) raw.productions) ≡ None
@@ -168,8 +168,8 @@ rules_named raw h listed = each_mapped (produces raw) (λ q. Each (IsNamedRule (
 
 -- the names of a named grammar are known
 item_right : (raw : RawGrammar) (x : RawItem)
-    → IsNamedItem (numbered raw) (item_of (symbol_names (symbols raw)) (literals_of raw.productions) x)
-    → first_wrong (item_checks (symbol_names (symbols raw)) x) ≡ None
+    → IsNamedItem (numbered raw) (item_of (declared_names (symbols raw)) (literals_of raw.productions) x)
+    → first_wrong (item_checks (declared_names (symbols raw)) x) ≡ None
 item_right raw (raw_item.Name name) lt = name_right (symbols raw) name lt
 item_right raw (raw_item.Literal text) lt = refl
 item_right raw (raw_item.Class c) lt = refl
@@ -177,12 +177,12 @@ item_right raw (raw_item.Class c) lt = refl
 pub named_known : (raw : RawGrammar) → IsNamed (numbered raw) → first_wrong (unknown_checks (symbols raw) raw.productions) ≡ None
 named_known raw named = each_flat (unknown_in (symbols raw)) raw.productions (λ p q e.
     let ss = symbols raw in
-    together (name_check (symbol_names ss) q.left ∷ [])
-    (flat_map (item_checks (symbol_names ss)) q.items ++ flat_map (rule_checks ss (placed ss q)) q.rules)
+    together (name_check (declared_names ss) q.left ∷ [])
+    (flat_map (item_checks (declared_names ss)) q.items ++ flat_map (rule_checks ss (placed ss q)) q.rules)
     (name_right ss q.left (mapped_each (produces raw) (λ r. r.left < length ss) raw.productions named.left_sides p q e))
-    (together (flat_map (item_checks (symbol_names ss)) q.items) (flat_map (rule_checks ss (placed ss q)) q.rules)
-    (each_flat (item_checks (symbol_names ss)) q.items (λ i x f.
-    item_right raw x (mapped_each (item_of (symbol_names ss) (literals_of raw.productions)) (IsNamedItem (numbered raw)) q.items
+    (together (flat_map (item_checks (declared_names ss)) q.items) (flat_map (rule_checks ss (placed ss q)) q.rules)
+    (each_flat (item_checks (declared_names ss)) q.items (λ i x f.
+    item_right raw x (mapped_each (item_of (declared_names ss) (literals_of raw.productions)) (IsNamedItem (numbered raw)) q.items
     (mapped_each (produces raw) (λ r. Each (IsNamedItem (numbered raw)) r.items) raw.productions named.items_named p q e) i x f)))
     (each_flat (rule_checks ss (placed ss q)) q.rules (λ i r f.
     named_rule raw q r (mapped_each (rule_of ss (placed ss q)) (IsNamedRule (numbered raw) (produces raw q)) q.rules

@@ -30,7 +30,7 @@ use Rattle.closure.proofs.Positions.{at_mapped, element_at, mapped_at, position_
 use Rattle.closure.proofs.Reached.{reached_in, step}
 use Rattle.closure.proofs.Following.{follows_in, head_follows}
 use Rattle.normalform.specs.faults.Clauses.{body_of, clause_of, clauses_of, edge, edges_of, reach_edges}
-use Rattle.normalform.specs.numbers.Numbers.{number_in, symbol_of, symbol_names, item_of, literals_of, placed, production_of}
+use Rattle.normalform.specs.numbers.Numbers.{number_in, symbol_of, declared_names, item_of, literals_of, placed, production_of}
 use Rattle.normalform.specs.numbers.Numbers.{numbered}
 use Rattle.normalform.proofs.numbered.Texts.{found}
 use Rattle.ag_grammar.specs.declared.raw.Named.{Named}
@@ -71,7 +71,7 @@ abbrev pub symbols : RawGrammar → List Symbol
 symbols raw = map symbol_of raw.symbols
 
 abbrev pub names : RawGrammar → List (List ℕ)
-names raw = symbol_names (symbols raw)
+names raw = declared_names (symbols raw)
 
 abbrev pub clauses : RawGrammar → List Clause
 clauses raw = clauses_of (symbols raw) raw.productions
@@ -208,32 +208,33 @@ pub below_known : (texts : List (List ℕ)) (text : List ℕ) → number_in text
 below_known texts text lt = let e = lt-ltb (number_in texts text) (length texts) lt in
     sym (found (bytes_eq text) texts) ∙ rw e refl
 
-pub name_known : (ss : List Symbol) (name : Named) → first_wrong (name_check (symbol_names ss) name ∷ []) ≡ None
-    → number_in (symbol_names ss) name.name < length ss
+pub name_known : (ss : List Symbol) (name : Named) → first_wrong (name_check (declared_names ss) name ∷ []) ≡ None
+    → number_in (declared_names ss) name.name < length ss
 name_known ss name h =
     rw (length-map ss (λ (s : Symbol). s.name)) at
-    (known (symbol_names ss) name.name (is_right (name_check (symbol_names ss) name) h))
+    (known (declared_names ss) name.name (is_right (name_check (declared_names ss) name) h))
 
-body_below : (ss : List Symbol) (xs : List RawItem) → first_wrong (flat_map (item_checks (symbol_names ss)) xs) ≡ None
-    → All (λ t. t < length ss) (body_of (symbol_names ss) xs)
+body_below : (ss : List Symbol) (xs : List RawItem) → first_wrong (flat_map (item_checks (declared_names ss)) xs) ≡ None
+    → All (λ t. t < length ss) (body_of (declared_names ss) xs)
 body_below ss [] h = All-nil (λ t. t < length ss)
 body_below ss (raw_item.Name name ∷ xs) h =
-    let w = both_right (name_check (symbol_names ss) name ∷ []) (flat_map (item_checks (symbol_names ss)) xs) h in
-    All-cons (λ t. t < length ss) (number_in (symbol_names ss) name.name) (body_of (symbol_names ss) xs) (name_known ss name w.0)
-    (body_below ss xs w.1)
+    let w = both_right (name_check (declared_names ss) name ∷ []) (flat_map (item_checks (declared_names ss)) xs) h in
+    All-cons (λ t. t < length ss) (number_in (declared_names ss) name.name) (body_of (declared_names ss) xs)
+    (name_known ss name w.0) (body_below ss xs w.1)
 body_below ss (raw_item.Literal text ∷ xs) h = body_below ss xs h
 body_below ss (raw_item.Class c ∷ xs) h = body_below ss xs h
 
 -- the parts of a production without an unknown name
 pub unknown_parts : (ss : List Symbol) (q : RawProduction) → first_wrong (unknown_in ss q) ≡ None
-    → (first_wrong (name_check (symbol_names ss) q.left ∷ []) ≡ None)
-    × (first_wrong (flat_map (item_checks (symbol_names ss)) q.items) ≡ None)
+    → (first_wrong (name_check (declared_names ss) q.left ∷ []) ≡ None)
+    × (first_wrong (flat_map (item_checks (declared_names ss)) q.items) ≡ None)
     × (first_wrong (flat_map (rule_checks ss (placed ss q)) q.rules) ≡ None)
 unknown_parts ss q h =
     let w =
-    both_right (name_check (symbol_names ss) q.left ∷ [])
-    (flat_map (item_checks (symbol_names ss)) q.items ++ flat_map (rule_checks ss (placed ss q)) q.rules) h in
-    let v = both_right (flat_map (item_checks (symbol_names ss)) q.items) (flat_map (rule_checks ss (placed ss q)) q.rules) w.1 in
+    both_right (name_check (declared_names ss) q.left ∷ [])
+    (flat_map (item_checks (declared_names ss)) q.items ++ flat_map (rule_checks ss (placed ss q)) q.rules) h in
+    let v =
+    both_right (flat_map (item_checks (declared_names ss)) q.items) (flat_map (rule_checks ss (placed ss q)) q.rules) w.1 in
     (w.0, v.0, v.1)
 
 pub clauses_below : (ss : List Symbol) (qs : List RawProduction) → first_wrong (unknown_checks ss qs) ≡ None
@@ -261,7 +262,7 @@ start_there ss n h = go (slice_get ss n) refl h
     go (Some s) e h = slice_get_within ss n s e
 
 pub start_below : (ss : List Symbol) (name : Named) → first_wrong (start_checks ss name) ≡ None
-    → number_in (symbol_names ss) name.name < length ss
+    → number_in (declared_names ss) name.name < length ss
 start_below ss name h =
-    start_there ss (number_in (symbol_names ss) name.name)
-    (is_right (fault.BadStart, is_start (slice_get ss (number_in (symbol_names ss) name.name))) h)
+    start_there ss (number_in (declared_names ss) name.name)
+    (is_right (fault.BadStart, is_start (slice_get ss (number_in (declared_names ss) name.name))) h)

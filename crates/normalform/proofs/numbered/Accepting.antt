@@ -31,7 +31,7 @@ use Rattle.normalform.specs.faults.Faults.{not_defined_here, not_normal_in, not_
 use Rattle.normalform.specs.faults.Faults.{is_short, symbol_limits, production_limits, literal_limits, limit_checks, rule_kinds}
 use Rattle.normalform.specs.faults.Faults.{naming_checks, HasNoFault, IsReadable, IsReadableItem, IsSmall, IsListed, AreListedIn}
 use Rattle.normalform.specs.faults.Faults.{IsFirstFault, in_names, in_productive, in_reached, in_rules, IsTrueOf}
-use Rattle.normalform.specs.numbers.Numbers.{number_in, symbol_of, symbol_names, item_of, placed, is_class, classes_of}
+use Rattle.normalform.specs.numbers.Numbers.{number_in, symbol_of, declared_names, item_of, placed, is_class, classes_of}
 use Rattle.normalform.specs.numbers.Numbers.{literals_of, numbered}
 use Rattle.normalform.proofs.found.Apart.{Apart}
 use Rattle.normalform.proofs.found.Founds.{naming_parts}
@@ -56,7 +56,7 @@ abbrev literals : RawGrammar → List (List ℕ)
 literals raw = literals_of raw.productions
 
 abbrev item_in : RawGrammar → RawItem → Item
-item_in raw x = item_of (symbol_names (symbols raw)) (literals raw) x
+item_in raw x = item_of (declared_names (symbols raw)) (literals raw) x
 
 literal_used : (raw : RawGrammar) (l : ℕ) → l < length (literals raw) → IsInUse (numbered raw) (Literal l)
 literal_used raw l lt =
@@ -122,7 +122,7 @@ class_used raw i c e =
 
 -- an item of a production is named
 item_named : (raw : RawGrammar) (p : ℕ) (q : RawProduction) (i : ℕ) (x : RawItem) → slice_get raw.productions p ≡ Some q
-    → slice_get q.items i ≡ Some x → IsReadableItem x → first_wrong (item_checks (symbol_names (symbols raw)) x) ≡ None
+    → slice_get q.items i ≡ Some x → IsReadableItem x → first_wrong (item_checks (declared_names (symbols raw)) x) ≡ None
     → IsNamedItem (numbered raw) (item_in raw x)
 item_named raw p q i (raw_item.Name name) e f readable right = name_known (symbols raw) name right
 item_named raw p q i (raw_item.Literal text) e f readable right =
@@ -136,7 +136,7 @@ items_named raw readable h = each_mapped (produces raw) (λ q. Each (IsNamedItem
     let parts = unknown_parts (symbols raw) q (flat_each (unknown_in (symbols raw)) raw.productions h p q e) in
     each_mapped (item_in raw) (IsNamedItem (numbered raw)) q.items (λ i x f.
     item_named raw p q i x e f (readable p q e i x f)
-    (flat_each (item_checks (symbol_names (symbols raw))) q.items parts.1 i x f)))
+    (flat_each (item_checks (declared_names (symbols raw))) q.items parts.1 i x f)))
 
 abbrev AreListed : RawGrammar → Type 0
 AreListed raw = Each (λ q. Each (λ r. is_below (length r.expr.1) r.expr.0 ≡ true) q.rules) (numbered raw).productions
@@ -158,7 +158,7 @@ named raw readable listed h = let parts = naming_parts raw h in record {
 
 -- the start symbol
 abbrev start_number : RawGrammar → ℕ
-start_number raw = number_in (symbol_names (symbols raw)) raw.start.name
+start_number raw = number_in (declared_names (symbols raw)) raw.start.name
 
 empty : {X : Type 0} (xs : List X) → length xs ≡ 0 → xs ≡ []
 empty [] h = refl
@@ -244,7 +244,7 @@ all_hold test (x ∷ xs) h = rw (h zero x refl) (all_hold test xs (λ i. h (suc 
 
 stored_long : (raw : RawGrammar) (q : RawProduction)
     → length (placed (symbols raw) q) ≡ 1 + length (stored_items (produces raw q).items)
-stored_long raw q = let e = ap length (stored_same (symbol_names (symbols raw)) (literals raw) q.items) in omega (arith, e)
+stored_long raw q = let e = ap length (stored_same (declared_names (symbols raw)) (literals raw) q.items) in omega (arith, e)
 
 limits : (raw : RawGrammar) → IsReadable raw → first_wrong (limit_checks (symbols raw) raw.productions) ≡ None
     → IsWithinGrammarLimits (numbered raw)

@@ -17,7 +17,7 @@ use Rattle.ag_grammar.specs.declared.raw.RawItem.TheVariants as raw_item
 use Rattle.ag_grammar.specs.declared.raw.RawProduction.{RawProduction}
 use Rattle.ag_grammar.specs.grammars.Order.{IsInOrder, IsInOrderOfAppearance, literal_number, literal_numbers}
 use Rattle.closure.proofs.Positions.{at_mapped, mapped_at}
-use Rattle.normalform.specs.numbers.Numbers.{number_in, with_text, with_item, with_production, item_of, symbol_names, is_class}
+use Rattle.normalform.specs.numbers.Numbers.{number_in, with_text, with_item, with_production, item_of, declared_names, is_class}
 use Rattle.normalform.specs.numbers.Numbers.{classes_of, literals_of, numbered}
 use Rattle.normalform.proofs.found.Apart.{Apart}
 use Rattle.normalform.proofs.found.Reduced.{symbols, produces, known}
@@ -63,10 +63,10 @@ numbers_among names texts (raw_item.Class c ∷ xs) = numbers_among names texts 
 
 items_produced : (raw : RawGrammar) (qs : List RawProduction)
     → flat_map (λ (q : Production). q.items) (map (produces raw) qs)
-    ≡ map (item_of (symbol_names (symbols raw)) (literals_of raw.productions)) (flat_map (λ (q : RawProduction). q.items) qs)
+    ≡ map (item_of (declared_names (symbols raw)) (literals_of raw.productions)) (flat_map (λ (q : RawProduction). q.items) qs)
 items_produced raw [] = refl
 items_produced raw (q ∷ qs) =
-    let made = item_of (symbol_names (symbols raw)) (literals_of raw.productions) in
+    let made = item_of (declared_names (symbols raw)) (literals_of raw.productions) in
     ap (λ xs. map made q.items ++ xs) (items_produced raw qs)
     ∙ sym (map-append made q.items (flat_map (λ (r : RawProduction). r.items) qs))
 
@@ -74,7 +74,7 @@ numbers_of : (raw : RawGrammar)
     → literal_numbers (numbered raw) ≡ map (number_in (literals_of raw.productions)) (texts_in raw.productions)
 numbers_of raw =
     ap (λ xs. filter_map literal_number xs) (items_produced raw raw.productions)
-    ∙ numbers_among (symbol_names (symbols raw)) (literals_of raw.productions)
+    ∙ numbers_among (declared_names (symbols raw)) (literals_of raw.productions)
     (flat_map (λ (q : RawProduction). q.items) raw.productions)
 
 -- a text keeps its index when another one is listed
@@ -185,6 +185,6 @@ in_order raw = record {
 -- the grammar that is made of the numbered parts is in order
 pub made_in_order : (raw : RawGrammar) (ss : List Symbol) (ps : List Production) (ls : List (List ℕ)) (cs : List ℕ) (st : ℕ)
     → ss ≡ symbols raw → ps ≡ map (produces raw) raw.productions → ls ≡ literals_of raw.productions
-    → cs ≡ classes_of raw.productions → st ≡ number_in (symbol_names (symbols raw)) raw.start.name
+    → cs ≡ classes_of raw.productions → st ≡ number_in (declared_names (symbols raw)) raw.start.name
     → IsInOrder (record { symbols = ss; productions = ps; literals = ls; classes = cs; start = st })
 made_in_order raw ss ps ls cs st e f g h k = rw (e, f, g, h, k) (in_order raw)

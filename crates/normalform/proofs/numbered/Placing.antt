@@ -20,7 +20,7 @@ use Rattle.ag_grammar.specs.declared.raw.RawItem.{RawItem}
 use Rattle.ag_grammar.specs.declared.raw.RawItem.TheVariants as raw_item
 use Rattle.ag_grammar.specs.declared.raw.RawProduction.{RawProduction}
 use Rattle.normalform.specs.faults.Faults.{is_kind, has_kind}
-use Rattle.normalform.specs.numbers.Numbers.{number_in, symbol_names, declared, item_of, stored_of, placed, names_at, target_of}
+use Rattle.normalform.specs.numbers.Numbers.{number_in, declared_names, declared, item_of, stored_of, placed, names_at, target_of}
 use Rattle.normalform.specs.numbers.Numbers.{numbered}
 use Rattle.normalform.proofs.found.Reduced.{symbols, produces, known, below_known}
 
@@ -33,7 +33,7 @@ stored_same ns lits (raw_item.Class c ∷ xs) = ap (λ ys. item.Terminal (Class 
 pub at_place : (raw : RawGrammar) (q : RawProduction) (place : ℕ)
     → item_at (produces raw q) place ≡ slice_get (placed (symbols raw) q) place
 at_place raw q zero = refl
-at_place raw q (suc i) = ap (λ xs. slice_get xs i) (stored_same (symbol_names (symbols raw)) _ q.items)
+at_place raw q (suc i) = ap (λ xs. slice_get xs i) (stored_same (declared_names (symbols raw)) _ q.items)
 
 names_same : (raw : RawGrammar) (o : Option Item) → item_names (numbered raw) o ≡ item_names (declared (symbols raw)) o
 names_same raw None = refl

@@ -12,14 +12,14 @@ use Rattle.ag_grammar.specs.declared.grammar.Terminal.TheVariants.{Literal, Clas
 use Rattle.ag_grammar.specs.declared.syntax.occurrence.Occ.{Occ}
 use Rattle.ag_grammar.specs.grammars.AttributeGrammar.{attribute_names, item_names, symbol_names as names_of_symbol}
 use Rattle.normalform.specs.faults.Faults.{few_attributes}
-use Rattle.normalform.specs.numbers.Numbers.{number_in, symbol_names, declared, names_at, target_of}
+use Rattle.normalform.specs.numbers.Numbers.{number_in, declared_names, declared, names_at, target_of}
 
 pub number_within : (texts : List (List ℕ)) (text : List ℕ) → number_in texts text ≤ length texts
 number_within texts text = prefix_len-le-length (λ x. not (bytes_eq text x)) texts
 
 -- the number of a symbol
-pub symbol_small : (ss : List Symbol) (name : List ℕ) → length ss ≤ 256 → number_in (symbol_names ss) name < 65536
-symbol_small ss name few = omega (arith, number_within (symbol_names ss) name, length-map ss (λ (s : Symbol). s.name))
+pub symbol_small : (ss : List Symbol) (name : List ℕ) → length ss ≤ 256 → number_in (declared_names ss) name < 65536
+symbol_small ss name few = omega (arith, number_within (declared_names ss) name, length-map ss (λ (s : Symbol). s.name))
 
 -- of a literal
 pub text_small : (texts : List (List ℕ)) (text : List ℕ) → length texts ≤ 1024 → number_in texts text < 65536

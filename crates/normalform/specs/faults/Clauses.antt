@@ -4,7 +4,7 @@ use Rattle.ag_grammar.specs.declared.grammar.Symbol.{Symbol}
 use Rattle.ag_grammar.specs.declared.raw.RawItem.{RawItem}
 use Rattle.ag_grammar.specs.declared.raw.RawItem.TheVariants as raw_item
 use Rattle.ag_grammar.specs.declared.raw.RawProduction.{RawProduction}
-use Rattle.normalform.specs.numbers.Numbers.{number_in, symbol_names}
+use Rattle.normalform.specs.numbers.Numbers.{number_in, declared_names}
 use Rattle.closure.specs.declared.clause.Clause.{Clause}
 use Rattle.closure.specs.declared.edges.Edge.{Edge}
 
@@ -17,7 +17,7 @@ body_of names (raw_item.Class c ∷ xs) = body_of names xs
 
 -- a left side is productive if each symbol of the right side is
 abbrev pub clause_of : List Symbol → RawProduction → Clause
-clause_of ss q = record { head = number_in (symbol_names ss) q.left.name; body = body_of (symbol_names ss) q.items }
+clause_of ss q = record { head = number_in (declared_names ss) q.left.name; body = body_of (declared_names ss) q.items }
 
 abbrev pub clauses_of : List Symbol → List RawProduction → List Clause
 clauses_of ss qs = map (clause_of ss) qs

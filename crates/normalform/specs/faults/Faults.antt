@@ -1,5 +1,6 @@
 -- The faults of a raw grammar, kind by kind, and their order (this project's; complete and productive are
--- Knuth's 1968 and the textbook's). A kind is the list of its checks, in the order of the text.
+-- Knuth's 1968 and the textbook's). Most kinds are lists of checks: in the order of the text; those of N6 by
+-- production, place and attribute; those of N10 in the order of the limits. N4 and N5 name the first wrong symbol.
 use Rattle.std.specs.Prelude.{All, ℕ, zero, suc, cond, fold, ◌⊎◌, ◌+◌, ◌≡◌, ◌<◌, ◌≤◌, nat_eq, nat_le, not, Bool, true, false}
 use Rattle.std.specs.Prelude.{◌&&◌, List, [], ◌∷◌, ◌++◌, length, map, flat_map, find, Option, Some, None, bytes_eq, slice_get}
 use Rattle.std.specs.List.{list_any, list_all, range_with_len}
@@ -28,7 +29,8 @@ use Rattle.ag_grammar.specs.declared.raw.RawSymbol.{RawSymbol}
 use Rattle.normalform.specs.declared.fault.LimitKind.TheVariants as limit
 use Rattle.normalform.specs.declared.fault.NormalFault.{NormalFault}
 use Rattle.normalform.specs.declared.fault.NormalFault.TheVariants as fault
-use Rattle.normalform.specs.numbers.Numbers.{symbol_of, symbol_names, with_text, declared, number_in, names_at, placed, target_of}
+use Rattle.normalform.specs.numbers.Numbers.{symbol_of, declared_names, with_text, declared, number_in, names_at}
+use Rattle.normalform.specs.numbers.Numbers.{placed, target_of}
 use Rattle.normalform.specs.numbers.Numbers.{literals_of, numbered}
 
 -- A check of a part of the text: the fault to report if it fails, and whether it holds.
@@ -64,7 +66,7 @@ rule_checks ss items r = occurrence_check ss items r.target ∷ map (occurrence_
 -- a production: its left side, its items, its rules
 abbrev pub unknown_in : List Symbol → RawProduction → List Check
 unknown_in ss q =
-    name_check (symbol_names ss) q.left ∷ flat_map (item_checks (symbol_names ss)) q.items ++ flat_map
+    name_check (declared_names ss) q.left ∷ flat_map (item_checks (declared_names ss)) q.items ++ flat_map
     (rule_checks ss (placed ss q)) q.rules
 
 abbrev pub unknown_checks : List Symbol → List RawProduction → List Check
@@ -96,7 +98,7 @@ is_start None = false
 is_start (Some s) = nat_eq (length s.inh) 0 && list_any (bytes_eq out_name) s.syn
 
 abbrev pub start_checks : List Symbol → Named → List Check
-start_checks ss name = (fault.BadStart, is_start (slice_get ss (number_in (symbol_names ss) name.name))) ∷ []
+start_checks ss name = (fault.BadStart, is_start (slice_get ss (number_in (declared_names ss) name.name))) ∷ []
 
 -- N4, N5. The first symbol of a list whose number does not have the property.
 pub record IsFirstNot (P : ℕ → Type 0) (ss : List RawSymbol) (name : Named) : Type 0 where
@@ -268,11 +270,12 @@ IsReadableItem (raw_item.Name name) = Unit {0}
 IsReadableItem (raw_item.Literal text) = (1 ≤ length text) × Each (λ b. IsSeparator b → ⊥) text
 IsReadableItem (raw_item.Class c) = c < class_count
 
--- the literals and classes of a raw grammar could come from a text
+-- the literals of a raw grammar are words, not empty and without separators, and its classes are known; so is each
+-- grammar that was read from a text
 abbrev pub IsReadable : RawGrammar → Type 0
 IsReadable raw = Each (λ q. Each IsReadableItem q.items) raw.productions
 
--- each occurrence in a rule's expression is listed with it
+-- each occurrence in a rule's expression is listed with it, and each bound name is bound around it
 abbrev pub IsListed : Rule → Type 0
 IsListed r = is_below (length r.expr.1) r.expr.0 ≡ true
 

@@ -28,8 +28,8 @@ abbrev pub symbol_of : RawSymbol → Symbol
 symbol_of s = record { name = s.name.name; syn = texts_of s.syn; inh = texts_of s.inh }
 
 -- the names of symbols, in declared order
-abbrev pub symbol_names : List Symbol → List (List ℕ)
-symbol_names ss = map (λ s. s.name) ss
+abbrev pub declared_names : List Symbol → List (List ℕ)
+declared_names ss = map (λ s. s.name) ss
 
 -- symbols alone, as a grammar
 abbrev pub declared : List Symbol → Grammar
@@ -74,7 +74,7 @@ stored_of names xs = map (item_of names []) (raw_stored xs)
 
 -- the items at the places of a production, from the left side on
 abbrev pub placed : List Symbol → RawProduction → List Item
-placed ss q = item.Symbol (number_in (symbol_names ss) q.left.name) ∷ stored_of (symbol_names ss) q.items
+placed ss q = item.Symbol (number_in (declared_names ss) q.left.name) ∷ stored_of (declared_names ss) q.items
 
 -- the names of the attributes at a place
 abbrev pub names_at : List Symbol → List Item → ℕ → List (List ℕ)
@@ -90,8 +90,8 @@ rule_of ss items r = record { target = target_of ss items r.target; expr = r.exp
 
 abbrev pub production_of : List Symbol → List (List ℕ) → RawProduction → Production
 production_of ss literals q = record {
-  left = number_in (symbol_names ss) q.left.name;
-  items = map (item_of (symbol_names ss) literals) q.items;
+  left = number_in (declared_names ss) q.left.name;
+  items = map (item_of (declared_names ss) literals) q.items;
   rules = map (rule_of ss (placed ss q)) q.rules;
 }
 
@@ -102,5 +102,5 @@ numbered raw = let ss = map symbol_of raw.symbols in record {
   productions = map (production_of ss (literals_of raw.productions)) raw.productions;
   literals = literals_of raw.productions;
   classes = classes_of raw.productions;
-  start = number_in (symbol_names ss) raw.start.name;
+  start = number_in (declared_names ss) raw.start.name;
 }

@@ -3,7 +3,7 @@
 ghost use Rattle.std.specs.Prelude.{◌≡◌, ◌++◌, IfOk, OnOk};
 ghost use Rattle.normalform.specs.faults.Clauses as spec;
 ghost use Rattle.normalform.specs.faults.Clauses.{body_of, edges_of};
-ghost use Rattle.normalform.specs.numbers.Numbers.{symbol_names};
+ghost use Rattle.normalform.specs.numbers.Numbers.{declared_names};
 
 use crate::numbers::declared::Declared;
 use ag_grammar::{RawItem, RawProduction};
@@ -17,7 +17,7 @@ fn body_of(
     declared: &Declared<'_>,
     items: &[RawItem],
 ) -> Result<Items<usize>, NoMemory>
-    ensures { IfOk result (λ body. body ≡ body_of (symbol_names declared.now) items.now) }
+    ensures { IfOk result (λ body. body ≡ body_of (declared_names declared.now) items.now) }
 {
     let mut body = Vec::new(alloc);
     for item in items {

@@ -4,7 +4,7 @@ ghost use Rattle.normalform.specs.faults.Faults as spec;
 ghost use Rattle.normalform.specs.faults.Faults.{first_wrong, name_check, item_checks, new_check};
 ghost use Rattle.normalform.specs.faults.Faults.{unknown_in};
 ghost use Rattle.normalform.specs.faults.Faults.{symbol_checks, with_name, with_symbol};
-ghost use Rattle.normalform.specs.numbers.Numbers.{symbol_names, with_text};
+ghost use Rattle.normalform.specs.numbers.Numbers.{declared_names, with_text};
 
 use crate::fault::NormalFault;
 use crate::faults::reference_checks::{RuleCheck, first_in_production};
@@ -16,7 +16,7 @@ use std::alloc::Global;
 
 /// Returns N1 if a symbol's name is not declared.
 fn unknown_name(declared: &Declared<'_>, name: &Named) -> Option<NormalFault>
-    ensures { result ≡ first_wrong (name_check (symbol_names declared.now) name.now ∷ []) }
+    ensures { result ≡ first_wrong (name_check (declared_names declared.now) name.now ∷ []) }
 {
     if declared.has(name.name.as_str()) {
         None
@@ -27,7 +27,7 @@ fn unknown_name(declared: &Declared<'_>, name: &Named) -> Option<NormalFault>
 
 /// Returns N1 if an item is an undeclared symbol.
 fn unknown_in_item(declared: &Declared<'_>, item: &RawItem) -> Option<NormalFault>
-    ensures { result ≡ first_wrong (item_checks (symbol_names declared.now) item.now) }
+    ensures { result ≡ first_wrong (item_checks (declared_names declared.now) item.now) }
 {
     match item {
         RawItem::Name(name) => unknown_name(declared, name),
@@ -38,7 +38,7 @@ fn unknown_in_item(declared: &Declared<'_>, item: &RawItem) -> Option<NormalFaul
 /// Returns N1 for the first undeclared symbol of a right side.
 fn unknown_in_items(declared: &Declared<'_>, items: &[RawItem]) -> Option<NormalFault>
     ensures { result
-        ≡ first_wrong (flat_map (item_checks (symbol_names declared.now)) items.now) }
+        ≡ first_wrong (flat_map (item_checks (declared_names declared.now)) items.now) }
 {
     for item in items {
         if let Some(fault) = unknown_in_item(declared, item) {

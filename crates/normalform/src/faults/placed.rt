@@ -2,7 +2,7 @@
 //! the right side has the next place; a literal has none. Numbers are not yet known to have 16
 //! bits.
 ghost use Rattle.std.specs.Prelude.{◌≡◌, ◌++◌, ◌∷◌, [], map, IfOk, OnOk};
-ghost use Rattle.normalform.specs.numbers.Numbers.{stored_of, symbol_names};
+ghost use Rattle.normalform.specs.numbers.Numbers.{stored_of, declared_names};
 ghost use Rattle.normalform.specs.numbers.Numbers.{placed};
 ghost use Rattle.normalform.specs.faults.PlacedItem.{item_placed};
 
@@ -27,7 +27,7 @@ fn place_item(
     item: &RawItem,
 ) -> Result<(), NoMemory>
     ensures { OnOk result (map item_placed items.new.items ≡ map item_placed items.old.items
-        ++ stored_of (symbol_names declared.now) (item.now ∷ [])) }
+        ++ stored_of (declared_names declared.now) (item.now ∷ [])) }
 {
     match item {
         RawItem::Name(name) => items.push(PlacedItem::Symbol(declared.number(name.name.as_str())))?,

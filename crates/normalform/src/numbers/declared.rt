@@ -14,7 +14,7 @@ ghost use Rattle.ag_grammar.specs.grammars.Raw.{texts_of};
 ghost use Rattle.normalform.specs.faults.Faults as spec;
 ghost use Rattle.normalform.specs.faults.Faults.{has_kind, is_kind, defined_at};
 ghost use Rattle.normalform.specs.numbers.Numbers.{declared};
-ghost use Rattle.normalform.specs.numbers.Numbers.{number_in, symbol_of, symbol_names, names_at};
+ghost use Rattle.normalform.specs.numbers.Numbers.{number_in, symbol_of, declared_names, names_at};
 ghost use Rattle.normalform.specs.numbers.Numbers.{target_of};
 ghost use Rattle.normalform.specs.faults.PlacedItem.{item_placed};
 
@@ -47,7 +47,7 @@ fn attributes_of<'t>(alloc: Global, symbol: &'t RawSymbol) -> Result<Names<'t>, 
 
 /// Returns the names of symbols.
 fn names_of<'t>(alloc: Global, symbols: &'t [RawSymbol]) -> Result<Names<'t>, NoMemory>
-    ensures { IfOk result (λ names. names ≡ symbol_names (map symbol_of symbols.now)) }
+    ensures { IfOk result (λ names. names ≡ declared_names (map symbol_of symbols.now)) }
 {
     let mut names = Names::new(alloc);
     for symbol in symbols {
@@ -80,13 +80,13 @@ impl<'t> Model for Declared<'t> {
     ghost use Rattle.std.specs.Prelude.{◌≡◌, List, map};
     ghost use Rattle.ag_grammar.specs.declared.grammar.Symbol.{Symbol};
     ghost use Rattle.ag_grammar.specs.grammars.AttributeGrammar.{attribute_names, lex_name};
-    ghost use Rattle.normalform.specs.numbers.Numbers.{symbol_of, symbol_names};
+    ghost use Rattle.normalform.specs.numbers.Numbers.{symbol_of, declared_names};
 
     ghost Value = { List Symbol };
 
     ghost view = { λ d. map symbol_of d.symbols.now };
 
-    ghost invariant = { λ d. (d.names ≡ symbol_names (map symbol_of d.symbols.now))
+    ghost invariant = { λ d. (d.names ≡ declared_names (map symbol_of d.symbols.now))
         × (d.attributes.items ≡ map attribute_names (map symbol_of d.symbols.now)) };
 }
 
@@ -120,14 +120,14 @@ impl<'t> Declared<'t> {
 
     /// Returns the number of a symbol, or the number of declared symbols if it is not declared.
     pub fn number(&self, name: &str) -> usize
-        ensures { result ≡ number_in (symbol_names self.now) name.now }
+        ensures { result ≡ number_in (declared_names self.now) name.now }
     {
         self.names.number(name)
     }
 
     /// Returns whether a symbol is declared.
     pub fn has(&self, name: &str) -> bool
-        ensures { result ≡ list_any (bytes_eq name.now) (symbol_names self.now) }
+        ensures { result ≡ list_any (bytes_eq name.now) (declared_names self.now) }
     {
         self.names.has(name)
     }

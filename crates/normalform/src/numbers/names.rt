@@ -12,8 +12,8 @@ use std::marker::Model;
 /// Texts in order. The number of a text is the index of the first that is the same. Contracts see
 /// the list of the texts.
 ///
-/// A text is kept with 0 where it first appears, and with its own index where it appears again, so
-/// that no two keys are the same and each key has the index of its text.
+/// A key is a text with a number: 0 for the first key of the text, and for a later one its position among
+/// the keys. So no two keys are the same, and key i is that of text i.
 #[derive(Drop)]
 pub struct Names<'t> {
     keys: IndexSet<(&'t str, usize)>,

@@ -4,7 +4,7 @@ ghost use Rattle.std.specs.Prelude.{◌≡◌, ◌<◌, map, filter, All, IfOk};
 ghost use Rattle.std.specs.List.{list_any};
 ghost use Rattle.normalform.specs.faults.Faults.{IsSmall, IsListed, AreListedIn};
 ghost use Rattle.normalform.specs.numbers.Numbers as spec;
-ghost use Rattle.normalform.specs.numbers.Numbers.{symbol_names, symbol_of};
+ghost use Rattle.normalform.specs.numbers.Numbers.{declared_names, symbol_of};
 ghost use Rattle.normalform.specs.faults.PlacedItem.{item_placed};
 
 use crate::faults::limits::literals_of;
@@ -53,7 +53,7 @@ impl<'t> Numbering<'t> {
 
     /// Numbers an item.
     fn item_of(&self, item: &RawItem) -> Item
-        ensures { result ≡ spec.item_of (symbol_names self.now.declared) self.now.literals item.now }
+        ensures { result ≡ spec.item_of (declared_names self.now.declared) self.now.literals item.now }
     {
         match item {
             RawItem::Name(name) => Item::Symbol(to_u16(self.declared.number(name.name.as_str()))),
@@ -67,7 +67,7 @@ impl<'t> Numbering<'t> {
     /// Numbers items.
     fn items_of(&self, alloc: Global, items: &[RawItem]) -> Result<Items<Item>, NoMemory>
         ensures { IfOk result (λ xs. xs
-            ≡ map (spec.item_of (symbol_names self.now.declared) self.now.literals) items.now) }
+            ≡ map (spec.item_of (declared_names self.now.declared) self.now.literals) items.now) }
     {
         let mut numbered = Vec::new(alloc);
         for item in items {
@@ -171,7 +171,7 @@ impl<'t> Numbering<'t> {
 
     /// Returns the number of the start symbol.
     pub fn start_of(&self, name: &str) -> u16
-        ensures { result ≡ spec.number_in (symbol_names self.now.declared) name.now }
+        ensures { result ≡ spec.number_in (declared_names self.now.declared) name.now }
     {
         to_u16(self.declared.number(name))
     }

@@ -1,13 +1,15 @@
 -- Facts about the innermost open node that a step needs.
 use Rattle.std.proofs.Common.{ℕ, zero, suc, ◌≡◌, ◌+◌, ◌<◌, ◌≤◌, inl, inr, false, List, [], ◌∷◌, ◌++◌, Some, slice_get, length}
 use Rattle.std.proofs.Common.{drop, refl, ap, ◌∙◌, sym, subst, arith, length-append, length-drop}
+use Rattle.std.proofs.lemmas.List.{drop_at}
 use Rattle.std.proofs.lemmas.Option.{slice_get_within}
 use Rattle.ag_value.specs.declared.value.Value.{Value}
 use Rattle.ag_grammar.specs.declared.grammar.Item.{Item}
 use Rattle.ag_grammar.specs.declared.grammar.Item.TheVariants as item
 use Rattle.ag_grammar.specs.declared.grammar.Production.{Production}
 use Rattle.ag_grammar.specs.declared.grammar.Rule.{Rule}
-use Rattle.ag_grammar.specs.grammars.AttributeGrammar.{IsProduction, item_at, stored_items}
+use Rattle.ag_grammar.specs.declared.grammar.Target.{Target}
+use Rattle.ag_grammar.specs.grammars.AttributeGrammar.{IsArgument, IsProduction, item_at, stored_items}
 use Rattle.ag_grammar.specs.grammars.Passes.{item_passes, nth}
 use Rattle.treefile.specs.framing.ExpectedRecords.{Pending}
 use Rattle.treefile.specs.records.Listed.{count_up_to}
@@ -24,9 +26,11 @@ use Rattle.passrun.specs.declared.passing.open_node.OpenNode.{OpenNode}
 use Rattle.passrun.specs.passing.Ahead.{goes_next}
 use Rattle.passrun.specs.passing.RunInvariant.{IsCurrent, Transcript, RunInvariant, state_of}
 use Rattle.passrun.specs.passing.Places.{Table, copied_passes, rest_of, stored}
-use Rattle.passrun.specs.layouts.Slots.{copied_all, copied_before, copied_width, copy_start, rank, stored_width, target_slot}
+use Rattle.passrun.specs.layouts.Slots.{argument_slot, copied_all, copied_before, copied_width, copy_start, rank, stored_width}
+use Rattle.passrun.specs.layouts.Slots.{target_slot}
 use Rattle.passrun.proofs.places.Slots.{begins_with_copy, length_row, length_stored, row_at}
 use Rattle.passrun.proofs.steps.RuleRuns.{IsPlaced}
+use Rattle.passrun.proofs.steps.Ruled.{argument_there}
 use Rattle.passrun.proofs.steps.EntersNone.{goes_nowhere}
 use Rattle.passrun.proofs.steps.Steps.{IsGivingOf, at_end, at_get, at_put, give_next, runs_next}
 
@@ -61,7 +65,7 @@ pub record HasWaited (c : Setting) (y : OpenNode) (base : ℕ) (values : List Va
   pub within : y.base + (copy_start c production y.place + copied_width c item) ≤ base
   pub wide : base + copied_width c item ≤ length values
 
--- The node's production has a rule, whose target has its slot among the values.
+-- The node's production has a rule, whose target and arguments have their slots among the values.
 pub record HasRule (c : Setting) (x : OpenNode) (j a r : ℕ) (values : List Value) : Type 0 where
   pub production : Production
   pub there : IsProduction c.grammar x.production production
@@ -69,6 +73,7 @@ pub record HasRule (c : Setting) (x : OpenNode) (j a r : ℕ) (values : List Val
   pub numbered : slice_get production.rules r ≡ Some rule
   pub target : rule.target ≡ record { place = j; attr = a }
   pub within : x.base + target_slot c production j a < length values
+  pub arguments : (o : Target) → IsArgument rule o → argument_slot c production o.place o.attr < length (drop x.base values)
 
 -- The copies for a child are in the row of its node.
 copies_within : (c : Setting) (xs : List Item) (b : ℕ) (x : Item) → slice_get xs b ≡ Some x
@@ -217,6 +222,7 @@ module _ (c : Setting) (sound : IsSound c) where
         numbered = next.0.numbered;
         target = next.0.target;
         within = within next.1;
+        arguments = arguments;
       }
     where
       q : Production
@@ -229,6 +235,16 @@ module _ (c : Setting) (sound : IsSound c) where
 
       pass : slice_get (item_passes c.passes (item_at q j)) a ≡ Some c.write
       pass = subst (λ t. slice_get (item_passes c.passes (item_at q t.place)) t.attr ≡ Some c.write) next.0.target next.0.passed
+
+      arguments : (t : Target) → IsArgument next.0.rule t → argument_slot c q t.place t.attr < length (drop x.base values)
+      arguments t arg =
+          let row = stored c q (o.table 0) o.copied ++ o.row in
+          let at =
+          argument_there c sound x.production q (state_of ph o.i o.done) r next.0.rule o.table o.copied o.row o.is_open.there
+          next.0.numbered o.agreement t arg (next.0.available t arg) in
+          let less = slice_get_within row (argument_slot c q t.place t.attr) (o.table t.place t.attr) at in
+          let n = ap length (ap (drop x.base) o.values_are ∙ drop_at under row x.base (sym o.base)) in
+          omega arith
 
       whole : length values ≡ length under + (stored_width c q + length o.row)
       whole =

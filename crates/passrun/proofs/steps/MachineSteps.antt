@@ -6,7 +6,8 @@ use Rattle.std.proofs.Common.{ℕ, suc, zero, ◌≡◌, ◌+◌, ◌-◌, ◌^�
 use Rattle.std.proofs.Common.{Option, Some, None, Result, Ok, Err, All, slice_get, slice_index, get_or, length, take, drop}
 use Rattle.std.proofs.Common.{reverse, set, refl, ap, ◌∙◌, sym, subst, arith, append_assoc, append-nil, true}
 use Rattle.std.proofs.lemmas.Bool.{le-leb}
-use Rattle.std.proofs.lemmas.Option.{slice_get-get_or, slice_get_within}
+use Rattle.std.proofs.lemmas.Option.{get_or_from_slice_get, slice_get-get_or, slice_get_within}
+use Rattle.std.proofs.lemmas.List.Elements.{All-from_get_or}
 use Rattle.std.proofs.lemmas.List.{drop_at, length-reverse, reverse-append}
 use Rattle.ag_value.specs.declared.value.Value.{Value, Text}
 use Rattle.ag_value.specs.declared.fault.NoMemory.{NoMemory}
@@ -17,7 +18,8 @@ use Rattle.ag_grammar.specs.declared.grammar.Production.{Production}
 use Rattle.ag_grammar.specs.declared.grammar.Rule.{Rule}
 use Rattle.ag_grammar.specs.declared.grammar.Terminal.{Terminal}
 use Rattle.ag_grammar.specs.declared.grammar.Terminal.TheVariants.{Literal, Class}
-use Rattle.ag_grammar.specs.grammars.AttributeGrammar.{Grammar, IsProduction, item_at, stored_items}
+use Rattle.ag_grammar.specs.declared.grammar.Target.{Target}
+use Rattle.ag_grammar.specs.grammars.AttributeGrammar.{Grammar, IsArgument, IsProduction, item_at, stored_items}
 use Rattle.ag_grammar.specs.expressions.Evaluation.{value_of}
 use Rattle.treefile.specs.declared.body.Kind.TheVariants.{Node, Token}
 use Rattle.treefile.specs.devices.Device.{LeavesContent}
@@ -44,11 +46,11 @@ use Rattle.passrun.specs.passing.Putting.{HasPut}
 use Rattle.passrun.specs.reading.Reading.{Agrees, IsRead, read_values}
 use Rattle.passrun.specs.passing.Running.{RunsRuleNext, RunsAt, RunsFrom, RunsSomehow, Leads, LeadsAt, LeadsFrom, LeadsTo}
 use Rattle.passrun.specs.passing.Running.{stack_of}
-use Rattle.passrun.specs.layouts.Slots.{copied_width, copy_start, known_width, target_slot}
+use Rattle.passrun.specs.layouts.Slots.{argument_slot, copied_width, copy_start, known_width, target_slot}
 use Rattle.treefile.proofs.records.Values.{count_of_values}
 use Rattle.passrun.proofs.places.Agreeing.{Agree}
 use Rattle.passrun.proofs.course.Counted.{passing_counted}
-use Rattle.passrun.proofs.places.Entries.{place_is, place_within}
+use Rattle.passrun.proofs.places.Entries.{place_is, place_within, some_at}
 use Rattle.passrun.proofs.steps.Facts.{HasOwn, HasPlace, HasRule, HasWaited, given_rule, get_place, own_row, put_place, waited}
 use Rattle.passrun.proofs.Recorded.{empty_is}
 use Rattle.passrun.proofs.steps.Ruled.{given_runs, rule_named}
@@ -183,11 +185,16 @@ the_place c x j row values h is =
       within = subst (λ x'. x.base + (copy_start c h.production j + copied_width c x') ≤ length values) (sym z.0) h.within;
     }
 
--- A node's production and rule, as the code finds them, and the slot of the rule's target.
+-- The slots of a rule's arguments are among the values of the node.
+abbrev pub HasArguments : Setting → OpenNode → Production → Rule → List Value → Type 0
+HasArguments c x q u values = (o : Target) → IsArgument u o → argument_slot c q o.place o.attr < length (drop x.base values)
+
+-- A node's production and rule, as the code finds them, and the slots of the rule's target and arguments.
 pub record Giver (c : Setting) (m : Machine) (x : OpenNode) (r : ℕ) (q : Production) (u : Rule) : Type 0 where
   pub there : IsProduction c.grammar x.production q
   pub numbered : slice_get q.rules r ≡ Some u
   pub within : x.base + target_slot c q u.target.place u.target.attr < length m.values.items
+  pub arguments : HasArguments c x q u m.values.items
   pub occurrences : length u.expr.1 ≡ length u.args
 
 module _ (c : Setting) (sound : IsSound c) where
@@ -466,13 +473,18 @@ module _ (c : Setting) (sound : IsSound c) where
       → IsProduction c.grammar x.production q
       → (u : Rule) × (slice_get q.rules r ≡ Some u)
       × (x.base + target_slot c q u.target.place u.target.attr < length m.values.items)
+      × HasArguments c x q u m.values.items
   ruled m x meter r q runs next there =
       let h = rule_of m x meter r runs next in
       let same = same_production c x.production h.production q h.there there in
       let slots : target_slot c q h.rule.target.place h.rule.target.attr ≡ target_slot c h.production next.0 next.1 =
       ap (λ t. target_slot c q t.place t.attr) h.target ∙ ap (λ q. target_slot c q next.0 next.1) (sym same) in
-      let n = h.within in
-      (h.rule, subst (λ q. slice_get q.rules r ≡ Some h.rule) same h.numbered, omega arith)
+      let n = h.within in (
+        h.rule,
+        subst (λ q. slice_get q.rules r ≡ Some h.rule) same h.numbered,
+        omega arith,
+        subst (λ q. HasArguments c x q h.rule m.values.items) same h.arguments,
+      )
 
   pub rule_less : (m : Machine) (x : OpenNode) (meter r : ℕ) (ps : List Production) (q : Production) (us : List Rule)
       → ps ≡ c.grammar.productions → q ≡ get_or ps x.production q → us ≡ q.rules → RunsAt c meter m (Some x) → RunsRuleNext c x r
@@ -498,18 +510,22 @@ module _ (c : Setting) (sound : IsSound c) where
         there = there;
         numbered = numbered;
         within = subst (λ u. x.base + target_slot c q u.target.place u.target.attr < length m.values.items) one w.2;
+        arguments = subst (λ u. HasArguments c x q u m.values.items) one w.3;
         occurrences = rule_named c sound x.production r q u there numbered;
       }
 
-  -- The value of a rule over the values that are lent.
-  pub lent_value : (q : Production) (u : Rule) (slots : RuleSlots) (m : Machine) (base : ℕ) (values lent : List Value)
-      (numbers : List ℕ) (spare v : Value) → values ≡ m.values.items → lent ≡ drop base values → numbers ≡ slots.args
-      → v ≡ value_of u.expr.0 (λ k. get_or lent (slice_index numbers k) spare)
-      → v ≡ value_of u.expr.0 (λ k. get_or (drop base m.values.items) (slice_index slots.args k) spare)
-  lent_value q u slots m base values lent numbers spare v vs prefix ns is =
-      subst (λ vs. v ≡ value_of u.expr.0 (λ k. get_or (drop base vs) (slice_index slots.args k) spare)) vs
-      (subst (λ lent. v ≡ value_of u.expr.0 (λ k. get_or lent (slice_index slots.args k) spare)) prefix
-      (subst (λ ns. v ≡ value_of u.expr.0 (λ k. get_or lent (slice_index ns k) spare)) ns is))
+  -- No slot of an argument is out of range.
+  pub slots_within : (m : Machine) (x : OpenNode) (r : ℕ) (q : Production) (u : Rule) (slots : RuleSlots) → Giver c m x r q u
+      → AreSlotsOf c q u slots → All (λ slot. slot < length (drop x.base m.values.items)) slots.args
+  slots_within m x r q u slots h are =
+      All-from_get_or (λ slot. slot < length (drop x.base m.values.items)) slots.args 0 (λ k less.
+      let long = are.args.equally_long in
+      let o = some_at u.args k (omega arith) in
+      let slot = some_at slots.args k less in
+      let is = are.args.each k o.0 slot.0 o.1 slot.1 in
+      let found = get_or_from_slice_get slots.args k slot.0 0 slot.1 in
+      let within = h.arguments o.0 (k, o.1) in
+      omega arith)
 
   pub well_of : (m : Machine) (next : Option OpenNode) (meter : ℕ) → RunsAt c meter m next → All IsWell m.values.items
   well_of m next meter (honest, content, to_honest, to, runs) = runs.running.well

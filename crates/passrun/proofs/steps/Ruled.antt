@@ -142,7 +142,7 @@ current_stays c q Got i done level p e of_child row now j a v old new count next
 
 module _ (c : Setting) (sound : IsSound c) where
   -- An argument is in its slot.
-  argument_there : (p : ℕ) (q : Production) (state : State) (r : ℕ) (u : Rule) (e s : Table) (row : List Value)
+  pub argument_there : (p : ℕ) (q : Production) (state : State) (r : ℕ) (u : Rule) (e s : Table) (row : List Value)
       → IsProduction c.grammar p q → slice_get q.rules r ≡ Some u → AgreesSoFar c q (run_count state.phase state.turn) e s
       → (o : Target) → IsArgument u o → IsAvailable c.passes q c.write state o
       → slice_get (stored c q (e 0) s ++ row) (argument_slot c q o.place o.attr) ≡ Some (e o.place o.attr)

@@ -14,28 +14,37 @@ use ag_eval::{CarriedEnvironment, Meter, Scalar, eval_carried, eval_number, eval
 use ag_grammar::{Expr, Rule};
 use ag_value::NoMemory;
 use std::alloc::Global;
+use std::marker::Model;
 
-/// The values of a rule's arguments: argument k has the value in slot `slots[k]` of `values`.
-/// `spare` is the value of a slot out of range, which no rule of a layout has.
+/// The values of a rule's arguments: argument k has the value in slot `slots[k]` of `values`. No slot is
+/// out of range.
 #[derive(Drop)]
 struct Lender<'a> {
     values: &'a [Carried],
     slots: &'a [u16],
-    spare: &'a Carried,
+}
+
+impl<'a> Model for Lender<'a> {
+    ghost use Rattle.std.specs.Prelude.{◌<◌, All, List, ℕ, length};
+    ghost use Rattle.ag_value.specs.declared.value.Value.{Value as AttributeValue};
+
+    ghost Value = { List AttributeValue × List ℕ };
+
+    ghost view = { λ l. (l.values.now, l.slots.now) };
+
+    ghost invariant = { λ l. All (λ slot. slot < length l.values.now) l.slots.now };
 }
 
 impl<'a> CarriedEnvironment for Lender<'a> {
-    ghost use Rattle.std.specs.Prelude.{get_or, length, slice_index};
+    ghost use Rattle.std.specs.Prelude.{get_or, length, pos, slice_index};
+    ghost use Rattle.ag_value.specs.declared.value.Value.{Num};
 
-    ghost count = { λ l. length l.slots.now };
+    ghost count = { λ l. length l.1 };
 
-    ghost lent = { λ l k. get_or l.values.now (slice_index l.slots.now k) l.spare.now };
+    ghost lent = { λ l k. get_or l.0 (slice_index l.1 k) (Num (pos 0)) };
 
     fn lend(&self, k: usize) -> &Carried {
-        match self.values.get(self.slots[k] as usize) {
-            Some(value) => value,
-            None => self.spare,
-        }
+        &self.values[self.slots[k] as usize]
     }
 }
 
@@ -61,6 +70,7 @@ pub(crate) fn put_rule_value(
     requires slots { length at.now.slots.now.args ≡ length at.now.rule.now.expr.1 }
     requires well { All IsWell values.old.items }
     requires target { at.now.base + at.now.slots.now.target < length values.old.items }
+    requires arguments { All (λ slot. slot < length (drop at.now.base values.old.items)) at.now.slots.now.args }
     requires not_full { meter.old < 2 ^ 64 - 1 }
     ensures value { OnOk result (values.new.items
         ≡ set values.old.items (at.now.base + at.now.slots.now.target)
@@ -99,6 +109,7 @@ fn evaluate_scalar(
     meter: &mut Meter,
 ) -> Option<Scalar>
     requires slots { length slots.now ≡ length expr.now.1 }
+    requires within { All (λ slot. slot < length values.now) slots.now }
     requires well { All IsWell values.now }
     requires not_full { meter.old < 2 ^ 64 - 1 }
     ensures value { IfSome result (λ s. scalar_value s ≡ value_of expr.now.0
@@ -106,12 +117,7 @@ fn evaluate_scalar(
     ensures counted { IfSome result (λ _. meter.new ≡ meter.old + 1) }
     ensures kept { result ≡ None → meter.new ≡ meter.old }
 {
-    let spare = Carried::number(0);
-    let env = Lender {
-        values,
-        slots,
-        spare: &spare,
-    };
+    let env = Lender { values, slots };
     eval_scalar(alloc, expr, &env, meter)
 }
 
@@ -127,6 +133,7 @@ fn evaluate_over(
     meter: &mut Meter,
 ) -> Result<Carried, NoMemory>
     requires slots { length slots.now ≡ length expr.now.1 }
+    requires within { All (λ slot. slot < length values.now) slots.now }
     requires well { All IsWell values.now }
     requires not_full { meter.old < 2 ^ 64 - 1 }
     ensures value { IfOk result (λ v. v ≡ value_of expr.now.0
@@ -134,11 +141,6 @@ fn evaluate_over(
     ensures well { IfOk result (λ v. IsWell v) }
     ensures counted { meter.new ≡ meter.old + 1 }
 {
-    let spare = Carried::number(0);
-    let env = Lender {
-        values,
-        slots,
-        spare: &spare,
-    };
+    let env = Lender { values, slots };
     eval_carried(alloc, expr, &env, meter)
 }

@@ -45,6 +45,13 @@ pub(crate) struct Machine {
     pub(crate) begun: u64,
 }
 
+/// Where a step is done: at the innermost open node, in the context of the pass.
+#[derive(Clone, Copy)]
+pub(crate) struct StepAt<'c> {
+    pub(crate) context: &'c PassContext<'c>,
+    pub(crate) node: OpenNode,
+}
+
 /// Enters the child at a place, whose record was read last. Returns the child's node, which becomes
 /// the innermost one, and pushes the parent on `waiting`. Fails with `NoMemory` if memory cannot
 /// be allocated.
@@ -373,16 +380,15 @@ impl Machine {
     #[inline(always)]
     pub(crate) fn step<D: Device, E: Device>(
         &mut self,
-        context: &PassContext<'_>,
-        node: OpenNode,
+        at: &StepAt<'_>,
         from: &mut D,
         to: &mut E,
         meter: &mut Meter,
     ) -> Result<Option<OpenNode>, RunFault>
-        requires context { CanRun context.now }
-        requires runs { Runs (setting context.now) (D.is_honest from.old) (D.content from.old)
-            (E.is_honest to.old) (E.content to.old) meter.old self.old (Some node) }
-        ensures runs { IfOk result (λ next. Runs (setting context.now)
+        requires context { CanRun at.now.context.now }
+        requires runs { Runs (setting at.now.context.now) (D.is_honest from.old) (D.content from.old)
+            (E.is_honest to.old) (E.content to.old) meter.old self.old (Some at.now.node) }
+        ensures runs { IfOk result (λ next. Runs (setting at.now.context.now)
             (D.is_honest from.new) (D.content from.new)
             (E.is_honest to.new) (E.content to.new) meter.new self.new next) }
         ensures added { OnOk result (AddsFrames (E.is_honest to.new)
@@ -390,10 +396,10 @@ impl Machine {
         ensures left { IfErr result (LeavesFrames (E.is_honest to.new)
             (E.content to.old) (E.content to.new)) }
         ensures refused { IfErr result (λ f. WhenHonest (D.is_honest from.new)
-            (IsRunFault (setting context.now) (D.content from.old) f)) }
+            (IsRunFault (setting at.now.context.now) (D.content from.old) f)) }
         // each step lowers the measure, so the loop of a pass ends
         ensures less { IfOk result (λ next.
-            measure (setting context.now) self.new next < measure (setting context.now) self.old (Some node)) }
+            measure (setting at.now.context.now) self.new next < measure (setting at.now.context.now) self.old (Some at.now.node)) }
         ensures begun { self.new.begun ≡ self.old.begun }
         ensures rises { meter.old ≤ meter.new }
         ensures content { LeavesContent (D.is_honest from.new)
@@ -402,6 +408,7 @@ impl Machine {
         ensures devices { BothPersist D.is_honest D.failures from.old from.new
             E.is_honest E.failures to.old to.new (IsErrOf result RunFault.Device) }
     {
+        let StepAt { context, node } = *at;
         let layout = context.row(node.production);
         let ended = match context.instruction(layout, node) {
             Instr::Get(place) => {

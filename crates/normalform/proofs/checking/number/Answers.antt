@@ -1,6 +1,6 @@
 -- The remaining goals of `number`.
 use Rattle.std.proofs.Common.{◌≡◌, map, ap, ◌∙◌}
-use Rattle.normalform.specs.numbers.Numbers.{symbol_of, symbol_names, number_in, production_of, literals_of, classes_of}
+use Rattle.normalform.specs.numbers.Numbers.{symbol_of, declared_names, number_in, production_of, literals_of, classes_of}
 use Rattle.normalform.proofs.numbered.Accepting.{small, made}
 use Rattle.normalform.proofs.numbered.Ordered.{made_in_order}
 use Rattle.normalform.proofs.found.Reduced.{symbols}
@@ -25,7 +25,7 @@ new-requires-clause-accepted c =
     c.in_ok-start.ensures.listed
     (c.in_ok-literals.ensures ∙ ap literals_of c.as_slice-2.ensures)
     (c.in_ok-classes.ensures ∙ ap classes_of c.as_slice.ensures)
-    (c.in_ok-start.ensures.start ∙ ap (λ ss. number_in (symbol_names (map symbol_of ss)) raw.start.name) syms)
+    (c.in_ok-start.ensures.start ∙ ap (λ ss. number_in (declared_names (map symbol_of ss)) raw.start.name) syms)
 
 pub new-requires-clause-in_order : goal.new-requires-clause-in_order
 new-requires-clause-in_order c =
@@ -40,4 +40,4 @@ new-requires-clause-in_order c =
     ∙ ap (λ ls. map (production_of (symbols raw) ls) raw.productions) lits)
     (c.in_ok-literals.ensures ∙ ap literals_of c.as_slice-2.ensures)
     (c.in_ok-classes.ensures ∙ ap classes_of c.as_slice.ensures)
-    (c.in_ok-start.ensures.start ∙ ap (λ ss. number_in (symbol_names (map symbol_of ss)) raw.start.name) syms)
+    (c.in_ok-start.ensures.start ∙ ap (λ ss. number_in (declared_names (map symbol_of ss)) raw.start.name) syms)

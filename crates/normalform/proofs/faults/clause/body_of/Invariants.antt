@@ -1,9 +1,9 @@
 -- The invariant of the loop of `body_of`.
 use Rattle.std.proofs.Common.{◌≡◌, ◌++◌, drop}
 use Rattle.normalform.specs.faults.Clauses.{body_of}
-use Rattle.normalform.specs.numbers.Numbers.{symbol_names}
+use Rattle.normalform.specs.numbers.Numbers.{declared_names}
 use Rattle.normalform.proofs.faults.clause.body_of.Given as goal
 
 abbrev pub invariant-loop-item : goal.invariant-loop-item
 invariant-loop-item l =
-    l.body.items ++ body_of (symbol_names l.declared) (drop l.item-index l.items) ≡ body_of (symbol_names l.declared) l.items
+    l.body.items ++ body_of (declared_names l.declared) (drop l.item-index l.items) ≡ body_of (declared_names l.declared) l.items

@@ -1,7 +1,7 @@
 -- The remaining goals of `unknown_in_production`.
 use Rattle.std.proofs.Common.{◌≡◌, ◌∷◌, [], ◌++◌, List, flat_map, IfOk, subst, ◌∙◌}
 use Rattle.normalform.specs.faults.Faults.{Check, name_check, item_checks, rule_checks}
-use Rattle.normalform.specs.numbers.Numbers.{placed, symbol_names}
+use Rattle.normalform.specs.numbers.Numbers.{placed, declared_names}
 use Rattle.normalform.proofs.found.Wrong.{first_of, rest_of}
 use Rattle.normalform.proofs.faults.naming.unknown_in_production.Goals as goal
 
@@ -9,8 +9,8 @@ pub returns-in-Some-unknown_in_items : goal.returns-in-Some-unknown_in_items
 returns-in-Some-unknown_in_items c =
     let ss = c.args.declared.now in
     let q = c.args.production.now in
-    let here : List Check = name_check (symbol_names ss) q.left ∷ [] in
-    let items : List Check = flat_map (item_checks (symbol_names ss)) q.items in
+    let here : List Check = name_check (declared_names ss) q.left ∷ [] in
+    let items : List Check = flat_map (item_checks (declared_names ss)) q.items in
     let rules : List Check = flat_map (rule_checks ss (placed ss q)) q.rules in
     first_of items rules c.in-Some-unknown_in_items.fault (rw (← c.as_slice.ensures) c.in-Some-unknown_in_items.ensures)
     ∙ rest_of here (items ++ rules) c.in_default.ensures
@@ -19,8 +19,8 @@ pub returns : goal.returns
 returns c =
     let ss = c.args.declared.now in
     let q = c.args.production.now in
-    let here : List Check = name_check (symbol_names ss) q.left ∷ [] in
-    let items : List Check = flat_map (item_checks (symbol_names ss)) q.items in
+    let here : List Check = name_check (declared_names ss) q.left ∷ [] in
+    let items : List Check = flat_map (item_checks (declared_names ss)) q.items in
     let rules : List Check = flat_map (rule_checks ss (placed ss q)) q.rules in
     subst (λ f. IfOk c.first_in_production.result (λ r. r ≡ f))
     (rest_of items rules (rw (← c.as_slice.ensures) c.in_default-unknown_in_items.ensures)

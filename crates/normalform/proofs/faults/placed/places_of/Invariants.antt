@@ -1,10 +1,10 @@
 -- The invariant of the loop of `places_of`.
 use Rattle.std.proofs.Common.{◌≡◌, ◌++◌, drop, map}
-use Rattle.normalform.specs.numbers.Numbers.{placed, stored_of, symbol_names}
+use Rattle.normalform.specs.numbers.Numbers.{placed, stored_of, declared_names}
 use Rattle.normalform.specs.faults.PlacedItem.{item_placed}
 use Rattle.normalform.proofs.faults.placed.places_of.Given as goal
 
 abbrev pub invariant-loop-item : goal.invariant-loop-item
 invariant-loop-item l =
-    map item_placed l.items.items ++ stored_of (symbol_names l.declared) (drop l.item-index l.item-items)
+    map item_placed l.items.items ++ stored_of (declared_names l.declared) (drop l.item-index l.item-items)
     ≡ placed l.declared l.production

@@ -1,8 +1,8 @@
 -- The invariant of the loop of `Numbering::items_of`.
 use Rattle.std.proofs.Common.{◌≡◌, take, map}
-use Rattle.normalform.specs.numbers.Numbers.{item_of, symbol_names}
+use Rattle.normalform.specs.numbers.Numbers.{item_of, declared_names}
 use Rattle.normalform.proofs.numbers.numbering.Numbering.items_of.Given as goal
 
 abbrev pub invariant-loop-item : goal.invariant-loop-item
 invariant-loop-item l =
-    l.numbered.items ≡ map (item_of (symbol_names l.self.declared) l.self.literals) (take l.item-index l.items)
+    l.numbered.items ≡ map (item_of (declared_names l.self.declared) l.self.literals) (take l.item-index l.items)

@@ -3,7 +3,7 @@ use Rattle.ag_grammar.specs.expressions.Evaluation.{value_of}
 use Rattle.ag_value.specs.declared.value.Value.{Num}
 use Rattle.passrun.specs.layouts.Contexts.{setting}
 use Rattle.passrun.proofs.places.Entries.{slots_found, slots_less}
-use Rattle.passrun.proofs.steps.MachineSteps.{rule_leads, giver, meter_of, rule_less, well_of}
+use Rattle.passrun.proofs.steps.MachineSteps.{rule_leads, giver, meter_of, rule_less, slots_within, well_of}
 use Rattle.passrun.proofs.course.Working.{given_less}
 use Rattle.passrun.proofs.passing.machine.Machine.run_rule.Goals as goal
 
@@ -62,6 +62,21 @@ put_rule_value-requires-clause-target c =
     let target = are.target in
     let within = h.within in
     omega (arith, c.args.self.now.values.ok.0)
+
+pub put_rule_value-requires-clause-arguments : goal.put_rule_value-requires-clause-arguments
+put_rule_value-requires-clause-arguments c =
+    let context = setting c.args.context.now in
+    let h =
+    giver context c.requires.context.sound c.args.self.now c.args.node c.args.meter.now c.args.rule c.productions.result.now
+    c.index-productions-node.result c.as_slice.result.now c.index-as_slice-rule.result c.productions.ensures.lent
+    c.index-productions-node.is c.as_slice.ensures c.index-as_slice-rule.is c.requires.runs c.requires.next in
+    let are =
+    slots_found context c.args.node.production c.args.rule c.index-productions-node.result c.index-as_slice-rule.result
+    c.row-layout.result.now c.as_slice-2.result.now c.index-as_slice-rule-2.result
+    (c.row-layout.ensures c.index-productions-node.result h.there) h.numbered c.as_slice-2.ensures
+    c.index-as_slice-rule-2.is in
+    slots_within context c.requires.context.sound c.args.self.now c.args.node c.args.rule c.index-productions-node.result
+    c.index-as_slice-rule.result c.index-as_slice-rule-2.result h are
 
 pub returns-clause-runs : goal.returns-clause-runs
 returns-clause-runs c =
