@@ -144,6 +144,16 @@ fn apply_to_number(operator: Operator, m: i64, right: Scalar) -> Option<Scalar>
     }
 }
 
+/// Computes `m == n`. Not inlined, so that the other operators need no values in memory.
+#[tactic(auto, unfolding(ag_grammar::specs::values::Arguments::leftmost))]
+#[inline(never)]
+fn equal_numbers(m: i64, n: i64) -> Option<Scalar>
+    ensures { IfSome result
+        (λ s. scalar_value s ≡ operation_result Operator.Equal (value.Num m) (value.Num n)) }
+{
+    Scalar::from_value(&equal(&Value::Num(m), &Value::Num(n)))
+}
+
 /// Computes the value of an operator for two numbers. Returns `None` for `++`.
 #[tactic(auto, unfolding(ag_grammar::specs::values::Arguments::leftmost))]
 #[inline(always)]
@@ -151,7 +161,7 @@ fn apply_to_numbers(operator: Operator, m: i64, n: i64) -> Option<Scalar>
     ensures { IfSome result (λ s. scalar_value s ≡ operation_result operator (value.Num m) (value.Num n)) }
 {
     match operator {
-        Operator::Equal => Scalar::from_value(&equal(&Value::Num(m), &Value::Num(n))),
+        Operator::Equal => equal_numbers(m, n),
         Operator::Less => Scalar::from_value(&truth(m < n)),
         Operator::Join => None,
         Operator::Add => Some(sum_of(m, n)),
