@@ -1,8 +1,7 @@
 //! What the commands of the program have in common: reading their input, the checks that no output replaces a
-//! file that is read, writing output files, and the report of a failed translation with the cause of the error.
+//! file that is read, writing output files, and the reports of a rejected input or sentence.
 #![tactic(auto)]
 
-mod cause;
 mod files;
 mod output;
 mod overlaps;
@@ -10,7 +9,6 @@ mod paths;
 mod same_file;
 mod system_faults;
 
-pub use cause::{CauseFinder, with_cause};
 pub use files::{
     build_translator, read_input, read_translator, report_of_input, report_of_sentence,
 };

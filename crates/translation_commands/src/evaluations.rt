@@ -1,5 +1,6 @@
 //! The command that translates the tree in a tree file: `eval`.
 
+use crate::cause::{CauseFinder, with_cause};
 use crate::progress::{Progress, ShownDevice};
 use crate::screen::Screen;
 use crate::translations::{finish, without_write_fault, write_translation};
@@ -10,8 +11,7 @@ use command_line::{EvalPaths, InputPath};
 use messages::{FaultReport, Source};
 use noted_file::CallRecord;
 use program_io::{
-    CauseFinder, build_translator, check_output, check_tree, read_input, report_of_input,
-    with_cause, write_file,
+    build_translator, check_output, check_tree, read_input, report_of_input, write_file,
 };
 use std::alloc::Global;
 use std::io::{self, Write};

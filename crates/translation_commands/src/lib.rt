@@ -1,8 +1,10 @@
 //! The commands that translate and those that write tree files: `run` of one sentence or of many, `eval`, jobs,
-//! `parse` and `upgrade`, and how messages and progress are shown on standard error.
+//! `parse` and `upgrade`. Also how messages and progress are shown on standard error, and what the message of an
+//! error says of its cause.
 #![tactic(auto)]
 
 mod batch;
+mod cause;
 mod evaluations;
 mod progress;
 mod progress_lines;

@@ -3,6 +3,7 @@
 ghost use Rattle.std.specs.Prelude.{◌≡◌, ◌≢◌, IfErr, IsErr, OnOk};
 ghost use Rattle.std.specs.Io.KnownBytes.{Appends};
 
+use crate::cause::{CauseFinder, with_cause};
 use crate::progress::{Progress, ShownDevice};
 use crate::screen::Screen;
 use ag_job::Job;
@@ -12,10 +13,7 @@ use agoutput::write_bytes;
 use command_line::RunPaths;
 use messages::{FaultReport, Source};
 use noted_file::CallRecord;
-use program_io::{
-    CauseFinder, build_translator, check_output, read_input, report_of_sentence, with_cause,
-    write_file,
-};
+use program_io::{build_translator, check_output, read_input, report_of_sentence, write_file};
 use std::alloc::Global;
 use std::fs::OpenFile;
 use std::io::{self, Write};

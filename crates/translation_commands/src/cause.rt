@@ -10,19 +10,19 @@ use value_reasons::ErrorTranslation;
 /// Finds the cause of a translation that is an error: the translator with the text of its grammar, and the
 /// sentence, if there is one.
 #[derive(Clone, Copy)]
-pub struct CauseFinder<'a> {
+pub(crate) struct CauseFinder<'a> {
     /// The translator.
-    pub translator: &'a Translator,
+    pub(crate) translator: &'a Translator,
     /// The grammar's text.
-    pub grammar: Source<'a>,
+    pub(crate) grammar: Source<'a>,
     /// The sentence. `None` if the tree came from a file.
-    pub sentence: Option<Source<'a>>,
+    pub(crate) sentence: Option<Source<'a>>,
 }
 
 impl CauseFinder<'_> {
     /// Returns what a message says of the cause of a fault, if the fault is a translation that is an error.
     /// `a` and `b` contain the last two tree files. Returns `None` for other faults, and if the cause can't be found.
-    pub fn cause_of<D: Device>(
+    pub(crate) fn cause_of<D: Device>(
         self,
         alloc: Global,
         fault: &Fault,
@@ -49,7 +49,7 @@ impl CauseFinder<'_> {
 }
 
 /// Returns a report with what is said of the cause, if there is one; without its parts if memory for that is refused.
-pub fn with_cause(mut report: FaultReport, cause: Option<String>) -> FaultReport {
+pub(crate) fn with_cause(mut report: FaultReport, cause: Option<String>) -> FaultReport {
     let Some(cause) = cause else {
         return report;
     };
