@@ -4,7 +4,7 @@ use Rattle.ag_expr.specs.Printed.{printed as printed_expr}
 use Rattle.ag_text.specs.declared.fault.TextFault.{TextFault}
 use Rattle.ag_text.specs.declared.fault.TextFault.TheVariants as fault
 
--- the text of a fault: its number, and the offset in decimal
+-- the text of a fault: its number, and its offset in decimal if it has one
 abbrev pub printed : TextFault → List ℕ
 printed (fault.BadUtf8 at) = codes "G1 at " ++ decimal at
 printed (fault.Unexpected line at) = codes "G2 at " ++ decimal at

@@ -105,16 +105,43 @@ pub fn utf8_prefix(bytes: &[u8]) -> &str {
     }
 }
 
-/// Returns the token at an offset in bytes, or else the characters up to the next separator, at least one. None
-/// at the text's end.
+/// Returns the token at an offset in bytes, also one with a number that is too large. If no token begins there, returns
+/// the characters up to the next separator, at least one. None at the text's end.
 pub fn found_at(text: &str, at: usize) -> Option<&str> {
     let rest = text.get(at..)?;
     let mut cursor = Cursor::new(rest);
     if cursor.peek().is_none() {
-        return first_word(rest);
+        return match leading_number(rest) {
+            Some(number) => Some(number),
+            None => first_word(rest),
+        };
     }
     cursor.bump();
     Some(rest.get(..cursor.offset()).unwrap_or(rest).trim_end())
+}
+
+/// Returns the digits with which a text begins; if it begins with a `$`, also that and the name after the digits. None
+/// if there are no digits.
+fn leading_number(text: &str) -> Option<&str> {
+    let is_occurrence = text.starts_with('$');
+    let mut has_digits = false;
+    for (offset, character) in text.char_indices() {
+        if character.is_ascii_digit() {
+            has_digits = true;
+        } else if !is_occurrence || !is_part_of_occurrence(character, offset) {
+            return if has_digits { text.get(..offset) } else { None };
+        }
+    }
+    if has_digits { Some(text) } else { None }
+}
+
+/// Returns whether a character may be in an occurrence (`$1.size`) at an offset from its `$`.
+fn is_part_of_occurrence(character: char, offset: usize) -> bool {
+    match character {
+        '$' => offset == 0,
+        '.' | '_' => true,
+        _ => character.is_alphanumeric(),
+    }
 }
 
 /// Returns the characters before the first separator, at least one. None for an empty text.
