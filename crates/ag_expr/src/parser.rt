@@ -5,7 +5,7 @@ ghost use Rattle.ag_expr.specs.language.Syntax as syntax;
 ghost use Rattle.ag_expr.specs.language.Syntax.{closer};
 ghost use Rattle.ag_expr.specs.language.State.{Reads, ReadsAs, input};
 ghost use Rattle.ag_tokens.specs.Lexing.{token_of};
-ghost use Rattle.ag_tokens.specs.Parsing.{next_token, further_from, sees, sign_of, offset};
+ghost use Rattle.ag_tokens.specs.Parsing.{next_token, further_from, sees, meaning_of, offset};
 ghost use Rattle.ag_expr.specs.language.Chains as chains;
 ghost use Rattle.ag_expr.specs.language.Reading as reading;
 ghost use Rattle.ag_expr.specs.language.Reading.{atom_from, expr_in, other_from, ranked_from};
@@ -190,7 +190,7 @@ fn bound_node(name: &str, number: Option<usize>) -> Option<Node>
 impl<'t> Reader<'t> {
     /// Returns the next token as an operator of this precedence, or `None` if it is not one.
     fn next_operator(&self, precedence: Precedence) -> Option<Operator>
-        ensures { result ≡ sign_of (λ _. syntax.operator_of precedence)
+        ensures { result ≡ meaning_of (λ _. syntax.operator_of precedence)
             (offset (input self.now)) (next_token (input self.now)) }
     {
         match self.peek() {
@@ -252,7 +252,7 @@ impl<'t> Reader<'t> {
 
     /// Returns the call that the next token names, or `None`.
     fn next_call(&self) -> Option<Call>
-        ensures { result ≡ sign_of (λ _. syntax.call_in)
+        ensures { result ≡ meaning_of (λ _. syntax.call_in)
             (offset (input self.now)) (next_token (input self.now)) }
     {
         match self.peek() {

@@ -13,7 +13,7 @@ pub data GrammarToken : Type 0 where
   Occurrence : ℕ → List ℕ → GrammarToken
   Punctuation : punctuation.Punctuation → GrammarToken
 
--- A token with a fixed text: punctuation, or a reserved name.
+-- A token with a fixed text: punctuation, or a name, such as a reserved one.
 pub data Sign : Type 0 where
   mark : punctuation.Punctuation → Sign
   word : List ℕ → Sign

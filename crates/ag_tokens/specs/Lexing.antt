@@ -43,7 +43,8 @@ abbrev pub escape_from : List ℕ → Option (ℕ × List ℕ)
 escape_from [] = None
 escape_from (c ∷ cs) = option_and_then (λ d. Some (d, cs)) (escaped c)
 
--- the character that the first characters of a body denote: an escape denotes one
+-- the character that the first characters of a body denote, and the characters after it: an escape denotes one, and any other
+-- character itself, also a quote
 abbrev pub piece_from : List ℕ → Option (ℕ × List ℕ)
 piece_from [] = None
 piece_from (c ∷ cs) = cond (c == 92) (escape_from cs) (Some (c, cs))
@@ -115,7 +116,7 @@ abbrev pub after_quote : List ℕ → Option (List ℕ)
 after_quote [] = None
 after_quote (c ∷ cs) = cond (c == 34) (Some cs) None
 
--- the text literal whose bytes so far are `prefix`, with at most `turns` further characters
+-- the text literal whose bytes so far are `prefix`, if fewer than `turns` further characters come before its closing quote
 unfoldable pub text_from : ℕ → List ℕ → List ℕ → Option (GrammarToken × List ℕ)
 text_from zero prefix cs = None
 text_from (suc turns) prefix cs =

@@ -63,6 +63,7 @@ next_satisfies test (Some t) = test t
 abbrev pub sees : (GrammarToken → Bool) → Input → Bool
 sees test i = next_satisfies test (next_token i)
 
+-- a test: two marks are the same; `sameb the_type` is the toolchain's test for an enum without fields
 abbrev pub same_mark : Punctuation → Punctuation → Bool
 same_mark = sameb the_type
 
@@ -104,13 +105,13 @@ accept_as wrong None = λ i. Err (wrong i)
 accept_as wrong (Some a) = λ i. Ok (a, next i)
 
 -- the meaning of a token at an offset, if there is a token and it has a meaning
-abbrev pub sign_of : {A : Type 0} → (ℕ → GrammarToken → Option A) → ℕ → Option GrammarToken → Option A
-sign_of sign at None = None
-sign_of sign at (Some t) = sign at t
+abbrev pub meaning_of : {A : Type 0} → (ℕ → GrammarToken → Option A) → ℕ → Option GrammarToken → Option A
+meaning_of meaning at None = None
+meaning_of meaning at (Some t) = meaning at t
 
 -- the parser of one token with a meaning; fails with `wrong` if the next token has none
 abbrev pub one_from : {Fault A : Type 0} → (Input → Fault) → (ℕ → GrammarToken → Option A) → Parser Fault A
-one_from wrong sign = λ i. accept_as wrong (sign_of sign (offset i) (next_token i)) i
+one_from wrong meaning = λ i. accept_as wrong (meaning_of meaning (offset i) (next_token i)) i
 
 -- the first parser if the next token satisfies the test, else the second
 abbrev pub choose : {Fault A : Type 0} → (GrammarToken → Bool) → Parser Fault A → Parser Fault A → Parser Fault A

@@ -14,7 +14,7 @@ use crate::token::GrammarToken;
 use std::marker::Model;
 
 /// A cursor over the tokens of a text. It is positioned before a token, or where the tokens end,
-/// and holds the next token, so that each token is read only once. Offsets are in bytes from the
+/// and holds the next token, so that a look at it reads nothing. Offsets are in bytes from the
 /// beginning of the text.
 #[derive(Drop)]
 pub struct Cursor<'t> {

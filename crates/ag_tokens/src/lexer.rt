@@ -453,8 +453,8 @@ fn plain_token<'t>(
 /// token begins there, and with `TooLarge` if the number of the token is above its limit. Does not
 /// allocate.
 ///
-/// The functions for long tokens are not inlined, and return less than a whole token; so this
-/// function assembles the token in registers.
+/// The functions that read a name, a quoted text or an occurrence are not inlined, and return less
+/// than a whole token; so this function assembles the token in registers.
 #[inline(never)]
 #[tactic(auto, using(crate::proofs::Numerals::some_digit), unfolding(crate::specs::Lexing::token_from))]
 pub fn leading_token(text: &str) -> Result<(GrammarToken<'_>, &str), TokenFault>

@@ -1,4 +1,4 @@
-//! Tests for tokens with a fixed text: punctuation, and reserved names.
+//! Tests for tokens with a fixed text: punctuation, and names, such as reserved ones.
 
 ghost use Rattle.std.specs.Prelude.{◌≡◌};
 ghost use Rattle.ag_tokens.specs.Lexing.{token_of};

@@ -8,7 +8,7 @@ use Rattle.ag_tokens.specs.Ending.{Ending}
 use Rattle.ag_tokens.specs.PlacedToken.{PlacedToken, Input}
 use Rattle.ag_tokens.specs.GrammarToken.{GrammarToken}
 use Rattle.ag_tokens.specs.Parsing as parsing
-use Rattle.ag_tokens.specs.Parsing.{next_token, sees, offset, sign_of, Outcome, Parser, and_then, pure, accept_as, one_from}
+use Rattle.ag_tokens.specs.Parsing.{next_token, sees, offset, meaning_of, Outcome, Parser, and_then, pure, accept_as, one_from}
 use Rattle.ag_tokens.specs.Parsing.{choose, many_from, further_from}
 use Rattle.ag_tokens.specs.Languages as languages
 use Rattle.ag_tokens.specs.Languages.{gives, one, Many, none, more, IsFew, further}
@@ -68,7 +68,7 @@ pub same_front : (test : GrammarToken → Bool) (ps qs : List PlacedToken) → f
 same_front test ps qs e = grind arith
 
 same_sign : {A : Type 0} (sign : ℕ → GrammarToken → Option A) (k i : Input) → first k ≡ first i
-    → sign_of sign (offset k) (next_token k) ≡ sign_of sign (offset i) (next_token i)
+    → meaning_of sign (offset k) (next_token k) ≡ meaning_of sign (offset i) (next_token i)
 same_sign sign k i e = grind arith
 
 heads-append : {T : Type 0} (t : T) (us vs : List T) → Heads t us → Heads t (us ++ vs)
@@ -258,7 +258,7 @@ module _ {T Fault : Type 0} {m : Manner T Fault} where
 
       refused : (i : Input) (f : Fault) → read i ≡ Err f → Refused m (one meaning) read read i f
       refused i f h =
-          let same : (f ≡ m.wrong i) × (sign_of sign (offset i) (next_token i) ≡ None) = (grind arith, grind arith) in
+          let same : (f ≡ m.wrong i) × (meaning_of sign (offset i) (next_token i) ≡ None) = (grind arith, grind arith) in
           record {
             us = [];
             j = i;
