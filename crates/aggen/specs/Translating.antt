@@ -63,8 +63,8 @@ IsFaultBeforeText g sentence ha hb fault.Device = Unit {0}
 IsFaultBeforeText g sentence ha hb fault.NoMemory = Unit {0}
 IsFaultBeforeText g sentence ha hb _ = ⊥
 
--- The meaning of a fault of a translation: S, P and O1 are true of the sentence; R1, B1, B2, and P2 and P3 of
--- a tree file are impossible on honest devices; after O2 a prefix of the translation was written. A device
+-- The meaning of a fault of a translation: S and P are true of the sentence. On honest devices O1 is true of it, after
+-- O2 a prefix of the translation was written, and R1, B1, B2, and P2 and P3 of a tree file are impossible. A device
 -- failure and NoMemory have no meaning, and no other fault is possible.
 abbrev pub IsTranslationFault : Grammar → (sentence : List ℕ) → (honest_a honest_b : Bool) → (old new : Option (List ℕ)) → Fault
     → Type 0

@@ -208,7 +208,7 @@ impl Translator {
         // on any devices
         ensures text { OnOk result (WritesText (W.contents out.old) (W.contents out.new)) }
 
-        // Err: the fault is true of the sentence.
+        // Err: the fault is true of the sentence, as far as `IsTranslationFault` says.
         ensures refused { IfErr result (λ e. IsTranslationFault self.now sentence.now
             (D.is_honest a.new) (D.is_honest b.new)
             (W.contents out.old) (W.contents out.new) e) }

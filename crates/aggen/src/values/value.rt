@@ -48,7 +48,7 @@ pub fn show_value<D: Device, W: Write>(
     ensures offsets { IfErr result (IsExplained text.now) }
     ensures occurs { (at : ℕ) → OccursAt text.now at → IsErrAnd result (IsUnexpectedAt at) }
 
-    // An honest device returns the bytes that were written; D1 only if it failed.
+    // An honest device returns the bytes that were written; D1 only if the number of failures rose.
     ensures undamaged { WhenHonest (D.is_honest device.new) (IfErr result (λ e. ¬ (IsDamage e))) }
     ensures persists { Persists (D.is_honest device.old) (D.is_honest device.new)
         (D.failures device.old) (D.failures device.new) (IsErrOf result Fault.Device) }

@@ -8,8 +8,8 @@ use Rattle.treefile.specs.declared.device.DeviceFault.TheVariants.{Failed, NoMem
 abbrev pub max_failures : ℕ
 max_failures = 2 ^ 64 - 1
 
--- The number of failures rose from `before` to `after`: a call failed in between. At the greatest number that is counted it
--- can't grow, and so counts as risen.
+-- The number of failures rose from `before` to `after`. At the greatest number that is counted it can't grow, so there it
+-- counts as risen, whether a call failed or not.
 abbrev pub HasRisen : (before after : ℕ) → Type 0
 HasRisen before after = (before < after) ⊎ (after ≡ max_failures)
 
