@@ -26,9 +26,13 @@ struct Lender<'a> {
 
 impl<'a> Model for Lender<'a> {
     ghost use Rattle.std.specs.Prelude.{◌<◌, All, List, ℕ, length};
+    ghost use Rattle.std.specs.Coded.{codes};
     ghost use Rattle.ag_value.specs.declared.value.Value.{Value as AttributeValue};
+    ghost use Rattle.ag_value.specs.contracts.value.Value as value_row;
 
     ghost Value = { List AttributeValue × List ℕ };
+
+    ghost coded = { Prim.hlevel (codes, value_row.the_row.coded) };
 
     ghost view = { λ l. (l.values.now, l.slots.now) };
 
