@@ -48,7 +48,10 @@ pub(crate) fn run<D: Device, E: Device>(
     let root = OpenNode::first(machine.root);
     let mut next = Some(root);
     while let Some(node) = next {
-        let at = StepAt { context, node };
+        let at = StepAt {
+            context: &*context,
+            node,
+        };
         next = machine.step(&at, from, to, meter)?;
     }
     Ok(())
