@@ -47,8 +47,8 @@ pub(crate) struct Machine {
 
 /// Where a step is done: at the innermost open node, in the context of the pass.
 #[derive(Clone, Copy)]
-pub(crate) struct StepAt<'c> {
-    pub(crate) context: &'c PassContext<'c>,
+pub(crate) struct StepAt<'c, 'g> {
+    pub(crate) context: &'c PassContext<'g>,
     pub(crate) node: OpenNode,
 }
 
@@ -380,7 +380,7 @@ impl Machine {
     #[inline(always)]
     pub(crate) fn step<D: Device, E: Device>(
         &mut self,
-        at: &StepAt<'_>,
+        at: &StepAt<'_, '_>,
         from: &mut D,
         to: &mut E,
         meter: &mut Meter,
