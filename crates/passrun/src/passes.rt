@@ -43,40 +43,34 @@ fn last_pass(plan: &Plan) -> u16
     plan.assignment().passes()
 }
 
-/// What the next pass runs with: its setting, and the device that has the last file.
-#[derive(Clone, Copy)]
-struct NextPass<'a> {
-    alloc: Global,
-    setting: Setting<'a>,
-    last: Last,
-}
-
-/// Runs the next pass, from the device with the last file to the other one. Fails as `run_pass`
-/// does.
+/// Runs the pass of a setting, from the device with the last file to the other one. Fails as
+/// `run_pass` does.
 fn next_pass<D: Device>(
-    next: &NextPass<'_>,
+    alloc: Global,
+    setting: &Setting<'_>,
+    last: Last,
     a: &mut D,
     b: &mut D,
     meter: &mut Meter,
 ) -> Result<Passed, RunFault>
-    requires plan { IsPlan next.now.setting.grammar.now next.now.setting.plan.now.0 next.now.setting.plan.now.1 }
-    requires first { 1 ≤ next.now.setting.pass }
-    requires last { (passes : ℕ) × IsGreatest passes next.now.setting.plan.now.0
-        × (next.now.setting.pass ≤ passes) }
+    requires plan { IsPlan setting.now.grammar.now setting.now.plan.now.0 setting.now.plan.now.1 }
+    requires first { 1 ≤ setting.now.pass }
+    requires last { (passes : ℕ) × IsGreatest passes setting.now.plan.now.0
+        × (setting.now.pass ≤ passes) }
     requires meter { meter.old ≤ 2 ^ 63 }
     ensures passed { WhenHonest (D.is_honest a.new) (WhenHonest (D.is_honest b.new)
-        (IfOk result (λ p. IsPassedOn (pass_setting next.now.setting) next.now.last
+        (IfOk result (λ p. IsPassedOn (pass_setting setting.now) last
         (D.content a.old) (D.content b.old) (D.content a.new) (D.content b.new)
         p.nodes (meter.new - meter.old)))) }
     ensures refused { IfErr result (λ f. WhenHonest (D.is_honest a.new)
-        (WhenHonest (D.is_honest b.new) (IsRunFault (pass_setting next.now.setting)
-        (last_content next.now.last (D.content a.old) (D.content b.old)) f))) }
+        (WhenHonest (D.is_honest b.new) (IsRunFault (pass_setting setting.now)
+        (last_content last (D.content a.old) (D.content b.old)) f))) }
     ensures kept { WhenHonest (D.is_honest a.new) (WhenHonest (D.is_honest b.new)
-        (last_content next.now.last (D.content a.new) (D.content b.new)
-        ≡ last_content next.now.last (D.content a.old) (D.content b.old))) }
+        (last_content last (D.content a.new) (D.content b.new)
+        ≡ last_content last (D.content a.old) (D.content b.old))) }
     ensures left { OnErr result (WhenHonest (D.is_honest a.new) (WhenHonest (D.is_honest b.new)
-        (LeavesBeginning next.now.setting.pass (other_content next.now.last (D.content a.old) (D.content b.old))
-        (other_content next.now.last (D.content a.new) (D.content b.new))))) }
+        (LeavesBeginning setting.now.pass (other_content last (D.content a.old) (D.content b.old))
+        (other_content last (D.content a.new) (D.content b.new))))) }
     ensures a_left { WhenHonest (D.is_honest a.new)
         (LeavesSomeFile (D.content a.old) (D.content a.new)) }
     ensures b_left { WhenHonest (D.is_honest b.new)
@@ -89,16 +83,11 @@ fn next_pass<D: Device>(
     ensures devices { BothPersist D.is_honest D.failures a.old a.new
         D.is_honest D.failures b.old b.new (IsErrOf result RunFault.Device) }
 {
-    let NextPass {
-        alloc,
-        setting,
-        last,
-    } = *next;
     let Setting {
         grammar,
         plan,
         pass,
-    } = setting;
+    } = *setting;
     match last {
         Last::A => run_pass(alloc, grammar, plan, pass, a, b, meter),
         Last::B => run_pass(alloc, grammar, plan, pass, b, a, meter),
@@ -202,12 +191,7 @@ pub fn run_all<D: Device>(
             plan,
             pass: done + 1,
         };
-        let next = NextPass {
-            alloc,
-            setting,
-            last,
-        };
-        let passed = next_pass(&next, a, b, meter)?;
+        let passed = next_pass(alloc, &setting, last, a, b, meter)?;
         last = other(last);
         sum = one_more(sum, passed);
     }

@@ -47,9 +47,20 @@ impl<'a> CarriedEnvironment for Lender<'a> {
 
     ghost lent = { λ l k. get_or l.0 (slice_index l.1 k) (Num (pos 0)) };
 
+    #[inline(always)]
     fn lend(&self, k: usize) -> &Carried {
-        &self.values[self.slots[k] as usize]
+        value_in_slot(self.values, self.slots, k)
     }
+}
+
+/// Returns the value in the slot with this number.
+#[inline(always)]
+fn value_in_slot<'a>(values: &'a [Carried], slots: &[u16], k: usize) -> &'a Carried
+    requires number { k < length slots.now }
+    requires within { All (λ slot. slot < length values.now) slots.now }
+    ensures { result.now ≡ get_or values.now (slice_index slots.now k) (Num (pos 0)) }
+{
+    &values[slots[k] as usize]
 }
 
 /// The rule that is run at a node.

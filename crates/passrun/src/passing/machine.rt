@@ -45,13 +45,6 @@ pub(crate) struct Machine {
     pub(crate) begun: u64,
 }
 
-/// Where a step is done: at the innermost open node, in the context of the pass.
-#[derive(Clone, Copy)]
-pub(crate) struct StepAt<'c, 'g> {
-    pub(crate) context: &'c PassContext<'g>,
-    pub(crate) node: OpenNode,
-}
-
 /// Enters the child at a place, whose record was read last. Returns the child's node, which becomes
 /// the innermost one, and pushes the parent on `waiting`. Fails with `NoMemory` if memory cannot
 /// be allocated.
@@ -380,15 +373,16 @@ impl Machine {
     #[inline(always)]
     pub(crate) fn step<D: Device, E: Device>(
         &mut self,
-        at: &StepAt<'_, '_>,
+        context: &PassContext<'_>,
+        node: OpenNode,
         from: &mut D,
         to: &mut E,
         meter: &mut Meter,
     ) -> Result<Option<OpenNode>, RunFault>
-        requires context { CanRun at.now.context.now }
-        requires runs { Runs (setting at.now.context.now) (D.is_honest from.old) (D.content from.old)
-            (E.is_honest to.old) (E.content to.old) meter.old self.old (Some at.now.node) }
-        ensures runs { IfOk result (λ next. Runs (setting at.now.context.now)
+        requires context { CanRun context.now }
+        requires runs { Runs (setting context.now) (D.is_honest from.old) (D.content from.old)
+            (E.is_honest to.old) (E.content to.old) meter.old self.old (Some node) }
+        ensures runs { IfOk result (λ next. Runs (setting context.now)
             (D.is_honest from.new) (D.content from.new)
             (E.is_honest to.new) (E.content to.new) meter.new self.new next) }
         ensures added { OnOk result (AddsFrames (E.is_honest to.new)
@@ -396,10 +390,10 @@ impl Machine {
         ensures left { IfErr result (LeavesFrames (E.is_honest to.new)
             (E.content to.old) (E.content to.new)) }
         ensures refused { IfErr result (λ f. WhenHonest (D.is_honest from.new)
-            (IsRunFault (setting at.now.context.now) (D.content from.old) f)) }
+            (IsRunFault (setting context.now) (D.content from.old) f)) }
         // each step lowers the measure, so the loop of a pass ends
         ensures less { IfOk result (λ next.
-            measure (setting at.now.context.now) self.new next < measure (setting at.now.context.now) self.old (Some at.now.node)) }
+            measure (setting context.now) self.new next < measure (setting context.now) self.old (Some node)) }
         ensures begun { self.new.begun ≡ self.old.begun }
         ensures rises { meter.old ≤ meter.new }
         ensures content { LeavesContent (D.is_honest from.new)
@@ -408,7 +402,6 @@ impl Machine {
         ensures devices { BothPersist D.is_honest D.failures from.old from.new
             E.is_honest E.failures to.old to.new (IsErrOf result RunFault.Device) }
     {
-        let StepAt { context, node } = *at;
         let layout = context.row(node.production);
         let ended = match context.instruction(layout, node) {
             Instr::Get(place) => {
