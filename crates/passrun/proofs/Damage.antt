@@ -1,5 +1,5 @@
--- The offset at which a content shows that it is the file of no tree, or of none within the limits: such a
--- content is one, and shows at most one fault.
+-- The offset at which a content shows that it is the file of no tree, or of none within the limits: what the
+-- content shows is true of it, and it shows at most one fault.
 use Rattle.std.specs.List.{flat_map}
 use Rattle.std.proofs.Common.{ℕ, suc, ◌≡◌, ◌≢◌, ◌+◌, ◌^◌, ◌<◌, ◌≤◌, ◌⊎◌, inl, inr, Bool, true, false, if◌then◌else◌, List, []}
 use Rattle.std.proofs.Common.{◌∷◌, ◌++◌, Some, Ok, Err, length, refl, ap, ◌∙◌, sym, subst, arith}
@@ -230,7 +230,7 @@ module _ (s : Source) (sound : IsDecidable s) where
         },
       )
 
-  -- The content is the file of no tree of this pass if it is the file of another pass.
+  -- The content is the file of this pass of no tree if it is the file of another pass.
   pub other_pass : (content : List ℕ) (pass : ℕ) → s.pass < 2 ^ 16 → pass_in s.version content ≡ Ok pass → pass ≢ s.pass
       → IsDamaged s content 4
   other_pass content pass small exact not =
@@ -241,7 +241,7 @@ module _ (s : Source) (sound : IsDecidable s) where
         shown = inr (inl (is.0, otherwise, refl));
       }
 
-  -- The content can be read if it is the file of the previous pass.
+  -- The content can be read if it is a tree file of the source's pass.
   pub readable : (content : List ℕ) (pass : ℕ) → pass_in s.version content ≡ Ok pass → pass ≡ s.pass → IsReadable s content
   readable content pass exact same =
       let is = is_file (is_tree_file s.version content) (pass_of content) pass exact in

@@ -62,7 +62,7 @@ occur_on old now new prefix more =
 not_le : (a b : ℕ) → b < a → nat_le a b ≡ false
 not_le a b h = lt-leb a b h
 
--- 0 is pushed in the place of an attribute of the pass.
+-- 0 is appended as a placeholder for an attribute of the pass.
 pub taken_place : (k pass : ℕ) (bytes : List ℕ) (old new : List Value) → 1 ≤ k → pass ≡ k → new ≡ old ++ Num (pos 0) ∷ []
     → IsTaken (k - 1) k pass bytes bytes old new
 taken_place k pass bytes old new one same row =

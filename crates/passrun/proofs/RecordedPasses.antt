@@ -1,5 +1,5 @@
--- The result of a pass for some tree holds for every tree that has the file it read. A fault of a pass holds
--- before the earlier passes ran.
+-- The result of a pass for some tree holds for every tree that has the file it read. A fault of a pass also
+-- holds for the content before the earlier passes ran.
 use Rattle.std.proofs.Common.{◌≡◌, ℕ, suc, ◌-◌, ◌<◌, ◌≤◌, List, ap, sym, subst, ◌∙◌, arith}
 use Rattle.ag_grammar.specs.grammars.Accepted.{IsAccepted}
 use Rattle.ag_grammar.specs.grammars.AttributeGrammar.{Grammar}

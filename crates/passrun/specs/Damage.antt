@@ -15,8 +15,8 @@ use Rattle.passcode.specs.Settings.{Setting}
 use Rattle.passrun.specs.declared.run_fault.RunFault.{RunFault}
 use Rattle.passrun.specs.declared.run_fault.RunFault.TheVariants as fault
 
--- How a file is read: its version, and the pass that wrote it for a tree of a grammar; and the limits of the
--- tree's levels and of its nodes.
+-- How a file is read: its version, the grammar of the tree, the passes of the attributes, the number of the
+-- file's pass, and the limits of the tree's levels and of its nodes.
 pub record Source : Type 0 where
   pub version : Version
   pub grammar : Grammar
@@ -35,8 +35,8 @@ pub record IsReadable (s : Source) (content : List ℕ) : Type 0 where
   pub begins : is_tree_file s.version content ≡ true
   pub number : pass_of content ≡ s.pass
 
--- Reading some bodies leaves `left` of the children `todo` that were to be read: each body is a record of the
--- first child, whose level is within the limit, and its own children, in a direction, replace that child.
+-- Reading some bodies turns the list `todo` of children to be read into the list `left`: each body is a record of
+-- the first child, whose level is within the limit, and the children of its node, in a direction, replace that child.
 abbrev pub Leaves : Source → Direction → Pending → List (List ℕ) → Pending → Type 0
 Leaves s d todo [] left = todo ≡ left
 Leaves s d [] (body ∷ bodies) left = ⊥
@@ -126,12 +126,12 @@ Shows s content fault.TooManyNodes = ExceedsNodes s content
 Shows s content fault.Device = ⊥
 Shows s content fault.NoMemory = ⊥
 
--- The file of pass k of a tree of binary fractions.
+-- How the file of pass k of a tree of binary fractions is read.
 abbrev pub fractions : ℕ → Source
 fractions k =
     record { version = version_two; grammar = binary; passes = binary_passes; pass = k; depth = max_depth; nodes = max_nodes }
 
--- The file of pass 0 of a tree of binary fractions within limits.
+-- How the file of pass 0 of a tree of binary fractions is read, with these limits.
 abbrev pub fractions_within : (depth nodes : ℕ) → Source
 fractions_within depth nodes =
     record { version = version_two; grammar = binary; passes = binary_passes; pass = 0; depth = depth; nodes = nodes }

@@ -1,4 +1,4 @@
--- The faults that the faults of the parts are converted to. All definitions are this project's.
+-- The conversions of other faults to those of a record and of a pass. All definitions are this project's.
 use Rattle.ag_value.specs.declared.fault.ValueFault.{ValueFault}
 use Rattle.ag_value.specs.declared.fault.ValueFault.TheVariants as value_fault
 use Rattle.backreader.specs.declared.turning.TurnFault.{TurnFault}

@@ -32,8 +32,8 @@ abbrev pub other_last : Last → Last
 other_last A = B
 other_last B = A
 
--- A pass ran from the device that has the last file to the other one, and did not change the content of the
--- first.
+-- A pass ran from the device that has the last file to the other one, and did not change the content that it
+-- read.
 pub record IsPassedOn (c : Setting) (last : Last) (a b a_new b_new : List ℕ) (count evals : ℕ) : Type 0 where
   pub passed : IsPassed c (last_content last a b) (other_content last a_new b_new) count evals
   pub kept : last_content last a_new b_new ≡ last_content last a b
@@ -77,8 +77,8 @@ pub record HasRunAll (g : Grammar) (m : Passes) (k last : ℕ) (start : List ℕ
   pub nothing : last ≡ k → (which ≡ A) × (evals ≡ 0) × (sum ≡ record { nodes = 0; read = 0; written = 0 })
 
 -- The solution of a tree was computed: the content `last` is the file of its last pass, and `previous` that of the
--- pass before it, with the only values that satisfy each equation at each node (Knuth 1968; Jazayeri and
--- Walter 1975).
+-- pass before it (if there is one), with the only values that satisfy each equation at each node (Knuth 1968;
+-- Jazayeri and Walter 1975).
 pub record LeavesSolution (g : Grammar) (m : Passes) (passes : ℕ) (t : Tree) (v : Valuation)
     (last previous : List ℕ) : Type 0 where
   pub solution : IsTheSolution g m t v
@@ -98,7 +98,7 @@ LeavesSomeFile old new = (pass : ℕ) × LeavesBeginning pass old new
 -- second device. Some passes ran, possibly none, and the file of the last of them is still on the device that
 -- the next one read. The other device has its content from before that pass, or a prefix of a file of that
 -- pass. If at least one pass ran, a is the file of a tree within the limits. If none ran, the first device
--- was read and is unchanged, whatever its content.
+-- still has a, whatever that is.
 pub record LeavesAfterFailure (g : Grammar) (m : Passes) (k : ℕ) (a b a_new b_new : List ℕ) : Type 0 where
   pub done : ℕ
   pub which : Last

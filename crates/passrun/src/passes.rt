@@ -43,34 +43,40 @@ fn last_pass(plan: &Plan) -> u16
     plan.assignment().passes()
 }
 
-/// Runs the pass of a setting, from the device with the last file to the other one. Fails as
-/// `run_pass` does.
-fn next_pass<D: Device>(
+/// What the next pass runs with: the allocator, its setting, and the device that has the last file.
+#[derive(Clone, Copy)]
+struct NextPass<'a> {
     alloc: Global,
-    setting: &Setting<'_>,
+    setting: Setting<'a>,
     last: Last,
+}
+
+/// Runs the next pass, from the device with the last file to the other one. Fails as `run_pass`
+/// does.
+fn next_pass<D: Device>(
+    next: &NextPass<'_>,
     a: &mut D,
     b: &mut D,
     meter: &mut Meter,
 ) -> Result<Passed, RunFault>
-    requires plan { IsPlan setting.now.grammar.now setting.now.plan.now.0 setting.now.plan.now.1 }
-    requires first { 1 ≤ setting.now.pass }
-    requires last { (passes : ℕ) × IsGreatest passes setting.now.plan.now.0
-        × (setting.now.pass ≤ passes) }
+    requires plan { IsPlan next.now.setting.grammar.now next.now.setting.plan.now.0 next.now.setting.plan.now.1 }
+    requires first { 1 ≤ next.now.setting.pass }
+    requires last { (passes : ℕ) × IsGreatest passes next.now.setting.plan.now.0
+        × (next.now.setting.pass ≤ passes) }
     requires meter { meter.old ≤ 2 ^ 63 }
     ensures passed { WhenHonest (D.is_honest a.new) (WhenHonest (D.is_honest b.new)
-        (IfOk result (λ p. IsPassedOn (pass_setting setting.now) last
+        (IfOk result (λ p. IsPassedOn (pass_setting next.now.setting) next.now.last
         (D.content a.old) (D.content b.old) (D.content a.new) (D.content b.new)
         p.nodes (meter.new - meter.old)))) }
     ensures refused { IfErr result (λ f. WhenHonest (D.is_honest a.new)
-        (WhenHonest (D.is_honest b.new) (IsRunFault (pass_setting setting.now)
-        (last_content last (D.content a.old) (D.content b.old)) f))) }
+        (WhenHonest (D.is_honest b.new) (IsRunFault (pass_setting next.now.setting)
+        (last_content next.now.last (D.content a.old) (D.content b.old)) f))) }
     ensures kept { WhenHonest (D.is_honest a.new) (WhenHonest (D.is_honest b.new)
-        (last_content last (D.content a.new) (D.content b.new)
-        ≡ last_content last (D.content a.old) (D.content b.old))) }
+        (last_content next.now.last (D.content a.new) (D.content b.new)
+        ≡ last_content next.now.last (D.content a.old) (D.content b.old))) }
     ensures left { OnErr result (WhenHonest (D.is_honest a.new) (WhenHonest (D.is_honest b.new)
-        (LeavesBeginning setting.now.pass (other_content last (D.content a.old) (D.content b.old))
-        (other_content last (D.content a.new) (D.content b.new))))) }
+        (LeavesBeginning next.now.setting.pass (other_content next.now.last (D.content a.old) (D.content b.old))
+        (other_content next.now.last (D.content a.new) (D.content b.new))))) }
     ensures a_left { WhenHonest (D.is_honest a.new)
         (LeavesSomeFile (D.content a.old) (D.content a.new)) }
     ensures b_left { WhenHonest (D.is_honest b.new)
@@ -83,11 +89,16 @@ fn next_pass<D: Device>(
     ensures devices { BothPersist D.is_honest D.failures a.old a.new
         D.is_honest D.failures b.old b.new (IsErrOf result RunFault.Device) }
 {
+    let NextPass {
+        alloc,
+        setting,
+        last,
+    } = *next;
     let Setting {
         grammar,
         plan,
         pass,
-    } = *setting;
+    } = setting;
     match last {
         Last::A => run_pass(alloc, grammar, plan, pass, a, b, meter),
         Last::B => run_pass(alloc, grammar, plan, pass, b, a, meter),
@@ -118,17 +129,17 @@ fn one_more(sum: Passed, passed: Passed) -> Passed
 /// than the greatest pass, runs, reads and writes nothing, and returns `Last::A` with three zeros.
 ///
 /// Stops at the first pass that fails, and returns its fault, as `run_pass` does. Fails with R1
-/// (`Damaged`) and an offset only if the file on `a` is not one that pass `first` - 1 writes for a tree
-/// of the grammar. If a limit is reached before any damage, fails with P2 (`TooDeep`) or P3
+/// (`Damaged`) and an offset only if the file on `a` is that of no tree of the grammar after pass
+/// `first` - 1. If a limit is exceeded before any damage, fails with P2 (`TooDeep`) or P3
 /// (`TooManyNodes`) instead: the file then encodes no tree of at most `MAX_DEPTH` levels, or none of at
-/// most `MAX_NODES` nodes, and may encode no tree at all. Fails with D1 (`Device`) if a call of one of
-/// the devices failed, and with `NoMemory` if memory cannot be allocated.
+/// most `MAX_NODES` nodes, and may encode no tree at all. These claims about the file hold if both
+/// devices return the bytes that were written to them. Fails with D1 (`Device`) if a call of one of the
+/// devices failed, and with `NoMemory` if memory cannot be allocated.
 ///
-/// The first pass overwrites the content of `b`, and the second one the file on `a`, which is kept
-/// if at most one pass runs. After a failure the device that the failed pass reads still has its
-/// content: the file of the pass before, for each pass after the first. The other device has the
-/// content from before that pass, or a prefix of a tree file. Uses the memory of one pass at a
-/// time.
+/// Pass `first` overwrites the content of `b`, and the next pass the file on `a`, which is kept if at
+/// most one pass runs. After a failure the device that the failed pass was to read still has its
+/// content: unless pass `first` failed, the file of the pass before. The other device has the content
+/// from before the failed pass, or a prefix of a tree file. Uses the memory of one pass at a time.
 pub fn run_all<D: Device>(
     alloc: Global,
     grammar: &Grammar,
@@ -146,7 +157,8 @@ pub fn run_all<D: Device>(
         WhenHonest (D.is_honest a.new) (WhenHonest (D.is_honest b.new)
         (IfOk result (λ r. HasRunAll grammar.now (passes_of plan.now.0) (first - 1) passes
         (D.content a.old) r.0 (D.content a.new) (D.content b.new) (meter.new - meter.old) r.1))) }
-    // from pass 1 on: the values in the last file satisfy all equations, and no others do
+    // if `first` is 1: the values in the last file, and in the file of the pass before it, are the
+    // only ones that satisfy all equations
     ensures solution { first ≡ 1 → (passes : ℕ) → IsGreatest passes plan.now.0 →
         WhenHonest (D.is_honest a.new) (WhenHonest (D.is_honest b.new)
         (IfOk result (λ r. LeavesSolutions grammar.now (passes_of plan.now.0) passes
@@ -156,12 +168,13 @@ pub fn run_all<D: Device>(
     ensures refused { IfErr result (λ f. WhenHonest (D.is_honest a.new)
         (WhenHonest (D.is_honest b.new)
         (IsRunFault (setting_of grammar.now plan.now first) (D.content a.old) f))) }
-    // the input of the failed pass is kept; the other device is unchanged, or has a prefix of a
-    // file
+    // the input of the failed pass is kept; the other device has its content from before that pass,
+    // or a prefix of a file of that pass
     ensures left { OnErr result (WhenHonest (D.is_honest a.new) (WhenHonest (D.is_honest b.new)
         (LeavesAfterFailure grammar.now (passes_of plan.now.0) (first - 1) (D.content a.old)
         (D.content b.old) (D.content a.new) (D.content b.new)))) }
-    // each honest device has its old content, or a prefix of a tree file, for any other device
+    // each honest device has its old content, or a prefix of a tree file, also on success, and
+    // whatever the other device does
     ensures a_left { WhenHonest (D.is_honest a.new)
         (LeavesSomeFile (D.content a.old) (D.content a.new)) }
     ensures b_left { WhenHonest (D.is_honest b.new)
@@ -176,7 +189,7 @@ pub fn run_all<D: Device>(
     ensures devices { BothPersist D.is_honest D.failures a.old a.new
         D.is_honest D.failures b.old b.new (IsErrOf result RunFault.Device) }
 {
-    // its contract says that the grammar is accepted
+    // the contract of `start` says that the grammar is accepted
     let _start = grammar.start();
     let passes = last_pass(plan);
     let mut last = Last::A;
@@ -191,7 +204,12 @@ pub fn run_all<D: Device>(
             plan,
             pass: done + 1,
         };
-        let passed = next_pass(alloc, &setting, last, a, b, meter)?;
+        let next = NextPass {
+            alloc,
+            setting,
+            last,
+        };
+        let passed = next_pass(&next, a, b, meter)?;
         last = other(last);
         sum = one_more(sum, passed);
     }

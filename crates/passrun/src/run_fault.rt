@@ -12,15 +12,15 @@ use treefile::{DeviceFault, FrameFault};
 /// contain after a failure.
 #[derive(Clone, Copy, Debug, PartialEq, Eq)]
 pub enum RunFault {
-    /// R1: the file is not one that the previous pass writes for a tree of the grammar. The offset
-    /// in bytes is 0 if the content does not begin as a tree file, and 4 if it is the file of
-    /// another pass. Otherwise it is the end of the frame that shows the damage, or the offset at
-    /// which a frame should end.
+    /// R1: the file is that of no tree of the grammar after the previous pass (after pass `first` - 1
+    /// for `run_all`; of version 1 and pass 0 for `upgrade`). The offset in bytes is 0 if the content
+    /// does not begin as a tree file, and 4 if it is the file of another pass. Otherwise it is the end
+    /// of the frame that shows the damage, or the offset at which a frame should end.
     Damaged(u64),
-    /// P2: the file encodes no tree of at most `MAX_DEPTH` levels (`MAX_REVERSED_DEPTH` for
+    /// P2: the file encodes no tree of at most `MAX_DEPTH` levels (`MAX_REVERSED_LEVELS` for
     /// `upgrade`): the next record would be one level deeper.
     TooDeep,
-    /// P3: the file encodes no tree of at most `MAX_NODES` nodes (`MAX_REVERSED_NODES` for
+    /// P3: the file encodes no tree of at most `MAX_NODES` nodes (`MAX_REVERSED_RECORDS` for
     /// `upgrade`): the next record would be one too many.
     TooManyNodes,
     /// D1: a call of one of the devices failed.

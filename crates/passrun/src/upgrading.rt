@@ -50,11 +50,11 @@ struct Subtree {
 }
 
 impl Upgrading {
-    /// Reads the record of a subtree's root: the record before the one read last. Fails with P2 if
-    /// its level exceeds `MAX_REVERSED_LEVELS`, with P3 if `MAX_REVERSED_RECORDS` records were read
-    /// already, and with R1 and the offset at which the record should end if a record of the item
-    /// does not end there. Fails with D1 if the device fails, and with `NoMemory` if memory cannot
-    /// be allocated.
+    /// Reads the record of a subtree's root, which comes before the record that was read last. Fails
+    /// with P2 if the root's level exceeds `MAX_REVERSED_LEVELS`, and with P3 if
+    /// `MAX_REVERSED_RECORDS` records were read already. Fails with R1 and the offset at which the
+    /// record's frame should end if no frame ends there, or one whose body is not a record of the
+    /// item. Fails with D1 if the device fails, and with `NoMemory` if memory cannot be allocated.
     fn record<D: Device>(
         &mut self,
         grammar: &Grammar,
@@ -94,8 +94,9 @@ impl Upgrading {
         }
     }
 
-    /// Converts a subtree, if its item is a child: reads its records and writes them in postfix
-    /// order. Returns the text if it is a token. Fails as `upgrade` does for the first device.
+    /// Converts a subtree, if its item is a child: reads its records, and writes them in postfix
+    /// order, from right to left. Returns the text if the item is a class. Fails as `upgrade` does for
+    /// the first device, and with D1 if the second one fails.
     fn tree<D: Device, E: Device>(
         &mut self,
         grammar: &Grammar,
@@ -116,11 +117,11 @@ impl Upgrading {
         ensures ready { OnOk result (IsUpgrading (D.is_honest from.new) (D.content from.old)
             self.new.back self.new.writer) }
         ensures well { IfOk result (λ text. IfSome text IsWell) }
-        // The number of records written is the number of records read
+        // The call writes as many records as it reads
         ensures balanced { OnOk result
             (self.new.writer.written + self.old.back.progress.records
             ≡ self.old.writer.written + self.new.back.progress.records) }
-        // The second device has more frames than before, or after a failure a prefix of them
+        // Frames were appended to the second device, possibly none; after a failure, a prefix of some
         ensures added { OnOk result (AddsFrames (E.is_honest to.new)
             (E.content to.old) (E.content to.new)) }
         ensures left { IfErr result (LeavesFrames (E.is_honest to.new)
@@ -223,7 +224,7 @@ fn convert<D: Device, E: Device>(
     Ok(())
 }
 
-/// The number of children of each node in a grammar's trees.
+/// The numbers of children of the nodes in a grammar's trees.
 #[derive(Drop)]
 struct Stored<'a> {
     grammar: &'a Grammar,
@@ -265,16 +266,18 @@ fn stored_among(items: &[Item]) -> u32
 /// content. After a success the old content of the other two is lost.
 ///
 /// Fails with R1 (`Damaged`) only if the content is not the file of version 1 and pass 0 of a tree of
-/// the grammar; the offset is as for `run_pass`. If a limit is reached before any damage, fails with P2
+/// the grammar; the offset is as for `run_pass`. If a limit is exceeded before any damage, fails with P2
 /// (`TooDeep`) or P3 (`TooManyNodes`) instead: the content then encodes no tree of at most
 /// `MAX_REVERSED_LEVELS` (256) levels, or none of at most `MAX_REVERSED_RECORDS` (65,536) nodes, and may
 /// encode no tree at all. Fails with D1 (`Device`) if a call of a device failed, and with `NoMemory` if
-/// memory cannot be allocated. If the second device does not return the bytes that were written to it,
-/// fails with R1 and an offset in that device's content, or with P2; an honest device returns them.
-/// After a failure the second and the third device have their old content, or a prefix of a file.
+/// memory cannot be allocated. All this holds if the first two devices return the bytes that were
+/// written to them. If the second one does not, the call may also fail with R1 and an offset in that
+/// device's content, or with P2. After a failure the second and the third device each have their old
+/// content, or a prefix of a tree file.
 ///
-/// Allocates memory for two buffers, for the texts of the tokens of each node on the path, and for
-/// a body at each level.
+/// Allocates memory for a buffer of 4,096 bytes or of the largest frame, for one frame at a time, for
+/// the texts of the tokens among the children of each node on the path from the root, and for a body
+/// at each level.
 pub fn upgrade<D: Device, E: Device, F: Device>(
     alloc: Global,
     grammar: &Grammar,
@@ -289,11 +292,11 @@ pub fn upgrade<D: Device, E: Device, F: Device>(
     // on failure the fault is true of the old content
     ensures refused { IfErr result (λ f. WhenHonest (D.is_honest old.new)
         (WhenHonest (E.is_honest mid.new) (IsUpgradeFault grammar.now (D.content old.old) f))) }
-    // the content of the third device is unchanged, or a prefix of a file of pass 0
+    // on failure the content of the third device is unchanged, or a prefix of a file of pass 0
     ensures left { IfErr result (λ _. WhenHonest (F.is_honest to.new)
         (LeavesBeginning 0 (F.content to.old) (F.content to.new))) }
-    // the content of the second device is unchanged, or a prefix of a file of pass 1, even on
-    // success
+    // the content of the second device is unchanged, or a prefix of a file with pass number 1, also
+    // on success
     ensures mid_left { WhenHonest (E.is_honest mid.new)
         (LeavesBeginning 1 (E.content mid.old) (E.content mid.new)) }
     ensures content { LeavesContent (D.is_honest old.new) (D.content old.old) (D.content old.new) }

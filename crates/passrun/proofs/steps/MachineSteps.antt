@@ -59,7 +59,7 @@ use Rattle.passrun.proofs.places.Slots.{begins_with_copy}
 use Rattle.passrun.proofs.steps.Steps.{HasAgreed, same_production}
 use Rattle.passrun.proofs.places.Tables.{text_row}
 
--- The row of a place that a job returns.
+-- The row of a place that the context of a pass returns.
 abbrev pub Answers : Setting → OpenNode → ℕ → Option PlaceRow → Type 0
 Answers c x j answer = (q : Production) → IsProduction c.grammar x.production q → answer ≡ slice_get (place_rows c q) j
 
@@ -163,7 +163,7 @@ popped None [] ys e none = refl
 popped None (x ∷ xs) ys e none = let n = none refl in absurd (omega arith)
 popped (Some x) xs ys e none = ap reverse e ∙ reverse-append ys (x ∷ [])
 
--- The item at a place, as a job returns it.
+-- The item at a place, as the context of a pass returns it, with its copies among the values.
 pub record IsPlace (c : Setting) (x : OpenNode) (j : ℕ) (row : PlaceRow) (values : List Value) : Type 0 where
   pub production : Production
   pub there : IsProduction c.grammar x.production production

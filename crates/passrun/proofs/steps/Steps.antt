@@ -607,7 +607,7 @@ module _ (c : Setting) (sound : IsSound c) where
         todo_is = o.todo_is;
       }
 
-  -- Nothing is written for a node, all of which was written.
+  -- At the `Put` of a child that is a node nothing is written: its whole tree was written before.
   put_node_in : (s : ℕ) (f : ℕ → Value) (level : ℕ) (x : OpenNode) (under : List Value) (old : Transcript) (before : ℕ)
       (others : Pending) (ph : Phase) (values : List Value) (t : Transcript) (now : ℕ) (todo : Pending) (j s' : ℕ)
       (q0 : Production)

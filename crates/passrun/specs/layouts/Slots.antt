@@ -22,7 +22,7 @@ own_width c q = count_up_to c.write (c.passes q.left)
 abbrev pub copied_width : Setting → Item → ℕ
 copied_width c x = count_up_to c.write (copied_passes c x)
 
--- The number of these copies that an earlier pass computed.
+-- The number of these copies that are known: that the file of the previous pass has.
 abbrev pub known_width : Setting → Item → ℕ
 known_width c x = count_up_to c.read (copied_passes c x)
 

@@ -31,7 +31,7 @@ children_of c q e =
     children_with_copies true c.grammar c.passes c.read (stored_items q.items)
     (copies c c.read (stored_items q.items) (in_children e))
 
--- The pending list of a node's children after the first n, at a level, followed by others.
+-- The pending list of a node's children without the first n that the pass visits, at a level, followed by others.
 abbrev pub following : Setting → Production → Table → (n level : ℕ) → Pending → Pending
 following c q e n level others =
     before_others (pass_direction c) level (remaining_of (pass_direction c) (children_of c q e) n) others

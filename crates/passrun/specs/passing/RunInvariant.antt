@@ -192,8 +192,8 @@ pub record Suspended (c : Setting) (s' : ℕ) (f' : ℕ → Value) (level : ℕ)
   pub deep : level < max_depth
   pub todo_is : todo ≡ following c production table (suc i) (suc level) others
 
--- The open nodes, the innermost first, wait for a node of production p and symbol s. After its tree these
--- children are still to be read.
+-- The open nodes, the innermost first, wait for a node of production p and symbol s. After its tree the
+-- children `todo` are still to be read.
 abbrev pub Expects : Setting → ℕ → List OpenNode → ℕ → ℕ → (ℕ → Value) → List Value → Transcript → ℕ → Pending → Type 0
 Expects c root [] s p f under new evals todo =
     (s ≡ c.grammar.start) × (p ≡ root) × (under ≡ []) × (new ≡ record { read = []; put = [] }) × (evals ≡ 0) × (todo ≡ [])
@@ -242,7 +242,7 @@ pub record IsRootReady (c : Setting) (root : ℕ) (values : List Value) (new : T
   pub nothing : todo ≡ []
 
 -- The invariant of a pass: these nodes are open, the innermost first; these values are in memory; this number
--- of rules were run; and these children are still to be read.
+-- of rules was run; and these children are still to be read.
 abbrev pub RunInvariant : Setting → ℕ → List OpenNode → List Value → Transcript → ℕ → Pending → Type 0
 RunInvariant c root [] values new evals todo = IsRootReady c root values new evals todo
 RunInvariant c root (x ∷ xs) values new evals todo =

@@ -26,7 +26,7 @@ abbrev pub RunsFrom : Setting → Bool → List ℕ → Machine → Option OpenN
 RunsFrom c honest content m next =
     (to_honest : Bool) × (to : List ℕ) × (meter : ℕ) × Runs c honest content to_honest to meter m next
 
--- The machine runs onto a second device, with some first device and count of the meter.
+-- The machine runs to a second device, with some first device and count of the meter.
 abbrev pub RunsTo : Setting → Bool → List ℕ → Machine → Option OpenNode → Type 0
 RunsTo c to_honest to m next =
     (honest : Bool) × (content : List ℕ) × (meter : ℕ) × Runs c honest content to_honest to meter m next

@@ -134,14 +134,14 @@ IsNoRecord c (item.Symbol s) body = IsNoNode c s body
 IsNoRecord c (item.Terminal (Class d)) body = IsNoToken d body
 IsNoRecord c (item.Terminal (Literal l)) body = Unit {0}
 
--- The values at the root of the record that was read for an item.
+-- The values of the node or token whose record was read for an item.
 abbrev pub read_values : (c : Setting) (x : Item) (p : ℕ) (body : List ℕ) (old new : List Value) → IsRead c x p body old new → ℕ
     → Value
 read_values c (item.Symbol s) p body old new h = h.values
 read_values c (item.Terminal (Class d)) p body old new h = λ a. Text h.1.text
 read_values c (item.Terminal (Literal l)) p body old new h = elim h [ ]
 
--- The values f and h at an item agree, as far as earlier passes computed them and the parent's row has copies.
+-- The values f and h at an item agree, as far as they are of earlier passes and the parent's row has copies.
 abbrev pub AgreeAt : Setting → Item → (ℕ → Value) → (ℕ → Value) → Type 0
 AgreeAt c x f h = values_up_to c.read (copied_passes c x) f ≡ values_up_to c.read (copied_passes c x) h
 

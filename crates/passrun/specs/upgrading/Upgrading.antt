@@ -74,7 +74,7 @@ IsOf g (item.Symbol s) (old.Node p) = (q : Production) × IsProduction g p q × 
 IsOf g (item.Terminal (Class c)) (old.Token d v) = (d ≡ c) × ((text : List ℕ) × IsTokenText text × (v ≡ Text text))
 IsOf g x r = ⊥
 
--- The body of a record of version 1.
+-- The body of a record of version 1 and pass 0.
 abbrev pub body_in : OldRecord → List ℕ
 body_in (old.Node p) = body_of Node p []
 body_in (old.Token d v) = body_of Token d (v ∷ [])

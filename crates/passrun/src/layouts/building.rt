@@ -1,5 +1,5 @@
-//! Computes the layout of each production in a pass: its instructions, the number of values of its
-//! nodes, its places, and the slots of its rules.
+//! Computes the layout of each production in a pass: its instructions, the number of values in the
+//! row of each of its nodes, the passes of these values, its places, and the slots of its rules.
 
 ghost use Rattle.std.specs.Prelude.{◌≡◌, ◌+◌, ◌-◌, ◌≤◌, ◌<◌, [], IfOk, length, map};
 ghost use Rattle.std.specs.Prelude.{slice_index_or};
@@ -43,7 +43,7 @@ pub(crate) struct PlaceRow {
     pub(crate) start: u16,
     /// The number of copies.
     pub(crate) width: u16,
-    /// The number of copies that an earlier pass computed.
+    /// The number of known copies: those that the file of the previous pass has.
     pub(crate) known: u16,
 }
 
@@ -70,7 +70,7 @@ pub(crate) struct Layout {
 }
 
 /// Returns the rows of the places of a production in a pass, and the number of values in the row of
-/// its nodes. Fails with `NoMemory` if memory cannot be allocated.
+/// each of its nodes. Fails with `NoMemory` if memory cannot be allocated.
 fn rows_of_places(
     alloc: Global,
     setting: &Setting<'_>,
@@ -241,11 +241,12 @@ fn row_of_production(
     })
 }
 
-/// Returns the layout of each production of a grammar in a pass of a plan.
+/// Returns the layout of each production of a grammar in a pass of a plan, and the hints.
 ///
-/// Fails with `NoMemory` if memory cannot be allocated. Visits each place of a production once and,
-/// for each target and argument of its rules, the passes of one symbol's attributes, which are at
-/// most 16.
+/// Fails with `NoMemory` if memory cannot be allocated. Visits the passes of one symbol's attributes,
+/// which are at most 16, a few times for each place of a production, and once for each target and
+/// argument of its rules. For the hints, also visits, for each rule of an earlier pass, at most its
+/// whole expression and the slots of one row.
 pub(crate) fn build_layout(alloc: Global, setting: &Setting<'_>) -> Result<Layout, NoMemory>
     requires plan { IsPlan setting.now.grammar.now setting.now.plan.now.0 setting.now.plan.now.1 }
     requires first { 1 ≤ setting.now.pass }

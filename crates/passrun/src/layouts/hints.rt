@@ -1,21 +1,24 @@
 //! Hints for reading: where the value that a pass reads next may be stored already.
 //!
-//! Most values that a pass reads are equal to others that it has read before. The row of a record
+//! Most values that a pass reads are equal to others that it has read before. The row of a node
 //! has the values of the node's own attributes, the synthesized ones first, and after them copies
 //! of its children's synthesized attributes. While the record of the child at place j is read, the
-//! row of its parent is stored, and so are the values of its own row that come before:
+//! row of its parent is stored, and so are the values of its own row that come before. Rules and
+//! places are those of the parent's production in the first two rows of the table, and those of the
+//! child's own production in the others:
 //!
 //! | Value | Candidate | Equal |
 //! |---|---|---|
-//! | own synthesized `a` | in the parent's row: the copy of `$j.a` | always, unless damaged |
+//! | own synthesized `a` | in the parent's row: the copy of `$j.a` | always |
 //! | own inherited `a` | in the parent's row: `$i.b`, if the rule of `$j.a` is `$i.b` | always |
 //! | other own inherited `a` | in its own row: `b`, if a rule is `$0.b = $0.a` | always |
 //! | copy of `$i.b` | in its own row: `a`, if a rule is `$0.a = $i.b` | always |
-//! | other copy of `$i.b` | in its own row: the value of a rule for an attribute of `$i` | if `$i` returns it as `b` |
+//! | other copy of `$i.b` | in its own row: `$m.d` before it, if a rule is `$i.c = $m.d` | if `$i` returns `c` as `b` |
 //!
-//! A rule also counts as `$i.b` if its expression is a `let`, an `if` or an `orelse` that may
-//! return that occurrence; then the values are equal if it does return it. Only rules of passes
-//! before k count: their values are in the file.
+//! "Always" means in each file that the earlier passes wrote; in a damaged file the values may differ.
+//! A rule also counts as `$i.b` if its expression is a `let`, an `if` or an `orelse` that may return
+//! that occurrence; then the values are equal if it does return it. Only rules of passes before k
+//! count: their values are in the file.
 //!
 //! No contract mentions hints. `Carried::read_beside` compares the candidate with the bytes that
 //! are read: a wrong hint costs a comparison and changes nothing. Numbers and errors are read
@@ -29,12 +32,14 @@ use ag_grammar::{BinaryCall, Item, Node, Production, Rule, Target};
 use ag_value::NoMemory;
 use std::alloc::Global;
 
-/// The hints for the records of a production's nodes. Slots count from the first value of a row.
+/// The hints for the records of a production's nodes, and for those of their children. Slots count
+/// from the first value of a row.
 #[derive(Debug, Drop)]
 pub(crate) struct RowHints {
-    /// For each slot of the row, another slot of the row.
+    /// For each slot of the row, another slot of the row, or none.
     own: Vec<Option<usize>>,
-    /// For each place, and for each slot of the row of the child there, a slot of the parent's row.
+    /// For each place, and for each slot of the row of the child there, a slot of the parent's row, or
+    /// none.
     children: Vec<Vec<Option<usize>>>,
 }
 
@@ -96,7 +101,7 @@ impl RowHints {
         self.add_returned(*place, slot);
     }
 
-    /// Makes a slot of the row the hint for the copies at a place that come after it and have none.
+    /// Makes `slot` the hint for those copies at a place that come after this slot and have no hint.
     fn add_returned(&mut self, place: PlaceRow, slot: usize) {
         let start = place.start as usize;
         for (copy, hint) in self.own.iter_mut().enumerate() {
@@ -160,7 +165,9 @@ impl Hints {
     }
 }
 
-/// Returns the hints for the slots of a child's row: the copies of its values, and none for others.
+/// Returns the hints for the slots of the row of the child at a place: the slots of its copies in the
+/// parent's row, and none for values without a copy. A token has no hints. Fails with `NoMemory` if
+/// memory cannot be allocated.
 fn hints_of_copies(
     alloc: Global,
     setting: &Setting<'_>,
@@ -194,7 +201,7 @@ fn is_earlier(setting: &Setting<'_>, row: &ProductionRow, target: Target) -> boo
     }
 }
 
-/// Returns the number of an occurrence whose value an expression may return unchanged.
+/// Returns the number of an occurrence whose value an expression may return unchanged, if it finds one.
 fn returned_occurrence(node: &Node) -> Option<usize> {
     match node {
         Node::Occurrence(k) => Some(*k),
@@ -222,8 +229,8 @@ fn set(hints: &mut Vec<Option<usize>>, slot: usize, hint: usize) {
     }
 }
 
-/// The place at which a record is read: a place of an open node of a production. The record of the
-/// root is read at place 0 of production 0, and no row is stored before its own.
+/// Where a record is read: at a place of an open node of a production. The root has no parent; its
+/// location is place 0 of production 0, and no row is stored before its own.
 #[derive(Clone, Copy, Debug, Default)]
 pub(crate) struct ChildLocation {
     pub(crate) production: u16,
@@ -231,8 +238,8 @@ pub(crate) struct ChildLocation {
 }
 
 /// The row that a record is read into by a pass: that of a node of a production, whose record is
-/// read at the location `parent`. It begins at index `start` of all stored values, and the row of
-/// the parent comes directly before.
+/// read at the location `parent`. The row begins at index `start` of all stored values. The row of the
+/// parent, if it is stored, comes directly before.
 #[derive(Clone, Copy)]
 pub(crate) struct RowLocation<'a> {
     /// The hints. This is a reference to a reference, so that it costs a load only where a hint is
@@ -247,7 +254,7 @@ pub(crate) struct RowLocation<'a> {
 
 impl RowLocation<'_> {
     /// Returns the stored value that the next value of the row may be equal to, if there is a hint.
-    /// The stored values end with those of the row that were read.
+    /// The stored values end with those of the row that come before this value.
     pub(crate) fn candidate<'v>(&self, values: &'v [Carried]) -> Option<&'v Carried> {
         let slot = values.len().checked_sub(self.start)?;
         if let Some(Some(hint)) = self.hints.child(self.parent).get(slot) {

@@ -61,8 +61,8 @@ pub(crate) fn row_length(passes: &[u16], k: u16) -> usize
     }
 }
 
-/// Returns the index of the value of attribute `attr` in such a row: the number of attributes
-/// before it that have a value there.
+/// Returns the index of the value of attribute `attr` among the values of these attributes in a row of
+/// pass k: the number of attributes before it that have a value there.
 #[tactic(auto, using(crate::proofs::places::Ranks::rank_counted, crate::proofs::places::Ranks::rank_passed))]
 fn rank(passes: &[u16], k: u16, attr: u16) -> u16
     requires few { length passes.now ≤ max_attributes }
@@ -122,7 +122,7 @@ pub(crate) fn copied_width(setting: &Setting<'_>, item: Item) -> usize
     row_length(copied_passes(setting, item), setting.pass)
 }
 
-/// Returns the number of these copies that an earlier pass computed.
+/// Returns the number of these copies that are known: that the file of the previous pass has.
 pub(crate) fn known_width(setting: &Setting<'_>, item: Item) -> usize
     requires { 1 ≤ setting.now.pass }
     ensures width { result ≡ known_width (pass_setting setting.now) item }

@@ -1,4 +1,4 @@
-//! The copies of children's values in the row of a node.
+//! The copies of children's values in the row of a node, and changes of the stored values.
 
 ghost use Rattle.std.specs.Prelude.{ℕ, ◌≡◌, ◌+◌, ◌-◌, ◌<◌, ◌≤◌, ◌++◌, ◌↔◌, IsTrue, List, drop, length, set, take};
 ghost use Rattle.ag_eval.specs.Operands.{scalar_value};
@@ -16,9 +16,9 @@ use ag_eval::Scalar;
 use ag_grammar::Item;
 use std::mem::{replace, swap};
 
-/// Returns whether two rows have the same values of passes before k at their beginnings. Each row
-/// begins with the values of those of these attributes whose pass is at most k; `passes` has the
-/// passes of the attributes.
+/// Returns whether two rows have the same values of some attributes, as far as their passes are
+/// before k. `passes` has the passes of these attributes; each row begins with the values of those
+/// whose pass is at most k.
 #[tactic(auto)]
 pub(crate) fn agree(passes: &[u16], k: u16, ours: &[Carried], theirs: &[Carried]) -> bool
     requires { 1 ≤ k }
@@ -44,9 +44,8 @@ pub(crate) fn agree(passes: &[u16], k: u16, ours: &[Carried], theirs: &[Carried]
     }
 }
 
-/// Returns whether the row of a child, which begins at index `start`, has the same values as their
-/// copies in the parent's row, which begin at index `copied`, as far as earlier passes computed
-/// them.
+/// Returns whether the values in a child's row, which begins at index `start`, are equal to their
+/// known copies in the parent's row. The copies of the child's values begin at index `copied`.
 #[inline(always)]
 pub(crate) fn matches_copy(
     context: &PassContext<'_>,
@@ -176,8 +175,8 @@ fn cut(values: &mut Vec<Carried>, from: usize)
     }
 }
 
-/// Moves the first `count` values of the last row, which begins at index `from`, to index `to`, and
-/// removes that row.
+/// Moves the first `count` values of the last row, which begins at index `from`, to the `count`
+/// indices from `to` on, and removes the last row.
 #[inline(always)]
 pub(crate) fn move_copies(values: &mut Vec<Carried>, from: usize, to: usize, count: usize)
     requires prefix { to + count ≤ from }

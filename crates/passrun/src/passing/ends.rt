@@ -35,16 +35,16 @@ const PASS_OFFSET: u64 = 4;
 pub struct Passed {
     /// The number of nodes of the tree, from 1 to `MAX_NODES`; 0 if no pass ran.
     pub nodes: u32,
-    /// The number of records read: one for each stored node in each pass.
+    /// The number of records read: one for each node in each pass.
     pub read: u64,
-    /// The number of records written: one for each stored node in each pass.
+    /// The number of records written: one for each node in each pass.
     pub written: u64,
 }
 
-/// Begins a pass: checks the header of the first device, writes the header to the second one, and
-/// reads the root's record. Fails with R1 and offset 4 if the file is that of another pass, with R1
-/// and offset 0 if it does not begin as a tree file, with D1 if a device fails, and as `fetch`
-/// does.
+/// Begins a pass: checks the header of the first device, replaces the content of the second one with
+/// a header, and reads the root's record. Fails with R1 and offset 4 if the file is that of another
+/// pass, with R1 and offset 0 if it does not begin as a tree file, with D1 if a device fails, with
+/// `NoMemory` if memory cannot be allocated, and as `fetch` does.
 pub(crate) fn begin<D: Device, E: Device>(
     context: &PassContext<'_>,
     from: &mut D,
@@ -93,9 +93,9 @@ pub(crate) fn begin<D: Device, E: Device>(
     })
 }
 
-/// Ends a pass whose root is done: writes the root's record. Fails with R1 and the offset of the
-/// next frame's end if any frame is left to read, with D1 if a device fails, and with `NoMemory` if
-/// memory cannot be allocated.
+/// Ends a pass whose root is done: writes the root's record, and returns the counts. Fails with R1
+/// and the offset down to which the file was read if the header does not end there, with D1 if a
+/// device fails, and with `NoMemory` if memory cannot be allocated.
 pub(crate) fn finish<D: Device, E: Device>(
     context: &PassContext<'_>,
     machine: &mut Machine,

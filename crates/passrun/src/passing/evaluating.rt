@@ -16,8 +16,8 @@ use ag_value::NoMemory;
 use std::alloc::Global;
 use std::marker::Model;
 
-/// The values of a rule's arguments: argument k has the value in slot `slots[k]` of `values`. No slot is
-/// out of range.
+/// The values of a rule's arguments: argument k, which is occurrence k of the rule's expression, has the
+/// value in slot `slots[k]` of `values`. No slot is out of range.
 #[derive(Drop)]
 struct Lender<'a> {
     values: &'a [Carried],
@@ -53,7 +53,7 @@ impl<'a> CarriedEnvironment for Lender<'a> {
     }
 }
 
-/// Returns the value in the slot with this number.
+/// Returns the value of argument k, which is in slot `slots[k]`.
 #[inline(always)]
 fn value_in_slot<'a>(values: &'a [Carried], slots: &[u16], k: usize) -> &'a Carried
     requires number { k < length slots.now }
@@ -73,8 +73,8 @@ pub(crate) struct NodeRule<'a> {
     pub(crate) base: usize,
 }
 
-/// Computes the value of a rule and puts it into the slot of its target. Fails with `NoMemory` if
-/// memory cannot be allocated.
+/// Computes the value of a rule and puts it into the slot of its target. The meter counts one
+/// evaluation, also on failure. Fails with `NoMemory` if memory cannot be allocated.
 #[inline(always)]
 pub(crate) fn put_rule_value(
     alloc: Global,
@@ -112,8 +112,9 @@ pub(crate) fn put_rule_value(
     Ok(())
 }
 
-/// Returns the value of an expression if `eval_scalar` can compute it, and `None` otherwise. The
-/// value of each occurrence is in its slot among the values.
+/// Returns the value of an expression if `eval_scalar` can compute it, and `None` otherwise.
+/// Occurrence k of the expression has the value in slot `slots[k]` of `values`. The meter counts the
+/// evaluation if a value is returned.
 #[tactic(auto, using(crate::proofs::steps::Lending::are_well))]
 #[inline(always)]
 fn evaluate_scalar(
@@ -136,8 +137,8 @@ fn evaluate_scalar(
     eval_scalar(alloc, expr, &env, meter)
 }
 
-/// Computes the value of an expression. The value of each occurrence is in its slot among the
-/// values. Fails with `NoMemory` if memory cannot be allocated.
+/// Returns the value of an expression. Occurrence k of the expression has the value in slot
+/// `slots[k]` of `values`. Fails with `NoMemory` if memory cannot be allocated.
 #[tactic(auto, using(crate::proofs::steps::Lending::are_well))]
 #[inline(always)]
 fn evaluate_over(

@@ -33,8 +33,8 @@ use treefile::{Device, Kind, Writer};
 
 /// The state of a running pass: the reader, the writer, the stored values (the rows of all open
 /// nodes, the outermost first, and then that of a child whose record was read and that was not
-/// entered yet), the open nodes that wait for the innermost one, the number in the root's record,
-/// and the meter's count when the pass began.
+/// entered yet, if there is one), the open nodes that wait for a child (all but the innermost one,
+/// the outermost first), the number in the root's record, and the meter's count when the pass began.
 #[derive(Drop)]
 pub(crate) struct Machine {
     pub(crate) back: Back,
@@ -45,9 +45,16 @@ pub(crate) struct Machine {
     pub(crate) begun: u64,
 }
 
-/// Enters the child at a place, whose record was read last. Returns the child's node, which becomes
-/// the innermost one, and pushes the parent on `waiting`. Fails with `NoMemory` if memory cannot
-/// be allocated.
+/// Where a step is done: at the innermost open node, in the context of the pass.
+#[derive(Clone, Copy)]
+pub(crate) struct StepAt<'c, 'g> {
+    pub(crate) context: &'c PassContext<'g>,
+    pub(crate) node: OpenNode,
+}
+
+/// Enters the child of `node` at a place. The child's record was the last one read. Returns the
+/// child's node, which becomes the innermost one, and pushes `node` on `waiting`. Fails with
+/// `NoMemory` if memory cannot be allocated.
 pub(crate) fn open_child(
     context: &PassContext<'_>,
     node: OpenNode,
@@ -74,9 +81,9 @@ pub(crate) fn open_child(
 }
 
 impl Machine {
-    /// Reads the record of the child at a place, and returns the node after that instruction. Fails
-    /// as `fetch` does, and with R1 and the end of the record if its values differ from their
-    /// copies in the node's row.
+    /// Executes a `Get`: reads the record of the child at a place, and returns the node after the
+    /// instruction. Fails as `fetch` does, and with R1 and the end of the record's frame if the
+    /// child's values differ from the known copies in the node's row.
     #[inline(always)]
     pub(crate) fn get<D: Device>(
         &mut self,
@@ -129,10 +136,10 @@ impl Machine {
         Ok(node.after_step(number))
     }
 
-    /// Writes the record of the token at a place, whose text is among the copies, and returns the
-    /// node after that instruction. For a child that is a node it writes nothing: `finish_node` has
-    /// written its record. Fails with D1 if the device fails, and with `NoMemory` if memory cannot
-    /// be allocated.
+    /// Executes a `Put`: writes the record of the token at a place, whose text is among the copies,
+    /// and returns the node after the instruction. Writes nothing for a child that is a node:
+    /// `finish_node` has written its record. Fails with D1 if the device fails, and with `NoMemory`
+    /// if memory cannot be allocated.
     #[inline(always)]
     pub(crate) fn put<E: Device>(
         &mut self,
@@ -172,8 +179,8 @@ impl Machine {
         Ok(node.after_step(node.child))
     }
 
-    /// Runs a rule, puts its value into the slot of its target, and returns the node after that
-    /// instruction. Fails with `NoMemory` if memory cannot be allocated.
+    /// Executes a `Set` or a `Def`: runs a rule, puts its value into the slot of its target, and
+    /// returns the node after the instruction. Fails with `NoMemory` if memory cannot be allocated.
     #[inline(always)]
     pub(crate) fn run_rule(
         &mut self,
@@ -208,8 +215,8 @@ impl Machine {
         Ok(node.after_step(node.child))
     }
 
-    /// Enters the child whose record was read last, and returns the child's node. Fails with
-    /// `NoMemory` if memory cannot be allocated.
+    /// Executes a `Go`: enters the child whose record was read last, and returns the child's node.
+    /// Fails with `NoMemory` if memory cannot be allocated.
     #[inline(always)]
     pub(crate) fn enter_child(
         &mut self,
@@ -261,9 +268,9 @@ impl Machine {
         Ok(child)
     }
 
-    /// Ends a node. If its parent waits for it, writes the node's record, moves the values of its
-    /// synthesized attributes to their copies in the parent's row, and returns the parent.
-    /// Returns `None` if the node is the root, whose record `finish` writes. Fails with D1 if the
+    /// Executes an `End`. If the node is not the root, writes its record, moves the values of its
+    /// synthesized attributes to their copies in the parent's row, removes its own row, and returns
+    /// the parent. Otherwise returns `None`: `finish` writes the root's record. Fails with D1 if the
     /// device fails, and with `NoMemory` if memory cannot be allocated.
     #[inline(always)]
     pub(crate) fn finish_node<E: Device>(
@@ -324,9 +331,9 @@ impl Machine {
         node.after_step(node.child)
     }
 
-    /// Ends a node if its next instruction is an `End`, and skips the `Put` of its record in the
-    /// parent. Returns the node that continues, or `None` if the root is done. Fails as
-    /// `finish_node` does.
+    /// Ends a node if its next instruction is an `End`, and then skips the `Put` of its record if
+    /// that is the parent's next instruction. Returns the node that continues, or `None` if the root
+    /// is done. Fails as `finish_node` does.
     #[inline(always)]
     pub(crate) fn finish_if_ended<E: Device>(
         &mut self,
@@ -366,23 +373,22 @@ impl Machine {
         Ok(Some(self.skip_put(context, outer)))
     }
 
-    /// Executes the next instruction of the innermost open node, and in three cases the following
-    /// one in the same step: a `Go` after a `Get`, an `End` after a rule, and after an `End` the
-    /// `Put` of the ended node's record in its parent. Returns the node that continues, or `None`
-    /// if the root is done. Fails as the instructions do.
+    /// Executes the next instruction of the innermost open node, and in the same step a `Go` directly
+    /// after a `Get`, an `End` directly after a rule, and after an `End` the `Put` of the ended node's
+    /// record in its parent. Returns the node that continues, or `None` if the root is done. Fails as
+    /// `get`, `run_rule`, `enter_child`, `put` and `finish_node` do.
     #[inline(always)]
     pub(crate) fn step<D: Device, E: Device>(
         &mut self,
-        context: &PassContext<'_>,
-        node: OpenNode,
+        at: &StepAt<'_, '_>,
         from: &mut D,
         to: &mut E,
         meter: &mut Meter,
     ) -> Result<Option<OpenNode>, RunFault>
-        requires context { CanRun context.now }
-        requires runs { Runs (setting context.now) (D.is_honest from.old) (D.content from.old)
-            (E.is_honest to.old) (E.content to.old) meter.old self.old (Some node) }
-        ensures runs { IfOk result (λ next. Runs (setting context.now)
+        requires context { CanRun at.now.context.now }
+        requires runs { Runs (setting at.now.context.now) (D.is_honest from.old) (D.content from.old)
+            (E.is_honest to.old) (E.content to.old) meter.old self.old (Some at.now.node) }
+        ensures runs { IfOk result (λ next. Runs (setting at.now.context.now)
             (D.is_honest from.new) (D.content from.new)
             (E.is_honest to.new) (E.content to.new) meter.new self.new next) }
         ensures added { OnOk result (AddsFrames (E.is_honest to.new)
@@ -390,10 +396,10 @@ impl Machine {
         ensures left { IfErr result (LeavesFrames (E.is_honest to.new)
             (E.content to.old) (E.content to.new)) }
         ensures refused { IfErr result (λ f. WhenHonest (D.is_honest from.new)
-            (IsRunFault (setting context.now) (D.content from.old) f)) }
+            (IsRunFault (setting at.now.context.now) (D.content from.old) f)) }
         // each step lowers the measure, so the loop of a pass ends
         ensures less { IfOk result (λ next.
-            measure (setting context.now) self.new next < measure (setting context.now) self.old (Some node)) }
+            measure (setting at.now.context.now) self.new next < measure (setting at.now.context.now) self.old (Some at.now.node)) }
         ensures begun { self.new.begun ≡ self.old.begun }
         ensures rises { meter.old ≤ meter.new }
         ensures content { LeavesContent (D.is_honest from.new)
@@ -402,6 +408,7 @@ impl Machine {
         ensures devices { BothPersist D.is_honest D.failures from.old from.new
             E.is_honest E.failures to.old to.new (IsErrOf result RunFault.Device) }
     {
+        let StepAt { context, node } = *at;
         let layout = context.row(node.production);
         let ended = match context.instruction(layout, node) {
             Instr::Get(place) => {

@@ -3,7 +3,7 @@
 ghost use Rattle.std.specs.Prelude.{◌≡◌, ◌+◌, ◌<◌, ◌^◌};
 ghost use Rattle.passrun.specs.passing.Nodes.{first_at, left_at, after_step};
 
-/// An open node: one whose record was read, and whose list of instructions is not finished.
+/// An open node: one that the pass has entered, and whose list of instructions is not finished.
 #[derive(Clone, Copy, Debug, PartialEq, Eq)]
 pub(crate) struct OpenNode {
     /// The number of its production.
@@ -19,7 +19,7 @@ pub(crate) struct OpenNode {
 }
 
 impl OpenNode {
-    /// Returns the node of a production whose record was just read, with its row at index 0.
+    /// Returns the node of a production whose record was just read. Its row begins at index 0.
     pub(crate) fn first(production: u16) -> OpenNode
         ensures { result ≡ first_at production 0 }
     {
@@ -39,8 +39,8 @@ impl OpenNode {
         }
     }
 
-    /// Returns the node after its next instruction. `child` is the number in the record of the
-    /// child that was read last.
+    /// Returns the node after its next instruction, which does not enter a child. `child` is the
+    /// number in the record of the child that was read last; 0 if none was read.
     pub(crate) fn after_step(self, child: u16) -> OpenNode
         requires { self.at + 1 < 2 ^ 64 }
         ensures { result ≡ after_step self child }

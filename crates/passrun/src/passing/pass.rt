@@ -68,24 +68,25 @@ pub(crate) fn run_in_context<D: Device, E: Device>(
 }
 
 /// Runs a pass of a plan for a grammar. `pass` is a number from 1 to the greatest pass of the plan.
-/// Reads the file of the previous pass backward, and replaces the content of the second device by
-/// the file of the pass. Evaluates each rule of the pass once at each node of its production. The
-/// meter counts these evaluations, and may be at most 2^63 before the call.
+/// Reads the file of the previous pass backward (for pass 1, that of the parser), and replaces the
+/// content of the second device with the file of the pass. Evaluates each rule of the pass once at
+/// each node of its production. The meter counts these evaluations, and may be at most 2^63 before the
+/// call.
 ///
-/// Fails with R1 (`Damaged`) only if the first file is not one that the previous pass writes for a
-/// tree of the grammar. The offset is 0 if the file does not begin as a tree file, and 4 if it is that
-/// of another pass. Otherwise it is the end of the frame that shows the damage, or the offset at
-/// which a frame should end. If a limit is reached before any damage, fails with P2 or P3 instead: with
-/// P2 (`TooDeep`) before a record one level deeper than `MAX_DEPTH` is read, and with P3
-/// (`TooManyNodes`) before one record more than `MAX_NODES` is read. The file then encodes no tree of
-/// at most `MAX_DEPTH` levels, or none of at most `MAX_NODES` nodes; it may encode no tree at all. Fails
-/// with D1 (`Device`) if a call of one of the devices failed, and with `NoMemory` if memory cannot be
-/// allocated.
+/// Fails with R1 (`Damaged`) only if the first file is that of no tree of the grammar after the previous
+/// pass. The offset is 0 if the file does not begin as a tree file, and 4 if it is that of another
+/// pass. Otherwise it is the end of the frame that shows the damage, or the offset at which a frame
+/// should end. If a limit is exceeded before any damage, fails with P2 or P3 instead: with P2
+/// (`TooDeep`) before a record one level deeper than `MAX_DEPTH` is read, and with P3 (`TooManyNodes`)
+/// before one record more than `MAX_NODES` is read. The file then encodes no tree of at most `MAX_DEPTH`
+/// levels, or none of at most `MAX_NODES` nodes; it may encode no tree at all. These claims about the
+/// file hold if the first device returns the bytes that were written to it. Fails with D1 (`Device`) if
+/// a call of one of the devices failed, and with `NoMemory` if memory cannot be allocated.
 ///
 /// Only reads the first device. After a failure the second device has its old content, or a prefix
-/// of a tree file. Allocates memory for the slots of the grammar's rules, for a buffer of 4,096
-/// bytes or of the largest frame, for the values of the open nodes and of their children that were
-/// read, and for one frame at a time.
+/// of a tree file. Allocates memory for the layouts of the productions and the hints, for a buffer of
+/// 4,096 bytes or of the largest frame, for the open nodes with their rows, for the row of the child
+/// that was read last, and for one frame at a time.
 pub fn run_pass<D: Device, E: Device>(
     alloc: Global,
     grammar: &Grammar,
@@ -102,7 +103,7 @@ pub fn run_pass<D: Device, E: Device>(
     ensures passed { WhenHonest (D.is_honest from.new) (WhenHonest (E.is_honest to.new)
         (IfOk result (λ p. IsPassed (setting_of grammar.now plan.now pass) (D.content from.old)
         (E.content to.new) p.nodes (meter.new - meter.old)))) }
-    // for every tree and all values that the first file encodes: there is only one such tree
+    // the same for every tree and all values that the first file encodes (there is only one tree)
     ensures exact { WhenHonest (D.is_honest from.new) (WhenHonest (E.is_honest to.new)
         (IfOk result (λ p. RunsPass version_two grammar.now (passes_of plan.now.0) (pass - 1)
         (D.content from.old) (E.content to.new)

@@ -10,7 +10,7 @@ ghost use Rattle.treefile.specs.devices.Device.{LeavesContent, WhenHonest};
 ghost use Rattle.treefile.specs.devices.Several.{BothPersist};
 
 use crate::layouts::context::PassContext;
-use crate::passing::machine::Machine;
+use crate::passing::machine::{Machine, StepAt};
 use crate::passing::open_node::OpenNode;
 use crate::run_fault::RunFault;
 use ag_eval::Meter;
@@ -48,7 +48,11 @@ pub(crate) fn run<D: Device, E: Device>(
     let root = OpenNode::first(machine.root);
     let mut next = Some(root);
     while let Some(node) = next {
-        next = machine.step(context, node, from, to, meter)?;
+        let at = StepAt {
+            context: &*context,
+            node,
+        };
+        next = machine.step(&at, from, to, meter)?;
     }
     Ok(())
 }

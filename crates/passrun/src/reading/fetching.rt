@@ -30,7 +30,7 @@ pub(crate) struct ExpectedRecord {
     pub(crate) open_count: usize,
 }
 
-/// Reads the next record as `fetch` does, from a copy of its bytes, without regard to the limits.
+/// Reads the next record as `fetch` does, from a copy of its bytes. The caller has checked the limits.
 #[inline(always)]
 fn fetch_copied<D: Device>(
     context: &PassContext<'_>,
@@ -68,7 +68,7 @@ fn fetch_copied<D: Device>(
 }
 
 /// Reads the next record as `fetch_copied` does, but from the memory of the device if the device
-/// lends it.
+/// lends the record's bytes.
 #[inline(never)]
 fn fetch_lent<D: Device>(
     context: &PassContext<'_>,
@@ -109,9 +109,9 @@ fn fetch_lent<D: Device>(
 /// in the record: that of the production, or that of the token's class.
 ///
 /// Fails with P2 if the record would be deeper than `MAX_DEPTH` levels, and with P3 if
-/// `MAX_NODES` records were read already. Fails with R1 and the offset at which the record should
-/// end if no frame ends there or its body is not a record of the item. Fails with D1 if the device
-/// fails, and with `NoMemory` if memory cannot be allocated.
+/// `MAX_NODES` records were read already. Fails with R1 and the offset at which the record's frame
+/// should end if no frame ends there, or one whose body is not a record of the item. Fails with D1 if
+/// the device fails, and with `NoMemory` if memory cannot be allocated.
 #[inline(always)]
 pub(crate) fn fetch<D: Device>(
     context: &PassContext<'_>,

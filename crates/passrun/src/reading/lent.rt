@@ -20,8 +20,8 @@ const HEAD_BYTES: u64 = 3;
 
 /// Takes the value of an attribute, and appends it to the values: from the beginning of the body if
 /// its pass is before k, and 0 as a placeholder if its pass is k. Appends nothing for a later pass.
-/// Returns the rest of the body, or `None` if the value can be read only from a copy of the body.
-/// Fails with `NoMemory` if memory cannot be allocated.
+/// Returns the rest of the body, or `None` if the value can be read only from a copy of the body (or
+/// not at all). Fails with `NoMemory` if memory cannot be allocated.
 fn take_value<'b>(
     alloc: Global,
     pass: u16,
@@ -48,9 +48,9 @@ fn take_value<'b>(
     Ok(Some(rest))
 }
 
-/// Takes the values of a row, of attributes with these passes. Returns whether all of them were
-/// taken and no bytes of the body are left; some may have been appended even if not. Fails with
-/// `NoMemory` if memory cannot be allocated.
+/// Takes the values of a row, of attributes with these passes, as `take_value` does. Returns whether
+/// all of them were taken and no bytes of the body are left; if not, some may have been appended.
+/// Fails with `NoMemory` if memory cannot be allocated.
 fn take_row(
     alloc: Global,
     passes: &[u16],
@@ -73,8 +73,8 @@ fn take_row(
     Ok(rest.len() == 0)
 }
 
-/// Returns the number of the production of a symbol's node in a body, and the body after it. Returns
-/// `None` if the body does not begin so, or if its first bytes cannot be lent as a slice.
+/// Returns the number of the production of a symbol's node in a body, and the rest of the body after
+/// it. Returns `None` if the body does not begin so, or if its first bytes cannot be lent as a slice.
 fn node_of<'b>(grammar: &Grammar, symbol: u16, body: Body<'b>) -> Option<(u16, Body<'b>)>
     ensures { IfSome result (λ found. IsBodyOf grammar.now symbol found.0 found.1 body.entry) }
 {

@@ -43,7 +43,8 @@ impl From<ValueFault> for RecordFault {
     }
 }
 
-/// Returns the number that is encoded at the beginning of some bytes, and the bytes after it.
+/// Returns the number that is encoded at the beginning of some bytes, and the bytes after it; `None`
+/// if they do not begin with the encoding of a number.
 #[inline(always)]
 fn number_in(bytes: &[u8]) -> Option<(i64, &[u8])>
     ensures spelled { IfSome result
@@ -63,8 +64,9 @@ fn number_in(bytes: &[u8]) -> Option<(i64, &[u8])>
     Some((number.cast_signed(), rest))
 }
 
-/// Reads a value as `Carried::read` does, fails as it does, and returns the value with its length in
-/// bytes. The candidate is a stored value that may be equal to it, which then saves a copy.
+/// Reads a value as `Carried::read` does, fails as it does, and returns the value with the length of
+/// its encoding in bytes. The candidate is a stored value that may be equal to the one that is read; if
+/// it is, and can have several owners, it is returned and nothing is decoded.
 fn read_beside(
     alloc: Global,
     candidate: Option<&Carried>,
@@ -85,9 +87,9 @@ fn read_beside(
     }
 }
 
-/// Takes the value of an attribute of a pass as `take_value` does, unless it has to be read and is
-/// not a number. Returns `None` then, and also for bytes that do not encode a value; the values are
-/// unchanged in both cases.
+/// Takes the value of an attribute of a pass as `take_value` does, without allocating memory. If the
+/// value has to be read and the bytes do not begin with a number, returns `None` and leaves the values
+/// unchanged.
 #[inline(always)]
 fn take_number<'b>(
     pass: u16,
@@ -123,9 +125,9 @@ fn is_error(bytes: &[u8]) -> bool {
     matches!(bytes, [4, ..])
 }
 
-/// Takes the value of an attribute of an earlier pass from the bytes. Returns the rest of the
-/// bytes. Fails with `Damaged` if they do not begin with a value, and with `NoMemory` if memory
-/// cannot be allocated.
+/// Takes the value of an attribute of an earlier pass from the bytes, and appends it to the values.
+/// Returns the rest of the bytes. Fails with `Damaged` if they do not begin with a value, and with
+/// `NoMemory` if memory cannot be allocated.
 fn read_value<'b>(
     alloc: Global,
     pass: u16,
@@ -178,7 +180,7 @@ fn take_value<'b>(
     }
 }
 
-/// Fails with Damaged if bytes are left after the last value of a row.
+/// Fails with `Damaged` if bytes are left after the last value of a row.
 #[inline(always)]
 fn check_end(rest: &[u8]) -> Result<(), RecordFault>
     ensures end { OnOk result (rest.now ≡ []) }
@@ -214,8 +216,8 @@ fn take_values(
     check_end(rest)
 }
 
-/// Takes the values of a row as `take_values` does, and fails as it does. Numbers, up to the first
-/// value of another kind, are taken by `take_number`, which is faster.
+/// Takes the values of a row as `take_values` does, and fails as it does. `take_number`, which is
+/// faster, takes the values before the first one that has to be read and is not a number.
 #[inline(always)]
 fn take_row(
     alloc: Global,
@@ -269,8 +271,8 @@ pub(crate) fn node_in<'b>(grammar: &Grammar, symbol: u16, body: &'b [u8]) -> Opt
 /// each attribute of pass k, the row has 0 as a placeholder. Returns the number of the node's production.
 ///
 /// Fails with `Damaged` if the body is not the record of a node of the symbol in the file of that
-/// pass. Such a record has a production of the symbol, a well value for each attribute of a pass
-/// before k and for each copy, and no bytes after them. Fails with `NoMemory` if memory cannot be
+/// pass. Such a record has a production of the symbol, a well value for each own attribute and each
+/// copy of a pass before k, and no bytes after them. Fails with `NoMemory` if memory cannot be
 /// allocated. After a failure the old values are unchanged, and others may follow them. Allocates
 /// memory for the values read, and for the passes of the production's values.
 pub fn read_node(

@@ -1,4 +1,4 @@
-//! Records of version 1 and pass 0: a node has only its production, and a token its text.
+//! Records of version 1 and pass 0: a node has only its production, and a token its class and its text.
 
 ghost use Rattle.std.specs.Prelude.{◌≡◌, IfOk, IsErrOf};
 ghost use Rattle.passrun.specs.upgrading.Upgrading.{IsOf, body_in};
@@ -14,14 +14,15 @@ use std::alloc::Global;
 pub(crate) enum OldRecord {
     /// A node, by the number of its production.
     Node(u16),
-    /// A token, by its class, with its text.
+    /// A token, by the number of its class, with its text.
     Token(u16, Value),
 }
 
 /// Returns the record of an item that a body encodes.
 ///
-/// Fails with `Damaged` if the body is not that of a production of the symbol with nothing after
-/// it, or of a token of the class, and with `NoMemory` if memory cannot be allocated.
+/// Fails with `Damaged` if the body is not a record of the item: for a symbol, the number of one of its
+/// productions with nothing after it; for a class, one of its tokens. A literal has no record. Fails
+/// with `NoMemory` if memory cannot be allocated.
 pub(crate) fn old_record(
     alloc: Global,
     grammar: &Grammar,

@@ -8,29 +8,29 @@ use Rattle.passrun.proofs.passes.next_pass.Goals as goal
 
 pub returns-in-A-clause-passed : goal.returns-in-A-clause-passed
 returns-in-A-clause-passed g c = λ ha hb.
-    passed_from_a (pass_setting c.args.setting.now) (g.D.Device.content c.args.a.now)
+    passed_from_a (pass_setting c.args.next.now.setting) (g.D.Device.content c.args.a.now)
     (g.D.Device.content c.args.b.now) (g.D.Device.content c.run_pass.new.from)
-    (g.D.Device.content c.run_pass.new.to) _ c.args.last c.in-A.is c.run_pass.result (c.run_pass.ensures.passed ha hb)
+    (g.D.Device.content c.run_pass.new.to) _ c.args.next.now.last c.in-A.is c.run_pass.result (c.run_pass.ensures.passed ha hb)
     (c.run_pass.ensures.content ha)
 
 pub returns-in-A-clause-refused : goal.returns-in-A-clause-refused
 returns-in-A-clause-refused g c =
-    refused_from_a (pass_setting c.args.setting.now) (g.D.Device.content c.args.a.now)
+    refused_from_a (pass_setting c.args.next.now.setting) (g.D.Device.content c.args.a.now)
     (g.D.Device.content c.args.b.now) (g.D.Device.is_honest c.run_pass.new.from)
-    (g.D.Device.is_honest c.run_pass.new.to) c.args.last c.in-A.is c.run_pass.result c.run_pass.ensures.refused
+    (g.D.Device.is_honest c.run_pass.new.to) c.args.next.now.last c.in-A.is c.run_pass.result c.run_pass.ensures.refused
 
 pub returns-in-B-clause-passed : goal.returns-in-B-clause-passed
 returns-in-B-clause-passed g c = λ ha hb.
-    passed_from_b (pass_setting c.args.setting.now) (g.D.Device.content c.args.a.now)
+    passed_from_b (pass_setting c.args.next.now.setting) (g.D.Device.content c.args.a.now)
     (g.D.Device.content c.args.b.now) (g.D.Device.content c.run_pass-in-B.new.to)
-    (g.D.Device.content c.run_pass-in-B.new.from) _ c.args.last c.in-B.is c.run_pass-in-B.result
+    (g.D.Device.content c.run_pass-in-B.new.from) _ c.args.next.now.last c.in-B.is c.run_pass-in-B.result
     (c.run_pass-in-B.ensures.passed hb ha) (c.run_pass-in-B.ensures.content hb)
 
 pub returns-in-B-clause-refused : goal.returns-in-B-clause-refused
 returns-in-B-clause-refused g c =
-    refused_from_b (pass_setting c.args.setting.now) (g.D.Device.content c.args.a.now)
+    refused_from_b (pass_setting c.args.next.now.setting) (g.D.Device.content c.args.a.now)
     (g.D.Device.content c.args.b.now) (g.D.Device.is_honest c.run_pass-in-B.new.from)
-    (g.D.Device.is_honest c.run_pass-in-B.new.to) c.args.last c.in-B.is c.run_pass-in-B.result
+    (g.D.Device.is_honest c.run_pass-in-B.new.to) c.args.next.now.last c.in-B.is c.run_pass-in-B.result
     c.run_pass-in-B.ensures.refused
 
 pub returns-in-A-clause-kept : goal.returns-in-A-clause-kept
@@ -45,7 +45,7 @@ returns-in-A-clause-left g c =
     err_more _ _ c.run_pass.result
     (λ left ha hb.
     subst
-    (λ (l : Last). LeavesBeginning c.args.setting.now.pass
+    (λ (l : Last). LeavesBeginning c.args.next.now.setting.pass
     (other_content l (g.D.Device.content c.args.a.now) (g.D.Device.content c.args.b.now))
     (other_content l (g.D.Device.content c.run_pass.new.from) (g.D.Device.content c.run_pass.new.to)))
     (sym c.in-A.is) (left hb))
@@ -63,7 +63,7 @@ returns-in-B-clause-left g c =
     err_more _ _ c.run_pass-in-B.result
     (λ left ha hb.
     subst
-    (λ (l : Last). LeavesBeginning c.args.setting.now.pass
+    (λ (l : Last). LeavesBeginning c.args.next.now.setting.pass
     (other_content l (g.D.Device.content c.args.a.now) (g.D.Device.content c.args.b.now))
     (other_content l (g.D.Device.content c.run_pass-in-B.new.to) (g.D.Device.content c.run_pass-in-B.new.from)))
     (sym c.in-B.is) (left ha))
@@ -71,18 +71,18 @@ returns-in-B-clause-left g c =
 
 -- The content of each honest device, for any other device.
 pub returns-in-A-clause-a_left : goal.returns-in-A-clause-a_left
-returns-in-A-clause-a_left g c = λ h. (c.args.setting.now.pass, inl (c.run_pass.ensures.content h))
+returns-in-A-clause-a_left g c = λ h. (c.args.next.now.setting.pass, inl (c.run_pass.ensures.content h))
 
 pub returns-in-A-clause-b_left : goal.returns-in-A-clause-b_left
 returns-in-A-clause-b_left g c =
-    some_left c.args.setting.now.pass (g.D.Device.is_honest c.run_pass.new.to) (g.D.Device.content c.args.b.now)
+    some_left c.args.next.now.setting.pass (g.D.Device.is_honest c.run_pass.new.to) (g.D.Device.content c.args.b.now)
     (g.D.Device.content c.run_pass.new.to) c.run_pass.result c.run_pass.ensures.begins c.run_pass.ensures.left
 
 pub returns-in-B-clause-a_left : goal.returns-in-B-clause-a_left
 returns-in-B-clause-a_left g c =
-    some_left c.args.setting.now.pass (g.D.Device.is_honest c.run_pass-in-B.new.to) (g.D.Device.content c.args.a.now)
+    some_left c.args.next.now.setting.pass (g.D.Device.is_honest c.run_pass-in-B.new.to) (g.D.Device.content c.args.a.now)
     (g.D.Device.content c.run_pass-in-B.new.to) c.run_pass-in-B.result c.run_pass-in-B.ensures.begins
     c.run_pass-in-B.ensures.left
 
 pub returns-in-B-clause-b_left : goal.returns-in-B-clause-b_left
-returns-in-B-clause-b_left g c = λ h. (c.args.setting.now.pass, inl (c.run_pass-in-B.ensures.content h))
+returns-in-B-clause-b_left g c = λ h. (c.args.next.now.setting.pass, inl (c.run_pass-in-B.ensures.content h))
