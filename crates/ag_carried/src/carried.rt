@@ -27,7 +27,7 @@ use table_tree::TableTree;
 /// one more allocation.
 const MAX_SMALL_WEIGHT: u64 = 24;
 
-/// The greatest length in bytes of a text that is stored without its encoding, and is not weighed.
+/// The greatest length in bytes of a text that is not weighed, since it is always small.
 const MAX_SMALL_TEXT: usize = 16;
 
 /// How a value is stored.
@@ -37,21 +37,21 @@ enum Form {
     Number(i64),
     /// An error.
     Fault(ErrorCode),
-    /// Another small value.
+    /// A small value that is neither a number nor an error.
     Small(Rc<Value>),
     /// A large value beside its encoding.
     Spelled(Rc<Spelled>),
-    /// A text made of parts, which other texts share.
+    /// A shared text, whose pieces other texts may share.
     Text(SharedText),
-    /// A table that is a tree, whose nodes other tables share.
+    /// A table that is a tree, whose nodes other tables may share.
     Table(TableTree),
-    /// A list that is a tree, whose nodes other lists share.
+    /// A list that is a tree, whose nodes other lists may share.
     List(ListTree),
 }
 
 /// A value that is passed from node to node. Contracts see the value. Numbers and errors are stored
 /// inline, and every other value is shared by its owners: `share` neither copies nor walks it. A large
-/// one is stored beside its encoding, so `encode` copies bytes. It has 24 bytes.
+/// value is stored beside its encoding, so `encode` copies bytes. A `Carried` has 24 bytes.
 #[derive(Debug, Drop)]
 pub struct Carried {
     form: Form,
@@ -212,7 +212,7 @@ impl Carried {
         store_by_weight(alloc, value, weight)
     }
 
-    /// Returns a text made of parts as a carried value. Takes no memory.
+    /// Returns a shared text as a carried value. Takes no memory.
     pub fn from_text(text: SharedText) -> Carried
         ensures { result ≡ TextValue text }
     {
@@ -239,7 +239,7 @@ impl Carried {
         }
     }
 
-    /// Returns the text made of parts, or `None` if the value is stored otherwise.
+    /// Returns the shared text, or `None` if the value is stored otherwise.
     #[inline(always)]
     pub fn as_text(&self) -> Option<&SharedText>
         ensures { IfSome result (λ t. self.now ≡ TextValue t.now) }
@@ -272,8 +272,8 @@ impl Carried {
         }
     }
 
-    /// Returns the value, or `None` if it is a number, an error, a text made of parts or a tree, which
-    /// are not stored as a `Value`; `to_value` returns those.
+    /// Returns the value, or `None` if it is a number, an error, a shared text or a tree, which are not
+    /// stored as a `Value`; `to_value` returns those.
     #[inline(always)]
     pub fn as_value(&self) -> Option<&Value>
         ensures { IfSome result (λ v. v.now ≡ self.now) }
@@ -383,7 +383,8 @@ impl Carried {
         }
     }
 
-    /// Returns whether `encoded` returns the encoding: of a large value, a text made of parts or a tree.
+    /// Returns whether the value is a large one, a shared text or a tree. If it is, `encoded` returns the
+    /// encoding.
     #[inline(always)]
     pub fn is_shared(&self) -> bool {
         matches!(
@@ -392,9 +393,8 @@ impl Carried {
         )
     }
 
-    /// Returns the encoding of a large value, of a text made of parts or of a tree, for one more owner,
-    /// or `None` for another value. Takes no memory, and fails with NoMemory if the value has 2^64 - 1
-    /// owners.
+    /// Returns the encoding of a large value, of a shared text or of a tree, for one more owner, or `None`
+    /// for another value. Takes no memory, and fails with NoMemory if the value has 2^64 - 1 owners.
     #[inline(always)]
     pub fn encoded(&self) -> Result<Option<Encoded>, NoMemory>
         ensures { IfOk result (λ found. IfSome found (λ e. e ≡ spelling_of self.now)) }
@@ -423,8 +423,8 @@ impl Carried {
         }
     }
 
-    /// Returns the value. Takes memory, for a copy, only if the value has other owners, is a text made of
-    /// parts or is a tree. Fails with NoMemory.
+    /// Returns the value. Takes memory, for a copy, only if the value has other owners, is a shared text
+    /// or is a tree. Fails with NoMemory.
     pub fn into_value(self, alloc: Global) -> Result<Value, NoMemory>
         ensures { IfOk result (λ v. v ≡ self) }
     {

@@ -1,4 +1,4 @@
-//! The encoding of a large value, a text made of parts or a tree, shared by its owners.
+//! The encoding of a large value, a shared text or a tree, shared by its owners.
 
 ghost use Rattle.std.specs.Prelude.{◌≡◌, ◌++◌, ◌+◌, ◌<◌, ◌≤◌, ℕ, drop, length, slice_index, take};
 ghost use Rattle.std.specs.Prelude.{IfOk, OnErr, OnOk};
@@ -22,15 +22,15 @@ use table_tree::TableTree;
 enum Source {
     /// A large value, which is stored beside its encoding.
     Spelled(Rc<Spelled>),
-    /// A text. The bytes of the encoding before it are computed from its length.
+    /// A shared text. The bytes of the encoding before it are computed from its length.
     Text(SharedText),
-    /// A table, whose pairs are stored beside their encodings.
+    /// A table that is a tree, whose pairs are stored beside their encodings.
     Table(TableTree),
-    /// A list, which is stored beside the encodings of its items.
+    /// A list that is a tree, which is stored beside the encodings of its items.
     List(ListTree),
 }
 
-/// The encoding of a large value, a text made of parts or a tree, which is an owner of that value too.
+/// The encoding of a large value, a shared text or a tree. An `Encoded` is one more owner of that value.
 /// Contracts see the bytes.
 #[derive(Debug, Drop)]
 pub struct Encoded {
@@ -60,7 +60,7 @@ impl Encoded {
         }
     }
 
-    /// Returns the encoding of a text made of parts.
+    /// Returns the encoding of a shared text.
     pub(crate) fn of_text(text: SharedText) -> Encoded
         ensures { result ≡ spelling_of (TextValue text) }
     {
@@ -190,7 +190,7 @@ impl Encoded {
     }
 }
 
-/// Returns the number of bytes, and states in its contract that they are bytes.
+/// Returns the number of bytes. The clause `bytes` says that each of them is below 256.
 #[inline(always)]
 pub(crate) fn byte_count(bytes: &[u8]) -> usize
     ensures len { result ≡ length bytes.now }

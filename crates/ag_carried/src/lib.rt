@@ -1,4 +1,5 @@
-//! Attribute values that are passed from node to node: owners share a value and its encoding.
+//! Attribute values that are passed from node to node: owners share values, and the encodings of large
+//! ones.
 #![tactic(auto)]
 
 mod carried;

@@ -23,7 +23,8 @@ const HEADER_LENGTH: usize = 5;
 /// The greatest length in bytes of a text within the limits.
 const MAX_LENGTH: usize = MAX_WEIGHT as usize - HEADER_LENGTH;
 
-/// A well text made of parts, which other texts share. Contracts see the bytes.
+/// A well text that may have several owners, and whose pieces other texts may share. Contracts see the
+/// bytes.
 #[derive(Debug, Drop)]
 pub struct SharedText {
     rope: Rope,
@@ -41,7 +42,8 @@ impl Model for SharedText {
 }
 
 impl SharedText {
-    /// Makes a text of one part of a well text, whose bytes are moved. Fails with NoMemory.
+    /// Makes a shared text of one piece from a well text. The bytes of a text of more than 16 bytes are
+    /// moved and not copied. Fails with NoMemory.
     pub fn new(alloc: Global, text: Text) -> Result<SharedText, NoMemory>
         requires { IsWell (TextValue text) }
         ensures { IfOk result (λ shared. shared ≡ text) }
@@ -69,8 +71,8 @@ impl SharedText {
         Ok(SharedText { rope })
     }
 
-    /// Joins two texts in constant time, or returns `None` if the result would be too heavy. Copies at
-    /// most 256 bytes, of two pieces that become one. Fails with NoMemory.
+    /// Joins two texts in constant time, or returns `None` if the weight of the result would exceed
+    /// `MAX_WEIGHT`. Copies at most 256 bytes, of two pieces that become one. Fails with NoMemory.
     pub fn join(
         alloc: Global,
         left: SharedText,
@@ -184,7 +186,7 @@ impl SharedText {
     }
 }
 
-/// Returns the bytes of a short text's encoding that come before those of the text.
+/// Returns the bytes that come before those of the text in the encoding of a short text.
 #[tactic(auto, using(crate::proofs::Texts::header_is))]
 fn header_of(text: &str) -> [u8; HEADER_LENGTH]
     requires { length text.now ≤ 256 }

@@ -7,8 +7,8 @@ ghost use Rattle.ag_carried.specs.Prefixes.{IsPrefix};
 use list_tree::ListTree;
 use table_tree::TableTree;
 
-/// The greatest number of pairs that a table has before `put` while it stays flat. Of a larger one `put`
-/// makes a tree.
+/// The greatest number of pairs of a flat table that `put` leaves flat. Of a larger one `put` makes a
+/// tree.
 pub const MAX_FLAT_TABLE: usize = 16;
 
 /// The greatest number of items of a list that `append` or `++` makes flat. A longer one is a tree.

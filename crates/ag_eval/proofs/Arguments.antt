@@ -31,7 +31,7 @@ fault_is code = ap fault_at (outs-Fault code)
 number_is_none : (n : ℤ) → fault_of (value.Num n) ≡ None
 number_is_none n = ap fault_at (outs-Num n)
 
--- The value of an operator is its left argument's error,
+-- the value of an operator is its left argument if that is an error
 pub left_is_fault : (o : Operator) (left right : Value) (code : ErrorCode) → left ≡ value.Fault code
     → value.Fault code ≡ operation_result o left right
 unfolding leftmost
@@ -41,7 +41,7 @@ left_is_fault o left right code h =
     (ap (λ (x : Option ErrorCode).
     fault_or (first_fault x (first_fault (fault_of right) None)) (operator_result o left right)) f)
 
--- and after a number its right argument's.
+-- the value of an operator for a number and an error is that error
 pub right_is_fault : (o : Operator) (n : ℤ) (right : Value) (code : ErrorCode) → right ≡ value.Fault code
     → value.Fault code ≡ operation_result o (value.Num n) right
 unfolding leftmost

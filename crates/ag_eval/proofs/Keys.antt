@@ -97,18 +97,18 @@ later key a (x ∷ xs) n rising =
       absent = rw (other_back key x.0 following) rest.absent;
     }
 
-abbrev Fronts : List ℕ → List Pair → ℕ → Type 0
-Fronts key pairs i = (k : ℕ) (d : Pair) → k < i → is_before (get_or pairs k d).0 key ≡ true
+abbrev KeysBefore : List ℕ → List Pair → ℕ → Type 0
+KeysBefore key pairs i = (k : ℕ) (d : Pair) → k < i → is_before (get_or pairs k d).0 key ≡ true
 
-abbrev Backs : List ℕ → List Pair → ℕ → Type 0
-Backs key pairs i = (k : ℕ) (d : Pair) → i ≤ k → k < length pairs → is_before (get_or pairs k d).0 key ≡ false
+abbrev KeysAfter : List ℕ → List Pair → ℕ → Type 0
+KeysAfter key pairs i = (k : ℕ) (d : Pair) → i ≤ k → k < length pairs → is_before (get_or pairs k d).0 key ≡ false
 
 index_found : (key : List ℕ) (pairs : List Pair) (i : ℕ) → is_ascending (map key_of pairs) ≡ true → i ≤ length pairs
-    → Fronts key pairs i → Backs key pairs i → IsIndex key pairs i
-index_found key [] zero rising le fronts backs =
+    → KeysBefore key pairs i → KeysAfter key pairs i → IsIndex key pairs i
+index_found key [] zero rising le before backs =
     record { prefix = refl; occurs = λ same. let bad : ⊥ = cc in absurd bad; belongs = λ differs. (refl, refl) }
-index_found key [] (suc i) rising le fronts backs = absurd (omega arith)
-index_found key (x ∷ xs) zero rising le fronts backs =
+index_found key [] (suc i) rising le before backs = absurd (omega arith)
+index_found key (x ∷ xs) zero rising le before backs =
     let n : is_before x.0 key ≡ false = backs zero x (omega arith) (omega arith) in
     let rest = later key x.0 xs n rising in
     record {
@@ -120,10 +120,10 @@ index_found key (x ∷ xs) zero rising le fronts backs =
           let following : is_before key x.0 ≡ true = after key x.0 n is in
           (rw following (ap (λ (ys : List Pair). x ∷ ys) rest.back), rw is rest.absent);
     }
-index_found key (x ∷ xs) (suc i) rising le fronts backs =
-    let here : is_before x.0 key ≡ true = fronts zero x (omega arith) in
+index_found key (x ∷ xs) (suc i) rising le before backs =
+    let here : is_before x.0 key ≡ true = before zero x (omega arith) in
     let rest =
-    index_found key xs i (rising_rest x.0 (map key_of xs) rising) (omega arith) (λ k d lt. fronts (suc k) d (omega arith))
+    index_found key xs i (rising_rest x.0 (map key_of xs) rising) (omega arith) (λ k d lt. before (suc k) d (omega arith))
     (λ k d le lt. backs (suc k) d (omega arith) (omega arith)) in
     let n : is_before key x.0 ≡ false = not_back x.0 key here in
     let differs : bytes_eq x.0 key ≡ false = other x.0 key here in

@@ -54,7 +54,7 @@ item_with key x pairs well utf8 item =
     let keys : are_keys (map key_of growth_result) ≡ true = rw (rising, texts) refl in
     item-Table growth_result ∙ rw (keys, items) refl
 
--- at its index
+-- a pair with a new key is inserted at the key's index
 pub inserts : (key : List ℕ) (x : Value) (pairs : List Pair) (i : ℕ) → IsIndex key pairs i
     → has_key key (slice_get pairs i) ≡ false → with_pair key x pairs ≡ insert pairs i (key, x)
 inserts key x pairs i index_is none = rw (index_is.prefix, (index_is.belongs none).0) refl

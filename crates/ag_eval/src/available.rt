@@ -97,8 +97,8 @@ impl<'e, V: Lender> Evaluation<'e, V> {
         }
     }
 
-    /// Lends the value of an expression that is an occurrence, or a literal within the limits.
-    /// Returns `None` for other expressions.
+    /// Lends the value of an expression that is an occurrence, or a literal within the limits. Returns
+    /// `None` for other expressions, and for an occurrence whose value is not stored as a `Value`.
     #[inline(always)]
     pub fn lent_value(&self) -> Option<&'e Value>
         ensures value { IfSome result (λ v. v.now

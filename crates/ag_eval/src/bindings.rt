@@ -54,7 +54,7 @@ impl<'e> Bindings<'e> {
         Ok(())
     }
 
-    /// Removes the innermost binding, and returns the operand over the remaining ones.
+    /// Removes the innermost binding. Returns an operand with the same value for the remaining bindings.
     pub fn unbind(&mut self, operand: Operand<'e>) -> Operand<'e>
         requires within { IsIn self.old operand }
         requires some { 0 < length self.old }

@@ -49,7 +49,7 @@ pub fn fault<'e>(code: ErrorCode) -> Operand<'e>
 }
 
 /// Computes the value of an operator for two operands. Takes memory for what `++` makes, and for a plain
-/// copy of a text whose bytes are shared or of a tree.
+/// copy of a shared text or of a tree.
 pub fn apply<'e>(
     alloc: Global,
     operator: Operator,
@@ -119,8 +119,8 @@ fn calculate(operator: Operator, left: &Value, right: &Value) -> Value
     }
 }
 
-/// Computes the value of an operator for two scalars: the leftmost error, if one is an error.
-/// Returns `None` for `++`, whose value is a text or a list.
+/// Computes the value of an operator for two scalars: the leftmost error, if one is an error. Returns
+/// `None` for `++` of two numbers.
 #[inline(always)]
 pub fn apply_to_scalars(operator: Operator, left: Scalar, right: Scalar) -> Option<Scalar>
     ensures { IfSome result
@@ -226,8 +226,8 @@ fn call_with_plain(alloc: Global, call: UnaryCall, argument: &Value) -> Result<M
     Ok(Measured::new(value))
 }
 
-/// Computes the value of a call of one argument for a text whose bytes are shared. Only `number`
-/// takes memory, for a copy.
+/// Computes the value of a call of one argument for a shared text. Only `number` takes memory, for a
+/// copy.
 #[tactic(auto, unfolding(ag_grammar::specs::values::Arguments::leftmost))]
 fn call_with_shared(
     alloc: Global,
@@ -277,7 +277,7 @@ fn call_with_list(call: UnaryCall, argument: &ListTree) -> Value
 }
 
 /// Computes the value of a call of two operands. Takes memory for a value that it makes, and for a
-/// plain copy of a text whose bytes are shared or of a tree.
+/// plain copy of a shared text or of a tree.
 pub fn call_binary<'e>(
     alloc: Global,
     call: BinaryCall,
@@ -326,9 +326,9 @@ fn call_append<'e>(
     Ok(Operand::owned(append(list, item)?))
 }
 
-/// Computes the value of a call that only reads its operands (`nth`, `join`, `get`, `has`). A part
-/// of the first operand is lent if the environment or the expression lends that one, else it is
-/// copied.
+/// Computes the value of a call that only reads its operands (`nth`, `join`, `get`, `has`). A part of
+/// the first operand is lent if the environment or the expression lends this operand; otherwise the part
+/// is copied.
 fn call_reading<'e>(
     alloc: Global,
     call: BinaryCall,
@@ -389,7 +389,7 @@ fn read_table<'a>(call: BinaryCall, table: &'a TableTree, second: &Value) -> Hel
     match call {
         BinaryCall::Get => table_trees::get(table, second),
         BinaryCall::Has => Held::Owned(Measured::new(table_trees::has(table, second))),
-        // `nth` and `join` take lists, and the other calls keep their arguments
+        // `nth` and `join` take lists, and the other calls are not computed here
         _ => Held::fault(ErrorCode::Kind),
     }
 }
@@ -413,7 +413,7 @@ fn read_list<'a>(
             let copied = copied_list(alloc, list)?;
             Ok(Held::Owned(join(alloc, copied.get(), second)?))
         }
-        // `get` and `has` take tables, and the other calls keep their arguments
+        // `get` and `has` take tables, and the other calls are not computed here
         _ => Ok(Held::fault(ErrorCode::Kind)),
     }
 }
@@ -436,7 +436,7 @@ fn read_plain<'a>(
         BinaryCall::Join => Ok(Held::Owned(join(alloc, first, second)?)),
         BinaryCall::Get => Ok(get(first, second)),
         BinaryCall::Has => Ok(Held::Owned(Measured::new(has(first, second)))),
-        // these calls keep their arguments
+        // these calls are not computed here
         BinaryCall::Append | BinaryCall::OrElse => Ok(Held::fault(ErrorCode::Kind)),
     }
 }
@@ -455,7 +455,8 @@ fn or_else<'e>(value: Operand<'e>, other: Operand<'e>, bindings: &Bindings<'e>) 
 }
 
 /// Computes `put(t, k, v)`: a tree shares its nodes with the result. A flat table is extended, and copied
-/// first if it is lent or bound. The value is moved, or copied if it is lent, bound, shared or a tree.
+/// first if it is lent or bound; one of more than `MAX_FLAT_TABLE` pairs becomes a tree. The value is
+/// moved, or copied if it is lent, bound, shared or a tree.
 #[tactic(auto, using(crate::proofs::Arguments::no_faults))]
 pub fn call_put<'e>(
     alloc: Global,

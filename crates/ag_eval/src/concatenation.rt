@@ -55,7 +55,7 @@ pub fn concatenate<'e>(
     }
 }
 
-/// Joins two texts without a copy of their bytes, or returns the error `big`.
+/// Joins two texts, each as a shared one, or returns the error `big`.
 #[tactic(auto, using(crate::proofs::Texts::concatenations))]
 fn shared_text<'e>(
     alloc: Global,
@@ -183,7 +183,7 @@ fn joined_len(left: &Operand<'_>, right: &Operand<'_>, bindings: &Bindings<'_>) 
     Some(first + second)
 }
 
-/// Joins two texts without a copy of their bytes, or returns the error `big`.
+/// Joins two shared texts, or returns the error `big`.
 #[tactic(auto, using(crate::proofs::Texts::limits))]
 fn joined<'e>(alloc: Global, left: SharedText, right: SharedText) -> Result<Held<'e>, NoMemory>
     ensures { IfOk result (λ h. held_value h ≡ fit (value.Text (left ++ right))) }

@@ -1,5 +1,5 @@
 //! The value of an expression. A function that returns a `Result` with `NoMemory` fails only if memory is
-//! refused.
+//! refused, or if a shared value has 2^64 - 1 owners.
 
 ghost use Rattle.std.specs.Prelude.{◌≡◌, ◌+◌, ◌-◌, ◌^◌, ◌<◌, ◌≤◌, length, map, suc, true, IfOk};
 ghost use Rattle.std.specs.Prelude.{IfSome, IsTrue, MatchResult, OnOk, List, [], ◌∷◌, ◌++◌};
@@ -70,7 +70,7 @@ impl<'e, V: Lender> Evaluation<'e, V> {
         self.expr.tree()
     }
 
-    /// Lends the value of the occurrence with this number, if it is stored as a value.
+    /// Lends the value of the occurrence with this number, if it is stored as a `Value`.
     #[inline(always)]
     pub fn occurrence(&self, k: usize) -> Option<&'e Value>
         requires { k < length self.now.expr.now.1 }
@@ -92,8 +92,8 @@ impl<'e, V: Lender> Evaluation<'e, V> {
         self.env.loan(k).scalar()
     }
 
-    /// Returns the value of the occurrence with this number: lent, shared if it is a text whose bytes
-    /// are shared, or a copy if it is a number or an error that is not stored as a value.
+    /// Returns the value of the occurrence with this number: lent, or shared if it is a shared text, or
+    /// a copy if it is a number or an error that is not stored as a `Value`.
     #[inline(always)]
     fn held_occurrence(&self, k: usize) -> Result<Held<'e>, NoMemory>
         requires { k < length self.now.expr.now.1 }
@@ -334,8 +334,8 @@ fn empty_table<'e>(alloc: Global) -> Operand<'e>
     Operand::owned(Measured::new(Value::Table(Items::from_vec(Vec::new(alloc)))))
 }
 
-/// Returns whether a condition holds: whether its number is not 0. Fails with its error if it is one, and
-/// with the error `kind` if it is a text, a list or a table.
+/// Returns whether a condition holds: whether its number is not 0. A condition that is an error fails with
+/// that error, and a text, a list or a table with the error `kind`.
 #[tactic(auto, using(crate::proofs::Decided::chooses))]
 fn decide(condition: Operand<'_>, bindings: &Bindings<'_>) -> Result<bool, ErrorCode>
     requires { IsIn bindings.now condition }
@@ -366,10 +366,10 @@ fn decided(condition: ValueRef<'_>) -> Result<bool, ErrorCode>
 /// Takes memory for values that it makes, and for copies: of a value that is lent or bound, if it
 /// is the result, an item of a list or table, or extended; of the part that `nth` or `get` takes of
 /// a value that the expression made; and of a value that it made and bound, if another name is
-/// bound to it too. A text of more than 256 bytes that `++` makes shares the bytes of its operands;
-/// it is copied if it is the result, an item of a list or table, a key or a separator, or an
-/// argument of `number` or `<`. A table of more than 16 pairs that `put` extends becomes a tree that shares
-/// its nodes; it is copied if it is the result, or an item of a list or table.
+/// bound to it too. A text of more than 256 bytes that `++` makes shares the bytes of its operands. A
+/// table of more than 16 pairs that `put` extends becomes a tree, and a list of more than 16 items that
+/// `append` or `++` makes is one; trees share nodes. Such a text or tree is copied if it is the result or
+/// an item of a list or table, and by some operators and calls, as README.md says.
 #[inline(always)]
 pub fn eval<V: Environment>(
     alloc: Global,

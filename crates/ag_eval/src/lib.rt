@@ -2,9 +2,9 @@
 //! within the limits of weight and depth.
 //!
 //! During an evaluation the value of a part of the expression is an *operand*: lent by the environment or
-//! by the expression, owned, a text whose bytes are shared, a table or list that is a tree, or the value of
-//! a name that a `let` binds (a *binding*). A function that returns a `Result` with `NoMemory` fails only if
-//! memory is refused.
+//! by the expression, owned, a shared text, a table or list that is a tree, or the value of a name that a
+//! `let` binds (a *binding*). A function that returns a `Result` with `NoMemory` fails only if memory is
+//! refused, or if a shared value has 2^64 - 1 owners.
 #![tactic(auto)]
 
 mod available;

@@ -88,8 +88,8 @@ impl<'e> Lent<'e> {
     }
 }
 
-/// A well value that is lent by the environment or the expression, or that is owned, or a text whose
-/// bytes are shared, or a table or list that is a tree: lent by the environment, or owned.
+/// A well value: one that the environment or the expression lends, an owned one, a shared text, or a
+/// table or list that is a tree, which the environment lends or which is owned.
 #[derive(Debug, Drop)]
 pub enum Held<'e> {
     Lent(Lent<'e>),
@@ -117,8 +117,8 @@ impl<'e> Held<'e> {
         Held::Lent(Lent::new(value))
     }
 
-    /// Lends a carried value, or shares it if it is a text whose bytes are shared, or copies it if it
-    /// is a number or an error.
+    /// Lends a carried value, or shares it if it is a shared text, or copies it if it is a number or an
+    /// error.
     #[inline(always)]
     pub fn from_carried(alloc: Global, carried: &'e Carried) -> Result<Held<'e>, NoMemory>
         requires { IsWell carried.now }
@@ -206,7 +206,7 @@ impl<'e> Held<'e> {
         }
     }
 
-    /// Returns a text as one whose bytes are shared: a copy if it is lent.
+    /// Returns a text as a shared one: a copy if it is lent.
     pub fn into_shared(self, alloc: Global) -> Result<SharedText, NoMemory>
         requires { is_text (held_value self) ≡ true }
         ensures { IfOk result (λ text. held_value self.entry ≡ value.Text text) }
@@ -358,8 +358,8 @@ impl<'e> Operand<'e> {
         self.into_held(alloc, bindings)?.into_owned(alloc)
     }
 
-    /// Returns a text as one whose bytes are shared. Another text is copied if it is lent, or if a binding
-    /// owns it.
+    /// Returns a text as a shared one. A text that is not shared yet is copied if it is lent, or if a
+    /// binding owns it.
     pub fn into_shared(self, alloc: Global, bindings: &Bindings<'e>) -> Result<SharedText, NoMemory>
         requires within { IsIn bindings.now self }
         requires text { is_text (operand_value bindings.now self) ≡ true }

@@ -1,4 +1,4 @@
-//! Numbers and errors: the values that own no memory.
+//! Numbers and errors, which own no memory.
 
 ghost use Rattle.std.specs.Prelude.{◌≡◌, IfSome};
 ghost use Rattle.ag_value.specs.Well.{IsWell};
@@ -6,7 +6,7 @@ ghost use Rattle.ag_eval.specs.Operands.{scalar_value};
 
 use ag_value::{ErrorCode, Value};
 
-/// A value that owns no memory.
+/// A number or an error.
 #[derive(Clone, Copy, Debug)]
 pub enum Scalar {
     /// A number.

@@ -1,6 +1,5 @@
-//! Values that are read: plain ones, which are stored as a `Value`, texts whose bytes are shared, and
-//! tables and lists that are trees. The functions that return a `Result` fail with `NoMemory` if memory is
-//! refused.
+//! Values that are read: plain ones, which are stored as a `Value`, shared texts, and tables and lists that
+//! are trees. The functions that return a `Result` fail with `NoMemory` if memory is refused.
 
 ghost use Rattle.std.specs.Prelude.{◌≡◌, ◌≤◌, IfOk, IfSome, MatchOption, length, false, true};
 ghost use Rattle.ag_value.specs.Measure.{max_weight};
@@ -18,7 +17,7 @@ use list_tree::ListTree;
 use std::alloc::Global;
 use table_tree::TableTree;
 
-/// A value that is read: a plain one, a text whose bytes are shared, or a table or list that is a tree.
+/// A value that is read: a plain one, a shared text, or a table or list that is a tree.
 #[derive(Clone, Copy)]
 pub enum ValueRef<'a> {
     Plain(&'a Value),
@@ -28,7 +27,7 @@ pub enum ValueRef<'a> {
 }
 
 impl<'a> ValueRef<'a> {
-    /// Lends a text whose bytes are shared.
+    /// Lends a shared text.
     pub fn from_text(text: &'a SharedText) -> ValueRef<'a>
         ensures value { ref_value result ≡ value.Text text.entry.now }
         ensures well { IsWell (ref_value result) }
@@ -101,8 +100,7 @@ impl<'a> ValueRef<'a> {
         }
     }
 
-    /// Returns the value as a plain one. Takes memory for a copy of a text whose bytes are shared, and of
-    /// a tree.
+    /// Returns the value as a plain one. Takes memory for a copy of a shared text or of a tree.
     pub fn to_plain(self, alloc: Global) -> Result<Plain<'a>, NoMemory>
         requires { IsWell (ref_value self) }
         ensures { IfOk result (λ p. plain_value p ≡ ref_value self.entry) }
@@ -116,7 +114,7 @@ impl<'a> ValueRef<'a> {
     }
 }
 
-/// A plain well value: lent, or a copy of a text whose bytes are shared or of a tree.
+/// A plain well value: lent, or a copy of a shared text or of a tree.
 #[derive(Drop)]
 pub enum Plain<'a> {
     Lent(Lent<'a>),
@@ -136,7 +134,7 @@ impl<'a> Plain<'a> {
     }
 }
 
-/// Copies a text whose bytes are shared into a plain value.
+/// Copies a shared text into a plain value.
 pub fn copied_text(alloc: Global, text: &SharedText) -> Result<Measured, NoMemory>
     ensures { IfOk result (λ m. m ≡ value.Text text.now) }
 {

@@ -3,7 +3,7 @@ use Rattle.std.specs.Prelude.{ℕ, List, ◌++◌, codes, decimal}
 use Rattle.ag_expr.specs.declared.fault.ExprFault.{ExprFault}
 use Rattle.ag_expr.specs.declared.fault.ExprFault.TheVariants as fault
 
--- the text of a fault: its number, and the offset in decimal
+-- the text of a fault: its number, and the offset in decimal; or `NoMemory`
 abbrev pub printed : ExprFault → List ℕ
 printed (fault.NoToken at) = codes "X1 at " ++ decimal at
 printed (fault.Unexpected at) = codes "X2 at " ++ decimal at

@@ -34,8 +34,9 @@ const SIGNS: [&str; 9] = ["=", "(", ")", "]", "}", ",", "in", "then", "else"];
 
 /// Returns what could be at the byte offset `at` instead of the token there, if the text is
 /// rejected there with X2. Tries each candidate after the text before the offset, so it parses that
-/// a few times. If no level of expressions is left, the list has no operand, but it may have a `]`. It
-/// is empty if `at` is not a character boundary of the text. Fails with `NoMemory` if memory runs out.
+/// up to 14 times. If an expression there would be of level 65, the list contains none, but it can have
+/// a `]`, which ends an empty list. The result is empty if `at` is not a character boundary of the text.
+/// Fails with `NoMemory` if memory runs out.
 pub fn expected_at(alloc: Global, text: &str, at: usize) -> Result<Vec<ExpectedPart>, NoMemory> {
     let mut found = Vec::new(alloc);
     if let Some(before) = text.get(..at) {

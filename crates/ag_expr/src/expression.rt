@@ -34,12 +34,13 @@ pub fn read_expr(alloc: Global, text: &str) -> Result<Expr, ExprFault>
     whole(Reader::new(alloc, Cursor::new(text), false))
 }
 
-/// Parses the expression from the byte offset `from` up to the first `;`, and returns it with the
-/// offset of the `;`. Offsets are those of the whole text.
+/// Parses the expression from the byte offset `from` up to the first `;` (a token, not a part of a text
+/// literal), and returns it with the offset of the `;`. Offsets are those of the whole text.
 ///
-/// Fails as `read_expr` fails for the text up to the first `;`. Without a `;`, fails as for the
-/// rest of the text, or with X2 at its end. With any fault but `NoMemory`, it is proved that no
-/// expression followed by a `;` begins at `from`.
+/// Fails as `read_expr` fails for the text up to the first `;`. If there is no `;`, fails as
+/// `read_expr` fails for the rest of the text, or, if that is an expression, with X2 at the end of the
+/// text. With any fault but `NoMemory`, it is proved that no expression followed by a `;` begins at
+/// `from`.
 pub fn read_until(alloc: Global, text: &str, from: usize) -> Result<(Expr, usize), ExprFault>
     requires { IsCharBoundary text.now from }
     ensures exact { IsReadUntil text.now from result }
@@ -53,8 +54,8 @@ pub fn read_until(alloc: Global, text: &str, from: usize) -> Result<(Expr, usize
 }
 
 /// Parses the expression at a cursor, advances the cursor past it and past the `;` after it, and
-/// returns the expression with the offset of the `;`. Fails as `read_until` does; the position of
-/// the cursor is then unspecified.
+/// returns the expression with the offset of the `;`. Fails as `read_until` does; the state of the
+/// cursor is then unspecified.
 pub fn read_ended<'t>(alloc: Global, cursor: &mut Cursor<'t>) -> Result<(Expr, usize), ExprFault>
     ensures { IsReadEnded cursor.old result cursor.new }
 {

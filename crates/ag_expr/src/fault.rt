@@ -1,17 +1,17 @@
-//! The reasons why a text is not an expression.
+//! The faults of parsing a text as an expression.
 
 ghost use Rattle.std.specs.Prelude.{◌≡◌};
 ghost use Rattle.ag_expr.specs.declared.fault.ExprFault.TheVariants as expr_fault;
 
 use ag_value::OutOfMemory;
 
-/// Why a text is not an expression. Offsets are in bytes from the beginning of the text.
+/// Why parsing a text as an expression fails. Offsets are in bytes from the beginning of the text.
 #[derive(Clone, Copy, Debug, PartialEq, Eq)]
 pub enum ExprFault {
     /// X1: the character at this offset is not a separator, and no token begins with it.
     NoToken(usize),
     /// X2: no expression continues with the token at this offset, or the text ends here before the
-    /// expression does.
+    /// expression does, or before the `;` after it.
     Unexpected(usize),
     /// X3: at this offset there is a number above 9223372036854775807, or an occurrence with a
     /// place above 65535.

@@ -14,14 +14,15 @@ ghost use Rattle.ag_expr.specs.language.Until.{first_semicolon, semicolon};
 ghost use Rattle.ag_expr.specs.language.Worked.{occurrence_and_number, sum_and_product};
 ghost use Rattle.ag_expr.specs.language.Worked.{bound_and_compared, let_and_compare};
 
-/// States that the parser returns a tree for tokens, read to their end, if and only if the syntax
-/// relates the tokens to the tree.
+/// States that the reading function of expressions (`expr_of` of the specification, which `read_expr`
+/// agrees with) returns a tree for all tokens of a text if and only if the syntax relates these
+/// tokens to the tree.
 #[tactic(auto, using(crate::proofs::language::Agree::exact))]
 pub fn reading_agrees_with_the_syntax()
     ensures { ReadingAgrees }
 {}
 
-/// States that the parser fails at the first token that cannot be accepted.
+/// States that the reading function of expressions fails at the first token that cannot be accepted.
 #[tactic(auto, using(crate::proofs::language::Offsets::refuses_at_the_first))]
 pub fn the_first_wrong_token_is_reported()
     ensures { RefusesAtTheFirst }
@@ -50,8 +51,8 @@ pub fn worked_scope()
     ensures { IsExpr [] 2 (tokens let_and_compare) bound_and_compared }
 {}
 
-/// States that a name refers to its innermost binding, and that the names of calls are reserved,
-/// but longer names are not.
+/// States that a name refers to its innermost binding, if it has one, and that `len`, the name of a
+/// call, is reserved, but `lens` is not.
 pub fn worked_names()
     ensures hidden { binding_in (codes "x" ∷ codes "y" ∷ codes "x" ∷ []) (codes "x") ≡ Some 2 }
     ensures unbound { binding_in (codes "x" ∷ []) (codes "y") ≡ None }

@@ -8,7 +8,7 @@ use ag_value::NoMemory;
 use std::alloc::Global;
 use std::marker::Model;
 
-/// A built-in operation that is written as a call, grouped by the number of its arguments.
+/// A built-in operation that is written as a call, by the number of its arguments.
 #[derive(Clone, Copy, Debug, PartialEq, Eq)]
 pub enum Call {
     /// With one argument.

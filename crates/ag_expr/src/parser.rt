@@ -28,9 +28,9 @@ enum Precedence {
     Comparison,
     /// `++`.
     Join,
-    /// `+` and `-`, which join terms.
+    /// `+` and `-`, between terms.
     Sum,
-    /// `*`, `div` and `mod`, which join factors.
+    /// `*`, `div` and `mod`, between factors.
     Product,
 }
 
@@ -275,7 +275,8 @@ impl<'t> Reader<'t> {
     }
 
     /// Parses an expression of at most `levels` levels. An expression has one level more than the
-    /// deepest one inside it, in brackets, a call, a `let` or an `if`; without these it has one.
+    /// deepest one inside it (in brackets, a call, a `let` or an `if`), and one level if none is inside
+    /// it.
     ///
     /// Fails with `level_fault` if `levels` is 0, with `refusal` at the first token that cannot be
     /// accepted, and with `NoMemory`; so do the other parsing functions of this file.

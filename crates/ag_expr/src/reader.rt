@@ -51,8 +51,8 @@ impl<'t> Model for Reader<'t> {
 }
 
 /// Returns the fault for a cursor whose next token cannot be accepted: X2 at the token's offset. If the
-/// cursor has no next token: X1 if none begins there, X3 if its number is too large, X2 at the end of
-/// the text.
+/// cursor has no next token: X1 if none begins there, X3 if the number of the token there is above its
+/// limit, X2 at the end of the text.
 #[tactic(auto, using(crate::proofs::language::States::reported_is))]
 pub fn refusal(cursor: &Cursor<'_>) -> ExprFault
     ensures { result ≡ reading.refusal cursor.now }
@@ -121,7 +121,7 @@ impl<'t> Reader<'t> {
 
     /// Returns the next token, or `None` at the end of the tokens and where no token can be read.
     /// Does not allocate.
-    #[tactic(auto, using(crate::proofs::language::States::front_is))]
+    #[tactic(auto, using(crate::proofs::language::States::prefix_is))]
     pub fn peek(&self) -> Option<GrammarToken<'t>>
         ensures { option_map token_of result ≡ next_token (input self.now) }
     {

@@ -61,7 +61,8 @@ out_fault_of (out.Damaged at) = fault.Damaged at
 out_fault_of out.Device = fault.Device
 out_fault_of out.NoMemory = fault.NoMemory
 
--- the faults of each step that builds a translator; refused memory is `NoMemory` here too
+-- the faults of each step that builds a translator; refused memory is `NoMemory` here too (`text.Expr` never contains it if a
+-- call returned it)
 abbrev pub build_fault_of_text : TextFault → BuildFault
 build_fault_of_text text.NoMemory = build.NoMemory
 build_fault_of_text e = build.Text e

@@ -10,8 +10,8 @@ use ag_grammar::Grammar;
 use std::error::Error;
 use std::fmt;
 
-/// Prints the number of the fault first, as in `D1 reading or writing failed`; `usage` or `NoMemory` is printed
-/// in its place if it has none. A fault that contains the fault of another crate is printed as that one.
+/// Prints the number of the fault first, as in `D1 reading or writing failed`; a fault without a number prints
+/// `usage` or `NoMemory` in its place. A fault that contains the fault of another crate is printed as that one.
 impl fmt::Display for Fault {
     ghost use Rattle.std.specs.Prelude.{Some};
     ghost use Rattle.ag_fault.specs.Printed.{printed};

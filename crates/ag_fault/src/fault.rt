@@ -23,7 +23,8 @@ use std::alloc::AllocError;
 use treefile::{DeviceFault, FileFault, FrameFault};
 
 /// Why the program, or a call of its library, failed. Each fault except `Usage` and `NoMemory` has a
-/// number such as D1, which is printed first.
+/// number such as D1, which is printed first. What a variant never contains is said of the faults that
+/// calls return.
 #[derive(Debug, Drop)]
 pub enum Fault {
     /// The command line is wrong.
@@ -45,8 +46,8 @@ pub enum Fault {
     Scan(ScanFault),
     /// P1 to P3: the sentence has no tree within the limits. It never contains D1 or NoMemory.
     Parse(ParseFault),
-    /// R1, P2 or P3: a tree file that a pass read encodes no tree of the grammar, or none within the
-    /// limits. It never contains D1 or NoMemory.
+    /// R1, P2 or P3: a tree file that a pass or a conversion read encodes no tree of the grammar, or
+    /// none within the limits. It never contains D1 or NoMemory.
     Run(RunFault),
     /// J1 to J3: the bytes of a reader are not a job, or the reader failed. It never contains
     /// NoMemory.
@@ -55,7 +56,7 @@ pub enum Fault {
     NoText(Value),
     /// B1: a device does not contain a tree file.
     NotATreeFile,
-    /// B2: no frame ends at this offset in bytes, or its body is not the expected one.
+    /// B2: no frame ends at this offset in bytes, or one does and its body is not the expected one.
     Damaged(u64),
     /// D1: a call of a device failed.
     Device,

@@ -43,8 +43,8 @@ pub struct Target {
     /// The place: 0 is the left side; 1, 2, .. are the children, which are the items of the right
     /// side other than literals, from left to right.
     pub place: u16,
-    /// The number of the attribute at its symbol, from 0. A token has the one attribute `lex`, of
-    /// number 0.
+    /// The number of the attribute at its symbol, from 0. A token of a class has the one attribute
+    /// `lex`, of number 0.
     pub attr: u16,
 }
 

@@ -23,8 +23,8 @@ pub fn one_translation()
     ensures { OneTranslation }
 {}
 
-/// States that, with a legal assignment, the equations of a pass stay true as long as the values of
-/// this pass and of the earlier ones are kept.
+/// States that, if the rules use only what the assignment of passes allows, the equations of a pass
+/// stay true as long as the values of this pass and of the earlier ones are kept.
 #[tactic(auto, using(crate::proofs::grammars::Kept::equations_kept))]
 pub fn equations_kept()
     ensures { EquationsKept }
@@ -36,10 +36,11 @@ pub fn passes_solve()
     ensures { PassesSolve }
 {}
 
-/// States which values consecutive passes leave. Before the first of them the values are unchanged. One
-/// more pass has run if it keeps the values of the passes before it and satisfies its own
-/// equations. After the last pass every equation from the first pass on is satisfied, and if the
-/// first was pass 1, the values are the solution.
+/// States which values consecutive passes leave. Before the first of them the values are any that
+/// give each leaf its text. One more pass has run if it keeps the values of the passes before it and
+/// satisfies its own equations. After the last pass every equation from the first pass on is
+/// satisfied. If the first was pass 1, the values are the solution, for an accepted grammar with a
+/// legal assignment.
 pub fn runs_compose()
     ensures begins { RunBegins }
     ensures goes { RunGoesOn }
@@ -47,7 +48,8 @@ pub fn runs_compose()
     ensures solution { RunIsTheSolution }
 {}
 
-/// States that the rules of a tree are the rules of its passes, each counted once.
+/// States that, for an accepted grammar with a legal assignment, the numbers of rules of the passes
+/// up to the last one add up to the number of rules of a tree.
 pub fn passes_have_all_rules()
     ensures { PassesHaveAllRules }
 {}

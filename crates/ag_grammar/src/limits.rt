@@ -1,5 +1,5 @@
-//! The limits of grammars, trees and pass assignments (this project's). Contracts, code and messages use these
-//! constants.
+//! The limits of grammars, expressions, sentences, trees and passes, and the numbers of the token
+//! classes (this project's). Contracts, code and messages use these constants.
 
 /// The maximum number of symbols of a grammar.
 pub const MAX_SYMBOLS: usize = 256;
@@ -17,8 +17,9 @@ pub const MAX_ITEMS: usize = 64;
 pub const MAX_CHILDREN: usize = 16;
 
 /// The number of rules of a production, or of arguments of a rule, that 16 bits can index. An
-/// accepted grammar never has more, since each of them is for another attribute at one of at most
-/// 17 places.
+/// accepted grammar never has more: no two rules of a production have the same target, no two
+/// arguments of a rule are the same, and each of these is one of at most 16 attributes at one of at
+/// most 17 places.
 pub const MAX_RULES: usize = 65_536;
 
 /// The maximum number of distinct literals of a grammar.
@@ -45,8 +46,8 @@ pub const CLASS_COUNT: u16 = 3;
 /// The maximum length of the text of a token, in bytes.
 pub const MAX_TOKEN_BYTES: usize = 65_535;
 
-/// The maximum number of levels of an expression. It has one level more than the deepest expression
-/// inside it, in brackets, a call, a `let` or an `if`; without these it has one.
+/// The maximum number of levels of an expression. An expression has one level more than the deepest
+/// expression inside it (in brackets, a call, a `let` or an `if`), and one level if none is inside it.
 pub const MAX_EXPR_LEVELS: usize = 64;
 
 /// The greatest place that an occurrence in a text may name.
@@ -61,8 +62,8 @@ pub const MAX_DEPTH: usize = 65_536;
 /// The maximum number of stored nodes of a tree: all but the literals of the sentence.
 pub const MAX_NODES: u32 = 1_048_576;
 
-/// The maximum depth of a tree whose file is reversed, or converted from version 1. Both recurse
-/// over the depth, and no file of version 1 has a deeper tree.
+/// The maximum depth of a tree whose file is reversed, or converted from version 1. Both operations
+/// recurse over the depth, and no file of version 1 has a deeper tree.
 pub const MAX_REVERSED_DEPTH: usize = 256;
 
 /// The maximum number of stored nodes of such a tree.

@@ -26,7 +26,8 @@ impl Item {
     }
 }
 
-/// Returns the child with this index, from 0, among the items, or `None` if there is none.
+/// Returns the child with this index, counted from 0 among the children alone, or `None` if there is
+/// none.
 fn child_at(items: &[Item], index: usize) -> Option<Item>
     ensures { result ≡ slice_get (stored_items items.now) index }
 {

@@ -10,7 +10,7 @@ use crate::syntax::expression::Expr;
 use crate::syntax::occurrence::Occ;
 use ag_value::{Items, Text};
 
-/// A name and its position.
+/// A name and its offset.
 #[derive(Debug, Drop)]
 pub struct Named {
     /// The name.

@@ -1,5 +1,5 @@
 //! Worked examples of the definitions; each is a law. The first grammar is `sample` of `Sample.antt`, whose one
-//! sentence is `x x`; the second one, `token_sample`, has a token.
+//! sentence is `x x`; the second one, `token_sample`, has a NAME.
 
 ghost use Rattle.std.specs.Prelude.{ℕ, ◌≡◌, [], ◌∷◌, pos, true, false};
 ghost use Rattle.ag_value.specs.declared.value.Value.{Num, Text, Value as AttributeValue};
@@ -105,8 +105,8 @@ pub fn sample_counts()
     ensures second { rules_of_pass sample_passes 2 sample sample_tree ≡ 0 }
 {}
 
-/// States that pass 1 is the last pass of that assignment. From any values it leaves those with 2 for
-/// `out`, and these are the solution.
+/// States that pass 1 is the last pass of the assignment of pass 1 to all attributes. From any values it
+/// leaves those with 2 for `out`, and these are the solution.
 #[tactic(auto, using(crate::proofs::grammars::Running::sample_settled))]
 pub fn sample_ran()
     ensures last { IsLastPass 1 sample_passes }
@@ -127,20 +127,20 @@ pub fn one_occurrence()
         → value_of rule_s.expr.0 env ≡ value_of rule_s.expr.0 other }
 {}
 
-/// States that the first production is not normal with the rule `$2.i = $1.i`.
+/// States that the first production of the first grammar is not normal with the rule `$2.i = $1.i`.
 #[tactic(auto, using(crate::proofs::grammars::samples::Refused::not_normal))]
 pub fn not_normal()
     ensures { IsNormal sample (production_r (rule_out ∷ rule_first ∷ rule_inherited ∷ [])) → ⊥ }
 {}
 
-/// States that a node of `R = A A` with only one child is not a tree of the grammar.
+/// States that a node of `R = A A` with only one child is not a tree of the first grammar.
 #[tactic(auto, using(crate::proofs::grammars::samples::Refused::child_missing))]
 pub fn child_missing()
     ensures { IsTreeOf sample (node 0 (more (node 1 none) none)) → ⊥ }
 {}
 
-/// States that pass 2 for all attributes is not legal: going from left to right, it visits the
-/// first child before the value that the child's `i` uses is computed.
+/// States that pass 2 for all attributes of the first grammar is not legal: going from left to right,
+/// it visits the first child before the value that this child's `i` uses is computed.
 #[tactic(auto, using(crate::proofs::grammars::samples::Refused::not_legal))]
 pub fn not_legal()
     ensures { IsLegal sample later_passes → ⊥ }
@@ -154,17 +154,17 @@ pub fn samples_in_order()
     ensures classes { IsInOrder token_sample }
 {}
 
-/// States that two grammars are not in order: with the added production first, literal 1 of the first
-/// grammar appears before literal 0; and the classes 1, 0 of the second grammar do not ascend.
+/// States that two grammars are not in order: the first grammar with the added production first, where
+/// literal 1 appears before literal 0; and the second grammar with the classes 1, 0, which do not ascend.
 #[tactic(auto, using(crate::proofs::grammars::samples::Ordered::exchanged))]
 pub fn not_in_order()
     ensures literals { IsInOrder back_first → ⊥ }
     ensures classes { IsInOrder descending → ⊥ }
 {}
 
-/// States that no assignment is legal, for any number of passes, with one more production in which
-/// the first child's `s` flows into the second child: each direction is wrong for one of the two
-/// productions.
+/// States that no assignment is legal, for any number of passes, for the first grammar with one more
+/// production, in which the second child's `i` uses the first child's `s`: each direction is wrong for
+/// one of the two productions of `R`.
 pub fn none_legal()
     ensures { (m : Passes) → IsLegal both_ways m → ⊥ }
 {}
@@ -181,19 +181,20 @@ pub fn not_reached()
     ensures { IsReached with_unreached 2 → ⊥ }
 {}
 
-/// States that the second grammar, which has a token, is accepted.
+/// States that the second grammar, which has a NAME, is accepted.
 #[tactic(auto, using(crate::proofs::grammars::samples::TokenSample::accepted))]
 pub fn token_accepted()
     ensures { IsAccepted token_sample }
 {}
 
-/// States that the tree of `iffy if`, which has a token, is a tree of the second grammar.
+/// States that the tree of `iffy if`, which has a NAME, is a tree of the second grammar.
 #[tactic(auto, using(crate::proofs::grammars::samples::TokenSample::fits))]
 pub fn token_fits()
     ensures { IsTreeOf token_sample token_tree }
 {}
 
-/// States that the tree of `iffy if` has depth 2 and 2 nodes: a token counts as a node.
+/// States that the tree of `iffy if` has depth 2 and 2 nodes: the NAME counts as a node, and the literal
+/// does not.
 pub fn token_size()
     ensures depth { depth_of token_tree ≡ 2 }
     ensures nodes { node_count token_tree ≡ 2 }

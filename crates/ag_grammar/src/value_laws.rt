@@ -27,7 +27,8 @@ pub fn a_value_beyond_the_limits_is_an_error()
     ensures fits { WhatFitsStays }
 {}
 
-/// States that `==` returns 1 for two well values if and only if they are the same value.
+/// States that `==` returns 1 for two well values that are not errors if and only if they are the same
+/// value.
 pub fn equality_distinguishes_values()
     ensures { SameIsOne }
 {}
@@ -52,8 +53,10 @@ pub fn a_rule_has_one_value()
     ensures holds { RuleHoldsByOne }
 {}
 
-/// States which error an operation returns: the leftmost error among its arguments, else the error
-/// `kind`, else the operation's own error.
+/// States, in examples, which error an operation returns: the leftmost error among its arguments, else
+/// the error `kind`, else the operation's own error. Further examples: `orelse` replaces an error; an
+/// `if` whose condition is a text is the error `kind`; a name can be bound to an error; and an error in
+/// the branch that is not chosen has no effect.
 pub fn worked_errors()
     ensures leftmost { operation_result operator.Add (value.Fault code.Index) (value.Fault code.Key)
         ≡ value.Fault code.Index }
@@ -73,7 +76,8 @@ pub fn worked_errors()
     ensures branch { (env : ℕ → AttributeValue) → value_of other_branch env ≡ number 2 }
 {}
 
-/// States results at the ends of the range of numbers, and the signs of quotients and remainders.
+/// States, in examples, results at the ends of the range of numbers, the signs of quotients and
+/// remainders, and which texts `number` accepts.
 pub fn worked_numbers()
     ensures quotient { operation_result operator.Divide (value.Num (negsuc 6)) (number 4)
         ≡ value.Num (negsuc 0) }
@@ -92,12 +96,13 @@ pub fn worked_numbers()
     ensures sign_alone { unary_call_result unary.Number (value.Text (codes "-")) ≡ value.Fault code.Number }
     ensures plus { unary_call_result unary.Number (value.Text (codes "+5")) ≡ value.Fault code.Number }
     ensures empty { unary_call_result unary.Number (value.Text []) ≡ value.Fault code.Number }
-    // an Arabic digit one, in UTF-8
+    // the Arabic-Indic digit one (U+0661), in UTF-8
     ensures other_digits { unary_call_result unary.Number (value.Text (217 ∷ 161 ∷ []))
         ≡ value.Fault code.Number }
 {}
 
-/// States that texts are measured in bytes, lists are indexed from 0, and tables are sorted by key.
+/// States, in examples, that texts are measured and compared in bytes, values of different kinds are
+/// not equal, lists are indexed from 0, and tables are sorted by key.
 pub fn worked_parts()
     // an `ä` in UTF-8
     ensures bytes { unary_call_result unary.Len (value.Text (195 ∷ 164 ∷ [])) ≡ number 2 }

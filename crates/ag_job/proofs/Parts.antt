@@ -24,8 +24,8 @@ rest_one x y p q (inr (inr a)) (inr (inl b)) e = let f : 37 ∷ 37 ∷ p ≡ 37 
 rest_one x y p q (inr (inr a)) (inr (inr b)) e = a.1 ∙ sym b.1
 
 -- two prefixes of one text that have the same length are equal
-front_one : (a b p q : List ℕ) → length a ≡ length b → a ++ p ≡ b ++ q → a ≡ b
-front_one a b p q e same =
+prefix_one : (a b p q : List ℕ) → length a ≡ length b → a ++ p ≡ b ++ q → a ≡ b
+prefix_one a b p q e same =
     sym (take-append_seam a p) ∙ ap (λ n. take n (a ++ p)) e ∙ ap (take (length b)) same ∙ take-append_seam b q
 
 after_one : (a b p q : List ℕ) → length a ≡ length b → a ++ p ≡ b ++ q → p ≡ q
@@ -39,7 +39,7 @@ one_pair bytes text sentence other following one two =
     let long : length text ≡ length other = omega (arith, here, there) in
     let all = sym one.parts.cut.all ∙ two.parts.cut.all in
     let after_it = after_one text other _ _ long all in (
-      front_one text other _ _ long all,
+      prefix_one text other _ _ long all,
       rest_one one.parts.cut.separator two.parts.cut.separator sentence following one.parts.cut.is_separator
           two.parts.cut.is_separator after_it,
     )

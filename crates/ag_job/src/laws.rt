@@ -10,8 +10,8 @@ pub fn a_job_has_one_grammar_and_one_sentence()
 {}
 
 /// Worked examples. In four jobs, the line `%%` ends with CR and LF, is the last line and has no LF, is
-/// the first of two, or is the first line of the job. In three texts no line is exactly `%%`: it has a
-/// CR and no LF after it, begins with a space, or has a third `%`.
+/// the first of two, or is the first line of the job. In three texts no line is exactly `%%`: the line that
+/// has `%%` ends with a CR without an LF, begins with a space, or has a third `%`.
 pub fn worked_jobs()
     ensures cr_and_lf { CrAndLfEnd }
     ensures last { TheLastEnds }

@@ -52,7 +52,7 @@ abbrev taken_from : Vocabulary → ℕ → ℕ → List ℕ → Taken
 taken_from v zero at cs = record { tokens = []; end = at; rest = cs }
 taken_from v (suc n) at cs = taken_at (taken_from v n) v (at + prefix_len is_separator cs) (after_separators cs)
 
--- No more tokens can be read at the beginning of these characters, which is not a separator.
+-- The characters do not begin with a separator, and no token can be read at their beginning.
 record IsEnd (v : Vocabulary) (cs : List ℕ) : Type 0 where
   pub plain : BeginsNoSeparator cs
   pub none : short_of (word_from v cs) ≡ None

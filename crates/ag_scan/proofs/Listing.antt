@@ -9,7 +9,7 @@ use Rattle.ag_grammar.specs.grammars.Tree.{max_token_bytes}
 use Rattle.ag_grammar.proofs.grammars.Members.{each_none, each_more}
 use Rattle.ag_tokens.specs.Remaining.{BeginsNoSeparator, after_separators}
 use Rattle.ag_tokens.specs.Tokens.{is_separator, width}
-use Rattle.ag_tokens.proofs.Fronts.{drop_more}
+use Rattle.ag_tokens.proofs.Prefixes.{drop_more}
 use Rattle.ag_tokens.proofs.Lexed.{width-append, width-chars, spaces, plain_after}
 use Rattle.ag_scan.specs.Words.{Vocabulary, HasNoEmpty, IsAnyWord, BeginsNone, IsWord}
 use Rattle.ag_scan.specs.Cutting.{LeadingWord, IsLeadingToken}

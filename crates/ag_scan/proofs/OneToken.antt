@@ -54,8 +54,8 @@ no_spaces cs plain = grind arith
 
 -- ---- a word has one kind and one text
 
-same_fronts : (xs ys us vs : List ℕ) → xs ++ us ≡ ys ++ vs → length xs ≡ length ys → (xs ≡ ys) × (us ≡ vs)
-same_fronts xs ys us vs e n = (
+same_prefixes : (xs ys us vs : List ℕ) → xs ++ us ≡ ys ++ vs → length xs ≡ length ys → (xs ≡ ys) × (us ≡ vs)
+same_prefixes xs ys us vs e n = (
   sym (take-append_seam xs us) ∙ (λ i. take (n i) (e i)) ∙ take-append_seam ys vs,
   sym (drop-append_seam xs us) ∙ (λ i. drop (n i) (e i)) ∙ drop-append_seam ys vs,
 )
@@ -80,7 +80,7 @@ one_word v clean cs (Some f) (Some g) a b =
     let both = sym a.split ∙ b.split in
     let less = a.token.longest b.word g.rest both (g.kind, g.lex, b.token.is) in
     let more = b.token.longest a.word f.rest (sym both) (f.kind, f.lex, a.token.is) in
-    let same = same_fronts a.word b.word f.rest g.rest both (omega arith) in
+    let same = same_prefixes a.word b.word f.rest g.rest both (omega arith) in
     let kind =
     one_kind v clean f.kind g.kind b.word f.lex g.lex (rw same.0 at a.token.is)
     (rw same.0 at a.token.tie) b.token.is b.token.tie in

@@ -98,7 +98,7 @@ longer_of (Some f) (Some g) = cond (nat_lt (width g.rest) (width f.rest)) (Some 
 abbrev pub word_from : Vocabulary → List ℕ → Option LeadingWord
 word_from v cs = longer_of (literal_within v.literals cs (length cs)) (class_from v.classes cs)
 
--- the first n tokens from the offset `at` on, or fewer at the end
+-- the first n tokens from the offset `at` on, or fewer if no word begins after them
 abbrev pub tokens_from : Vocabulary → ℕ → ℕ → List ℕ → List Token
 tokens_from v zero at cs = []
 tokens_from v (suc n) at cs =

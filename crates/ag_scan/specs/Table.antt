@@ -78,7 +78,7 @@ pub record IsLongestPrefix (literals : List (List ℕ)) (text : List ℕ) (w : L
 abbrev pub HasNoPrefix : List (List ℕ) → List ℕ → Type 0
 HasNoPrefix literals text = Each (λ x. IsPrefix x text → ⊥) literals
 
--- the entries that begin with a byte, after one more, with this index
+-- the entries that begin with a byte, with the entry of this index added
 abbrev pub with_one : StartingLiterals → ℕ → StartingLiterals
 with_one Nothing index = Sole index
 with_one (Sole other) index = Several

@@ -84,7 +84,7 @@ IsRefused v sentence (fault.NoToken at) = IsReadable sentence × NoTokenAt v (ch
 IsRefused v sentence (fault.LongToken at) = IsReadable sentence × LongTokenAt v (chars sentence) at
 IsRefused v sentence fault.NoMemory = Unit {0}
 
--- A token of the vocabulary: the number of a literal with the literal's text, or a class in use with UTF-8 of
+-- A token of the vocabulary: the number of a literal with the literal's text, or a class in use with a UTF-8 text of
 -- at most 65,535 bytes.
 abbrev pub IsTokenOf : Vocabulary → Terminal → List ℕ → Type 0
 IsTokenOf v (Literal l) lex = slice_get v.literals l ≡ Some lex

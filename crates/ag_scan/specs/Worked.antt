@@ -4,8 +4,8 @@ use Rattle.ag_grammar.specs.declared.grammar.Terminal.TheVariants.{Literal, Clas
 use Rattle.ag_scan.specs.Tokens.{AreTokensOf, NoTokenAt}
 use Rattle.ag_scan.specs.Words.{vocabulary}
 
--- With the literal `if` and names, `iffy if` is the name `iffy` and then the literal: the longest word wins,
--- and a literal wins a tie.
+-- With the literal `if` and names, the tokens of `iffy if` are the name `iffy` and then the literal: the longest word
+-- wins, and a literal wins a tie.
 abbrev pub LongestWins : Type 0
 LongestWins =
     AreTokensOf (vocabulary (codes "if" ∷ []) (0 ∷ [])) (codes "iffy if")

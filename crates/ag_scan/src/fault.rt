@@ -1,12 +1,12 @@
-//! The reasons why a sentence cannot be cut into tokens.
+//! The faults of scanning a sentence.
 
 ghost use Rattle.std.specs.Prelude.{◌≡◌};
 ghost use Rattle.ag_scan.specs.declared.fault.ScanFault.TheVariants as scan_fault;
 
 use ag_value::OutOfMemory;
 
-/// Why a sentence cannot be cut into tokens. (An empty sentence can: its list of tokens is empty.) Offsets
-/// are in bytes from the beginning of the sentence.
+/// Why scanning a sentence fails. (It succeeds for an empty sentence, with no tokens.) Offsets are in
+/// bytes from the beginning of the sentence.
 #[derive(Clone, Copy, Debug, PartialEq, Eq)]
 pub enum ScanFault {
     /// S1: the sentence is not UTF-8; the offset of the first invalid byte.

@@ -16,14 +16,15 @@ pub fn each_sentence_has_an_answer()
     ensures { AnAnswer }
 {}
 
-/// Worked example: with the literal `if` and names, the tokens of `iffy if` are a name and then the
-/// literal.
+/// States a worked example: with the literal `if` and names, the tokens of `iffy if` are a name and
+/// then the literal.
 #[tactic(auto, using(crate::proofs::Examples::longest_wins))]
 pub fn the_longest_word_wins()
     ensures { LongestWins }
 {}
 
-/// Worked example: if the only word is the literal `1`, no token begins at the offset 1 of `12`.
+/// States a worked example: if the only word is the literal `1`, no token begins at the offset 1 of
+/// `12`.
 #[tactic(auto, using(crate::proofs::Examples::unused_is_none))]
 pub fn a_class_that_is_not_in_use_has_no_words()
     ensures { UnusedIsNone }

@@ -22,9 +22,10 @@ pub struct LiteralEntry<'g> {
 }
 
 /// The table of a grammar's literals. Its `entries` are sorted by their texts. For each entry,
-/// `shorter` has the index of the last entry before it whose text is a prefix of its own. For each
-/// byte, `starts` has the entry whose text begins with it, if there is exactly one. In contracts
-/// the table is the list of the texts, indexed by the literals' numbers.
+/// `shorter` has the index of the last entry before it whose text is a prefix of its own, or `None`.
+/// For each byte, `starts` has the index of the entry whose text begins with it if there is exactly
+/// one, and else whether there are several. In contracts the table is the list of the texts, indexed
+/// by the literals' numbers.
 #[derive(Drop)]
 pub struct Literals<'g> {
     texts: &'g [Text],
@@ -50,7 +51,7 @@ impl<'g> Model for Literals<'g> {
 fn begins_with(text: &str, word: &str) -> bool
     ensures { MatchBool result (IsPrefix word.now text.now) (IsPrefix word.now text.now → ⊥) }
 {
-    // most literals have one byte, which is compared without a call
+    // many literals have one byte, which is compared without a call
     if word.len() == 1 && !text.is_empty() {
         return first_byte(word) == first_byte(text);
     }
@@ -79,7 +80,7 @@ fn index_after(last: Option<u16>) -> usize
 }
 
 /// Returns the index of the last of the first `bound` entries whose text is a prefix of `text`, or
-/// `None`.
+/// `None`. None of these entries is after `text` in the order of texts.
 fn last_prefix(
     entries: &[LiteralEntry<'_>],
     shorter: &[Option<u16>],
@@ -135,9 +136,9 @@ fn ordered<'g>(alloc: Global, literals: &'g [Text]) -> Result<Vec<LiteralEntry<'
     Ok(entries)
 }
 
-/// Returns for each entry the index of the last entry before it whose text is a prefix of its own:
-/// for `+`, `++`, `-` these are none, 0 and none. Fails with `NoMemory` if the list cannot be
-/// allocated.
+/// Returns for each entry the index of the last entry before it whose text is a prefix of its own, or
+/// `None`: for `+`, `++`, `-` these are `None`, 0 and `None`. Fails with `NoMemory` if the list cannot
+/// be allocated.
 fn linked(alloc: Global, entries: &[LiteralEntry<'_>]) -> Result<Vec<Option<u16>>, NoMemory>
     requires many { length entries.now ≤ max_literals }
     requires ordered { AreOrdered entries.now }

@@ -1,4 +1,4 @@
-//! Sentences that are known to have tokens.
+//! Sentences that are known to consist of tokens and separators.
 
 ghost use Rattle.std.specs.Prelude.{◌≡◌, ◌≤◌, length, IfErr, IfOk, OnOk};
 ghost use Rattle.ag_grammar.specs.grammars.Accepted.{max_literals};
@@ -17,9 +17,9 @@ use ag_value::Text;
 use std::alloc::Global;
 use std::marker::Model;
 
-/// A sentence that is known to have tokens. It stores the text of the sentence and a table of the
-/// literals, but not the tokens; `tokens` computes them again, one at a time. In contracts it is
-/// the list of its tokens.
+/// A sentence that is known to consist of tokens and separators. It stores the text of the sentence
+/// and a table of the literals, but not the tokens; `tokens` computes them again, one at a time. In
+/// contracts it is the list of its tokens.
 #[derive(Drop)]
 pub struct Sentence<'s> {
     vocabulary: Vocabulary<'s>,
@@ -39,8 +39,8 @@ impl<'s> Model for Sentence<'s> {
     ghost invariant = { λ s. IsScannable s.vocabulary s.text.now };
 }
 
-/// Checks that a text of at most 1,048,576 bytes consists of tokens. Fails with S2 or S3 at the
-/// first offset where it does not.
+/// Checks that a text of at most 1,048,576 bytes consists of tokens and separators. Fails with S2 or
+/// S3 at the first offset where it does not.
 #[inline(never)]
 fn check_tokens(vocabulary: &Vocabulary<'_>, text: &str) -> Result<(), ScanFault>
     requires short { length text.now ≤ max_sentence_bytes }
@@ -89,13 +89,14 @@ fn scan_over<'s>(
     Ok(Sentence::new(vocabulary, text))
 }
 
-/// Scans a sentence: checks that it consists of tokens, by longest match over the literals and the
-/// classes of the grammar.
+/// Scans a sentence: checks that it consists of separators and tokens, by longest match over the
+/// literals and the classes of the grammar.
 ///
 /// Fails with the first of these faults: S4 if the sentence has more than 1,048,576 bytes; S1 if it
-/// is not UTF-8; then from left to right S2, where no word begins, and S3, where the text of a
-/// token has more than 65,535 bytes. Allocates a table of the literals, but nothing for the tokens,
-/// which are computed again when they are read; fails with `NoMemory` if memory runs out.
+/// is not UTF-8; then, from left to right, S2 at a character that is not a separator and begins no
+/// word, and S3 at a token whose text has more than 65,535 bytes. Allocates a table of the literals,
+/// but nothing for the tokens, which are computed again when they are read; fails with `NoMemory` if
+/// memory runs out.
 pub fn scan<'s>(
     alloc: Global,
     grammar: &'s Grammar,
@@ -109,7 +110,7 @@ pub fn scan<'s>(
 }
 
 impl<'s> Sentence<'s> {
-    /// Makes the sentence of a text that has tokens.
+    /// Makes the sentence of a text that consists of tokens and separators.
     fn new(vocabulary: Vocabulary<'s>, text: &'s str) -> Sentence<'s>
         requires clean { IsClean vocabulary }
         requires tokens { AreTokensOf vocabulary text.now (tokens_in vocabulary text.now) }

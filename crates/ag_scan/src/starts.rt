@@ -9,7 +9,7 @@ use crate::literals::LiteralEntry;
 use ag_value::NoMemory;
 use std::alloc::Global;
 
-/// The entries of the table of literals whose texts begin with a byte.
+/// The entries whose texts begin with a certain byte, among those of the table of literals.
 #[derive(Clone, Copy, Debug, PartialEq, Eq)]
 pub enum StartingLiterals {
     /// No entry.
@@ -20,7 +20,7 @@ pub enum StartingLiterals {
     Several,
 }
 
-/// Adds an entry, with this index, to those that begin with a byte.
+/// Adds the entry with this index to those that begin with a byte.
 fn with_one(start: StartingLiterals, index: u16) -> StartingLiterals
     ensures { result ≡ with_one start index }
 {

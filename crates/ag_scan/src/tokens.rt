@@ -20,7 +20,7 @@ pub struct Tokens<'t> {
     taken: usize,
     next: Option<LeadingWord<'t>>,
     /// The offset of the next token, or, at the end, of the last one, in bytes from the beginning
-    /// of the sentence.
+    /// of the sentence; 0 for a sentence without tokens.
     at: u32,
 }
 
@@ -61,7 +61,7 @@ fn next_word<'t>(
 }
 
 impl<'t> Tokens<'t> {
-    /// Returns a reader at the first token of a text that has tokens.
+    /// Returns a reader at the first token of a text that consists of tokens and separators.
     pub(crate) fn new(vocabulary: &'t Vocabulary<'t>, text: &'t str) -> Tokens<'t>
         requires { IsScannable vocabulary.now text.now }
         ensures { result ≡ reader_at (tokens_in vocabulary.now text.now) 0 }

@@ -59,9 +59,9 @@ impl<'g> Vocabulary<'g> {
         longer_of(literal, leading_class(self.classes, text))
     }
 
-    /// Returns the text after its first token; `at` is the offset of the text in the sentence. Fails
-    /// with S2 at `at` if no word begins there, and with S3 at `at` if the text of the token has more
-    /// than 65,535 bytes.
+    /// Returns the rest of `text` after its first token; `at` is the offset of `text` in the sentence.
+    /// Fails with S2 at `at` if no word begins there, and with S3 at `at` if the text of the token has
+    /// more than 65,535 bytes.
     #[inline(always)]
     pub fn after_token<'t>(&self, text: &'t str, at: usize) -> Result<&'t str, ScanFault>
         ensures took { IfOk result (λ rest.

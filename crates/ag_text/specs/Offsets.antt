@@ -12,7 +12,7 @@ abbrev pub Begins : List PlacedToken → Type 0
 Begins ps = (more : List PlacedToken) × (raw : RawGrammar) × IsGrammar (ps ++ more) raw
 
 -- No grammar's text begins with the tokens `ps` and then the next token. If there is no next token because the
--- text ends, `ps` alone are not a grammar. If there is none for another reason (characters that begin no token, or
+-- text ends, `ps` alone are not a grammar. If there is none for another reason (a character that begins no token, or
 -- a number above its limit), nothing is stated.
 abbrev pub NoneGoesOn : List PlacedToken → Ending → List PlacedToken → Type 0
 NoneGoesOn ps e [] = (at : ℕ) → e ≡ ending.EndsAt at → (raw : RawGrammar) → IsGrammar ps raw → ⊥

@@ -25,14 +25,14 @@ pub enum Expected {
     End,
 }
 
-/// The signs and reserved names of a grammar outside of names, items and rules.
+/// The signs and reserved names that `gather_outside` tries, besides names, items and rules.
 const SIGNS: [&str; 9] = ["=", "{", "}", ",", ";", "start", "symbol", "syn", "inh"];
 
 /// Returns what could be at the offset of this fault instead of the token there. For each of about 13
-/// candidates it parses the text before the offset with that candidate at its end: the whole text for
-/// G2, and only that of the expression for G3. Returns an empty list for faults other than G2 and G3
-/// with X2. If the expression has no level left at the offset, the list has no operand, but it may have
-/// a `]`. Fails with `NoMemory` if memory runs out.
+/// candidates it parses the text before the offset with that candidate at its end: from the beginning
+/// of the text for G2, and from that of the expression for G3. Returns an empty list for any fault but
+/// G2, and G3 with X2. If an expression at the offset would be of level 65, the list contains none, but
+/// it can have a `]`, which ends an empty list. Fails with `NoMemory` if memory runs out.
 pub fn expected_at(alloc: Global, text: &str, fault: TextFault) -> Result<Vec<Expected>, NoMemory> {
     match fault {
         TextFault::Unexpected(_, at) => expected_outside(alloc, text, at),
@@ -89,7 +89,8 @@ fn expected_inside(alloc: Global, text: &str, at: usize) -> Result<Vec<Expected>
 }
 
 /// Returns the byte offset at which the expression around the offset `at` begins: after the last
-/// `=` before `at` that follows an occurrence. Inside an expression no `=` follows an occurrence.
+/// `=` before `at` that follows an occurrence; 0 if there is none. Inside an expression no `=` follows
+/// an occurrence.
 fn expression_start(text: &str, at: usize) -> usize {
     let mut cursor = Cursor::new(text);
     let mut start = 0usize;
@@ -121,14 +122,14 @@ fn can_follow(alloc: Global, before: &str, token: &str) -> Result<bool, NoMemory
 }
 
 /// Returns the byte offset at which the text is rejected, or `None` if it is a grammar. Returns 0
-/// for a fault other than G2 and G3 with X2.
+/// for any fault but G2, and G3 with X2.
 fn refused_at(alloc: Global, text: &str) -> Result<Option<usize>, NoMemory> {
     match read_grammar(alloc, text.as_bytes()) {
         Ok(_) => Ok(None),
         Err(TextFault::NoMemory) | Err(TextFault::Expr(ExprFault::NoMemory)) => Err(
             NoMemory::NoMemory,
         ),
-        // after the `=` of a rule the text ends where an expression could begin
+        // G3 with X2: the text ends after the `=` of a rule, where its expression could begin
         Err(TextFault::Unexpected(_, at) | TextFault::Expr(ExprFault::Unexpected(at))) => Ok(Some(
             at,
         )),

@@ -1,8 +1,8 @@
-//! The reasons why a text is not a grammar.
+//! The faults of parsing a text as a grammar.
 
 use ag_expr::ExprFault;
 
-/// Why a text is not a grammar. Offsets are in bytes from the beginning of the text.
+/// Why parsing a text as a grammar fails. Offsets are in bytes from the beginning of the text.
 #[derive(Clone, Copy, Debug, PartialEq, Eq)]
 pub enum TextFault {
     /// G1: the text is not UTF-8; the offset of the first invalid byte.

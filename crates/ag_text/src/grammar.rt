@@ -40,7 +40,7 @@ fn line_of(text: &str, at: usize) -> usize
     1 + line_feeds(bytes)
 }
 
-/// Returns the fault of a text for a fault of its tokens.
+/// Returns the fault of a text for a fault of the parser.
 fn fault_of_stop(text: &str, stop: Stop) -> TextFault
     ensures { result ≡ answers.fault_of text.now stop }
 {

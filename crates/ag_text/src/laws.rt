@@ -27,7 +27,7 @@ pub fn a_text_reads_as_one_grammar()
     ensures { OneGrammar }
 {}
 
-/// States that the text `start S;` reads as a grammar without symbols and productions.
+/// States that the text `start S;` reads as a grammar without symbols or productions.
 #[tactic(auto, using(crate::proofs::Examples::start_alone_is_read))]
 pub fn worked_text()
     ensures { ReadsAsGrammar (codes "start S;") start_alone }

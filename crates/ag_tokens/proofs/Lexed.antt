@@ -11,7 +11,7 @@ use Rattle.ag_tokens.specs.GrammarToken.{GrammarToken}
 use Rattle.ag_tokens.specs.Tokens.{is_separator, width, AreTokens, separator, word}
 use Rattle.ag_tokens.specs.Remaining.{BeginsNoSeparator}
 use Rattle.ag_tokens.specs.Lexing.{token_from}
-use Rattle.ag_tokens.proofs.Fronts.{drop_more}
+use Rattle.ag_tokens.proofs.Prefixes.{drop_more}
 use Rattle.ag_tokens.proofs.TokenLaws.{token_sound, cut_longest, word_some}
 
 -- The characters after a token that was read are fewer, and do not take more bytes.
@@ -23,8 +23,8 @@ pub width-append : (xs ys : List ℕ) → width (xs ++ ys) ≡ width xs + width 
 width-append [] ys = omega arith
 width-append (x ∷ xs) ys = let more = width-append xs ys in omega arith
 
-pub is_behind : (cs : List ℕ) (t : GrammarToken) (rest : List ℕ) → token_from cs ≡ Some (t, rest) → IsAfter cs rest
-is_behind cs t rest e =
+pub is_after : (cs : List ℕ) (t : GrammarToken) (rest : List ℕ) → token_from cs ≡ Some (t, rest) → IsAfter cs rest
+is_after cs t rest e =
     let cut = token_sound cs t rest e in
     let some = word_some cut.word t cut.token in
     record {

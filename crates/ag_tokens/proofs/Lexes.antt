@@ -13,7 +13,7 @@ use Rattle.ag_tokens.specs.PlacedToken.{PlacedToken, Input}
 use Rattle.ag_tokens.specs.GrammarToken.{GrammarToken}
 use Rattle.ag_tokens.specs.Tokens.{is_separator, is_within, all_within, width, IsToken, IsLongest, AreTokens, ended, separator}
 use Rattle.ag_tokens.specs.Tokens.{word, HasNoToken, Stops, Lexes}
-use Rattle.ag_tokens.proofs.Lexed.{is_behind, spaces, spaced, one_more, plain_after, separator_width, width-append}
+use Rattle.ag_tokens.proofs.Lexed.{is_after, spaces, spaced, one_more, plain_after, separator_width, width-append}
 use Rattle.ag_tokens.proofs.TokenLaws.{token_sound, cut_longest, cut_none, one_token, begins_plain, word_some}
 
 pub nothing_cut : token_from [] ≡ None
@@ -22,7 +22,7 @@ nothing_cut = refl
 
 pub shorter : (cs : List ℕ) (t : GrammarToken) (rest : List ℕ) → token_from cs ≡ Some (t, rest)
     → length (after_separators rest) < length cs
-shorter cs t rest e = let less = (is_behind cs t rest e).shorter in omega (arith, length-drop (prefix_len is_separator rest) rest)
+shorter cs t rest e = let less = (is_after cs t rest e).shorter in omega (arith, length-drop (prefix_len is_separator rest) rest)
 
 -- any two numbers of steps that suffice give the same input
 pub same_cut : (n m len : ℕ) (cs : List ℕ) → length cs < n → length cs < m → cut n len cs ≡ cut m len cs
@@ -83,7 +83,7 @@ cut_lexes (suc n) len cs h wide plain = go (token_from cs) refl (cut_lexes n len
         by false large = too_large_cut at cs p.0 p.1 e large
         by true within =
             let less = shorter cs p.0 p.1 e in
-            let narrow = (is_behind cs p.0 p.1 e).narrower in
+            let narrow = (is_after cs p.0 p.1 e).narrower in
             let space = spaces p.1 in
             let next = more (after_separators p.1) (omega arith) (omega arith) (plain_after p.1) in
             let place : len - width (after_separators p.1) ≡ (at + (width cs - width p.1)) + prefix_len is_separator p.1 =
@@ -107,10 +107,10 @@ plain_word : (cs w rest : List ℕ) (t : GrammarToken) → cs ≡ w ++ rest → 
 plain_word cs w rest t split is = let plain = begins_plain w t is in (grind arith, word_some w t is)
 
 -- two prefixes of the same length are the same
-same_fronts : (xs ys us vs : List ℕ) → xs ++ us ≡ ys ++ vs → length xs ≡ length ys → (xs ≡ ys) × (us ≡ vs)
-same_fronts [] [] us vs e n = (refl, e)
-same_fronts (x ∷ xs) (y ∷ ys) us vs e n = let more = same_fronts xs ys us vs (cc) (omega arith) in (cc, more.1)
-same_fronts xs ys us vs e n = let bad : ⊥ = omega arith in absurd bad
+same_prefixes : (xs ys us vs : List ℕ) → xs ++ us ≡ ys ++ vs → length xs ≡ length ys → (xs ≡ ys) × (us ≡ vs)
+same_prefixes [] [] us vs e n = (refl, e)
+same_prefixes (x ∷ xs) (y ∷ ys) us vs e n = let more = same_prefixes xs ys us vs (cc) (omega arith) in (cc, more.1)
+same_prefixes xs ys us vs e n = let bad : ⊥ = omega arith in absurd bad
 
 -- the lexer reads the longest token
 cut_there : (cs w rest : List ℕ) (t : GrammarToken) → cs ≡ w ++ rest → IsToken w t → IsLongest w rest
@@ -123,7 +123,7 @@ cut_there cs w rest t split is longest = go (token_from cs) refl
         let one = token_sound cs p.0 p.1 e in
         let less = longest one.word p.1 p.0 (sym split ∙ one.split) one.token in
         let more = cut_longest cs p.0 p.1 one.word e one.split w rest t (sym one.split ∙ split) is in
-        let same = same_fronts one.word w p.1 rest (sym one.split ∙ split) (omega arith) in
+        let same = same_prefixes one.word w p.1 rest (sym one.split ∙ split) (omega arith) in
         let token = one_token w p.0 t (subst (λ x. IsToken x p.0) same.0 one.token) is in
         ap (λ u. Some (u, p.1)) token ∙ ap (λ r. Some (t, r)) same.1
 

@@ -1,4 +1,4 @@
-pub mod Fronts
+pub mod Prefixes
 pub mod Lexed
 pub mod Lexes
 pub mod Numerals

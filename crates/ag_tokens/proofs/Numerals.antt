@@ -15,7 +15,7 @@ use Rattle.ag_tokens.specs.Tokens.{IsDigits}
 use Rattle.ag_tokens.specs.declared.lexer.Class.TheVariants as class
 use Rattle.ag_tokens.specs.Lexing.{prefix_in, rest_in, digits_from, number_from, occurrence_from, plain_from, text_from}
 use Rattle.ag_tokens.specs.Lexing.{token_from, match_option}
-use Rattle.ag_tokens.proofs.Fronts.{prefix_passes, take_more, drop_more}
+use Rattle.ag_tokens.proofs.Prefixes.{prefix_passes, take_more, drop_more}
 
 own : IsNumeralModel (λ ds. list_all is_ascii_digit ds ≡ true) (digits_value 10)
 own = numerals_by_value _ (search rules)
@@ -35,16 +35,16 @@ pub number_refused : {E : Type 0} (ds : List ℕ) (e : E) → IsDigits ds → (l
 number_refused ds e is parses = let bad = parse_signed_digits own w64 ds (Err e) parses is.1 in grind (arith, nat_tests)
 
 -- the leading digits that the lexer reads
-front_empty : (p : ℕ → Bool) (cs : List ℕ) → length (take (prefix_len p cs) cs) ≡ 0 → prefix_len p cs ≡ 0
-front_empty p [] none = refl
-front_empty p (c ∷ cs) none = grind (arith, take_more)
+prefix_empty : (p : ℕ → Bool) (cs : List ℕ) → length (take (prefix_len p cs) cs) ≡ 0 → prefix_len p cs ≡ 0
+prefix_empty p [] none = refl
+prefix_empty p (c ∷ cs) none = grind (arith, take_more)
 
 module _ (cs word : List ℕ) (is : word ≡ encode_utf8_all (prefix_in class.Digit cs)) where
   word_is : word ≡ prefix_in class.Digit cs
   word_is = is ∙ digits_encoded (prefix_in class.Digit cs) (prefix_passes is_ascii_digit cs)
 
   pub no_digits_cut : (length word == 0) ≡ true → digits_from cs ≡ None
-  no_digits_cut empty = let same = word_is in let none = front_empty is_ascii_digit cs in grind (arith, nat_tests)
+  no_digits_cut empty = let same = word_is in let none = prefix_empty is_ascii_digit cs in grind (arith, nat_tests)
 
   pub digits_cut : (length word == 0) ≡ false → (back : List ℕ) → back ≡ rest_in class.Digit cs
       → digits_from cs ≡ Some (word, back)
@@ -58,8 +58,8 @@ module _ (cs word : List ℕ) (is : word ≡ encode_utf8_all (prefix_in class.Di
 digit_is : (c : ℕ) → is_ascii_digit c ≡ true → digit_value c ≡ c - 48
 digit_is c is = grind (arith, nat_tests)
 
-front_more : (c : ℕ) (cs : List ℕ) → is_ascii_digit c ≡ true → prefix_in class.Digit (c ∷ cs) ≡ c ∷ prefix_in class.Digit cs
-front_more c cs is = grind (arith, take_more)
+prefix_more : (c : ℕ) (cs : List ℕ) → is_ascii_digit c ≡ true → prefix_in class.Digit (c ∷ cs) ≡ c ∷ prefix_in class.Digit cs
+prefix_more c cs is = grind (arith, take_more)
 
 back_more : (c : ℕ) (cs : List ℕ) → is_ascii_digit c ≡ true → rest_in class.Digit (c ∷ cs) ≡ rest_in class.Digit cs
 back_more c cs is = grind (arith, drop_more)
@@ -78,7 +78,7 @@ pub begins : (c : ℕ) (text : List ℕ) → is_ascii_digit c ≡ true → Worke
 begins c text is = record {
   small = grind (arith, nat_tests);
   value = let none : 0 * 10 + (c - 48) ≡ c - 48 = omega arith in
-      sym (ap (digits_value 10) (front_more c (chars text) is) ∙ value_more 0 c (prefix_in class.Digit (chars text)) is
+      sym (ap (digits_value 10) (prefix_more c (chars text) is) ∙ value_more 0 c (prefix_in class.Digit (chars text)) is
       ∙ ap (λ n. digits_value_after 10 n (prefix_in class.Digit (chars text))) none);
   back = sym (back_more c (chars text) is);
 }
@@ -88,7 +88,7 @@ pub goes_on : (cs : List ℕ) (number : ℕ) (rest : List ℕ) (c : ℕ) (follow
     → WorkedOut cs (number * 10 + (c - 48)) following
 goes_on cs number rest c following is split small so_far =
     let prefix : prefix_in class.Digit (chars rest) ≡ c ∷ prefix_in class.Digit (chars following) =
-    rw split (front_more c (chars following) is) in
+    rw split (prefix_more c (chars following) is) in
     let back : rest_in class.Digit (chars rest) ≡ rest_in class.Digit (chars following) =
     rw split (back_more c (chars following) is) in
     record {

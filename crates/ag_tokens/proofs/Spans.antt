@@ -1,5 +1,5 @@
 -- The longest prefix whose characters pass a test, and the loop that reads it.
-use Rattle.ag_tokens.proofs.Fronts.{front_is, drop_more}
+use Rattle.ag_tokens.proofs.Prefixes.{prefix_is, drop_more}
 use Rattle.std.proofs.Common.{◌≡◌, ℕ, ◌-◌, ◌<◌, ◌≤◌, Bool, true, List, [], ◌∷◌, ◌++◌, length, take, drop, Bor, Some, chars}
 use Rattle.std.proofs.Common.{IsUtf8, encode_utf8, encode_utf8_all, refl, ap, sym, ◌∙◌, arith, append_assoc, append-nil}
 use Rattle.std.proofs.Common.{length-append}
@@ -49,8 +49,8 @@ module _ (text rest prefix : List ℕ) (split : text ≡ encode_utf8_all prefix 
   pub seam : IsUtf8 rest → IsCharBoundary text (length text - length rest)
   seam utf8 = rw cut_at (IsCharBoundary-at_seam text (encode_utf8_all prefix) rest split utf8)
 
-  pub front_bytes : take (length text - length rest) text ≡ encode_utf8_all prefix
-  front_bytes = rw cut_at (ap (take (length (encode_utf8_all prefix))) split ∙ take-append_seam (encode_utf8_all prefix) rest)
+  pub prefix_bytes : take (length text - length rest) text ≡ encode_utf8_all prefix
+  prefix_bytes = rw cut_at (ap (take (length (encode_utf8_all prefix))) split ∙ take-append_seam (encode_utf8_all prefix) rest)
 
   back_bytes : drop (length text - length rest) text ≡ rest
   back_bytes = rw cut_at (ap (drop (length (encode_utf8_all prefix))) split ∙ drop-append_seam (encode_utf8_all prefix) rest)
@@ -62,11 +62,11 @@ module _ (class : Class) (text rest : List ℕ) (so_far : Passed (is_in class) t
   module _ (none : prefix_len (is_in class) (chars rest) ≡ 0) where
     length_is : prefix_len (is_in class) (chars text) ≡ length so_far.prefix
     length_is =
-        ap (prefix_len (is_in class)) so_far.characters ∙ front_is (is_in class) so_far.prefix (chars rest) so_far.all none
+        ap (prefix_len (is_in class)) so_far.characters ∙ prefix_is (is_in class) so_far.prefix (chars rest) so_far.all none
 
-    pub front_cut : take (length text - length rest) text ≡ encode_utf8_all (prefix_in class (chars text))
-    front_cut =
-        front_bytes text rest so_far.prefix so_far.split
+    pub prefix_is_cut : take (length text - length rest) text ≡ encode_utf8_all (prefix_in class (chars text))
+    prefix_is_cut =
+        prefix_bytes text rest so_far.prefix so_far.split
         ∙ ap encode_utf8_all
         (sym
         (rw length_is (ap (take (length so_far.prefix)) so_far.characters
@@ -82,7 +82,7 @@ pub empty_text : (text : List ℕ) → length text ≡ 0 → chars text ≡ []
 empty_text [] e = chars-nil
 empty_text (b ∷ text) e = let bad : ⊥ = omega arith in absurd bad
 
--- the text after separators has as many bytes as its characters take, and at most as many as the whole text
+-- the text after the leading separators has at most as many bytes as the whole text
 pub left_within : (text rest : List ℕ) → IsUtf8 text → IsUtf8 rest → chars rest ≡ after_separators (chars text)
     → length rest ≤ length text
 left_within text rest utf8 utf8' is =

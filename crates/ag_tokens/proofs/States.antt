@@ -13,7 +13,7 @@ use Rattle.ag_tokens.specs.Tokens.{width, Lexes}
 use Rattle.ag_tokens.specs.Lexing.{token_from, token_of, AgreesOnToken}
 use Rattle.ag_tokens.specs.Remaining.{after_separators, without_tokens, with_token, ending_by, input_by, cut, input, IsReady}
 use Rattle.ag_tokens.specs.Parsing.{next, offset, is_end}
-use Rattle.ag_tokens.proofs.Lexed.{is_behind, spaces, width-chars}
+use Rattle.ag_tokens.proofs.Lexed.{is_after, spaces, width-chars}
 use Rattle.ag_tokens.proofs.Lexes.{nothing_cut, same_cut, shorter, cut_at, cut_first}
 
 abbrev LeadingWord : Type 0
@@ -24,28 +24,28 @@ no_width [] e = refl
 no_width (c ∷ cs) e = let some = (len_utf8_bounds c).0 in let bad : ⊥ = omega arith in absurd bad
 
 module _ (len : ℕ) (cs : List ℕ) where
-  abbrev pub by_front : LeadingWord → Input
-  by_front (Ok x) = with_token (len - width cs) (token_of x.0) (input len (after_separators (chars x.1.now)))
-  by_front (Err e) = without_tokens (ending_by e (len - width cs) cs)
+  abbrev pub by_word : LeadingWord → Input
+  by_word (Ok x) = with_token (len - width cs) (token_of x.0) (input len (after_separators (chars x.1.now)))
+  by_word (Err e) = without_tokens (ending_by e (len - width cs) cs)
 
   -- the remaining input is the next token and the input after it, or it is empty
-  pub front_is : (r : LeadingWord) → AgreesOnToken r (token_from cs) → input len cs ≡ by_front r
+  pub prefix_is : (r : LeadingWord) → AgreesOnToken r (token_from cs) → input len cs ≡ by_word r
   unfolding cut input
-  front_is (Ok x) given =
+  prefix_is (Ok x) given =
       let rest = after_separators (chars x.1.now) in
       let less = shorter cs (token_of x.0) (chars x.1.now) given.0 in
       rw (given.0, given.1, same_cut (length cs) (suc (length rest)) len rest less (omega arith)) refl
-  front_is (Err fault.Nothing) given = ap (input_by (cut (length cs) len) (len - width cs) cs) given
-  front_is (Err fault.TooLarge) given = let read = token_from cs in grind arith
+  prefix_is (Err fault.Nothing) given = ap (input_by (cut (length cs) len) (len - width cs) cs) given
+  prefix_is (Err fault.TooLarge) given = let read = token_from cs in grind arith
 
   -- its offset is that of the rest of the text, in either case
   pub offset_is : (r : LeadingWord) → AgreesOnToken r (token_from cs) → offset (input len cs) ≡ len - width cs
-  offset_is r given = let is = front_is r given in grind arith
+  offset_is r given = let is = prefix_is r given in grind arith
 
   -- and the text does not end there if characters are left
   before_end : (r : LeadingWord) → AgreesOnToken r (token_from cs) → 0 < width cs
       → is_end (input len cs).ending (input len cs).left ≡ false
-  before_end r given some = let is = front_is r given in grind arith
+  before_end r given some = let is = prefix_is r given in grind arith
 
   at_end : width cs ≡ 0 → is_end (input len cs).ending (input len cs).left ≡ true
   unfolding cut input
@@ -61,7 +61,7 @@ module _ (len : ℕ) (cs : List ℕ) where
 -- the rest of the text does not grow
 pub narrower : (cs rest : List ℕ) (x : lent.GrammarToken × Bor (List ℕ)) (len : ℕ) → AgreesOnToken (Ok x) (token_from cs)
     → chars rest ≡ after_separators (chars x.1.now) → width (chars rest) ≡ length rest → width cs ≤ len → length rest ≤ len
-narrower cs rest x len given is wide within = let less = (is_behind cs (token_of x.0) (chars x.1.now) given.0).narrower in
+narrower cs rest x len given is wide within = let less = (is_after cs (token_of x.0) (chars x.1.now) given.0).narrower in
     let space = spaces (chars x.1.now) in omega (arith, ap width is)
 
 -- the tokens after an offset are the remaining input of a new cursor
@@ -95,4 +95,4 @@ ready text now rest x leading given wide fewer is utf8 cut =
 
 pub next_is : (len : ℕ) (now rest : List ℕ) (x : lent.GrammarToken × Bor (List ℕ)) → AgreesOnToken (Ok x) (token_from (chars now))
     → chars rest ≡ after_separators (chars x.1.now) → input len (chars rest) ≡ next (input len (chars now))
-next_is len now rest x given is = ap (input len) is ∙ sym (ap next (front_is len (chars now) (Ok x) given))
+next_is len now rest x given is = ap (input len) is ∙ sym (ap next (prefix_is len (chars now) (Ok x) given))

@@ -7,7 +7,7 @@ use Rattle.std.specs.Str.{IsCharBoundary}
 use Rattle.std.proofs.lemmas.Str.{encode_ascii, encodes-append, chars_from_encodes, IsUtf8-take}
 use Rattle.std.proofs.lemmas.Bool.{ne_eqb}
 use Rattle.std.proofs.lemmas.Bool.Decides.{nat_tests}
-use Rattle.ag_tokens.proofs.Spans.{seam, front_bytes}
+use Rattle.ag_tokens.proofs.Spans.{seam, prefix_bytes}
 use Rattle.ag_tokens.specs.GrammarToken.{GrammarToken}
 use Rattle.ag_tokens.specs.GrammarToken as token
 use Rattle.ag_tokens.specs.Tokens.{IsBody, empty, plain, escape, escaped}
@@ -99,7 +99,7 @@ module _ (text rest : List ℕ) (total : Option (GrammarToken × List ℕ)) (so_
 
   pub body_is : IsUtf8 text → IsUtf8 rest → unescaped (chars (take (length text - length rest) text)) ≡ so_far.prefix
   body_is utf8 utf8' =
-      let bytes = front_bytes text rest so_far.taken so_far.split in
+      let bytes = prefix_bytes text rest so_far.taken so_far.split in
       let characters : chars (encode_utf8_all so_far.taken) ≡ so_far.taken =
       sym
       (chars_from_encodes so_far.taken (encode_utf8_all so_far.taken)

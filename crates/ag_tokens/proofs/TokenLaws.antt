@@ -26,7 +26,7 @@ use Rattle.ag_tokens.specs.Tokens.{starts_name, is_separator, escaped, IsDigits,
 use Rattle.ag_tokens.specs.Tokens.{punctuation_text, IsToken, IsLongest, BeginsNoToken}
 use Rattle.ag_tokens.specs.Lexing.{digits_from, name_from, single_punctuation, double_mark, punctuation_from, escape_from}
 use Rattle.ag_tokens.specs.Lexing.{character_from, after_quote, after_dot, text_from, occurrence_from, plain_from, token_from}
-use Rattle.ag_tokens.proofs.Fronts.{prefix_passes, prefix_reaches, front_ends}
+use Rattle.ag_tokens.proofs.Prefixes.{prefix_passes, prefix_reaches, prefix_ends}
 
 same_number : (a b : ℕ) → (a == b) ≡ true → a ≡ b
 same_number a b e = eqb-true a b e
@@ -297,7 +297,7 @@ occurrence_reached : (digits name more : List ℕ) → IsDigits digits → IsNam
 unfolding token_from
 occurrence_reached digits name more is called =
     let ends : prefix_len is_ascii_digit (digits ++ 46 ∷ (name ++ more)) ≡ length digits =
-    front_ends is_ascii_digit digits (name ++ more) 46 is.1 refl in
+    prefix_ends is_ascii_digit digits (name ++ more) 46 is.1 refl in
     let some' : (length digits == 0) ≡ false = let some = is.0 in grind (arith, nat_tests) in
     let cut : digits_from (digits ++ 46 ∷ (name ++ more)) ≡ Some (digits, 46 ∷ (name ++ more)) =
     rw (ends, some', take-append_seam digits (46 ∷ (name ++ more)), drop-append_seam digits (46 ∷ (name ++ more))) refl in

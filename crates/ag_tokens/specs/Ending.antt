@@ -1,7 +1,7 @@
 -- The ending of a text's tokens (this project's language).
 use Rattle.std.specs.Prelude.{ℕ}
 
--- the offset where the tokens end, and the reason: the end of the text, characters that begin no token, or a
+-- the offset where the tokens end, and the reason: the end of the text, a character that begins no token, or a
 -- token whose number is above its limit
 pub data Ending : Type 0 where
   EndsAt : ℕ → Ending

@@ -24,7 +24,7 @@ abbrev pub match_option : {A B : Type 0} → Option A → B → (A → B) → B
 match_option None b f = b
 match_option (Some x) b f = f x
 
--- the characters of a class
+-- whether a character belongs to a class
 abbrev pub is_in : Class → ℕ → Bool
 is_in class.Separator = is_separator
 is_in class.Digit = is_ascii_digit
@@ -81,7 +81,7 @@ name_from (c ∷ cs) =
     cond (starts_name c)
     (Some (take (prefix_len is_xid_continue (c ∷ cs)) (c ∷ cs), drop (prefix_len is_xid_continue (c ∷ cs)) (c ∷ cs))) None
 
--- the punctuation that consists of one character and begins no longer one
+-- the punctuation that consists of this character alone and begins no longer one
 abbrev pub single_punctuation : ℕ → Option Punctuation
 single_punctuation c =
     cond (c == 45) (Some punctuation.Minus)

@@ -54,7 +54,7 @@ unfoldable pub cut : ℕ → ℕ → List ℕ → Input
 cut zero len cs = without_tokens (ending.EndsAt len)
 cut (suc turns) len cs = input_by (cut turns len) (len - width cs) cs (token_from cs)
 
--- all of them
+-- all tokens of the last characters `cs` of a text of `len` bytes
 unfoldable pub input : ℕ → List ℕ → Input
 input len cs = cut (suc (length cs)) len cs
 

@@ -103,7 +103,8 @@ pub data AreTokens : ℕ → List ℕ → List PlacedToken → ℕ → List ℕ 
       → all ≡ word ++ cs → IsToken word t → IsLongest word cs → AreTokens (at + width word) cs placed end rest
       → AreTokens at all (record { at = at; token = t } ∷ placed) end rest
 
--- The number of a token is within its limit: a number literal in the range of i64, a place at most 65,535.
+-- The number of a token is within its limit: a number literal in the range of i64, a place at most 65,535. Other
+-- tokens have no number.
 abbrev pub is_within : GrammarToken → Bool
 is_within (token.Number n) = int_le n (pos 9223372036854775807)
 is_within (token.Occurrence place attr) = nat_le place MAX_PLACE

@@ -80,7 +80,7 @@ impl<'t> Cursor<'t> {
     }
 
     /// Returns the next token, or `None` if the text ends here, or if no token begins here, or if
-    /// its number is above its limit. Does not allocate.
+    /// the number of the token here is above its limit. Does not allocate.
     pub fn peek(&self) -> Option<GrammarToken<'t>>
         ensures { option_map token_of result ≡ next_token self.now }
     {

@@ -124,7 +124,7 @@ fn leading_name(text: &str) -> Option<(&str, &str)>
 }
 
 /// Returns the punctuation that consists of this character alone, and begins no longer one, or
-/// `None`.
+/// `None` if there is none. Such a character begins no name.
 #[inline(always)]
 #[tactic(auto, using(crate::proofs::TokenLaws::no_start))]
 fn single_punctuation(c: char) -> Option<Punctuation>
@@ -258,8 +258,9 @@ fn character(text: &str) -> Option<(char, &str)>
     }
 }
 
-/// Returns the text that a text literal denotes, given its body between the quotes. Fails with
-/// `NoMemory` if the text cannot be allocated.
+/// Returns the text that a text literal denotes, given its body between the quotes. If the body has
+/// a wrong escape, which no token has, returns the text before it. Fails with `NoMemory` if the text
+/// cannot be allocated.
 #[tactic(auto, using(crate::proofs::TextTurns::piece_some, crate::proofs::TextTurns::piece_none,))]
 pub fn unescaped(alloc: Global, body: &str) -> Result<Text, NoMemory>
     ensures { IfOk result (λ text. text ≡ lexing.unescaped (chars body.now)) }
@@ -293,8 +294,8 @@ fn leading_quoted(text: &str) -> Option<(&str, &str)>
     }
 }
 
-/// Reads the text literal whose opening quote has been read. Fails with `Nothing` if that has a
-/// wrong escape or no closing quote.
+/// Reads the text literal whose opening quote has been read. Fails with `Nothing` if it has a wrong
+/// escape or no closing quote.
 #[inline(always)]
 fn text_literal(text: &str) -> Result<(GrammarToken<'_>, &str), TokenFault>
     ensures { AgreesOnToken result (lexing.text_from (length (chars text.now)) [] (chars text.now)) }
@@ -335,7 +336,8 @@ fn long_number(text: &str) -> Result<(GrammarToken<'_>, &str), TokenFault>
     }
 }
 
-/// Returns the digit at the beginning of the text and the text after it, or `None`.
+/// Returns the digit at the beginning of the text and the text after it, or `None` if the text does
+/// not begin with a digit.
 fn leading_digit(text: &str) -> Option<(char, &str)>
     ensures { lexing.IsAfterDigit text.now result }
 {
@@ -345,8 +347,8 @@ fn leading_digit(text: &str) -> Option<(char, &str)>
     }
 }
 
-/// Returns the number with the first digit `digit` and, after it, the digits at the beginning of
-/// `text`, and the text after these; or `None` if the number is 10^18 or more.
+/// Returns the number whose digits are `digit` and the digits at the beginning of `text`, and the
+/// text after these; or `None` if the number is 10^18 or more.
 fn short_number(digit: char, text: &str) -> Option<(i64, &str)>
     requires { is_ascii_digit digit ≡ true }
     ensures value { IfSome result (λ x. x.0
@@ -469,8 +471,8 @@ pub fn leading_token(text: &str) -> Result<(GrammarToken<'_>, &str), TokenFault>
     }
 }
 
-/// Reads the first token of a text if it is punctuation or a number below 10^18, which needs no
-/// further call; else returns `None`. Does not allocate.
+/// Reads the first token of a text if it is punctuation or a number below 10^18; else returns
+/// `None`. Does not allocate.
 #[inline(always)]
 #[tactic(auto, using(crate::proofs::TokenLaws::marked_token, crate::proofs::Numerals::numbered_token))]
 pub fn quick_token(text: &str) -> Option<(GrammarToken<'_>, &str)>

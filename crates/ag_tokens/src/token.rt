@@ -1,6 +1,6 @@
-//! The tokens of the language.
+//! The tokens of expressions and of grammars.
 
-/// Punctuation of the language, including the operators that are not names.
+/// Punctuation, including the operators that are not names.
 #[derive(Clone, Copy, Debug, PartialEq, Eq)]
 pub enum Punctuation {
     /// `+`
@@ -35,7 +35,7 @@ pub enum Punctuation {
     Semicolon,
 }
 
-/// A token of the language, borrowed from the text.
+/// A token, borrowed from the text.
 #[derive(Clone, Copy, Debug, PartialEq, Eq)]
 pub enum GrammarToken<'t> {
     /// A number literal.
@@ -44,7 +44,7 @@ pub enum GrammarToken<'t> {
     Text(&'t str),
     /// A name, reserved or not.
     Name(&'t str),
-    /// An occurrence of an attribute, as `$1.value`: `$`, its place, `.`, and its name.
+    /// An occurrence of an attribute, such as `$1.value`: `$`, its place, `.`, and its name.
     Occurrence(u16, &'t str),
     /// Punctuation.
     Punctuation(Punctuation),

@@ -419,8 +419,8 @@ one_spelled input read e value rest well spelled =
     same_Some read (value, rest) (sym e ∙ ap (value_at 64) spelled ∙ well_is_read value rest well)
 
 -- the prefix of that length is the spelling
-pub front_is : (input text rest : List ℕ) → input ≡ text ++ rest → take (length input - length rest) input ≡ text
-front_is input text rest e =
+pub prefix_is : (input text rest : List ℕ) → input ≡ text ++ rest → take (length input - length rest) input ≡ text
+prefix_is input text rest e =
     let len : length text ≡ length input - length rest = omega (arith, ap length e, length-append text rest) in
     ap (take (length input - length rest)) e ∙ take_at text rest (length input - length rest) len
 

@@ -22,7 +22,7 @@ infixl 10 ◌>>=◌
 abbrev pub ◌>>=◌ : {A B : Type 0} → Option A → (A → Option B) → Option B
 o >>= f = option_and_then f o
 
--- a fault other than NoMemory is returned exactly if reading fails
+-- a fault other than NoMemory is returned only if reading fails
 abbrev pub Fails : {Y : Type 0} → ValueFault → Option Y → Type 0
 Fails fault.Malformed read = read ≡ None
 Fails fault.NoMemory read = Unit {0}

@@ -13,8 +13,8 @@ pub enum NoMemory {
     NoMemory,
 }
 
-/// The faults that only say that memory was refused. A crate converts all of them to its own fault
-/// by one `impl From`.
+/// The faults that only say that memory ran out. A crate converts all of them to its own fault by one
+/// `impl From`.
 pub trait OutOfMemory: Drop {}
 
 impl OutOfMemory for AllocError {}

@@ -3,7 +3,7 @@ ghost use Rattle.std.specs.Prelude.{◌≡◌};
 
 use std::marker::Model;
 
-/// A `Vec`; contracts see the list of its elements, so that equal lists of equal values are equal.
+/// A `Vec`; contracts see only the list of its elements, so vectors of equal elements are equal.
 #[derive(Debug, Drop)]
 pub struct Items<T> {
     vec: Vec<T>,

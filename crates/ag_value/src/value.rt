@@ -2,8 +2,8 @@
 use crate::items::Items;
 use crate::text::Text;
 
-/// The reason why an expression has no other value, as a value. In spellings the errors have the
-/// numbers 1 to 8 in this order.
+/// The reasons why the value of an expression is an error. In spellings the errors have the numbers 1
+/// to 8 in this order.
 #[derive(Clone, Copy, Debug, PartialEq, Eq)]
 pub enum ErrorCode {
     /// A number left the range of i64.
@@ -16,11 +16,11 @@ pub enum ErrorCode {
     Index,
     /// A table has no such key.
     Key,
-    /// A text does not spell a number.
+    /// A text is not a number in decimal, or its number is out of range.
     Number,
     /// A value whose spelling has more than 1,048,576 bytes.
     Big,
-    /// A value of more than 64 levels.
+    /// A value whose depth exceeds 64.
     Deep,
 }
 

@@ -123,7 +123,7 @@ module _ (g : Grammar) (sentence : List ℕ) (rows : List (List ℕ)) (code : Li
     (a b : List ℕ) (report : Report) (files : LeavesFiles g sentence rows ha hb a b report) where
   module _ (r : Result (List ℕ) OutFault)
       (exact : WhenHonest ha (WhenHonest hb (MatchesRoot g rows (last_content report.last a b) r))) where
-    -- the result for the last file holds of the values left
+    -- the result for the last file is true of the values that the passes have left
     root_of : (x : ha ≡ true) (y : hb ≡ true) → IsRootText g (files.left x y).values r
     root_of x y =
         exact x y report.passes files.greatest files.tree (files.left x y).values files.one.is_tree.tree.tree

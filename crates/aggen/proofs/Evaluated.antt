@@ -58,7 +58,7 @@ turned_other A last a b e = ap (λ (l : Last). other_content l a b) e
 turned_other B last a b e = ap (λ (l : Last). other_content l a b) e
 
 module _ (g : Grammar) (rows : List (List ℕ)) (code : Lists) (accepted : IsAccepted g) (plan : IsPlan g rows code) where
-  -- a tree in a file has it as its file of pass 0, with some values
+  -- the file that a tree is in is the tree's file of pass 0 with some values
   file_in : (content : List ℕ) (t : Tree) (is : IsTreeInFile g content t)
       → IsFileOfTree version_two g (passes_of rows) 0 t (texts_are_given g t).0 content
   file_in content t is = let texts = texts_are_given g t in is.file (passes_of rows) texts.0 plan.legal.positive texts.1
@@ -178,7 +178,7 @@ module _ (g : Grammar) (rows : List (List ℕ)) (code : Lists) (least : IsLeastP
     (content a b : List ℕ) (report : Report) (files : LeavesFilesOfTree g rows ht ha hb content a b report) where
   module _ (r : Result (List ℕ) OutFault)
       (exact : WhenHonest ha (WhenHonest hb (MatchesRoot g rows (last_content report.last a b) r))) where
-    -- the result for the last file holds of the values left
+    -- the result for the last file is true of the values that the passes have left
     root_of : (h : ht ≡ true) (x : ha ≡ true) (y : hb ≡ true) → IsRootText g (files.left h x y).values r
     root_of h x y = let left = files.left h x y in
         exact x y report.passes files.greatest left.tree left.values left.one.is_tree.tree left.leaves.file

@@ -19,8 +19,7 @@ use Rattle.passrun.specs.declared.last.Last.{Last}
 use Rattle.passrun.specs.Rounds.{HasCounted, other_content}
 use Rattle.aggen.specs.Translation.{before_last}
 
--- Pass 1 met its equations with values whose files are the start and the file from which the others began.
--- The others ran through these.
+-- Pass 1 met its equations with the values u, and `start` is the tree's file of pass 0 with them. The other passes ran from u on.
 module _ (version : Version) (g : Grammar) (m : Passes) (legal : IsLegal g m) (t : Tree) (u : Valuation) (tree : IsTreeOf g t)
     (last : ℕ) (start now other : List ℕ) (from : IsFileOfTree version g m 0 t u start) (one : Solves (OfPass m 1) g t u)
     (run : HasRun version g m t u 2 last now other) where
@@ -35,7 +34,7 @@ module _ (version : Version) (g : Grammar) (m : Passes) (legal : IsLegal g m) (t
     | inr more ↦ run.ran.solved j more high
   ]
 
-  -- the file of the tree is one of the values that are left
+  -- `start` is also the tree's file of pass 0 with the values that all passes have left
   started : IsFileOfTree version g m 0 t run.values start
   started =
       same_file version g m 0 t u run.values start

@@ -44,8 +44,8 @@ pub record LeavesFilesOfTree (g : Grammar) (rows : List (List ℕ)) (honest_tree
   pub left : WhenHonest honest_tree
       (WhenHonest honest_a (WhenHonest honest_b (AreLeftOfTree g (passes_of rows) content a b report)))
 
--- All passes of a least plan ran over the one tree of a content, and if the devices are honest they have its
--- last two files.
+-- If the devices are honest, all passes of a least plan ran over the one tree of a content, and the devices have
+-- its last two files.
 pub record LeavesLastFilesOfTree (g : Grammar) (honest_tree honest_a honest_b : Bool) (content a b : List ℕ) : Type 0 where
   pub rows : List (List ℕ)
   pub code : Lists
@@ -62,7 +62,7 @@ ShowsInFile g content f =
 
 -- R1: the content is the file of no tree of the grammar, and this shows at the offset. P2: it is the file of
 -- none within the limit of levels, which is exceeded before a fault is found. P3: the same with the limit of
--- stored nodes. The other faults have no meaning for it.
+-- nodes. The other faults have no meaning for it.
 abbrev pub IsTreeFileFault : Grammar → List ℕ → RunFault → Type 0
 IsTreeFileFault g content (run.Damaged at) = ((t : Tree) → IsTreeInFile g content t → ⊥) × ShowsInFile g content (run.Damaged at)
 IsTreeFileFault g content run.TooDeep =

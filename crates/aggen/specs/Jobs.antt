@@ -50,8 +50,8 @@ pub record IsRefusedJob (known : Option (List ℕ)) (honest_a honest_b : Bool) (
   pub exact : IsNoTranslator text e
       ⊎ ((grammar : Grammar) × IsGrammarOf text grammar × IsTranslationFault grammar sentence honest_a honest_b old new e)
 
--- All passes of a least plan ran over the one tree of a job's sentence by its grammar, and if the devices are honest
--- they have its last two files.
+-- A job's sentence has one tree by its grammar, and if the devices are honest all passes of a least plan ran over it, and the
+-- devices have its last two files.
 pub record LeavesLastFilesOfJob (known : Option (List ℕ)) (honest_a honest_b : Bool) (a b : List ℕ) : Type 0 where
   pub text : List ℕ
   pub sentence : List ℕ

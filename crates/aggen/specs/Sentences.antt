@@ -29,14 +29,14 @@ pub record IsScanFaultOf (g : Grammar) (sentence : List ℕ) (f : ScanFault) : T
   pub of_sentence : f ≢ scan.NoMemory
   pub none : HasNoTree g sentence
 
--- P1: the sentence has tokens, but no tree, and this shows at the offset
+-- P1: the sentence can be cut into tokens, but has no tree, and this shows at the offset
 pub record HasNoTreeFrom (g : Grammar) (sentence : List ℕ) (at : ℕ) : Type 0 where
   pub tokens : List Token
   pub cut : AreTokensOf (vocabulary_of g) sentence tokens
   pub offset : IsUnexpectedAt g tokens at
   pub none : HasNoTree g sentence
 
--- P2 and P3: the sentence has tokens, and their words leave only trees beyond a limit
+-- P2 and P3: the sentence can be cut into tokens, and their words leave only trees beyond a limit
 pub record LeavesOnlyTrees (g : Grammar) (sentence : List ℕ) (Leaves : List Lexeme → Type 0) : Type 0 where
   pub tokens : List Token
   pub cut : AreTokensOf (vocabulary_of g) sentence tokens

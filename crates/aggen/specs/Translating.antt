@@ -43,8 +43,8 @@ pub record LeavesFiles (g : Grammar) (sentence : List ℕ) (rows : List (List �
   pub greatest : IsGreatest report.passes rows
   pub left : WhenHonest honest_a (WhenHonest honest_b (AreLeft g (passes_of rows) tree a b report))
 
--- All passes of a least plan ran over the one tree of the sentence, and if the devices are honest they have
--- its last two files.
+-- The sentence has one tree, and if the devices are honest all passes of a least plan ran over it, and the devices
+-- have its last two files.
 pub record LeavesLastFiles (g : Grammar) (sentence : List ℕ) (honest_a honest_b : Bool) (a b : List ℕ) : Type 0 where
   pub rows : List (List ℕ)
   pub code : Lists

@@ -31,7 +31,7 @@ pub fn print_counts<W: Write>(alloc: Global, text: &[u8], out: &mut W) -> Result
     Ok(())
 }
 
-/// Reads and checks the grammar of a text. Fails with G1 to G4 if the text is not one of a grammar,
+/// Reads and checks the grammar of a text. Fails with G1 to G4 if the text does not read as a grammar,
 /// with the first fault of N1 to N10 if the grammar is not accepted, and with NoMemory if memory is
 /// refused.
 #[tactic(auto, using(crate::proofs::FromTexts::texts_are_readable))]

@@ -1,8 +1,9 @@
-//! Translators from attribute grammars. A translator is built from a grammar's text, lists its
-//! plan, parses a sentence into the file of its one tree, and translates it. A job has a grammar
-//! and a sentence in one text. The crate also evaluates expressions by way of a tree file.
+//! Translators from attribute grammars. A translator is built from a grammar's text. It parses a
+//! sentence into the file of its one tree, and translates it. A job has a grammar and a sentence in
+//! one text. The crate also prints plans and their code, and evaluates expressions by way of a tree
+//! file.
 //!
-//! Every call that allocates memory can also fail with NoMemory. Most comments do not mention it.
+//! Every call that allocates memory can also fail with NoMemory. Some comments do not mention it.
 #![tactic(auto)]
 
 mod certified;

@@ -76,7 +76,7 @@ impl Model for Translator {
 impl Translator {
     /// Builds the translator of a grammar's text.
     ///
-    /// Fails with G1 to G4 if the text is not one of a grammar; then with the first fault of N1 to
+    /// Fails with G1 to G4 if the text does not read as a grammar; then with the first fault of N1 to
     /// N10 of the grammar; then with L1, the least conflict of an accepted grammar; then with A1,
     /// if no assignment of passes is legal. Fails with NoMemory if memory is refused.
     pub fn build(alloc: Global, text: &[u8]) -> Result<Translator, BuildFault>
@@ -125,7 +125,7 @@ impl Translator {
         &self.plan
     }
 
-    /// Returns the allocator that it was built with.
+    /// Returns the allocator that the translator was built with.
     pub(crate) fn alloc(&self) -> Global {
         self.alloc
     }
@@ -134,7 +134,7 @@ impl Translator {
     /// the number of its nodes.
     ///
     /// Fails with S1 to S4, before the device is used, if the sentence is too long, is not UTF-8 or
-    /// can't be cut into tokens; with P2 or P3 if each tree of its tokens is beyond a limit; with P1 if
+    /// can't be cut into tokens; with P2 or P3 if its tokens have a tree beyond a limit; with P1 if
     /// they have no tree, or with P2 or P3 if the parser reaches a limit first; with D1 if the device
     /// failed; and with NoMemory if memory is refused. After a fault the device has its old content, or
     /// a prefix of a file of pass 0: of its header and frames of any bodies whose lengths are in range.
@@ -191,8 +191,9 @@ impl Translator {
     ///
     /// After O1 and O2 the devices have the last two tree files. After P `a` has a prefix of a file
     /// of pass 0, and after D1 and NoMemory each device has its old content, or a prefix of a file
-    /// of some pass: of a header and frames of any bodies whose lengths are in range (after P1 there
-    /// is no tree). The next call can use the devices in any state.
+    /// of some pass. Such a file is a header and frames of any bodies whose lengths are in range: it
+    /// need not encode a tree, since after P1 there is none. The next call can use the devices in any
+    /// state.
     #[tactic(auto, using(crate::proofs::Begun::begun))]
     pub fn translate<D: Device, W: Write>(
         &self,

@@ -39,7 +39,7 @@ translator_fault text (build.Table f) is = is
 translator_fault text (build.Assign f) is = is
 translator_fault text build.NoMemory is = tt
 
--- the same numbers have the same reason
+-- a refusal with the same status and numbers as another has a reason that the other has
 has_reason : (IsTrue : Fault → Type 0) (status was : ℕ) (fields were : RefusalFields) → numbers status fields ≡ numbers was were
     → HasReason IsTrue was were → HasReason IsTrue status fields
 has_reason IsTrue status was fields were same it = record { reason = it.reason; is_true = it.is_true; same = same ∙ it.same }

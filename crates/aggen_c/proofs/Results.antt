@@ -23,7 +23,7 @@ use Rattle.aggen_c.specs.Results.{HasTranslation, IsEvaluationOf, IsEvaluationRe
 use Rattle.aggen_c.specs.Results.{IsTranslationRefusal}
 use Rattle.aggen_c.specs.Results.{IsTreeFileOf, IsTreeRefusal}
 
--- what went out after nothing is the translation of the one tree
+-- what was written to an empty vector is the translation of the one tree
 has_translation : (IsTree : Tree → Type 0) (g : Grammar) (m : Passes) (passes : ℕ) (tree : Tree) (now before text : List ℕ)
     (report : Report)
     → IsOneTree IsTree tree → ArePassesOf g m passes → IsTranslated g m passes tree now before (Some []) (Some text) report
@@ -55,7 +55,7 @@ evaluated g file content a b start text report same empty was =
     let is = t.evaluated refl refl refl in
     has_translation _ g t.assignment t.passes is.tree _ _ text report is.one t.plan is.translated
 
--- the tree file of the one tree of the sentence was lent and copied
+-- the copied bytes are the tree file of the sentence's one tree, if the device that lent them contains that file
 pub has_tree_file : (g : Grammar) (sentence content lent copy : List ℕ)
     → (t : Tree) × IsTreeOfSentence g sentence t
     → ((t u : Tree) → IsTreeOfSentence g sentence t → IsTreeOfSentence g sentence u → t ≡ u)
@@ -68,7 +68,7 @@ has_tree_file g sentence content lent copy found one limits file same copied = r
   is = subst (IsFirstFile version_two g found.0) (sym (copied ∙ same)) (file found.0 found.1 refl);
 }
 
--- the plan of the grammar was listed after nothing
+-- what was written to an empty vector is the listing of the grammar's plan
 pub plan_text_of : (g lent : Grammar) (rows : List (List ℕ)) (code : Lists) (start text : List ℕ) → IsLeastPlan g rows code
     → lent ≡ g → start ≡ []
     → AppendsPlan lent rows (Some start) (Some text) → IsPlanTextOf g text
@@ -78,7 +78,7 @@ plan_text_of g lent rows code start text least same empty was =
     (subst (λ (x : Grammar). AppendsPlan x rows (Some start) (Some text)) same was) in
     record { rows = rows; code = code; least = least; listing = subst (IsPlanListing g rows) (sym listed.2) listed.1 }
 
--- a refusal of a sentence is none for a device or a write
+-- a fault of a translation is true of the sentence, if it is no failure of a device or a write
 translation_true : (g : Grammar) (sentence : List ℕ) (old new : Option (List ℕ)) (e : Fault) → e ≢ fault.Device → e ≢ fault.Write
     → IsTranslationFault g sentence true true old new e → IsTranslationRefusal g sentence e
 translation_true g sentence old new (fault.Scan f) device write is = is
@@ -139,7 +139,7 @@ tree_true g sentence (fault.Table f) device is = is
 tree_true g sentence (fault.Assign s) device is = is
 tree_true g sentence (fault.Job f) device is = is
 
--- the same of the fault that takes the place of another one in memory
+-- the same of the fault that `memory_fault` returns for another one
 pub translation_refused : (g : Grammar) (sentence : List ℕ) (old new : Option (List ℕ)) (e r : Fault)
     → IsTranslationFault g sentence true true old new e → (r ≡ e) ⊎ (r ≡ fault.NoMemory) → r ≢ fault.Device → r ≢ fault.Write
     → IsTranslationRefusal g sentence r

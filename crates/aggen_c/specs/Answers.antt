@@ -13,8 +13,8 @@ use Rattle.aggen_c.specs.declared.refusal.RefusalFields.{RefusalFields}
 abbrev pub IsCopied : (bytes old new : List ℕ) → Type 0
 IsCopied bytes old new = new ≡ take (min (length bytes) (length old)) bytes ++ drop (min (length bytes) (length old)) old
 
--- The buffer of a message has a message of this length, or as many of its first bytes as there is room for. The length of none is
--- 0.
+-- The buffer of a message has a message of this length, or as many of its first bytes as there is room for. If
+-- there is no message, it is the empty one, of length 0.
 pub record HasMessage (old new : List ℕ) (count : ℕ) : Type 0 where
   pub message : List ℕ
   pub copied : IsCopied message old new

@@ -60,14 +60,16 @@ IsTranslationRefusal g sentence (fault.NoText x) = HasNoText (IsTreeOfSentence g
 IsTranslationRefusal g sentence fault.NoMemory = Unit {0}
 IsTranslationRefusal g sentence _ = ⊥
 
--- Why the tree in a file has none: R1, P2, P3 and O1 are true of the file.
+-- Why the tree in a file has none: R1, P2, P3 and O1 are true of the file. NoMemory and D1 have no meaning
+-- for it (devices in memory never cause D1), and no other fault is possible.
 abbrev pub IsEvaluationRefusal : Grammar → (file : List ℕ) → Fault → Type 0
 IsEvaluationRefusal g file (fault.Run f) = IsTreeFileFault g file f
 IsEvaluationRefusal g file (fault.NoText x) = HasNoText (IsTreeInFile g file) g x
 IsEvaluationRefusal g file fault.NoMemory = Unit {0}
 IsEvaluationRefusal g file _ = ⊥
 
--- Why a sentence has no tree file: S and P are true of it.
+-- Why a sentence has no tree file: S and P are true of it. NoMemory has no meaning for it, and no other fault is
+-- possible.
 abbrev pub IsTreeRefusal : Grammar → (sentence : List ℕ) → Fault → Type 0
 IsTreeRefusal g sentence (fault.Scan f) = IsScanFaultOf g sentence f
 IsTreeRefusal g sentence (fault.Parse f) = IsParseFaultOf g sentence f

@@ -15,8 +15,8 @@ use std::alloc::Global;
 /// The name of a grammar in messages.
 const GRAMMAR: &str = "grammar";
 
-/// Puts the translator of a grammar's text into a handle. Frees the translator that it has first, so
-/// that after a refusal it has none.
+/// Puts the translator of a grammar's text into a handle. First frees the translator that the handle has, so
+/// that the handle has none after a refusal.
 pub fn build_handle(alloc: Global, grammar: &[u8], handle: &mut Handle) -> Result<(), Refusal>
     ensures built { OnOk result (IsSomeAnd handle.new.value (IsTranslatorOf grammar.now)) }
     ensures emptied { OnErr result (handle.new.value ≡ None) }
@@ -57,8 +57,8 @@ fn refusal_of(alloc: Global, fault: Fault, grammar: &[u8]) -> Refusal
     refusal.with_report(alloc, &report)
 }
 
-/// Writes the fields and the message of a refusal to the caller's memory, if the translator was not made. Returns the
-/// status.
+/// Writes the fields and the message of a refusal to the caller's memory, if the translator was not made, and else the
+/// fields of a call that was not refused. Returns the status.
 pub fn write_built(built: Result<(), Refusal>, message: &mut [u8], fields: &mut RefusalFields) -> u8
     ensures ok { OnOk built ((result ≡ 0) × (fields.new ≡ no_fields)) }
     ensures err { IfErr built (λ r. numbers result fields.new ≡ numbers r.status r.fields) }

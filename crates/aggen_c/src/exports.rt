@@ -1,5 +1,6 @@
 //! The functions that `bindings/c/aggen.c` calls. They take for granted that no pointer is null and that
-//! no two of one call overlap. C fixes their signatures.
+//! no two arguments of one call overlap in memory. C fixes their signatures. A result is copied as far as its
+//! buffer has room, and a call returns its status.
 
 ghost use Rattle.std.specs.Prelude.{◌≡◌, None};
 ghost use Rattle.aggen_c.specs.Answers.{Answers, HasMessage, IsBuilt};
@@ -14,7 +15,7 @@ use crate::operation::Operation;
 use crate::refusal::RefusalFields;
 use std::alloc::Global;
 
-/// Puts the translator of a grammar's text into a handle. Frees the translator that it has.
+/// Puts the translator of a grammar's text into a handle. Frees the translator that the handle had.
 #[unsafe(no_mangle)]
 pub extern "C" fn aggen_build_unchecked(
     alloc: Global,
@@ -30,7 +31,7 @@ pub extern "C" fn aggen_build_unchecked(
     write_built(built, message, refusal)
 }
 
-/// Translates a sentence with the handle's translator, which stays as it is.
+/// Copies the translation of a sentence to `out`. The handle's translator stays as it is.
 #[unsafe(no_mangle)]
 pub extern "C" fn aggen_translate_unchecked(
     alloc: Global,
@@ -51,7 +52,7 @@ pub extern "C" fn aggen_translate_unchecked(
     write_answer(answer, out, length, message, refusal)
 }
 
-/// Translates the tree in a tree file of pass 0 with the handle's translator, which stays as it is.
+/// Copies the translation of the tree in a tree file of pass 0 to `out`. The handle's translator stays as it is.
 #[unsafe(no_mangle)]
 pub extern "C" fn aggen_evaluate_unchecked(
     alloc: Global,
@@ -72,7 +73,7 @@ pub extern "C" fn aggen_evaluate_unchecked(
     write_answer(answer, out, length, message, refusal)
 }
 
-/// Returns the tree file of pass 0 of a sentence's tree. The handle's translator stays as it is.
+/// Copies the tree file of pass 0 of a sentence's tree to `out`. The handle's translator stays as it is.
 #[unsafe(no_mangle)]
 pub extern "C" fn aggen_parse_unchecked(
     alloc: Global,
@@ -93,7 +94,7 @@ pub extern "C" fn aggen_parse_unchecked(
     write_answer(answer, out, length, message, refusal)
 }
 
-/// Returns the listing of the passes of the handle's translator, which stays as it is.
+/// Copies the listing of the passes of the handle's translator to `out`. The translator stays as it is.
 #[unsafe(no_mangle)]
 pub extern "C" fn aggen_plan_unchecked(
     alloc: Global,

@@ -25,13 +25,13 @@ pub struct Number {
     pub index: u8,
 }
 
-/// The number of NoMemory, and of a misused command line.
+/// What NoMemory and a misused command line have, which have no number.
 const NONE: Number = Number {
     letter: 0,
     index: 0,
 };
 
-/// Returns the number of a fault, with which its message begins.
+/// Returns the number of a fault, with which its message begins; `NONE` if it has none.
 pub fn number_of(fault: &Fault) -> Number
     ensures { result ≡ number_of fault.now }
 {

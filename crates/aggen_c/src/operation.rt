@@ -72,7 +72,7 @@ impl Operation {
 }
 
 /// Returns the report of a fault of a tree file. Takes memory for a copy of the file; if that is refused,
-/// the report says the number and the file alone.
+/// the report has only the fault and, for R1, P2 and P3, the name of the file.
 fn report_of_tree(
     alloc: Global,
     fault: Fault,

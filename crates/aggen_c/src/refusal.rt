@@ -24,9 +24,9 @@ pub struct RefusalFields {
     pub index: u8,
     /// The offset in bytes in the input of the call, or `NO_OFFSET`.
     pub offset: u64,
-    /// The line in the input, from 1, or 0.
+    /// The line in the input, from 1; 0 if there is none.
     pub line: usize,
-    /// The column in characters, from 1, or 0.
+    /// The column in characters, from 1; 0 if there is none.
     pub column: usize,
     /// The number of bytes of the message.
     pub message_length: usize,

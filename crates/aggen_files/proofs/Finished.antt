@@ -54,7 +54,7 @@ module _ (g : Grammar) (sentence : List ℕ) (ha hb ha' hb' : Bool) (first : ha'
     output = printed.put;
   }
 
-  -- the files are whole after all bytes were printed, or some
+  -- after a translation into memory the files are the last two tree files, whether or not its bytes are printed
   pub printed_files : (a b a' b' bytes : List ℕ) (report : Report)
       → (ha' ≡ true → a' ≡ a) → (hb' ≡ true → b' ≡ b)
       → TranslatesSentence g sentence ha hb a b (Some []) (Some bytes) report
@@ -82,7 +82,7 @@ module _ (g : Grammar) (sentence : List ℕ) (ha hb ha' hb' : Bool) (first : ha'
     };
   }
 
-  -- they are whole after a refusal if they were before they were written out
+  -- after a fault the files are the last two tree files, if the devices had these before they were written out
   pub refused_files : (a b a' b' : List ℕ)
       → (ha' ≡ true → a' ≡ a) → (hb' ≡ true → b' ≡ b)
       → LeavesLastFiles g sentence ha hb a b → LeavesLastFiles g sentence ha' hb' a' b'
@@ -99,7 +99,7 @@ module _ (g : Grammar) (sentence : List ℕ) (ha hb ha' hb' : Bool) (first : ha'
     };
   }
 
-  -- a refusal says as much where less is supposed of the files, and nothing but O2 speaks of the bytes printed
+  -- the meaning of a fault other than O2 holds for any printed bytes, and under stronger hypotheses about the files
   pub refused : (old new old' new' : Option (List ℕ)) (e : Fault) → e ≢ fault.Write
       → IsTranslationFault g sentence ha hb old new e → IsTranslationFault g sentence ha' hb' old' new' e
   refused old new old' new' (fault.Scan f) other exact = exact

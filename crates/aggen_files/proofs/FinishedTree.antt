@@ -57,7 +57,7 @@ module _ (g : Grammar) (content : List ℕ) (ht ha hb ha' hb' : Bool) (first : h
     output = printed.put;
   }
 
-  -- a refusal says as much where less is supposed of the files, and nothing but O2 speaks of the bytes printed
+  -- the meaning of a fault other than O2 holds for any printed bytes, and under stronger hypotheses about the files
   pub refused : (old new old' new' : Option (List ℕ)) (e : Fault) → e ≢ fault.Write
       → IsEvaluationFault g ht ha hb content old new e → IsEvaluationFault g ht ha' hb' content old' new' e
   refused old new old' new' (fault.Scan f) other exact = exact

@@ -1,4 +1,4 @@
--- What a refusal leaves on files.
+-- The contents of files after a failure.
 use Rattle.std.proofs.Common.{◌≡◌, inl, inr, List, ℕ, Bool, true, Result, Ok, Err, refl, sym, subst}
 use Rattle.std.specs.Result.{IfOk, OnErr}
 use Rattle.ag_grammar.specs.grammars.AttributeGrammar.{Grammar}

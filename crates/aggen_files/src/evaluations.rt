@@ -19,11 +19,11 @@ use treefile::Device;
 impl<F: Read + Write + Seek + OpenFile> WorkFiles<F> {
     /// Translates the tree whose file of pass 0 is on the device `tree`, which keeps its content.
     /// The passes use the two files. Prints the translation once both are written out. Both are
-    /// also written out after a failure.
+    /// also written out after every failure but D1.
     ///
     /// Fails with D1 if a file can't be written out, and otherwise as `Translator::evaluate_tree`
-    /// does; with NoMemory also if memory for the translation's bytes cannot be allocated. Only
-    /// with O2 has anything been printed.
+    /// does; with NoMemory also if memory for the translation's bytes cannot be allocated. Every
+    /// failure but O2 leaves `out` unchanged.
     pub fn evaluate<T: Device, W: Write>(
         &mut self,
         alloc: Global,

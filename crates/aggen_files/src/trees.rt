@@ -28,11 +28,11 @@ use std::io::{Read, Seek, Write};
 use treefile::{FileDevice, MemDevice, SharedDevice};
 
 /// Writes the file of pass 0 of a sentence's tree to `tree`, in place of what it has, and then
-/// prints the number of the tree's stored nodes and returns it.
+/// prints the number of the tree's nodes and returns it.
 ///
 /// Fails with D1 if the file can't be written out, and otherwise as `Translator::parse_tree` and
-/// `print_count` do. After S1 to S4 the file has the content that it had, after P1 to P3 a prefix
-/// of a file of pass 0. After O2 it has the tree, and a prefix of the line was printed.
+/// `print_count` do. After S1 to S4 the file has the content that its device had, after P1 to P3 a
+/// prefix of a file of pass 0. After O2 it has the tree, and a prefix of the line was printed.
 pub fn parse_to_file<F: Read + Write + Seek + OpenFile, W: Write>(
     alloc: Global,
     translator: &Translator,
@@ -112,12 +112,12 @@ pub fn evaluate_file<F: Read + Write + Seek + OpenFile, W: Write>(
 /// it has, and then prints the number of the tree's nodes and returns it. `old` is only read: by the
 /// record of its own calls it keeps its content. The records in between are in memory, and all of
 /// `old` is read before `tree` is written, so both may be devices over one file, which then has the
-/// new tree, and the old one no more.
+/// new tree file and no longer the old one.
 ///
 /// Fails with D1 if the file can't be written out, and otherwise as `Translator::upgrade` and
 /// `print_count` do. After O2 the new file has the tree, and a prefix of the line was printed.
-/// After another failure it has the content that it had, a prefix of a file of pass 0, or the whole
-/// file.
+/// After another failure the device `tree` has the content that it had, a prefix of a file of pass 0,
+/// or the file of the old tree.
 pub fn upgrade_file<F: Read + Write + Seek + OpenFile, W: Write>(
     alloc: Global,
     translator: &Translator,

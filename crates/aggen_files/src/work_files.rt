@@ -25,8 +25,8 @@ use std::io::{Read, Seek, Write};
 use std::rt::Files;
 use treefile::{DeviceFault, FileDevice};
 
-/// The tree files a.agt and b.agt of a folder. Each pass of a translation reads one of them and
-/// writes the other.
+/// The tree files a.agt and b.agt of a folder. Each pass reads one of them and writes the other,
+/// except that pass 1 of `evaluate` reads the given tree file.
 #[derive(Drop)]
 pub struct WorkFiles<F> {
     /// The device over a.agt.
@@ -49,7 +49,8 @@ impl<F: Read + Write + Seek + OpenFile> WorkFiles<F> {
     /// until a translation clears them. `first` and `second` are the records in which contracts see
     /// the calls of the two files; they occupy no memory, and a caller passes `CallRecord::new()`.
     ///
-    /// Fails with F1 if a file can't be opened, and with NoMemory if memory cannot be allocated.
+    /// Fails with F1 if a file can't be opened or created, and with NoMemory if memory cannot be
+    /// allocated.
     pub fn open<R: Files<File = F>>(
         rt: &R,
         alloc: Global,
@@ -72,7 +73,7 @@ impl<F: Read + Write + Seek + OpenFile> WorkFiles<F> {
     }
 
     /// Writes to both files the bytes that their devices have buffered, to the second one also if
-    /// the first one fails. Fails with `Failed` if a write fails.
+    /// the first one fails. Fails with `Failed` if one of these writes or an earlier one failed.
     pub(crate) fn finish(&mut self) -> Result<(), DeviceFault>
         ensures a { OnOk result (StoresContent self.old.a self.new.a) }
         ensures b { OnOk result (StoresContent self.old.b self.new.b) }
@@ -94,13 +95,13 @@ impl<F: Read + Write + Seek + OpenFile> WorkFiles<F> {
     }
 
     /// Translates a sentence by way of the two files, and prints the translation once both are
-    /// written out. Both are also written out after a failure.
+    /// written out. Both are also written out after every failure but D1.
     ///
     /// Fails with D1 if a file can't be written out, and otherwise as `Translator::translate` does;
-    /// with NoMemory also if memory for the translation's bytes cannot be allocated. Only with O2
-    /// has anything been printed. After O1 and O2 the files are the last two tree files. After S1
-    /// to S4 both files have the contents that they had. After P1 to P3 b.agt has, and a.agt has a
-    /// prefix of a file of pass 0.
+    /// with NoMemory also if memory for the translation's bytes cannot be allocated. Every failure
+    /// but O2 leaves `out` unchanged. After O1 and O2 the files are the last two tree files. After S1
+    /// to S4 both files have the contents that their devices had. After P1 to P3 so has b.agt, and
+    /// a.agt has a prefix of a file of pass 0.
     pub fn translate<W: Write>(
         &mut self,
         alloc: Global,
@@ -121,7 +122,7 @@ impl<F: Read + Write + Seek + OpenFile> WorkFiles<F> {
         ensures kept { IfErr result (λ e. e ≢ Fault.Write → out.new ≡ out.old) }
         ensures begins { IsErrOf result Fault.Write →
             BeginsText (W.contents out.old) (W.contents out.new) }
-        // S: both files have the content that their devices had; P: b.agt has
+        // S: both files have the contents that their devices had; P: so has b.agt
         ensures untouched { IfErr result (λ e. IsScanFault e →
             StoresContent self.old.a self.new.a) }
         ensures b_untouched { IfErr result (λ e. IsRefusedSentence e →
@@ -157,7 +158,7 @@ impl<F: Read + Write + Seek + OpenFile> WorkFiles<F> {
 }
 
 /// Returns the result of a translation into a `Vec`, with NoMemory in place of O2: a write to a
-/// `Vec` fails only without memory.
+/// `Vec` fails only if memory is refused.
 pub(crate) fn of_buffered(translated: Result<Report, Fault>) -> Result<Report, Fault>
     ensures ok { IfOk result (λ report. translated ≡ Ok report) }
     ensures err { IfErr result (λ e. (translated ≡ Err e) ⊎ (e ≡ Fault.NoMemory)) }

@@ -20,8 +20,8 @@ pub enum Part {
     Code,
 }
 
-/// Reads a grammar, and prints a part of it. Fails if the grammar can't be read or is refused, and with O2 if the
-/// output fails.
+/// Reads a grammar, and prints a part of it. Fails if the grammar can't be read or is refused, with O2 if the output
+/// fails, and if memory is refused.
 pub fn print_part<R: Files + Input + Print>(
     rt: &R,
     alloc: Global,

@@ -93,8 +93,8 @@ fn fault_of(fault: CommandLineFault) -> Fault
     }
 }
 
-/// Runs the command of a request. Returns the status: of `run` with several sentences that of the first one that
-/// failed, whose message was printed, and else 0.
+/// Runs the command of a request. Returns the status: 0 or, for `run` with several sentences, that of the first one
+/// that failed; the messages of those that failed were printed.
 fn perform<R: Files + Input + Print + Eprint + Clock>(
     rt: &R,
     alloc: Global,

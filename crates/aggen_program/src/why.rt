@@ -17,6 +17,9 @@ use std::rt::Files;
 
 /// Prints why a grammar needs its passes, or why no pass before the one of an attribute can compute it. If no order of
 /// passes evaluates the grammar, prints why, and fails with A1.
+///
+/// Also fails if the grammar can't be read or is refused, if it does not have the attribute, if the output fails (O2),
+/// and if memory is refused.
 pub fn explain_plan<R: Files + Input + Print>(
     rt: &R,
     alloc: Global,

@@ -162,10 +162,10 @@ fn code_lines(alloc: Global, grammar: &Grammar, code: &Code) -> Result<String, A
 /// instructions of its list. Productions are in the order of the grammar's text, and the lines of a
 /// production in the order of the passes, from 1.
 ///
-/// Fails with O2 Write if a write fails, if only because the writer is refused memory, or takes no byte;
-/// a prefix of the listing is written then.
-/// Fails with NoMemory if memory is refused; nothing is written then. Takes memory for the whole
-/// listing, which is complete before its first byte is written.
+/// Fails with O2 Write if a write takes no byte, or fails for any reason, such as memory that the writer
+/// is refused; a prefix of the listing is written then. Fails with NoMemory if memory for the listing
+/// is refused; nothing is written then. Takes memory for the whole listing, which is complete before
+/// its first byte is written.
 pub fn write_code<W: Write>(
     alloc: Global,
     out: &mut W,

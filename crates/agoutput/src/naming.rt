@@ -1,4 +1,4 @@
-//! The numbers and the names of attributes in listings.
+//! Numbers and the names of attributes, as they are written in listings.
 
 ghost use Rattle.std.specs.Prelude.{◌≡◌, ◌++◌, [], OnOk, decimal, slice_get, slice_index_or};
 ghost use Rattle.std.specs.Prelude.{string_bytes};

@@ -115,10 +115,10 @@ fn plan_lines(
 /// Writes the listing of a plan's passes: a line for each pass from 1, with its direction and the
 /// attributes that it computes, in declared order.
 ///
-/// Fails with O2 Write if a write fails, if only because the writer is refused memory, or takes no byte;
-/// a prefix of the listing is written then.
-/// Fails with NoMemory if memory is refused; nothing is written then. Takes memory for the whole
-/// listing, which is complete before its first byte is written.
+/// Fails with O2 Write if a write takes no byte, or fails for any reason, such as memory that the writer
+/// is refused; a prefix of the listing is written then. Fails with NoMemory if memory for the listing
+/// is refused; nothing is written then. Takes memory for the whole listing, which is complete before
+/// its first byte is written.
 pub fn write_plan<W: Write>(
     alloc: Global,
     out: &mut W,

@@ -12,7 +12,7 @@ pub fn sample_passes_listed()
     ensures { IsPlanListing sample sample_rows sample_plan }
 {}
 
-/// States that `sample_line` is the line of production 0 and pass 1 in the listing of its code.
+/// States that `sample_line` is the line of production 0 and pass 1 in the listing of that grammar's code.
 pub fn sample_code_listed()
     ensures { code_line sample 0 sample_production (1, sample_list) ≡ sample_line }
 {}

@@ -1,4 +1,4 @@
--- That a file of version 1 is reversed to the file of the same tree.
+-- A file is reversed to the file of the same tree in the other direction.
 pub mod Mirror
 pub mod OneTurning
 pub mod PendingChildren

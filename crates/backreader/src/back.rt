@@ -180,7 +180,7 @@ impl Back {
     }
 
     /// Returns whether the device lent the last body of the file when the reader was started. If not,
-    /// `lend_back` need not be called: a device that has shared values lends that body.
+    /// `lend_back` need not be called: a `SharedDevice` that has shared values would have lent that body.
     #[inline(always)]
     pub fn can_lend(&self) -> bool {
         self.can_lend

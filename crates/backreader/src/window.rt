@@ -26,10 +26,10 @@ const LENGTH: usize = LENGTH_BYTES as usize;
 /// The least number of bytes of a body, as a `usize`.
 const LEAST: usize = LEAST_BODY as usize;
 
-/// The bytes of a device before the offset `at` in a file of a version, as far as they were read:
-/// those of the buffer from index `from` to index `to` are unread. Before `from` the buffer is free,
-/// and from `to` on it has the bytes of the frame that was taken last. The buffer has at least 4,096
-/// bytes, and at most those of the greatest frame.
+/// The bytes of a device before the offset `at`, as far as they are in the buffer: from index `from` to
+/// index `to` it has bytes that were read from the device and not taken yet (called *unread*). Before
+/// `from` it is free, and after `take` the bytes of the frame that was taken begin at `to`. The buffer
+/// has at least 4,096 bytes, and at most as many as the greatest frame of the version.
 #[derive(Drop)]
 pub(crate) struct Window {
     version: FileVersion,
@@ -83,7 +83,7 @@ impl Window {
     }
 
     /// Skips the frame that ends at the offset, whose body has `length` bytes, without reading it.
-    /// Drops the bytes of the buffer.
+    /// Drops the unread bytes of the buffer.
     #[inline(always)]
     pub(crate) fn pass_over(&mut self, length: usize)
         requires { header_bytes + length + length_bytes ≤ self.old.at }
@@ -99,8 +99,8 @@ impl Window {
     /// Returns `None` if the header ends there.
     ///
     /// Fails with B2 Damaged if no frame ends there, and with D1 Device if a call of the device
-    /// failed. Takes memory for a frame that has more bytes than the buffer; after NoMemory nothing
-    /// has changed.
+    /// failed. Takes memory for a frame that has more bytes than the buffer; after NoMemory the offset
+    /// and the unread bytes are as before.
     #[inline(always)]
     #[tactic(auto, unfolding(treefile::specs::framing::Backward::next_before))]
     pub(crate) fn next<D: Device>(&mut self, device: &mut D) -> Result<Option<usize>, FrameFault>
@@ -142,7 +142,7 @@ impl Window {
             return Err(FrameFault::Damaged(self.at));
         };
         if self.grow(length + LENGTH).is_err() {
-            // the next call reads these bytes again
+            // drops the bytes that `length_before` read; the next call reads them again
             self.from = self.to - unread;
             return Err(FrameFault::NoMemory);
         }
@@ -159,8 +159,8 @@ impl Window {
         &self.buffer[self.to..self.to + count]
     }
 
-    /// Returns the length of the body whose frame ends at the offset, if all of that frame was
-    /// read: then it fits after the header, and in the buffer. Else returns `None`.
+    /// Returns the length of the body whose frame ends at the offset, if all of that frame is among the
+    /// unread bytes: then it fits after the header, and in the buffer. Else returns `None`.
     #[inline(always)]
     #[tactic(auto, using(crate::proofs::EndingAt::body_at_hand))]
     fn buffered_length(&self) -> Option<usize>

@@ -31,7 +31,7 @@ fn used_device(alloc: Global) -> Result<MemDevice, AllocError> {
     Ok(MemDevice::from_bytes(vec![in alloc; 1, 2, 3]?))
 }
 
-/// Returns the last body of a content, or its fault.
+/// Returns the last body of a content, or why it has none.
 pub fn last_answer(alloc: Global, bytes: Vec<u8>) -> Result<String, Mistake> {
     match last_body(alloc, &mut MemDevice::from_bytes(bytes)) {
         Ok(body) => Ok(shown_bytes(alloc, body.as_slice())?),

@@ -87,8 +87,8 @@ impl Question<'_> {
         }
     }
 
-    /// Answers questions about a grammar's parts, and about assignments, code and certificates; then those about
-    /// passes.
+    /// Answers questions about a grammar's parts, and about assignments, code and certificates; leaves others to
+    /// `of_passes`.
     fn of_plans(&self, grammar: &Grammar) -> Result<String, Mistake> {
         let (alloc, rest) = (self.alloc, self.rest);
         match self.verb {
@@ -103,7 +103,7 @@ impl Question<'_> {
         }
     }
 
-    /// Answers questions about passes and the text of the root; then those about sentences.
+    /// Answers questions about passes and the text of the root; leaves others to `of_sentences`.
     fn of_passes(&self, grammar: &Grammar) -> Result<String, Mistake> {
         let (alloc, texts) = (self.alloc, self.texts);
         match self.verb {
@@ -133,8 +133,8 @@ impl Question<'_> {
         }
     }
 
-    /// Answers questions about texts of grammars, and about assignments and code without a grammar; then those about
-    /// values.
+    /// Answers questions about texts of grammars, and about assignments and code without a grammar; leaves others to
+    /// `value_questions`.
     fn of_texts(&self, given: &Value) -> Result<String, Mistake> {
         let (alloc, rest) = (self.alloc, self.rest);
         match self.verb {

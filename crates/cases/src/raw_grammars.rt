@@ -16,7 +16,7 @@ fn named(alloc: Global, number: u32) -> Result<Named, AllocError> {
     })
 }
 
-/// Returns the declaration of symbol `s` with a number.
+/// Returns the declaration of the symbol whose name is `s` and a number.
 fn symbol(alloc: Global, number: u32) -> Result<RawSymbol, AllocError> {
     Ok(RawSymbol {
         name: named(alloc, number)?,
@@ -34,7 +34,7 @@ fn items(alloc: Global, number: u32, last: u32) -> Result<Items<RawItem>, Mistak
     Ok(Items::from_vec(items))
 }
 
-/// Returns a production of symbol `s` with a number.
+/// Returns a production of the symbol whose name is `s` and a number.
 fn production(alloc: Global, number: u32, last: u32) -> Result<RawProduction, Mistake> {
     let items = items(alloc, number, last)?;
     Ok(RawProduction {

@@ -36,7 +36,7 @@ pub fn answer(
     }
 }
 
-/// Answers questions about values and their encodings; then those about contents.
+/// Answers questions about values and their encodings; leaves others to `answer_of_contents`.
 fn answer_of_values(
     alloc: Global,
     texts: &CurrentTexts,

@@ -23,7 +23,7 @@ use Rattle.treefile.specs.records.TreeFile.{version_two}
 use Rattle.origins.specs.Causes.{place_path, tree_at, values_at}
 use Rattle.origins.specs.Origins.{child, child_of}
 use Rattle.origins.specs.Rows.{table_of}
-use Rattle.tree_index.specs.Nodes.{AreEnds, IsIndexOf, StandsAt, Subtree, back_from, kids, nodes_of, record_at, record_of}
+use Rattle.tree_index.specs.Nodes.{AreEnds, IsIndexOf, IsSubtreeAt, Subtree, back_from, kids, nodes_of, record_at, record_of}
 use Rattle.tree_index.specs.declared.index.TreeIndex.{TreeIndex}
 use Rattle.tree_index.proofs.Kids.{first_of, kind_there, record_there}
 use Rattle.causes.specs.Chains.{HasNoError, IsChain}
@@ -54,7 +54,7 @@ kid_there none vs i s e nothing = let bad : ⊥ = cc in bad
 kid_there (more t ts) vs zero s e nothing = let bad : ⊥ = cc in bad
 kid_there (more t ts) vs (suc i) s e nothing = kid_there ts (rest vs) i s e nothing
 
--- no inherited attribute, no kind
+-- no attribute of a symbol without inherited attributes is inherited
 plain_symbol : (syn inh : List (List ℕ)) (a : ℕ) → inh ≡ []
     → slice_get (map (λ n. Synthesized) syn ++ map (λ n. Inherited) inh) a ≡ Some Inherited → ⊥
 plain_symbol [] [] a plain e = let bad : ⊥ = cc in bad
@@ -106,23 +106,24 @@ module _ (g : Grammar) (index : TreeIndex) (content : List ℕ) (m : Passes) (k 
     (file : IsFileOfTree version_two g m k t v content) (indexed : IsIndexOf g m k t v content index)
     (few : node_count t ≤ max_nodes) (solves : Solves AnyRule g t v) where
   -- a node is where the index has its number
-  node_stands : (path : List ℕ) (q : Production) (n : IsNodeAt g t path q) (number : ℕ)
+  node_is_at : (path : List ℕ) (q : Production) (n : IsNodeAt g t path q) (number : ℕ)
       → IsNumberAt g index (map suc path) number
-      → StandsAt (back_from k) (nodes_of (back_from k) t v) number (node n.number n.trees) (values_at v path)
-  node_stands path q n number numbered =
+      → IsSubtreeAt (back_from k) (nodes_of (back_from k) t v) number (node n.number n.trees) (values_at v path)
+  node_is_at path q n number numbered =
       let at = numbered k t v indexed.nodes fits in
       let same : at.path ≡ path = same_path at.path path (sym at.counted) in
       let both : Some at.tree ≡ Some (node n.number n.trees) = sym at.there ∙ ap (tree_at (Some t)) same ∙ n.there in
       let tree : at.tree ≡ node n.number n.trees = cc in
-      subst (λ (s : Tree). StandsAt (back_from k) (nodes_of (back_from k) t v) number s (values_at v path)) tree
-      (subst (λ (p : List ℕ). StandsAt (back_from k) (nodes_of (back_from k) t v) number at.tree (values_at v p)) same at.occurs)
+      subst (λ (s : Tree). IsSubtreeAt (back_from k) (nodes_of (back_from k) t v) number s (values_at v path)) tree
+      (subst (λ (p : List ℕ). IsSubtreeAt (back_from k) (nodes_of (back_from k) t v) number at.tree (values_at v p))
+      same at.occurs)
 
   -- each node has a record,
   has_record : (path : List ℕ) (q : Production) → IsNodeAt g t path q → IsWithoutRecord g index (map suc path) → ⊥
   has_record path q n without =
       let nodes = nodes_of (back_from k) t v in
       let here : Subtree = record { tree = node n.number n.trees; values = values_at v path } in
-      let stands = node_stands path q n without.number without.numbered in
+      let stands = node_is_at path q n without.number without.numbered in
       let kind = kind_there k t v index without.number (node n.number n.trees) (values_at v path) indexed.nodes stands in
       ends_there content index.ends.items (map (record_at g m k) nodes) without.number (record_at g m k here) indexed.ends
       (slice_get-map (record_at g m k) nodes without.number
@@ -136,7 +137,7 @@ module _ (g : Grammar) (index : TreeIndex) (content : List ℕ) (m : Passes) (k 
   has_error path target q n error without =
       let w = values_at v path in
       let tree = node n.number n.trees in
-      let stands = node_stands path q n without.ends.number without.ends.numbered in
+      let stands = node_is_at path q n without.ends.number without.ends.numbered in
       let is : without.body ≡ record_of g m k tree w =
       sym (found_body content without.end (record_of g m k tree w) without.body
       (record_there g m k t v content index without.ends.number without.end tree w indexed stands without.ends.ends)
@@ -160,7 +161,7 @@ module _ (g : Grammar) (index : TreeIndex) (content : List ℕ) (m : Passes) (k 
   has_child : (path : List ℕ) (q : Production) (n : IsNodeAt g t path q) (i : ℕ) (s : Tree) → child n.trees i ≡ Some s
       → HasNoChildAt g index (map suc path) (suc i) → ⊥
   has_child path q n i s there no_child =
-      let stands = node_stands path q n no_child.number no_child.numbered in
+      let stands = node_is_at path q n no_child.number no_child.numbered in
       let fit = children_fit g t fits path q n in
       kid_there n.trees (children (values_at v path)) i s there
       (no_child.none k t v (item.Symbol q.left) (node n.number n.trees) (values_at v path) indexed.nodes (omega arith)

@@ -37,7 +37,8 @@ use Rattle.origins.specs.Records.{IsNode}
 use Rattle.origins.specs.Rows.{table_of}
 use Rattle.origins.proofs.Arguments.{argument_value, row}
 use Rattle.origins.proofs.Same.{node_is_no_token, one_body}
-use Rattle.tree_index.specs.Nodes.{HasChild, HasNodes, IsIndexOf, IsKid, StandsAt, Subtree, back_from, kids, nodes_of, record_of}
+use Rattle.tree_index.specs.Nodes.{HasChild, HasNodes, IsIndexOf, IsKid, IsSubtreeAt, Subtree, back_from, kids, nodes_of}
+use Rattle.tree_index.specs.Nodes.{record_of}
 use Rattle.tree_index.specs.declared.index.TreeIndex.{TreeIndex}
 use Rattle.tree_index.proofs.Kids.{record_there, root_occurs}
 use Rattle.causes.specs.Chains.{DoesNext, DoesNextAt, IsCause, IsChain, Reading, itself, longer, places_of}
@@ -135,7 +136,7 @@ root_number g index k t v has tree = record {
       (back_from k) t v;
 }
 
--- the child at a place has the number that the index answers
+-- the child at a place has the number that the index returns for it
 kid_number : (d : Direction) (t : Tree) (v : Valuation) (places : List ℕ) (place number : ℕ) (path : List ℕ) (p : ℕ) (ts : Forest)
     → places ≡ map suc path → tree_at (Some t) path ≡ Some (node p ts)
     → IsKid d (nodes_of d t v) ts (values_at v path) place number → IsAtPlaces d t v (places ++ place ∷ []) number
@@ -149,13 +150,13 @@ kid_number d t v places place number path p ts counted there kid =
           ∙ sym (map-append suc path (kid.index ∷ []));
       tree = kid.kid.tree;
       there = tree_further (Some t) path kid.index ∙ ap (λ (z : Option Tree). child_of z kid.index) there ∙ at.0;
-      occurs = subst (λ (z : Valuation). StandsAt d (nodes_of d t v) number kid.kid.tree z) values kid.occurs;
+      occurs = subst (λ (z : Valuation). IsSubtreeAt d (nodes_of d t v) number kid.kid.tree z) values kid.occurs;
     }
 
 child_of_tree : (g : Grammar) (index : TreeIndex) (places : List ℕ) (number place c : ℕ) (k : ℕ) (t : Tree) (v : Valuation)
     (path : List ℕ) (tree : Tree) → HasChild g index number place c → HasNodes k t v index → IsSomeFit g (Some tree)
     → places ≡ map suc path → tree_at (Some t) path ≡ Some tree
-    → StandsAt (back_from k) (nodes_of (back_from k) t v) number tree (values_at v path)
+    → IsSubtreeAt (back_from k) (nodes_of (back_from k) t v) number tree (values_at v path)
     → IsAtPlaces (back_from k) t v (places ++ place ∷ []) c
 child_of_tree g index places number place c k t v path (leaf d x) has_child has fits counted there occurs = absurd
     (has_child k t v fits.0 (leaf d x) (values_at v path) has fits.1 occurs)

@@ -58,7 +58,7 @@ module _ (g : Grammar) (t : Tree) (v : Valuation) where
   abbrev IsCaused : List ℕ → Target → Type 0
   IsCaused path target = HasCause g t v (place_path path target.place) target.attr
 
-  -- an error that arises is its own cause
+  -- the error that a rule computes has a cause if it arises in that rule,
   arises : (places path : List ℕ) (target : Target) (number : ℕ) → places ≡ map suc path
       → IsInTree g t v places target (rule_does.Arises number) → IsCaused path target
   arises places path target number counted found =
@@ -77,7 +77,7 @@ module _ (g : Grammar) (t : Tree) (v : Valuation) where
       }) found.next.arises in
       subst (λ (p : List ℕ). IsCaused p target) same (subst (IsCaused found.path) found.next.gives caused)
 
-  -- one that is passed on has the cause of the error that it was
+  -- and if it is passed on from an error that has one;
   passes : (path : List ℕ) (target : Target) (beyond : List ℕ) (from : Target)
       → IsPassedFrom (in_tree g t v) (map suc path) target (map suc beyond) from → IsCaused beyond from → IsCaused path target
   passes path target beyond from link cause =
@@ -104,7 +104,7 @@ module _ (g : Grammar) (t : Tree) (v : Valuation) where
       }) found.next.source found.next.takes of_argument in
       subst (λ (p : List ℕ). IsCaused p target) (sym same) (subst (IsCaused found.path) found.next.gives caused)
 
-  -- so has the error at the beginning of a chain that of the one at its end
+  -- so the error at the beginning of a chain has a cause if the one at its end has
   along : (places : List ℕ) (target : Target) {there : List ℕ} {from : Target} {n : ℕ}
       → IsChain (in_tree g t v) places target there from n → (path : List ℕ) → places ≡ map suc path → (beyond : List ℕ)
       → there ≡ map suc beyond → IsCaused beyond from → IsCaused path target

@@ -26,7 +26,7 @@ has_some : {X : Type 0} (xs : List X) (i : ℕ) (x : X) → slice_get xs i ≡ S
 has_some [] i x e = absurd (let bad : ⊥ = cc in bad)
 has_some (y ∷ xs) i x e = omega arith
 
--- All chains from an element end.
+-- Each chain from an element has an end.
 pub data Ends {X : Type 0} (R : X → X → Type 0) : X → Type 0 where
   ends : (x : X) → ((y : X) → R x y → Ends R y) → Ends R x
 

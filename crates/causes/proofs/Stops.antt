@@ -44,7 +44,7 @@ none_further rules target number rule there differs before n r less is gives = e
       both_ways (nat_eq rule.target.place target.place && nat_eq rule.target.attr target.attr) differs on
 ]
 
--- A number that does not fit is not the first one that does.
+-- If the number of a rule does not fit two bytes, and no rule before it is for the target, none with a number that fits is.
 pub none_that_fits : {E : Type 0} (rules : List Rule) (target : Target) (number : ℕ) (converted : Result ℕ E)
     → NoneBefore rules target number → OkIff converted (number < 65536) number
     → IfNone (result_ok converted) (NoneBefore rules target 65536)
@@ -54,7 +54,7 @@ none_that_fits rules target number (Err e) before is = λ n r small there gives.
   | inr past ↦ before n r (omega arith) there gives
 ]
 
--- Where no rule is for a target, none has an error;
+-- Where no rule is for a target, no rule for it has an error;
 pub no_rule : (rules : List Rule) (e : Table) (target : Target) → NoneBefore rules target 65536 → HasNoError rules e target
 no_rule rules e target none n r small there gives = absurd (none n r small there gives)
 
@@ -108,12 +108,12 @@ leads_nowhere g h j k places way i place same_grammar same_index is there none =
       none = subst (λ (z : Grammar). HasNoChildAt z k (take i places) place) same_grammar of_index;
     }
 
--- what holds if there is nothing, where there is nothing
+-- a fact that holds if an option is None, where it is None
 pub nothing_there : {X P : Type 0} (o : Option X) → o ≡ None → IfNone o P → P
 nothing_there None is holds = holds
 nothing_there (Some x) is holds = absurd (let bad : ⊥ = cc in bad)
 
--- and what holds of what is there
+-- and a fact of its value, where it has one
 pub some_there : {X : Type 0} (P : X → Type 0) (o : Option X) (x : X) → o ≡ Some x → IfSome o P → P x
 some_there P None x is holds = absurd (let bad : ⊥ = cc in bad)
 some_there P (Some y) x is holds = let one : y ≡ x = cc in subst P one holds

@@ -43,7 +43,7 @@ pub record Arises (rules : List Rule) (e : Table) (target : Target) (number : �
   pub gives : rule.target ≡ target
   pub arises : is_arising e rule ≡ true
 
--- No rule for a target has an error as its value. Rules are numbered with two bytes.
+-- No rule for a target has an error as its value. The numbers of rules fit two bytes.
 abbrev pub HasNoError : List Rule → Table → Target → Type 0
 HasNoError rules e target = (number : ℕ) (rule : Rule) → number < 65536 → slice_get rules number ≡ Some rule
     → rule.target ≡ target
@@ -86,9 +86,8 @@ in_content g content places target does = IsInRecord g content target does
 abbrev pub places_of : List PathNode → List ℕ
 places_of nodes = map (λ (n : PathNode). n.place) nodes
 
--- Where the rule for an argument of a rule is: for an attribute of the node itself at its parent, whose rule has it as a target
--- at the
--- node's place; for an attribute of a child at the child. The places lead from the root to the nodes.
+-- Where the rule for an argument of a rule is: at the parent for an attribute of the node itself, with the node's place as the
+-- place of its target; at the child for an attribute of a child, with place 0. The places lead from the root to the nodes.
 abbrev pub GoesTo : List ℕ → Target → List ℕ → Target → Type 0
 GoesTo places argument there target =
     (target.attr ≡ argument.attr)
@@ -113,9 +112,8 @@ pub data IsChain (R : Reading) (places : List ℕ) (target : Target) : List ℕ 
   longer : (there : List ℕ) (from : Target) (n : ℕ) (beyond : List ℕ) (origin : Target) → IsChain R places target there from n
       → IsPassedFrom R there from beyond origin → IsChain R places target beyond origin (suc n)
 
--- The cause of the error that the rule for a target computes at the node at the end of some places: the rule of a number, at the
--- node
--- at the end of other places. The error arises in it, and n rules passed it on.
+-- The cause of the error that the rule for a target computes at the node at the end of some places: the rule of a number, at
+-- the node at the end of other places. The error arises in it, and n rules passed it on.
 pub record IsCause (R : Reading) (places : List ℕ) (target : Target) (there : List ℕ) (number : ℕ) (n : ℕ) : Type 0 where
   pub from : Target
   pub chain : IsChain R places target there from n

@@ -12,7 +12,7 @@ use Rattle.ag_grammar.specs.grammars.Tree.{IsTreeOf, Tree}
 use Rattle.treefile.specs.records.Records.{IsFileOfTree}
 use Rattle.treefile.specs.records.TreeFile.{version_two}
 use Rattle.treefile.specs.framing.Ending.{body_before}
-use Rattle.tree_index.specs.Nodes.{HasNoChild, HasNodes, IsIndexIn, StandsAt, back_from, end_of, kind_in, nodes_of}
+use Rattle.tree_index.specs.Nodes.{HasNoChild, HasNodes, IsIndexIn, IsSubtreeAt, back_from, end_of, kind_in, nodes_of}
 use Rattle.tree_index.specs.declared.index.NodeKind.TheVariants as kind
 use Rattle.tree_index.specs.declared.index.TreeIndex.{TreeIndex}
 use Rattle.origins.specs.Causes.{HasCause, place_path, tree_at, values_at}
@@ -28,7 +28,7 @@ pub record IsAtPlaces (d : Direction) (t : Tree) (v : Valuation) (places : List 
   pub counted : places ≡ map suc path
   pub tree : Tree
   pub there : tree_at (Some t) path ≡ Some tree
-  pub occurs : StandsAt d (nodes_of d t v) number tree (values_at v path)
+  pub occurs : IsSubtreeAt d (nodes_of d t v) number tree (values_at v path)
 
 -- so it is in each tree of the grammar that the index has
 abbrev pub IsNumberAt : Grammar → TreeIndex → List ℕ → ℕ → Type 0
@@ -87,7 +87,7 @@ pub record IsWithoutRecord (g : Grammar) (index : TreeIndex) (places : List ℕ)
   pub numbered : IsNumberAt g index places number
   pub none : HasNoRecord g index number
 
--- It has one, with the values of which no rule for a target has an error as its value.
+-- The node has a record there, and with the values in it no rule for a target has an error as its value.
 pub record IsWithoutError (g : Grammar) (index : TreeIndex) (content places : List ℕ) (target : Target) : Type 0 where
   pub end : ℕ
   pub ends : IsEndAt g index places end

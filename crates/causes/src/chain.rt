@@ -57,7 +57,8 @@ pub(crate) enum Step {
     To(Target),
     /// The error arises in the rule of this number, at the node at which the chain is.
     Arises(u16),
-    /// The target has no rule, the rule's value is not an error, or its argument has no rule.
+    /// The target has no rule, the rule's value is not an error, its argument has no rule, or the index has no
+    /// record of the node.
     Nothing,
 }
 
@@ -72,6 +73,8 @@ struct Chain<'a> {
 
 impl<'a> Chain<'a> {
     /// Reads the record of the node at which the chain is, and returns what the rule for a target does there.
+    /// Returns `None` if the index has no such record, if the node has no such rule, or if the rule's value is
+    /// not an error. Fails with R1 if the record is damaged.
     fn read_next<D: Device>(
         &self,
         alloc: Global,
@@ -118,7 +121,7 @@ impl<'a> Chain<'a> {
     }
 
     /// Returns the end of the record of the node at which the chain is, and its item. Returns `None` if it is not
-    /// a node of a production.
+    /// a node of a production of the grammar, or if the index has no end of its record.
     fn record(&self) -> Option<(u64, Item)>
         requires leads { Leads self.now.grammar.now self.now.index.now self.now.nodes.items }
         ensures end { IfSome result (λ parts. IsEndAt self.now.grammar.now self.now.index.now
@@ -136,7 +139,8 @@ impl<'a> Chain<'a> {
         }
     }
 
-    /// Returns the left side of the production of a node. Returns `None` for a token.
+    /// Returns the left side of the production of a node. Returns `None` for a token, for a node that the index
+    /// does not have, and for a production that the grammar does not have.
     fn left_of(&self, node: u32) -> Option<u16>
         ensures { IfNone result (HasNoRecord self.now.grammar.now self.now.index.now node) }
     {
@@ -281,9 +285,9 @@ impl<'a> Chain<'a> {
 /// Finds the cause of an error, which the rule for a target computes: follows the rules that passed the error
 /// on. `device` contains the file of the last pass, and `index` is its index.
 ///
-/// Returns `None` if the target has no rule, the rule's value is not an error, or the file does not have the chain;
-/// and after 16,777,216 rules, 16 for each of `MAX_NODES` nodes. If the values in the file are a solution, it has
-/// the chain, which has fewer rules.
+/// Returns `None` if the places lead to no node, the target has no rule there, the rule's value is not an error,
+/// or the file does not have the chain; and after 16,777,216 rules, 16 for each of `MAX_NODES` nodes. If the values
+/// in the file are a solution, it has the chain, which has fewer rules.
 /// Fails with R1 if a record on it is damaged, with D1 if a call of the device fails, and if memory is
 /// refused. Reads a record for each rule in the chain.
 pub fn find_cause<D: Device>(
@@ -293,7 +297,7 @@ pub fn find_cause<D: Device>(
     start: &ChainStart<'_>,
     device: &mut D,
 ) -> Result<Option<Cause>, TreeFault>
-    // The error arises in the rule, and the rules of that number passed it on, each from one of its arguments
+    // The error arises in the rule, and `steps` rules passed it on, each from one of its arguments
     ensures found { IfOk result (λ cause. IfSome cause (λ cause. WhenHonest (D.is_honest device.new)
         (IsCause (in_content grammar.now (D.content device.old)) start.now.places.now
         start.now.target cause.places.items cause.rule cause.steps))) }
@@ -305,7 +309,7 @@ pub fn find_cause<D: Device>(
     ensures node { IfOk result (λ cause. IfSome cause (λ cause.
         IsNumberAt grammar.now index.now cause.places.items cause.node)) }
     // If there is none, the places lead to no node, or the chain of rules that passed an error on from one to the
-    // next stops at one that has no error, or has the greatest number of rules
+    // next stops before a rule in which it arises, or has the greatest number of rules
     ensures none { IfOk result (λ cause. IfNone cause (WhenHonest (D.is_honest device.new)
         (LeadsNowhere grammar.now index.now start.now.places.now ⊎ StopsAfter grammar.now index.now
         (D.content device.old) start.now.places.now start.now.target (16 * MAX_NODES)))) }

@@ -64,7 +64,7 @@ fn next_in(alloc: Global, row: &Row<'_>, target: Target) -> Result<Option<Next>,
 }
 
 /// Returns what the rule for a target does at a node of the production of a number, with the values of its
-/// record. Returns `None` as `next_in` does.
+/// record. Returns `None` as `next_in` does, and if the grammar has no such production.
 pub(crate) fn next_at(
     alloc: Global,
     grammar: &Grammar,

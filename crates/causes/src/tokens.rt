@@ -20,7 +20,7 @@ fn literals_before(production: &Production, place: u16) -> u32 {
 }
 
 /// Returns the number of tokens of the sentence before the subtree at the end of a path of places; `None` if
-/// there is none.
+/// no node is there.
 pub fn tokens_before(
     grammar: &Grammar,
     index: &TreeIndex,
@@ -42,7 +42,8 @@ pub fn tokens_before(
     Some(tokens)
 }
 
-/// Returns the number of tokens below the children of a node that come before one of them in the sentence.
+/// Returns the number of tokens of the subtrees of the children of `node` that come before its child `child` in
+/// the sentence.
 fn tokens_between(index: &TreeIndex, counts: &TokenCounts, node: u32, child: u32) -> Option<u32> {
     // the file of an odd pass is read from left to right
     match Direction::of_pass(index.pass()).turned() {
@@ -51,7 +52,7 @@ fn tokens_between(index: &TreeIndex, counts: &TokenCounts, node: u32, child: u32
     }
 }
 
-/// Returns the number after those of the subtree of a node.
+/// Returns the number, in the index, that follows those of the nodes of the subtree of a node.
 fn end_of(index: &TreeIndex, node: u32) -> Option<u32> {
     node.checked_add(index.size(node)?)
 }

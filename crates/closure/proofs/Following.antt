@@ -1,4 +1,4 @@
--- The numbers that follow are the least set that is closed under the clauses.
+-- The numbers that follow are the least set that has the seeds and is closed under the clauses.
 use Rattle.std.proofs.Common.{ℕ, ◌≡◌, List, [], ◌∷◌, All, Contains, Some, slice_get, refl, subst}
 use Rattle.std.proofs.lemmas.List.Elements.{All-nil, All-cons, All-head, All-tail}
 use Rattle.closure.specs.declared.clause.Clause.{Clause}

@@ -33,7 +33,7 @@ pub list_all-within : (s t : ℕ → Bool) → ((n : ℕ) → s n ≡ true → t
 list_all-within s t le [] h = refl
 list_all-within s t le (x ∷ xs) h = let p = both (s x) (list_all s xs) h in rw (le x p.0) (list_all-within s t le xs p.1)
 
--- a number that is not marked is open
+-- a clause is settled if a number of its body is not marked
 pub waits : (marks : List Bool) (added : List Addition) (v : ℕ) (q : Clause) (n : ℕ) (d : ℕ) → n < length q.body
     → is_marked marks (get_or q.body n d) ≡ false → IsSettled marks added v q
 waits marks added v q n d lt h = inr (get_or q.body n d, Contains-get_or q.body n d lt, inl h)
@@ -169,8 +169,8 @@ settled_more B v marks added marks' added' q visited i p lt grows before here (i
       | inr e ↦ here e
     ]
 
--- if nothing is left to visit and all clauses are settled, the marks are closed under the clauses, so all
--- numbers that follow are marked
+-- if nothing is left to visit, all clauses are settled and the seeds are marked, then the marked numbers are closed under the
+-- clauses, so all numbers that follow are marked
 pub complete : (clauses : List Clause) (seeds : List ℕ) (marks : List Bool) (added : List Addition) (v : ℕ) → length added ≤ v
     → ((p : ℕ) (d : Clause) → p < length clauses → IsSettled marks added v (get_or clauses p d))
     → ((t : ℕ) → Contains seeds t → is_marked marks t ≡ true)
@@ -185,7 +185,7 @@ complete clauses seeds marks added v most settled seeded =
       ]
     ])
 
--- a clause with a body is settled if no number is marked
+-- if no number is marked, a clause is settled, or it is one of the facts
 pub settled_first : (marks : List Bool) (added : List Addition) (v : ℕ) (q : Clause) (facts : List ℕ) (p : ℕ)
     → ((t : ℕ) → is_marked marks t ≡ false) → (q.body ≡ [] → Contains facts p) → IsSettled marks added v q ⊎ Contains facts p
 settled_first marks added v q facts p blank listed = go q.body refl
@@ -231,7 +231,7 @@ search_taken clauses seeds marks added v passed lt search = record {
   marked = search.marked;
 }
 
--- a clause that was settled still is, or its body contains the number
+-- the number at index v is visited: a clause that was settled still is, or the number's row lists the clause's index
 pub settled_taken : (marks : List Bool) (added : List Addition) (v p : ℕ) (x : Addition) (q : Clause) (uses : List (List ℕ))
     → slice_get added v ≡ Some x → ((t : ℕ) → Contains q.body t → Contains (row uses t) p)
     → IsSettled marks added v q → IsSettled marks added (v + 1) q ⊎ Contains (row uses x.number) p

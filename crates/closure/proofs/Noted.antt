@@ -34,7 +34,7 @@ noted_at clause symbol uses lt =
 pub row_of : (table : List (Vec ℕ)) (u : ℕ) (v : Vec ℕ) → u < length table → v ≡ get_or table u v → row (rows table) u ≡ v.items
 row_of table u v lt is = get_or-map (λ (x : Vec ℕ). x.items) table u v [] lt ∙ ap (λ (x : Vec ℕ). x.items) (sym is)
 
--- a row of a table that was added to
+-- the rows of a table in which an entry is added to one row
 pub rows_set : (table : List (Vec ℕ)) (u clause : ℕ) (v w : Vec ℕ) → u < length table → v ≡ get_or table u v
     → w.items ≡ v.items ++ clause ∷ [] → rows (set table u w) ≡ set (rows table) u (row (rows table) u ++ clause ∷ [])
 rows_set table u clause v w lt is pushed =

@@ -9,7 +9,7 @@ use Rattle.closure.specs.declared.edges.Edge.{Edge}
 use Rattle.closure.proofs.Following.{follows_in, head_follows}
 use Rattle.closure.proofs.Positions.{at_mapped, element_at, mapped_at, position_of_element}
 
--- an edge leads from a number that is reached to another
+-- the end of an edge is reached if its start is
 pub step : (edges : List Edge) (seeds : List ℕ) (e : Edge) → Contains edges e → Follows (map clause_of_edge edges) seeds e.from
     → Follows (map clause_of_edge edges) seeds e.to
 step edges seeds e h from = let w = position_of_element edges e h in
@@ -24,7 +24,7 @@ reached_in edges seeds P start goes = follows_in (map clause_of_edge edges) seed
     let w = mapped_at clause_of_edge edges p c h in
     subst (λ (q : Clause). P q.head) w.2 (goes w.0 (element_at edges p w.0 w.1) (All-head P w.0.from [] (rw (← w.2) at all))))
 
--- the clauses of edges between numbers below a count
+-- the clauses of edges between numbers below a count have numbers below that count
 pub below : (count : ℕ) (edges : List Edge) → All (IsEdgeBelow count) edges → All (IsClauseBelow count) (map clause_of_edge edges)
 below count edges all =
     All-map (IsClauseBelow count) clause_of_edge edges

@@ -42,7 +42,7 @@ with_seed =
     by_clause 2 (record { head = 2; body = 1 ∷ 3 ∷ [] }) refl refl
     (one_more (one_follows (3 ∷ [])) (one_more (seed (Contains-get_or (3 ∷ []) 0 0 (omega arith))) nothing))
 
--- the ends of both edges are below 3
+-- the end of each edge is below 3
 ends : (e : Edge) → Contains two_edges e → e.to < 3
 ends e h =
     All-contains (λ (d : Edge). d.to < 3) two_edges e

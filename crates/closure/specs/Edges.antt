@@ -12,7 +12,7 @@ clause_of_edge e = record { head = e.to; body = e.from ∷ [] }
 abbrev pub clauses_of_edges : List Edge → ℕ → Clauses
 clauses_of_edges edges count = record { clauses = map clause_of_edge edges; count = count }
 
--- both ends of an edge are below a count
+-- the start and the end of an edge are below a count
 pub record IsEdgeBelow (count : ℕ) (e : Edge) : Type 0 where
   pub from : e.from < count
   pub to : e.to < count

@@ -13,11 +13,11 @@ abbrev pub IsOpen : List Bool → List Addition → (visited : ℕ) → ℕ → 
 IsOpen marks added visited t =
     (is_marked marks t ≡ false) ⊎ ((i : ℕ) × (x : Addition) × (visited ≤ i) × (slice_get added i ≡ Some x) × (x.number ≡ t))
 
--- a clause whose head is marked, or that has an open number
+-- a clause whose head is marked, or whose body has an open number
 abbrev pub IsSettled : List Bool → List Addition → ℕ → Clause → Type 0
 IsSettled marks added visited q = (is_marked marks q.head ≡ true) ⊎ ((t : ℕ) × Contains q.body t × IsOpen marks added visited t)
 
--- marks stay set, and open numbers stay open
+-- as many marks as before; marks stay set, and open numbers stay open
 pub record Grows (visited : ℕ) (marks : List Bool) (added : List Addition) (marks' : List Bool)
     (added' : List Addition) : Type 0 where
   pub count : length marks' ≡ length marks

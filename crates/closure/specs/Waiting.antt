@@ -4,7 +4,7 @@ use Rattle.std.specs.Global.{Vec}
 use Rattle.closure.specs.Clauses.{IsClauseBelow}
 use Rattle.closure.specs.declared.clause.Clause.{Clause}
 
--- the lists of a table
+-- the rows of a table as lists
 abbrev pub rows : {A : Type 0} → List (Vec A) → List (List A)
 rows table = map (λ v. v.items) table
 
@@ -12,15 +12,15 @@ rows table = map (λ v. v.items) table
 abbrev pub row : List (List ℕ) → ℕ → List ℕ
 row table t = slice_index_or table t []
 
--- The table `new` is `old` with entries for the clause added: each row contains the entries that it had, and all
+-- Entries for the clause are added to the table `old`. `new` has as many rows, and each contains the entries that it had. All
 -- entries of `new` are below each number that the clause and all entries of `old` are below.
 pub record AddsClause (clause : ℕ) (old new : List (List ℕ)) : Type 0 where
   pub same : length new ≡ length old
   pub kept : (t p : ℕ) → Contains (row old t) p → Contains (row new t) p
   pub fits : (n : ℕ) → clause < n → ((t : ℕ) → All (λ p. p < n) (row old t)) → (t : ℕ) → All (λ p. p < n) (row new t)
 
--- Each number's row contains the clauses whose bodies contain the number, and `facts` those whose bodies are empty; all
--- entries are indices of clauses.
+-- The numbers of the clauses have rows. Each number's row contains the clauses whose bodies contain the number, and `facts` those
+-- whose bodies are empty; all entries are indices of clauses.
 pub record AreWaiting (clauses : List Clause) (uses : List (List ℕ)) (facts : List ℕ) : Type 0 where
   pub below : All (IsClauseBelow (length uses)) clauses
   pub listed : (p t : ℕ) (d : Clause) → p < length clauses → Contains (slice_index_or clauses p d).body t

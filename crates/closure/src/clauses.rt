@@ -42,7 +42,8 @@ impl Model for Clauses {
 
 impl Clauses {
     /// Makes a list of clauses, whose numbers have to be below `count`, ready for searches. Takes memory,
-    /// and time linear in the clauses' lengths and in `count`. Fails with NoMemory.
+    /// and time linear in the number of clauses, the lengths of their bodies and `count`. Fails with
+    /// NoMemory.
     pub fn new(alloc: Global, clauses: Vec<Clause>, count: usize) -> Result<Clauses, NoMemory>
         requires { All (IsClauseBelow count) clauses.items }
         ensures { IfOk result (λ c. c ≡ record {
@@ -59,9 +60,9 @@ impl Clauses {
         })
     }
 
-    /// Makes one clause of each edge between numbers below `count`: a number follows if it is reached
-    /// from a seed. Takes memory, and time linear in the number of edges and in `count`. Fails with
-    /// NoMemory.
+    /// Makes one clause of each edge, whose start and end have to be below `count`: a number follows if
+    /// it is reached from a seed. Takes memory, and time linear in the number of edges and in `count`.
+    /// Fails with NoMemory.
     pub fn of_edges(alloc: Global, edges: &[Edge], count: usize) -> Result<Clauses, NoMemory>
         requires { All (IsEdgeBelow count) edges.now }
         ensures { IfOk result (λ c. c ≡ clauses_of_edges edges.now count) }
@@ -70,9 +71,8 @@ impl Clauses {
         Clauses::new(alloc, clauses, count)
     }
 
-    /// Returns, for each number below the count, whether it follows from the clauses and the seeds.
-    /// Takes memory, and time linear in the lengths of the clauses and the seeds, and in the count.
-    /// Fails with NoMemory.
+    /// Returns, for each number below the count, whether it follows from the clauses and the seeds,
+    /// which have to be below the count. Takes memory and time as `find` does. Fails with NoMemory.
     pub fn closure(&self, alloc: Global, seeds: &[usize]) -> Result<Vec<bool>, NoMemory>
         requires { All (λ t. t < self.now.count) seeds.now }
         ensures len { IfOk result (λ marks. length marks.items ≡ self.now.count) }
@@ -85,12 +85,12 @@ impl Clauses {
     /// count, whether it follows. Each number that follows is listed once, with the seed or the clause
     /// by which it follows, and after all numbers of that clause's body.
     ///
-    /// The list is filled as a queue. First come the heads of the clauses with an empty body, by the
-    /// clauses' indices, and then the seeds, by theirs. For each number of the queue in turn, the clauses
-    /// whose bodies contain it are visited by their indices, and the head of a clause is added if all
-    /// numbers of its body are in the queue. A number that is in the queue is not added again. Takes
-    /// memory, and time linear in the lengths of the clauses and the seeds, and in the count. Fails with
-    /// NoMemory.
+    /// The seeds have to be below the count. The list is filled as a queue. First come the heads of the
+    /// clauses with an empty body, in the order of the clauses, and then the seeds, in theirs. For each
+    /// number of the list in turn, the clauses whose bodies contain it are visited in their order, and
+    /// the head of a clause is added if all numbers of its body are in the list. A number that is in the
+    /// list is not added again. Takes memory, and time linear in the number of clauses, the lengths of
+    /// their bodies, the number of seeds, and the count. Fails with NoMemory.
     pub fn find(&self, alloc: Global, seeds: &[usize]) -> Result<FoundNumbers, NoMemory>
         requires { All (λ t. t < self.now.count) seeds.now }
         ensures len { IfOk result (λ found. length found.marks.items ≡ self.now.count) }

@@ -5,20 +5,20 @@ ghost use Rattle.closure.specs.Following.{Follows};
 ghost use Rattle.closure.specs.Samples.{sample, two_edges};
 ghost use Rattle.std.specs.Prelude.{[], ◌∷◌, map};
 
-/// States that without seeds 1 follows from 0, and 2 does not, since 2 and 3 wait for each other.
+/// States that without seeds 1 follows, since 0 does, and 2 does not, since 2 and 3 wait for each other.
 #[tactic(auto, using(crate::proofs::Sample::without_seeds))]
 pub fn without_seeds()
     ensures follows { Follows sample [] 1 }
     ensures waits { Follows sample [] 2 → ⊥ }
 {}
 
-/// States that with the seed 3, 2 follows.
+/// States that 2 follows if 3 is a seed.
 #[tactic(auto, using(crate::proofs::Sample::with_seed))]
 pub fn with_seed()
     ensures { Follows sample (3 ∷ []) 2 }
 {}
 
-/// States that two edges lead from 0 to 2, and none to 3.
+/// States that along two edges 2 is reached from 0, and 3 is not.
 #[tactic(auto, using(crate::proofs::Sample::two_is_reached, crate::proofs::Sample::three_is_not))]
 pub fn edges_lead_on()
     ensures reached { Follows (map clause_of_edge two_edges) (0 ∷ []) 2 }

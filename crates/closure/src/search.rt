@@ -1,4 +1,5 @@
-//! The search for the numbers that follow. It traverses the body of each clause once, number by number.
+//! The search for the numbers that follow. It traverses the body of each clause at most once, number by
+//! number.
 ghost use Rattle.std.specs.Prelude.{◌≡◌, ◌<◌, ◌≤◌, ◌⊎◌, ◌↔◌, ℕ, true, false, length, take, All};
 ghost use Rattle.std.specs.Prelude.{Contains, IfOk, OnOk, slice_index_or};
 ghost use Rattle.std.specs.List.{list_all};
@@ -43,12 +44,12 @@ fn known_prefix_len(marks: &[bool], body: &[usize], from: usize) -> usize
 struct Search<'g> {
     clauses: &'g [Clause],
     seeds: &'g [usize],
-    /// For each number, whether it is found to follow.
+    /// For each number below the count, whether it is found to follow.
     marks: Vec<bool>,
     /// The marked numbers, in the order in which they were found.
     added: Vec<Addition>,
-    /// The number of entries of `added` whose clauses have been visited or are being visited: an entry
-    /// is counted before the clauses with its number are visited.
+    /// The number of entries of `added` that are visited, from the first on. An entry is visited by
+    /// visiting the clauses whose bodies contain its number; it is counted before that.
     visited: usize,
     /// For each clause, the length of a prefix of its body whose numbers are known to be marked.
     passed: Vec<usize>,
@@ -173,10 +174,10 @@ impl<'g> Search<'g> {
     }
 }
 
-/// Returns the numbers that follow from clauses and seeds. `uses` has, for each number below the count,
-/// the indices of the clauses whose bodies contain it, and `facts` those of the clauses with an empty
-/// body. Takes time linear in the lengths of the clauses, the seeds, `uses` and its lists. Fails with
-/// NoMemory.
+/// Returns the numbers that follow from clauses and seeds. `uses` has a row for each number below the
+/// count: the indices of the clauses whose bodies contain it. `facts` has those of the clauses with an
+/// empty body. Takes time linear in the number of clauses, the lengths of their bodies, of `uses` and of
+/// its rows, and the numbers of facts and seeds. Fails with NoMemory.
 pub(crate) fn find<'g>(
     alloc: Global,
     clauses: &'g [Clause],

@@ -8,7 +8,7 @@ use crate::clause::Clause;
 use ag_value::NoMemory;
 use std::alloc::Global;
 
-/// Adds a clause, by its index, to the list of a number. Fails with NoMemory.
+/// Adds a clause, by its index, to the row of a number. Fails with NoMemory.
 fn add_use(uses: &mut Vec<Vec<usize>>, clause: usize, number: usize) -> Result<(), NoMemory>
     requires { number < length uses.old.items }
     ensures adds { OnOk result (AddsClause clause (rows uses.old.items) (rows uses.new.items)) }
@@ -18,7 +18,7 @@ fn add_use(uses: &mut Vec<Vec<usize>>, clause: usize, number: usize) -> Result<(
     Ok(())
 }
 
-/// Adds a clause, by its index, to the list of each number of its body. Fails with NoMemory.
+/// Adds a clause, by its index, to the row of each number of its body. Fails with NoMemory.
 fn add_uses(uses: &mut Vec<Vec<usize>>, clause: usize, body: &[usize]) -> Result<(), NoMemory>
     requires { All (λ t. t < length uses.old.items) body.now }
     ensures adds { OnOk result (AddsClause clause (rows uses.old.items) (rows uses.new.items)) }
@@ -31,8 +31,8 @@ fn add_uses(uses: &mut Vec<Vec<usize>>, clause: usize, body: &[usize]) -> Result
     Ok(())
 }
 
-/// Returns, for each number below `count`, the indices of the clauses whose bodies contain it: once for
-/// each time that they contain it. Fails with NoMemory.
+/// Returns a row for each number below `count`: the indices of the clauses whose bodies contain it, an
+/// index once for each time that the body contains the number. Fails with NoMemory.
 pub(crate) fn uses(
     alloc: Global,
     clauses: &[Clause],

@@ -163,7 +163,7 @@ impl Entry {
 /// An argument of a command.
 #[derive(Clone, Copy)]
 enum Argument {
-    /// The file with the grammar.
+    /// The name of the grammar's file.
     Grammar,
     /// The name of the sentence's file.
     Sentence,

@@ -3,7 +3,7 @@
 /// Why a command line makes no request.
 #[derive(Clone, Copy)]
 pub enum CommandLineFault {
-    /// The words are not those of a command. What is wrong with them was printed.
+    /// The words are wrong. A message that says why was printed, if that was possible.
     Usage,
     /// Help or the version could not be printed.
     Write,

@@ -70,7 +70,7 @@ fn doubled_name<'a>(
     Ok(None)
 }
 
-/// Returns the name of a path's file in its folder: what follows the last slash.
+/// Returns the name of a path's file in its folder: what follows the last slash, or the path if it has none.
 pub fn file_name_of(path: &str) -> &str {
     match path.rsplit_once('/') {
         Some((_, name)) => name,

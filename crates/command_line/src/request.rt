@@ -30,14 +30,14 @@ pub struct CommandLine<'a> {
 pub struct Messages {
     /// When the fault's number and the place are marked with colour.
     pub color: Color,
-    /// Whether no message of a refusal is printed.
+    /// Whether no progress is shown, and no message of a refusal is printed but those of a wrong command line.
     pub is_quiet: bool,
 }
 
 /// When the number and the place of a message are marked with colour.
 #[derive(Clone, Copy)]
 pub enum Color {
-    /// On a terminal only.
+    /// On a terminal only, if the environment (`NO_COLOR`, `TERM`) does not forbid it.
     Auto,
     /// Always.
     Always,
@@ -153,7 +153,7 @@ impl<'a> CommandLine<'a> {
     /// Returns the command line of these words; the first word is the program's name. If they ask for
     /// help or the version, prints it on standard output, and fails with `Write` if that can't be done.
     /// If they are wrong, prints what is wrong on standard error, and fails with `Usage` even if that
-    /// can't be printed.
+    /// can't be printed. Fails with `NoMemory` if memory is refused.
     pub fn from_words<R: Print + Eprint>(
         rt: &R,
         alloc: Global,
@@ -234,7 +234,7 @@ fn request_of<'a>(
     Ok(request)
 }
 
-/// Returns the request that `run` makes.
+/// Returns the request that `run` makes. Fails as `request_of` does.
 fn run_request<'a>(alloc: Global, matches: &ArgMatches<'a>) -> Result<Request<'a>, Error> {
     let grammar = input_of(matches, GRAMMAR);
     let sentences = matches.get_strs(SENTENCE).unwrap_or(&[]);
@@ -261,7 +261,7 @@ fn run_request<'a>(alloc: Global, matches: &ArgMatches<'a>) -> Result<Request<'a
     }))
 }
 
-/// Returns the request that `eval` makes.
+/// Returns the request that `eval` makes. Fails as `request_of` does.
 fn eval_request<'a>(alloc: Global, matches: &ArgMatches<'a>) -> Result<Request<'a>, Error> {
     let grammar = input_of(matches, GRAMMAR);
     let tree = input_of(matches, TREE);
@@ -274,7 +274,7 @@ fn eval_request<'a>(alloc: Global, matches: &ArgMatches<'a>) -> Result<Request<'
     }))
 }
 
-/// Returns the request that `parse` makes.
+/// Returns the request that `parse` makes. Fails as `request_of` does.
 fn parse_request<'a>(alloc: Global, matches: &ArgMatches<'a>) -> Result<Request<'a>, Error> {
     let grammar = input_of(matches, GRAMMAR);
     let sentence = input_of(matches, SENTENCE);
@@ -288,7 +288,7 @@ fn parse_request<'a>(alloc: Global, matches: &ArgMatches<'a>) -> Result<Request<
     }))
 }
 
-/// Returns the request that `upgrade` makes.
+/// Returns the request that `upgrade` makes. Fails as `request_of` does.
 fn upgrade_request<'a>(alloc: Global, matches: &ArgMatches<'a>) -> Result<Request<'a>, Error> {
     let old = value_of(matches, OLD);
     let tree = value_of(matches, TREE);

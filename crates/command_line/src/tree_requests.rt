@@ -91,7 +91,7 @@ pub fn show_words<'a>(alloc: Global, matches: &ArgMatches<'a>) -> Result<ShowWor
 }
 
 /// Returns the number that an option has, or `other` if the option is not there. Returns `None` if its value is not a
-/// number.
+/// number below 2^32.
 fn number_of(matches: &ArgMatches<'_>, name: &str, other: u32) -> Option<u32> {
     match matches.get_str(name) {
         Some(word) => word.parse::<u32>().ok(),
@@ -120,7 +120,8 @@ pub fn explain_words<'a>(
     })
 }
 
-/// Returns how the words name the node that `explain` explains.
+/// Returns how the words name the node that `explain` explains. Fails with the error that clap prints if the value of
+/// `--at` is not two numbers from 1.
 fn node_words<'a>(alloc: Global, matches: &ArgMatches<'a>) -> Result<NodeWords<'a>, Error> {
     let Some(at) = matches.get_str(AT) else {
         return Ok(match matches.get_str(NODE) {

@@ -192,8 +192,8 @@ fn run_device(word: &str) -> Result<RunDevice, Mistake> {
     }
 }
 
-/// Returns whether each call of a device fails as it should, and whether there are at least the row's number of
-/// calls.
+/// Returns whether a run makes at least the row's number of calls of a device. Fails with `Unfit` if one of these calls
+/// doesn't fail as it should.
 pub fn failing_answer(alloc: Global, spelled: &str) -> Result<String, Mistake> {
     let (word, least) = first_word(spelled);
     let device = run_device(word)?;

@@ -72,8 +72,8 @@ fn first_unmade_read(alloc: Global, job: &[u8], step: usize) -> Result<u64, Mist
     Err(Mistake::Unfit)
 }
 
-/// Returns whether each read of a job of binary fractions fails as it should, and whether there are at least
-/// the row's number of reads.
+/// Returns whether a job of binary fractions makes at least the row's number of reads. Fails with `Unfit` if one of
+/// these reads doesn't fail as it should.
 pub fn job_reads_answer(alloc: Global, spelled: &str) -> Result<String, Mistake> {
     let (step, least) = first_word(spelled);
     let step = number(step)? as usize;

@@ -23,7 +23,7 @@ enum Lie {
     Shrinking,
     /// Its length is greater in each call.
     Growing,
-    /// Its bytes differ in each read.
+    /// Its bytes after offset 0 differ from read to read.
     Changing,
 }
 
@@ -115,7 +115,7 @@ fn empty_lying_device(alloc: Global, lie: Lie) -> LyingDevice {
     }
 }
 
-/// Returns whether a run wrote nothing, unless it succeeded or its writer failed.
+/// Returns whether a run succeeded, its writer failed, or it wrote nothing.
 fn is_clean(answer: &str) -> bool {
     answer.starts_with("Done ") || answer.starts_with("Write ") || answer.ends_with(" \"\"")
 }

@@ -44,8 +44,8 @@ fn devices(alloc: Global, word: &str, call: u64) -> Result<(SharedFuse, SharedFu
 }
 
 /// Translates the sentence twice over the same devices, of which one call fails. Returns whether that call is one
-/// of the second translation. Fails with `Unfit` if the other translation doesn't succeed, or if no value was
-/// shared.
+/// of the second translation. Fails with `Unfit` if the other translation doesn't succeed, or if a device shared
+/// no value.
 fn fails_later(
     alloc: Global,
     translator: &Translator,
@@ -83,8 +83,8 @@ fn translated_in_memory(alloc: Global, translator: &Translator) -> Result<String
     translated(alloc, translator, SENTENCE, &mut a, &mut b)
 }
 
-/// Returns whether each call of a device fails as it should, and whether there are at least the row's number of
-/// calls.
+/// Returns whether a translation makes at least the row's number of calls of a device. Fails with `Unfit` if one of
+/// these calls doesn't fail as it should.
 pub fn sharing_answer(alloc: Global, spelled: &str) -> Result<String, Mistake> {
     let (word, least) = first_word(spelled);
     let least = number(least)? as u64;

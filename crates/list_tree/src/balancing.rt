@@ -1,5 +1,5 @@
 //! The balance of a tree: the heights of the two sides of a node differ by at most one. No contract
-//! depends on it. The functions that return a `Result` fail with `NoMemory` if memory is refused.
+//! depends on it. All functions of this module may fail with NoMemory.
 
 ghost use Rattle.std.specs.Prelude.{◌≡◌, ◌++◌, ◌+◌, ◌<◌, ◌^◌, length, IfOk};
 
@@ -50,8 +50,8 @@ impl ItemTree {
     }
 }
 
-/// Returns the items of two trees, one after the other. If one of them is higher by two levels, the
-/// root is taken from it.
+/// Returns the items of two trees, one after the other. If one of them is higher than the other by at
+/// least two levels, the tree is rotated.
 fn balanced(alloc: Global, left: ItemTree, right: ItemTree) -> Result<ItemTree, NoMemory>
     requires { length left + length right < 2 ^ 64 }
     ensures { IfOk result (λ tree. tree ≡ left ++ right) }
@@ -65,7 +65,7 @@ fn balanced(alloc: Global, left: ItemTree, right: ItemTree) -> Result<ItemTree, 
     ItemTree::pair(alloc, left, right)
 }
 
-/// Returns the same items. If their right side was the higher one, the root is taken from there.
+/// Returns the same items. If the right side of their tree is higher, the tree is rotated to the left.
 fn with_high_left(alloc: Global, tree: ItemTree) -> Result<ItemTree, NoMemory>
     requires { length tree < 2 ^ 64 }
     ensures { IfOk result (λ same. same ≡ tree) }
@@ -78,7 +78,7 @@ fn with_high_left(alloc: Global, tree: ItemTree) -> Result<ItemTree, NoMemory>
     }
 }
 
-/// Returns the same items. If their left side was the higher one, the root is taken from there.
+/// Returns the same items. If the left side of their tree is higher, the tree is rotated to the right.
 fn with_high_right(alloc: Global, tree: ItemTree) -> Result<ItemTree, NoMemory>
     requires { length tree < 2 ^ 64 }
     ensures { IfOk result (λ same. same ≡ tree) }
@@ -91,7 +91,8 @@ fn with_high_right(alloc: Global, tree: ItemTree) -> Result<ItemTree, NoMemory>
     }
 }
 
-/// Returns the items of two trees, one after the other, with the root of the left one as its root.
+/// Returns the items of two trees, one after the other, as a tree that is split where `left` is split,
+/// or between the two trees if `left` has fewer than two items.
 fn turned_right(alloc: Global, left: ItemTree, right: ItemTree) -> Result<ItemTree, NoMemory>
     requires { length left + length right < 2 ^ 64 }
     ensures { IfOk result (λ tree. tree ≡ left ++ right) }
@@ -103,7 +104,8 @@ fn turned_right(alloc: Global, left: ItemTree, right: ItemTree) -> Result<ItemTr
     ItemTree::pair(alloc, sides.left.share()?, lower)
 }
 
-/// Returns the items of two trees, one after the other, with the root of the right one as its root.
+/// Returns the items of two trees, one after the other, as a tree that is split where `right` is split,
+/// or between the two trees if `right` has fewer than two items.
 fn turned_left(alloc: Global, left: ItemTree, right: ItemTree) -> Result<ItemTree, NoMemory>
     requires { length left + length right < 2 ^ 64 }
     ensures { IfOk result (λ tree. tree ≡ left ++ right) }

@@ -9,14 +9,14 @@ use std::alloc::Global;
 use std::marker::Model;
 use std::rc::Rc;
 
-/// The items of a list, as a balanced tree whose nodes have several owners. Contracts see the list.
+/// The items of a list, as a balanced tree whose nodes may have several owners. Contracts see the list.
 #[cycle(items)]
 #[derive(Drop)]
 pub(crate) struct ItemTree {
     node: ItemNode,
 }
 
-/// What a tree consists of.
+/// The root of a tree, by the number of items: none, one, or more.
 #[cycle(items)]
 #[derive(Drop)]
 enum ItemNode {
@@ -60,7 +60,7 @@ impl Model for ItemTree {
     ghost size_decreases = { λ t h. Prim.grind (arith, length-append) };
 }
 
-/// The two sides of a tree with two sides at least.
+/// The two sides of a tree of at least two items.
 #[derive(Clone, Copy)]
 pub(crate) struct Sides<'a> {
     pub left: &'a ItemTree,
@@ -112,7 +112,7 @@ impl ItemTree {
         ItemTree::pair(alloc, left, right)
     }
 
-    /// Returns the same items for one more owner. Takes no memory. Fails with NoMemory if a node has
+    /// Returns the same items for one more owner. Takes no memory. Fails with NoMemory if the root has
     /// 2^64 - 1 owners.
     pub fn share(&self) -> Result<ItemTree, NoMemory>
         ensures { IfOk result (λ tree. tree ≡ self.now) }
@@ -136,7 +136,7 @@ impl ItemTree {
         }
     }
 
-    /// Returns the number of levels, 0 of no items and 1 of one item. No contract depends on it.
+    /// Returns the number of levels: 0 for no items, and 1 for one item. No contract depends on it.
     pub fn height(&self) -> u8 {
         match &self.node {
             ItemNode::Empty => 0,
@@ -161,8 +161,8 @@ impl ItemTree {
         }
     }
 
-    /// Returns the items of two trees, one after the other, as a node with two sides. Takes memory for
-    /// that node. Fails with NoMemory.
+    /// Returns the items of two trees, one after the other, as a node with two sides; if one is empty,
+    /// the other alone. Takes memory for that node. Fails with NoMemory.
     pub fn pair(alloc: Global, left: ItemTree, right: ItemTree) -> Result<ItemTree, NoMemory>
         requires { length left + length right < 2 ^ 64 }
         ensures { IfOk result (λ tree. tree ≡ left ++ right) }

@@ -103,8 +103,8 @@ impl ListTree {
         self.parts().items.len()
     }
 
-    /// Returns the number of levels. For n items it is meant to be at most 1 + 1.45 · log2(n). No contract
-    /// says so.
+    /// Returns the number of levels, 0 for the empty list. For n > 0 items it is meant to be at most
+    /// 1 + 1.45 · log2(n). No contract says so.
     pub fn height(&self) -> u8 {
         self.parts().items.height()
     }
@@ -128,8 +128,9 @@ impl ListTree {
         Some(item)
     }
 
-    /// Returns the items of a list and then those of another one, or `None` if that list would be too
-    /// heavy. Takes time that grows with the logarithm of the number of items. Fails with NoMemory.
+    /// Returns the items of a list and then those of another one, or `None` if the weight of that list
+    /// would exceed `MAX_WEIGHT`. Takes time that grows with the difference of the heights. Fails with
+    /// NoMemory.
     pub fn join(
         alloc: Global,
         left: &ListTree,
@@ -266,7 +267,7 @@ fn encoded(alloc: Global, value: &Value) -> Result<Vec<u8>, NoMemory>
     Ok(bytes)
 }
 
-/// Fills `out` with the bytes of a header and of a rope after it from index `from` on.
+/// Fills `out` with the bytes from index `from` on of a header and of a rope after it.
 fn copy_after(header: &[u8; HEADER_LENGTH], rope: &Rope, from: usize, out: &mut [u8])
     requires { from + length out.old ≤ 5 + length rope.now }
     ensures { out.new ≡ take (length out.old) (drop from (header.now ++ rope.now)) }
@@ -281,7 +282,7 @@ fn copy_after(header: &[u8; HEADER_LENGTH], rope: &Rope, from: usize, out: &mut 
     rope.copy_part(0, rest);
 }
 
-/// Returns the number of bytes.
+/// Returns the number of bytes. The clause `bytes` says that each of them is below 256.
 fn byte_count(bytes: &[u8]) -> usize
     ensures len { result ≡ length bytes.now }
     ensures bytes { (i : ℕ) → slice_index bytes.now i < 256 }

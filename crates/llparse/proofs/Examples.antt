@@ -34,7 +34,7 @@ sample_free p r x c =
     let less = c.earlier in
     omega arith
 
--- it is the least one, since the grammar has only these two productions
+-- the conflict is the least one, since the grammar has only these two productions
 pub left_recursion_least : IsLeastConflict left_recursive 0 0 1 (ahead.Terminal (Literal 0))
 unfolding left_recursion
 left_recursion_least = record {
@@ -49,7 +49,7 @@ left_recursion_least = record {
   ];
 }
 
--- the symbol's first production predicts `x`, since its first item can begin with that
+-- `x` predicts the symbol's first production, since the first item of that can begin with it
 pub first_choice : IsChoice left_recursive 0 (ahead.Terminal (Literal 0)) 0
 unfolding left_recursion
 first_choice = (production_more, refl, refl, left_recursion.one_predicts)

@@ -78,7 +78,7 @@ module _ (g : Grammar) where
     begin_as (more t ts) (item.Terminal (Literal l) ∷ xs) fit =
         inr ((Literal l, literal_text g l), all_words (more t ts) xs, refl, here)
 
-  -- the look-aheads after the rest of a right side
+  -- the words of the rest of a right side, and those after it, begin with a look-ahead in FOLLOW of the symbol before that rest
   abbrev At : ℕ → Production → Type 0
   At p q = IsProduction g p q
 
@@ -99,7 +99,7 @@ module _ (g : Grammar) where
       go (inl (n, e)) = subst (λ z. Predicts g q (ahead_of (z ++ r))) (sym e) (inr (n, f))
       go (inr (w, rest, e, f1)) = subst (λ z. Predicts g q (ahead_of (z ++ r))) (sym e) (inl f1)
 
-  -- productions of one symbol that predict one look-ahead are one
+  -- without a conflict, productions of one symbol that the same look-ahead predicts are the same
   one_production : HasNoConflict g → (p r : ℕ) (q s : Production) (x : Ahead) → IsProduction g p q → IsProduction g r s
       → q.left ≡ s.left → Predicts g q x → Predicts g s x → p ≡ r
   one_production free p r q s x getq gets left one other =

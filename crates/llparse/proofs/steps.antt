@@ -1,7 +1,7 @@
 -- The effects of the steps of a parser on the trees that complete the open nodes.
 pub mod Begins
 pub mod Closing
-pub mod Fronts
+pub mod Prefixes
 pub mod Leaves
 pub mod Literals
 pub mod Shown

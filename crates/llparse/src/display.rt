@@ -5,7 +5,7 @@ use crate::table::fault::TableFault;
 use std::error::Error;
 use std::fmt;
 
-/// Prints the number of the fault: `L1`.
+/// Prints the number of the fault, `L1`, or `NoMemory`.
 impl fmt::Display for TableFault {
     ghost use Rattle.std.specs.Prelude.{Some};
     ghost use Rattle.llparse.specs.Printed.{printed_table};
@@ -22,7 +22,8 @@ impl fmt::Display for TableFault {
 
 impl Error for TableFault {}
 
-/// Prints the number of the fault, and its offset in bytes if it has one: `P1 at 1`, `P2`.
+/// Prints the number of the fault, or `NoMemory`, and its offset in bytes if it has one: `P1 at 1`,
+/// `P2`.
 impl fmt::Display for ParseFault {
     ghost use Rattle.std.specs.Prelude.{Some};
     ghost use Rattle.llparse.specs.Printed.{printed};

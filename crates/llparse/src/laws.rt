@@ -50,8 +50,8 @@ pub fn left_recursion_is_a_choice()
     ensures { IsChoice left_recursive 0 (ahead.Terminal (Literal 0)) 0 }
 {}
 
-/// Worked example: what small tables have at a literal and at the end, for a class without an entry, and
-/// for a literal that the grammar does not have.
+/// Worked example: the choices of small tables at a literal, at the end, at a class where they have no
+/// production, and at a literal that the grammar does not have.
 pub fn small_tables_are_read()
     ensures literal { choice_of small_tables 0 (ahead.Terminal (Literal 0)) ≡ Some 0 }
     ensures end { choice_of small_tables 0 ahead.End ≡ Some 1 }

@@ -1,9 +1,10 @@
-//! The tables of a grammar: FIRST, FOLLOW, and the production that each look-ahead chooses.
+//! The tables of a grammar: FIRST, FOLLOW, and the production that each look-ahead chooses for each
+//! symbol.
 //!
 //! Symbols and look-aheads are numbered as the nodes of graphs (`nodes`). For one look-ahead, the
-//! symbols that have it in FIRST are the nodes that the edges of one graph reach, and those that
-//! have it in FOLLOW the nodes that the edges of another reach. A set of nodes is a list of marks:
-//! `true` at the numbers of its nodes.
+//! symbols that have it in FIRST are those that the edges of one graph reach from its node, and the
+//! symbols that have it in FOLLOW are those that the edges of another graph reach from seeds
+//! (`follow`). A set of nodes is a list of marks: `true` at the numbers of its nodes.
 
 pub mod building;
 pub mod choosing;

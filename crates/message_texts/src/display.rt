@@ -7,10 +7,10 @@ use std::fmt;
 /// The greatest number of names in most lists of a message: of terminals, symbols or occurrences.
 pub const MAX_NAMED: usize = 12;
 
-/// The greatest number of characters of a token that a message shows.
+/// The greatest number of characters of a token or a value that a message shows.
 const MAX_SHOWN: usize = 24;
 
-/// A number that prints with a comma before each of its last two groups of three digits: `1,048,576`.
+/// A number that prints in groups of three digits, as in `1,048,576`, with at most two commas.
 #[derive(Clone, Copy)]
 pub struct GroupedNumber(pub usize);
 
@@ -32,8 +32,8 @@ impl fmt::Display for GroupedNumber {
     }
 }
 
-/// A text that prints in one line. Each character that controls a terminal, can't be seen, or can be taken for
-/// a plain space prints as an escape with its number, such as `\u{1b}`.
+/// A text that prints in one line. Each control character, each white space but the plain space, and each
+/// character of `is_unseen` prints as an escape with its number, such as `\u{1b}`.
 #[derive(Clone, Copy)]
 pub struct PlainText<'a>(pub &'a str);
 
@@ -46,8 +46,8 @@ impl fmt::Display for PlainText<'_> {
     }
 }
 
-/// The text at an offset, which prints in backquotes and as by `PlainText`, and only the first characters of a
-/// long one. None is the end of the text.
+/// The text at an offset, or None at the end of the text, which prints as `END`. A text prints in backquotes, as by
+/// `PlainText`; if it has more than `MAX_SHOWN` characters, only these and `..`.
 #[derive(Clone, Copy)]
 pub struct FoundText<'a>(pub Option<&'a str>);
 
@@ -70,8 +70,8 @@ impl fmt::Display for FoundText<'_> {
     }
 }
 
-/// Returns whether a character is in a list of those that have no shape of their own, or turn the direction of
-/// those beside them: a byte order mark, and some other characters of Unicode's category Cf, but not all.
+/// Returns whether a character is in a list of those that have no shape of their own, or change the direction of
+/// those beside them: a byte order mark, some others of Unicode's category Cf, and unassigned ones between them.
 fn is_unseen(character: char) -> bool {
     matches!(
         character,
@@ -80,8 +80,8 @@ fn is_unseen(character: char) -> bool {
     )
 }
 
-/// Writes a character, as an escape with its number if it controls a terminal, can't be seen, or can be taken
-/// for a plain space.
+/// Writes a character: as an escape with its number if it is a control character, white space other than the plain
+/// space, or one of `is_unseen`.
 fn write_character<W: fmt::Write>(f: &mut fmt::Formatter<W>, character: char) -> fmt::Result {
     let is_plain = character == ' ' || !character.is_whitespace();
     if is_plain && !character.is_control() && !is_unseen(character) {
@@ -105,8 +105,9 @@ pub fn utf8_prefix(bytes: &[u8]) -> &str {
     }
 }
 
-/// Returns the token at an offset in bytes, also one with a number that is too large. If no token begins there, returns
-/// the characters up to the next separator, at least one. None at the text's end.
+/// Returns the token at an offset in bytes. If no token begins there, returns what looks like a number or an
+/// occurrence, such as a number that is too large, or else the characters up to the next separator, at least one.
+/// None at the text's end.
 pub fn found_at(text: &str, at: usize) -> Option<&str> {
     let rest = text.get(at..)?;
     let mut cursor = Cursor::new(rest);
@@ -120,8 +121,8 @@ pub fn found_at(text: &str, at: usize) -> Option<&str> {
     Some(rest.get(..cursor.offset()).unwrap_or(rest).trim_end())
 }
 
-/// Returns the digits with which a text begins; if it begins with a `$`, also that and the name after the digits. None
-/// if there are no digits.
+/// Returns the digits with which a text begins; if it begins with a `$`, returns that with the letters, digits, `.` and
+/// `_` after it. None if there is no digit among these.
 fn leading_number(text: &str) -> Option<&str> {
     let is_occurrence = text.starts_with('$');
     let mut has_digits = false;
@@ -159,7 +160,7 @@ fn is_separator(character: char) -> bool {
     matches!(character, ' ' | '\t' | '\r' | '\n')
 }
 
-/// Returns why no token begins with what was found. None if one does.
+/// Returns why what was found does not begin with a token. None if it does.
 pub fn token_fault(found: &str) -> Option<ExprFault> {
     let cursor = Cursor::new(found);
     match cursor.peek() {

@@ -36,8 +36,8 @@ impl<'a> GrammarText<'a> {
         Location::At(self.source.position(at))
     }
 
-    /// Reads the text once more, and returns the grammar by its numbers. None if the text reads as no
-    /// accepted grammar, or memory is refused.
+    /// Reads the text once more, and returns the grammar with numbers in place of names. None if the text reads as
+    /// no accepted grammar, or memory is refused.
     pub fn numbered(&self) -> Option<Grammar> {
         let raw = read_grammar(self.alloc, self.source.bytes).ok()?;
         if !is_readable(&raw) {

@@ -39,7 +39,7 @@ const TEXT: &str = "a text ends with a quote and has only the escapes \\\" \\\\ 
 const OCCURRENCE: &str =
     "an attribute is written `$`, place, `.`, name, without spaces, as in `$1.s`";
 
-/// Hints at what begins no token, by its first characters: mostly signs of other languages. A sign comes
+/// Hints about characters that begin no token, by the first of them: mostly signs of other languages. A sign comes
 /// after those that begin with it.
 const SIGNS: [(&str, &str); 8] = [
     ("\"", TEXT),
@@ -59,12 +59,13 @@ pub struct Context<'a> {
     before: &'a str,
     /// What is from the offset on.
     rest: &'a str,
-    /// The token at the offset, or the characters up to the next separator. None at the text's end.
+    /// The token at the offset, or the characters up to the next separator, as `found_at` returns them. None at the
+    /// text's end, or if there is no offset.
     pub found: Option<&'a str>,
 }
 
 impl<'a> Context<'a> {
-    /// Returns the text around an offset in bytes, or nothing around no offset.
+    /// Returns the text around an offset in bytes, or empty texts if there is no offset.
     pub fn of(text: &'a str, at: Option<usize>) -> Context<'a> {
         match at {
             Some(at) => Context {
@@ -80,7 +81,7 @@ impl<'a> Context<'a> {
         }
     }
 
-    /// Returns a hint at what begins no token, or an empty text.
+    /// Returns a hint about characters that begin no token, or an empty text.
     pub fn token_hint(&self) -> &'static str {
         if begins_with(self.found, BYTE_ORDER_MARK) {
             return MARK;
@@ -99,7 +100,7 @@ impl<'a> Context<'a> {
         ""
     }
 
-    /// Returns a hint at a token that an expression does not go on with, or an empty text.
+    /// Returns a hint about a token that an expression does not go on with, or an empty text.
     pub fn expression_hint(&self, expected: &[Expected]) -> &'static str {
         let is_operand = expected.contains(&Expected::Part(Part::Operand))
             || expected.contains(&Expected::Part(Part::Expression));
@@ -127,7 +128,7 @@ impl<'a> Context<'a> {
         }
     }
 
-    /// Returns a hint at what a grammar does not go on with outside its expressions, or an empty text.
+    /// Returns a hint about what a grammar does not go on with outside its expressions, or an empty text.
     pub fn grammar_hint(&self, expected: &[Expected]) -> &'static str {
         if begins_with(self.found, BYTE_ORDER_MARK) {
             return MARK;
@@ -144,14 +145,15 @@ impl<'a> Context<'a> {
         ""
     }
 
-    /// Returns whether a comment of another language begins at the offset, or with the sign before it.
+    /// Returns whether a comment of another language begins at the offset or, as `--` can, one character before it.
     fn is_comment(&self) -> bool {
         let is_second = self.before.ends_with('-') && self.rest.starts_with('-');
         let is_first = |sign: &&str| self.rest.starts_with(*sign);
         is_second || ["//", "#", "--", "/*"].iter().any(is_first)
     }
 
-    /// Returns a hint at a name where another name or an operand is expected: it is a reserved one then.
+    /// Returns `hint` if a name was found, and else an empty text. A name that is found where a name or an operand is
+    /// expected is a reserved one.
     fn reserved_hint(&self, hint: &'static str) -> &'static str {
         let Some(found) = self.found else {
             return "";

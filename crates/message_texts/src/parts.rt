@@ -7,9 +7,9 @@ use std::alloc::{AllocError, Global};
 /// Where a fault is.
 #[derive(Clone, Copy)]
 pub enum Location {
-    /// In the whole of a text or a file: only the parts follow the fault's number.
+    /// In the whole of a text or a file: the message prints no position, and no colon before its parts.
     Whole,
-    /// Where the fault itself says, which prints an offset or names after its number.
+    /// Where the fault itself says, if it does: it prints an offset or names after its number.
     InFault,
     /// At a line and a column, which the message prints with its file, if it has one.
     At(Position),

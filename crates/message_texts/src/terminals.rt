@@ -7,7 +7,7 @@ use ag_grammar::{Grammar, Terminal};
 use llparse::Ahead;
 use std::alloc::AllocError;
 
-/// Writes a terminal, a literal by its text and a class by its name, or the end of the sentence.
+/// Writes a terminal (a literal by its text, a class by its name) or the end of the sentence.
 pub fn write_ahead(out: &mut String, grammar: &Grammar, ahead: Ahead) -> Result<(), AllocError> {
     match ahead {
         Ahead::Terminal(Terminal::Literal(number)) => {

@@ -115,8 +115,8 @@ impl FaultReport {
     }
 
     /// Returns the report of a fault of converting the tree in an old file, which is read again. It names the
-    /// old file if that one is damaged or exceeds a limit, or if the fault is D1 and its device fails again;
-    /// otherwise it can name only the new file.
+    /// old file if that one is damaged or its tree exceeds a limit, or if the fault is D1 and the old file's device
+    /// fails again; otherwise it can name only the new file.
     pub fn of_old_tree<D: Device>(
         alloc: Global,
         fault: Fault,

@@ -1,4 +1,4 @@
--- Small raw grammars, and the fault of each: the symbols are S with the synthesized attribute `out`, from
+-- Small raw grammars, and the first fault of each, if it has one: the symbols are S with the synthesized attribute `out`, from
 -- offset 16 on, and A with the inherited attribute i, from 34 on.
 use Rattle.std.specs.Prelude.{ℕ, ◌≡◌, Option, Some, None, List, [], ◌∷◌}
 use Rattle.ag_grammar.specs.declared.syntax.node.Node.{Node}
@@ -45,14 +45,15 @@ here attr at = record { place = 0; attr = attr; at = at }
 abbrev rule_at : Node → List ℕ → ℕ → List Occ → RawRule
 rule_at e attr at occurrences = record { target = here attr at; expr = (e, occurrences) }
 
--- The first fault of the names; the other one is of the rules and limits.
+-- The first fault of N1 to N3 (names and the start symbol), and below it that of N6 to N10 (rules and limits).
 abbrev names_fault : RawGrammar → Option NormalFault
 names_fault raw = first_wrong (naming_checks raw)
 
 abbrev rules_fault : RawGrammar → Option NormalFault
 rules_fault raw = first_wrong (further_checks raw)
 
--- N1: S = T {}, where no T is declared. N2: S is declared again. N3: the start symbol A has no `out`.
+-- N1: S = T {}, where no T is declared. N2: S is declared again. N3: the start symbol is A, which has an
+-- inherited attribute and no `out`.
 abbrev pub WorkedNames : Type 0
 WorkedNames = (names_fault (with_production 83 (raw_item.Name (name_at 84 50) ∷ []) []) ≡ Some (fault.UnknownName 50))
     × (names_fault (with_symbols 83 (first_symbol ∷ record { name = name_at 83 34; syn = []; inh = [] } ∷ [])) ≡ Some
@@ -60,7 +61,7 @@ WorkedNames = (names_fault (with_production 83 (raw_item.Name (name_at 84 50) �
     × (names_fault (with_symbols 65 the_symbols) ≡ Some fault.BadStart)
 
 -- N6: S = {}. N7: S = { $0.out = e; $0.out = e; }. N8: A = { $0.i = e; }. N9: S = { $0.out = e; }, where
--- `$0.out` occurs in e. No fault: S = { $0.out = e; }.
+-- the occurrence `$0.out` is listed with e. No fault: S = { $0.out = e; }.
 abbrev pub WorkedRules : Type 0
 WorkedRules = (e : Node) →
     (rules_fault (with_production 83 [] []) ≡ Some (fault.RuleMissing 0 0 0))

@@ -3,7 +3,7 @@ use Rattle.std.specs.Prelude.{ℕ, List, ◌++◌, codes, decimal}
 use Rattle.normalform.specs.declared.fault.NormalFault.{NormalFault}
 use Rattle.normalform.specs.declared.fault.NormalFault.TheVariants as fault
 
--- the printed form of a fault: its number, and the offset in decimal
+-- the printed form of a fault: its number, or `NoMemory`, and its offset in decimal if it has one
 abbrev pub printed : NormalFault → List ℕ
 printed (fault.UnknownName at) = codes "N1 at " ++ decimal at
 printed (fault.DoubledName at) = codes "N2 at " ++ decimal at

@@ -32,7 +32,7 @@ use std::alloc::Global;
 /// The first fault, as it is found: N4 and N5 have the number of the symbol, and not yet its name.
 #[derive(Debug, Drop)]
 enum Found {
-    /// This fault.
+    /// This fault, of any other kind.
     Fault(NormalFault),
     /// N4: the symbol with this number is not productive.
     Unproductive(usize),
@@ -52,7 +52,7 @@ fn bad_start(declared: &Declared<'_>, name: &Named) -> Option<NormalFault>
     }
 }
 
-/// Returns the first fault of N1 to N3.
+/// Returns the first fault of N1 to N3, if there is one.
 fn naming_fault(
     alloc: Global,
     raw: &RawGrammar,
@@ -70,7 +70,7 @@ fn naming_fault(
     Ok(bad_start(declared, &raw.start))
 }
 
-/// Returns the first fault of N6 to N9, those of rules.
+/// Returns the first fault of N6 to N9, those of rules, if there is one.
 fn rule_fault(
     alloc: Global,
     declared: &Declared<'_>,
@@ -90,7 +90,7 @@ fn rule_fault(
     first_not_normal(alloc, declared, productions)
 }
 
-/// Returns the first fault of N6 to N10.
+/// Returns the first fault of N6 to N10, if there is one.
 fn further_fault(
     alloc: Global,
     raw: &RawGrammar,
@@ -107,7 +107,7 @@ fn further_fault(
     first_limit(alloc, declared, symbols, productions)
 }
 
-/// Returns the number of the first symbol that is not productive (N4).
+/// Returns the number of the first symbol that is not productive (N4), if there is one.
 fn unproductive(
     alloc: Global,
     raw: &RawGrammar,
@@ -124,7 +124,7 @@ fn unproductive(
     first_underivable(alloc, &clauses, &[])
 }
 
-/// Returns the number of the first symbol that is not reached (N5).
+/// Returns the number of the first symbol that is not reached (N5), if there is one.
 fn unreachable(
     alloc: Global,
     raw: &RawGrammar,
@@ -145,7 +145,7 @@ fn unreachable(
     first_underivable(alloc, &clauses, &[start])
 }
 
-/// Returns the first fault of N4 to N10, for a grammar without N1 to N3.
+/// Returns the first fault of N4 to N10, if there is one, for a grammar without N1 to N3.
 fn structure_fault(
     alloc: Global,
     raw: &RawGrammar,
@@ -239,13 +239,13 @@ fn refusal(found: Found, raw: RawGrammar) -> NormalFault
     }
 }
 
-/// Checks a raw grammar, and returns the numbered grammar, which is accepted, with its classes
-/// ascending and its literals in the order of their first appearance; names and expressions are
-/// moved into it.
+/// Checks a raw grammar, which has to be readable (`is_readable`), and returns the numbered grammar.
+/// That is accepted, with its classes ascending and its literals in the order of their first
+/// appearance; names and expressions are moved into it.
 ///
-/// Fails with the first fault: of the kinds in the order of `NormalFault` the first that has one,
-/// and within a kind the first in the order of the lists. Then the numbered grammar is not
-/// accepted, and the raw grammar is dropped. Fails with `NoMemory` only if memory was refused.
+/// Fails with the first fault: the first one of the first kind that occurs, in the order of
+/// `NormalFault`; that type says which fault is the first of a kind. Then the numbered grammar is
+/// not accepted, and the raw grammar is dropped. Fails with `NoMemory` only if memory was refused.
 #[tactic(auto, using(crate::proofs::numbered::Accepting::refused))]
 pub fn check(alloc: Global, raw: RawGrammar) -> Result<Grammar, NormalFault>
     requires { IsReadable raw }

@@ -24,8 +24,10 @@ pub enum LimitKind {
     Literals,
 }
 
-/// The reasons why a raw grammar is rejected. The kinds are checked in this order, and within a
-/// kind the first fault in the order of the lists is reported. Offsets are in bytes.
+/// The reasons why a raw grammar is rejected. The kinds are checked in this order. Within a kind, the
+/// first fault in the order of the lists, which is that of the text, is reported; for N4 and N5 the
+/// first declared symbol; for N6 the first by production, place and attribute; for N10 the first
+/// limit. Offsets are in bytes from the beginning of the text.
 #[derive(Debug, Drop)]
 pub enum NormalFault {
     /// N1: the symbol at this offset in a production is not declared, or the occurrence at this
@@ -42,9 +44,9 @@ pub enum NormalFault {
     Unproductive(Named),
     /// N5: the first declared symbol that is not reached from the start symbol.
     Unreachable(Named),
-    /// N6: the production with this number (the first) has no rule for the attribute with this
+    /// N6: the production with this number (the first field) has no rule for the attribute with this
     /// number (the third) at this place (the second): a synthesized one at place 0, or an inherited
-    /// one at a later place.
+    /// one at a later place. Productions and attributes are numbered from 0.
     RuleMissing(usize, usize, usize),
     /// N7: the target at this offset is that of an earlier rule of the production.
     RuleDoubled(usize),

@@ -6,7 +6,7 @@ ghost use Rattle.normalform.specs.Laws.{OneFirstFault, NoFirstFaultWithoutFault}
 ghost use Rattle.normalform.specs.Laws.{WorkedNumbers};
 
 /// States that if a raw grammar has no fault, the numbered grammar is accepted: for raw grammars that are
-/// readable, and whose numbered rules list their occurrences.
+/// readable, and whose numbered rules list their occurrences and have no unbound name (`AreListedIn`).
 #[tactic(auto, using(crate::proofs::numbered::Accepting::accepted_without_fault))]
 pub fn accepted_without_fault()
     ensures { AcceptedWithoutFault }

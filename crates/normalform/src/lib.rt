@@ -1,7 +1,7 @@
-//! Numbering the names of a grammar, and checking that it is accepted: complete, normal, reduced
-//! and within the limits.
+//! Numbering the names of a grammar, and checking that it is accepted: that its names are declared
+//! once and its start symbol fits, and that it is complete, normal, reduced and within the limits.
 //!
-//! A function that returns a `Result` with `NoMemory` fails only if memory is refused.
+//! A function whose error is the type `NoMemory` fails only if memory is refused; no contract says so.
 #![tactic(auto)]
 
 mod checking;

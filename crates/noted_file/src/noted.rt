@@ -26,7 +26,7 @@ const READ: u64 = 4;
 const TRUNCATE: u64 = 5;
 
 /// An open file with the record of its calls. Contracts see both. An entry of the record has a kind, an
-/// offset or a length in bytes, whether the call succeeded, and bytes.
+/// offset or a length in bytes, a flag that says whether the call succeeded, and bytes.
 #[derive(Drop)]
 pub struct NotedFile<F> {
     file: F,

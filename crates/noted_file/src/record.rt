@@ -6,7 +6,7 @@ ghost use Rattle.noted_file.specs.Calls.{Event, IsFresh, event_of};
 use std::marker::{Model, PhantomData};
 
 /// The calls on one file with their results, newest first. The oldest entry has the content that the file
-/// had when it was opened. The record occupies no memory: only contracts can read it.
+/// had when it was first opened. The record occupies no memory: only contracts can read it.
 #[derive(Drop)]
 pub struct CallRecord {
     marker: PhantomData<u8>,

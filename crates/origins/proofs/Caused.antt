@@ -91,11 +91,11 @@ turning : (f : ℕ → Bool) (n : ℕ) → f 0 ≡ true → f n ≡ false → (k
 turning f zero on off = absurd (both_ways (f 0) off on)
 turning f (suc n) on off = elim (cases_Bool (f n)) [ inl yet ↦ (n, yet, off) | inr no_more ↦ turning f n on no_more ]
 
--- one number is below another, and not below the one after it
+-- no number is below k without being below k + 1
 apart : (j k : ℕ) → nat_lt j k ≡ true → nat_lt j (suc k) ≡ false → ⊥
 apart j k on off = let less = ltb-true j k on in let past = ltb-false j (suc k) off in omega arith
 
--- a number that is below the one after another, and not below that, is that
+-- a number that is below k + 1, and not below k, is k
 turn_at : (j k : ℕ) → nat_lt j k ≡ false → nat_lt j (suc k) ≡ true → j ≡ k
 turn_at j k off on = let past = ltb-false j k off in let less = ltb-true j (suc k) on in omega arith
 

@@ -166,13 +166,13 @@ module _ (g : Grammar) where
   occurs_unordered RightToLeft xs path h =
       subst (λ (zs : List Kid). OccursIn g zs path) (reverse-reverse xs) (occurs_reversed (reverse xs) path h)
 
-  stands_at : (n : ℕ) (ts : Forest) (vs : ℕ → Valuation) (i : ℕ) (path : List ℕ) → HasOrigin g path (child ts i) (vs i)
+  occurs_at : (n : ℕ) (ts : Forest) (vs : ℕ → Valuation) (i : ℕ) (path : List ℕ) → HasOrigin g path (child ts i) (vs i)
       → OccursIn g (kids n ts vs) ((n + i) ∷ path)
-  stands_at n none vs i path h = absurd (none_below path (vs i) h)
-  stands_at n (more t ts) vs zero path h = let number : n + 0 ≡ n = omega arith in inl (path, ap (λ z. z ∷ path) number, h)
-  stands_at n (more t ts) vs (suc i) path h =
+  occurs_at n none vs i path h = absurd (none_below path (vs i) h)
+  occurs_at n (more t ts) vs zero path h = let number : n + 0 ≡ n = omega arith in inl (path, ap (λ z. z ∷ path) number, h)
+  occurs_at n (more t ts) vs (suc i) path h =
       let number : suc n + i ≡ n + suc i = omega arith in
-      inr (subst (λ z. OccursIn g (kids (suc n) ts (rest vs)) (z ∷ path)) number (stands_at (suc n) ts (rest vs) i path h))
+      inr (subst (λ z. OccursIn g (kids (suc n) ts (rest vs)) (z ∷ path)) number (occurs_at (suc n) ts (rest vs) i path h))
 
   -- the child of an origin, among children that are numbered from a number on
   pub record IsBelow (n : ℕ) (ts : Forest) (vs : ℕ → Valuation) (path : List ℕ) : Type 0 where
@@ -202,7 +202,7 @@ module _ (g : Grammar) where
   occurs_below d ts vs i path h =
       let number : 0 + i ≡ i = omega arith in
       occurs_ordered d (kids 0 ts vs) (i ∷ path)
-      (subst (λ z. OccursIn g (kids 0 ts vs) (z ∷ path)) number (stands_at 0 ts vs i path h))
+      (subst (λ z. OccursIn g (kids 0 ts vs) (z ∷ path)) number (occurs_at 0 ts vs i path h))
 
   -- and an origin in them is below one
   pub below_occurs : (d : Direction) (ts : Forest) (vs : ℕ → Valuation) (path : List ℕ)

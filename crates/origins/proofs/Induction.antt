@@ -30,7 +30,7 @@ Visited k (suc j) i = IsBefore (direction_of k) i (suc j)
 split : (p k : ℕ) → p ≤ k → (p < k) ⊎ (p ≡ k)
 split p k h = grind arith
 
--- how many children a pass visits before the one of a number, or more
+-- at least the number of children that a pass visits before child i of n
 abbrev rank : Direction → ℕ → ℕ → ℕ
 rank LeftToRight n i = i
 rank RightToLeft n i = n - i
@@ -99,7 +99,7 @@ root_holds R g m (item.Symbol s) (node p ts) path f h = let e : left_passes m (s
 abbrev pub Of : (List ℕ → ℕ → Type 0) → (ℕ → Type 0) → List ℕ → List ℕ → Type 0
 Of Ok W path ps = (a p : ℕ) → slice_get ps a ≡ Some p → W p → Ok path a
 
--- Each rule of a tree passes it on, and each text has it.
+-- Each rule of a tree passes a property (Ok) of attribute instances on from its arguments to its target, and each text has it.
 abbrev mutual
   pub Closed : (List ℕ → ℕ → Type 0) → Grammar → Tree → List ℕ → Type 0
   Closed Ok g (leaf c x) path = Ok path 0

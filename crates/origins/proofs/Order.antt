@@ -14,7 +14,7 @@ before_self (i ∷ p) =
     ap (λ b. b || (nat_eq i i && is_before p p)) (le-ltb i i (omega arith))
     ∙ and_right (nat_eq i i) (is_before p p) (before_self p)
 
--- what comes before a path comes before what that comes before
+-- if one path comes before another, and that before a third, the first comes before the third
 before_across : (p q r : List ℕ) → is_before p q ≡ true → is_before q r ≡ true → is_before p r ≡ true
 before_across [] [] r a b = b
 before_across [] (j ∷ q) [] a b = absurd (let bad : ⊥ = cc in bad)

@@ -49,7 +49,7 @@ causes_have_origins g t v path a (here at_path r e is on) = (at_path, rule_count
 causes_have_origins g t v path a (passed at_path r e k o is source occurs cause) =
     causes_have_origins g t v (place_path at_path o.place) o.attr cause
 
--- what holds at each node as far as something else does
+-- S holds at each node where R does, if R implies S
 module _ (R S : List ℕ → List ℕ → Type 0) (g : Grammar) (m : Passes) (h : (path ps : List ℕ) → R path ps → S path ps) where
   mutual
     holds_map : (t : Tree) (path : List ℕ) → HoldsAt R g m t path → HoldsAt S g m t path

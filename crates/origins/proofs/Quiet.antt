@@ -21,7 +21,7 @@ value_of_occurrence k env =
     ap (λ (e : Node). value_of e env) (sym (node_of.rolls-Occurrence k))
     ∙ ap (λ (f : Meaning). f env []) (fold-roll-Node Meaning value_step (Node-F.Occurrence k))
 
--- another error is another one
+-- the error that is put in place of an error is not the same one
 another_error : (c : ErrorCode) (v : Value) (b : Bool) → nat_eq (number_of c) 1 ≡ b
     → is_same_error (Some c) (fault_of (cond b (value.Fault Divide) (value.Fault Overflow))) ≡ false
 another_error c v true e =

@@ -29,7 +29,7 @@ use Rattle.origins.specs.Arising.{Table, arises, arising_count, environment, is_
 use Rattle.origins.specs.Rows.{table_of}
 use Rattle.origins.proofs.Arguments.{argument_value, row}
 
--- the count of what passes two tests, which agree on each member
+-- two tests that agree on each member of a list count the same number
 count_same : (f h : Rule → Bool) (rs : List Rule) → ((i : ℕ) (r : Rule) → slice_get rs i ≡ Some r → f r ≡ h r)
     → count_by f rs ≡ count_by h rs
 count_same f h [] same = refl

@@ -395,7 +395,7 @@ read_node g d content at x old new first now count total body p vs accepted is e
     (reverse old) first now count total body p q vs accepted legal last entered.there is.well is.same found entered.count
     entered.first (next m k t v small legal last tree file))
 
--- the same of other names for the same
+-- the same of terms that are equal to these
 pub come_same : (g : Grammar) (d : Direction) (content : List ℕ) (at at2 : ℕ) (os os2 : List Open)
     (first first2 : Option (List ℕ)) (count count2 : ℕ) → at2 ≡ at → os2 ≡ os → first2 ≡ first → count2 ≡ count
     → HasComeTo g d content at os first count → HasComeTo g d content at2 os2 first2 count2

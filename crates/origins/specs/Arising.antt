@@ -37,7 +37,7 @@ is_same_error (Some c) (Some d) = nat_eq (number_of c) (number_of d)
 unfoldable pub arises : Node → (ℕ → Value) → Bool
 arises e env = is_same_error (fault_of (value_of e env)) (fault_of (value_of e (λ k. exchanged (env k))))
 
--- the value of what an occurrence stands for; that of none is anything
+-- the value of what an occurrence stands for; if it stands for nothing, the number 0, which doesn't matter
 abbrev pub value_at : Table → Option Target → Value
 value_at e None = Num (pos 0)
 value_at e (Some o) = e o.place o.attr
@@ -50,7 +50,7 @@ environment r e k = value_at e (slice_get r.args k)
 abbrev pub is_arising : Table → Rule → Bool
 is_arising e r = arises r.expr.0 (environment r e)
 
--- in how many rules of a production one arises
+-- the number of rules of a production in which an error arises
 abbrev pub arising_count : Option Production → Table → ℕ
 arising_count None e = 0
 arising_count (Some q) e = count_by (is_arising e) q.rules

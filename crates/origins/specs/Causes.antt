@@ -22,7 +22,7 @@ abbrev pub place_path : List ℕ → ℕ → List ℕ
 place_path path zero = path
 place_path path (suc i) = path ++ i ∷ []
 
--- the first n arguments are other errors where they are errors
+-- the values with other errors in place of those among the first n arguments
 abbrev pub exchanged_below : ℕ → (ℕ → Value) → ℕ → Value
 exchanged_below n env k = if nat_lt k n then exchanged (env k) else env k
 

@@ -16,7 +16,8 @@ use Rattle.ag_grammar.specs.values.Operators.{operation_result}
 use Rattle.origins.specs.declared.forms.Known.{Known}
 use Rattle.origins.specs.declared.forms.Known.TheVariants as known
 
--- An error is like any error, and any other value only like itself. The first argument is the error that the second one is.
+-- An error is like any error, and any other value only like itself. The first argument is the error that the second one is,
+-- if it is one.
 abbrev pub IsLike : Option ErrorCode → Value → Value → Type 0
 IsLike None v w = w ≡ v
 IsLike (Some c) v w = has_fault (fault_of w) ≡ true
@@ -42,7 +43,7 @@ States v known.Nothing = Unit {0}
 pub record IsStated (v : Value) (r : Known) : Type 0 where
   pub states : States v r
 
--- the same of the value of the occurrence of a number
+-- the same of the value of occurrence k
 abbrev pub Describes : Value → ℕ → Known → Type 0
 Describes v k (known.Number n) = v ≡ value.Num n
 Describes v k known.Clean = fault_of v ≡ None
@@ -65,7 +66,8 @@ pub record Continues (base : ℕ → Value) (a : Known) (others : List (Operator
   pub holds : (env : ℕ → Value) (bound : List Value) (v : Value) → AreAlike base env → Holds env a v
       → Holds env r (chain_value env bound v (map (λ p. (p.0, value_in p.1)) others))
 
--- So it does if it follows from what is known of the value before the rest of them.
+-- What follows from what is known of the value before the rest of these operands (b) also follows from what is known of it
+-- before all of them (a).
 pub record Reaches (base : ℕ → Value) (a : Known) (others : List (Operator × Node)) (b : Known) (rest : List (Operator × Node))
     : Type 0 where
   pub onward : (r : Known) → Continues base b rest r → Continues base a others r

@@ -42,7 +42,7 @@ start g q (suc j) = attribute_count g q.left + copies_before g (stored_items q.i
 abbrev pub slot : Grammar → Production → Target → ℕ
 slot g q o = start g q o.place + o.attr
 
--- the value of an argument in a list of the values of a record; where it has none, some value
+-- the value of an argument in a list of the values of a record, or `spare` if the list does not have it
 abbrev pub argument : Grammar → Production → List Value → Value → Option Target → Value
 argument g q vs spare None = spare
 argument g q vs spare (Some o) = get_or vs (slot g q o) spare

@@ -37,7 +37,7 @@ abbrev pub kids : ℕ → Forest → (ℕ → Valuation) → List Kid
 kids n none vs = []
 kids n (more t ts) vs = record { number = n; tree = t; values = vs 0 } ∷ kids (suc n) ts (rest vs)
 
--- in a direction
+-- a list that is given from left to right, in the order of a direction
 abbrev pub in_order : {X : Type 0} → Direction → List X → List X
 in_order LeftToRight xs = xs
 in_order RightToLeft xs = reverse xs
@@ -119,7 +119,7 @@ pub record IsSoFar (g : Grammar) (m : Passes) (k : ℕ) (d : Direction) (t : Tre
   pub pending : (path : List ℕ) → ArePending g d open_nodes families path → HasOrigin g path (Some t) v
   pub all : (path : List ℕ) → HasOrigin g path (Some t) v → ArePending g d open_nodes families path ⊎ IsNotBefore first path
 
--- It comes to a child next, below open nodes.
+-- The walk comes to the tree of an item next, below open nodes.
 pub record IsPending (g : Grammar) (m : Passes) (k : ℕ) (d : Direction) (t : Tree) (v : Valuation) (content : List ℕ) (at : ℕ)
     (x : Item) (open_nodes : List Open) (first : Option (List ℕ)) (count : ℕ) : Type 0 where
   pub tree : Tree

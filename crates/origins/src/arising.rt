@@ -1,4 +1,4 @@
-//! Whether an error arises in a rule, and which argument passed it on.
+//! Whether an error arises in a rule, and which argument passes its error on.
 
 ghost use Rattle.std.specs.Prelude.{◌≡◌, ◌+◌, ◌-◌, ◌^◌, ◌<◌, IfOk, Some, length, true};
 ghost use Rattle.ag_grammar.specs.Lists.{Each};
@@ -91,8 +91,8 @@ impl<'a> Row<'a> {
         eval(alloc, &rule.expr, &first, &mut meter)
     }
 
-    /// Whether an error arises in a rule at the node: its value is an error, and would be the same one if
-    /// every error among its arguments were another. Evaluates the rule, and a second time if its value is
+    /// Returns whether an error arises in a rule at the node: its value is an error, and would be the same one
+    /// if every error among its arguments were another. Evaluates the rule, and a second time if its value is
     /// an error; a rule that only copies an argument is not evaluated. Fails if memory is refused.
     pub fn is_arising(&self, alloc: Global, rule: &Rule) -> Result<bool, NoMemory>
         requires arguments { length rule.now.args ≡ length rule.now.expr.1 }
@@ -127,7 +127,7 @@ impl<'a> Row<'a> {
         Ok(count)
     }
 
-    /// Returns whether the value of the argument of a number is an error.
+    /// Returns whether the value of the argument with this number, from 0, is an error.
     fn is_error_at(&self, rule: &Rule, number: usize) -> bool
         requires { number < length rule.now.args }
         ensures { result ≡ has_fault (fault_of (environment rule.now
@@ -152,9 +152,10 @@ impl<'a> Row<'a> {
         Ok(error_of(&value))
     }
 
-    /// Whether a rule whose value is an error has the same error with another error in place of the argument of
-    /// a number too, as it has with other errors in place of those before it. Evaluates the rule only if
-    /// the argument is an error.
+    /// Returns whether a rule, whose value is the error `code`, has the same error with other errors in place
+    /// of those among its first `number + 1` arguments. Requires that it has the same error with other errors in
+    /// place of those among the first `number`. Evaluates the rule only if the argument `number`, from 0, is an
+    /// error.
     #[tactic(auto, using(crate::proofs::Sources::still_clean), unfolding(crate::specs::Causes::is_still))]
     fn is_still(
         &self,
@@ -205,9 +206,9 @@ impl<'a> Row<'a> {
     /// Returns the argument that passes its error on to a rule. Returns `None` if the rule's value is not
     /// an error, or the error arises in the rule. Fails if memory is refused.
     ///
-    /// Evaluates nothing if it is known without it, as for a rule that copies an argument, or adds one to a number.
-    /// Else evaluates the rule, and if its value is an error once more for each argument that is an error, up to
-    /// the one that passes it on.
+    /// Evaluates nothing if the result is known without it, as for a rule that copies an argument, or adds an
+    /// argument to a number. Else evaluates the rule and, if its value is an error, once more for each argument
+    /// that is an error, up to the one that passes it on.
     #[tactic(auto, using(crate::proofs::Sources::known_values))]
     pub fn source_of(&self, alloc: Global, rule: &Rule) -> Result<Option<Target>, NoMemory>
         requires arguments { length rule.now.args ≡ length rule.now.expr.1 }
@@ -222,7 +223,7 @@ impl<'a> Row<'a> {
         }
     }
 
-    /// Returns the argument that passes its error on to a rule as `source_of` does, by evaluations.
+    /// Returns the argument that passes its error on to a rule, as `source_of` does, but always by evaluations.
     #[tactic(auto, using(crate::proofs::Caused::still_none, crate::proofs::Caused::arises_here))]
     fn evaluated_source(&self, alloc: Global, rule: &Rule) -> Result<Option<Target>, NoMemory>
         requires arguments { length rule.now.args ≡ length rule.now.expr.1 }

@@ -32,12 +32,12 @@ impl From<ValueFault> for DecodeFault {
 #[derive(Clone, Copy, Debug, PartialEq, Eq)]
 pub enum WalkFault {
     /// R1: the content is not the file of the last pass of a tree of the grammar. The offset in bytes is 0
-    /// if the content does not begin as a tree file. Else frames are read from the end of the content on, and
-    /// it is where the first bad frame ends, or where a frame should end and none does.
+    /// if the content does not begin as a tree file. Else it is the end of the first frame, read from the end
+    /// of the content on, that shows this, or the offset at which a frame should end and none does.
     Damaged(u64),
-    /// P2: the tree has more than `MAX_DEPTH` levels.
+    /// P2: no tree of at most `MAX_DEPTH` levels has this file.
     TooDeep,
-    /// P3: the tree has more than `MAX_NODES` records.
+    /// P3: no tree of at most `MAX_NODES` nodes has this file.
     TooManyNodes,
     /// D1: a call of the device failed.
     Device,

@@ -138,7 +138,7 @@ impl<'a> Row<'a> {
     }
 }
 
-/// Returns what a value says of the argument of an index.
+/// Returns what is known of the argument with this value and this index.
 fn describe(value: &Value, number: usize) -> Known
     ensures { Describes value.now number result }
 {
@@ -176,7 +176,8 @@ fn spelled_number(text: &str) -> Option<i64>
     text.parse::<i64>().ok()
 }
 
-/// Returns what is known of a literal: it is not an error, unless it is beyond the limits.
+/// Returns what is known of a literal: nothing if it is beyond the limits, else the number that it is, or that
+/// it is not an error.
 #[tactic(auto, using(crate::proofs::Knowing::known_literal))]
 fn literal_known(literal: &Literal) -> Known
     ensures { (base : ℕ → AttributeValue) → IsKnown base (node.Literal literal.now) result }
@@ -184,7 +185,7 @@ fn literal_known(literal: &Literal) -> Known
     literal_stated(literal)
 }
 
-/// Returns the same, said of its value.
+/// Returns the same as `literal_known`; the contract states it of the literal's value.
 fn literal_stated(literal: &Literal) -> Known
     ensures { States (fit literal.now) result }
 {

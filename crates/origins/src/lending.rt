@@ -11,7 +11,8 @@ use ag_eval::Environment;
 use ag_grammar::Target;
 use ag_value::{ErrorCode, Value};
 
-/// Lends the values of a rule's arguments, which are in the record of a node.
+/// Lends the values of a rule's arguments, which are in the record of a node; `spare` for an argument that
+/// the record does not have.
 #[derive(Drop)]
 pub(crate) struct Arguments<'a> {
     pub(crate) row: &'a Row<'a>,
@@ -37,7 +38,8 @@ impl<'a> Environment for Arguments<'a> {
     }
 }
 
-/// Lends the same values, with another error in place of each error.
+/// Lends the same values, with another error in place of each error: `divide` in place of overflow, and
+/// `overflow` in place of any other.
 #[derive(Drop)]
 pub(crate) struct ExchangedErrors<'a> {
     pub(crate) arguments: &'a Arguments<'a>,
@@ -71,7 +73,7 @@ impl<'a> Environment for ExchangedErrors<'a> {
     }
 }
 
-/// Lends the same values, with another error in place of each error among the first ones.
+/// Lends the same values, with another error in place of each error among the first `count` ones.
 #[derive(Drop)]
 pub(crate) struct FirstExchanged<'a> {
     pub(crate) exchanged: &'a ExchangedErrors<'a>,
@@ -128,7 +130,7 @@ fn number_of(code: ErrorCode) -> u8
     }
 }
 
-/// Whether two are the same error.
+/// Returns whether both are errors, and the same one.
 pub(crate) fn is_same_error(one: Option<ErrorCode>, other: Option<ErrorCode>) -> bool
     ensures { result ≡ is_same_error one other }
 {

@@ -20,7 +20,7 @@ fn attribute_count(grammar: &Grammar, symbol: u16) -> usize
     }
 }
 
-/// Returns the number of its synthesized attributes.
+/// Returns the number of a symbol's synthesized attributes; 0 if the grammar does not have it.
 fn synthesized_count(grammar: &Grammar, symbol: u16) -> usize
     ensures count { result ≡ synthesized_count (slice_get grammar.now.symbols symbol) }
     ensures room { result ≤ max_attributes }
@@ -43,7 +43,8 @@ fn copied(grammar: &Grammar, item: Item) -> usize
     }
 }
 
-/// Returns the number of copies that it has of the values at the first `children` children of a right side.
+/// Returns the number of copies that a record has of the values at the first `children` children of a right
+/// side.
 fn copies_before(grammar: &Grammar, items: &[Item], children: u16) -> usize
     requires { length items.now ≤ max_items }
     ensures count { result ≡ copies_before grammar.now (stored_items items.now) children }

@@ -28,15 +28,16 @@ const MAX_TURNS: u32 = 2 * MAX_NODES + 1;
 /// Where errors arise in a tree.
 #[derive(Debug, Drop)]
 pub struct Origins {
-    /// The path of child numbers, from 0, from the root to the first node in the order of the sentence
-    /// that has a rule in which an error arises.
+    /// The path from the root, as numbers of children from 0, to the first node in the order of the sentence
+    /// that has a rule in which an error arises; `None` if there is no such node.
     pub first: Option<Items<u16>>,
     /// The number of rules of the tree in which an error arises.
     pub count: u64,
 }
 
 impl Origins {
-    /// Adds a node that is read below open nodes, if errors arise in some of its rules: in `count` of them.
+    /// Adds a node that is read below open nodes, and in `count` of whose rules an error arises. Changes nothing
+    /// if `count` is 0.
     fn add_node(
         &mut self,
         alloc: Global,
@@ -59,8 +60,8 @@ impl Origins {
         }
     }
 
-    /// Adds the node at the end of a path, in which errors arise in `count` rules. Returns `None` if there are
-    /// too many.
+    /// Adds the node at the end of a path, in `count` of whose rules an error arises. Returns `None` if the number
+    /// of all such rules is 2^64 or more.
     fn add(&mut self, path: Items<u16>, count: usize) -> Option<()>
         ensures first { IfSome result (λ _. self.new.first ≡ Some (earlier self.old.first path)) }
         ensures count { IfSome result (λ _. self.new.count ≡ self.old.count + count) }
@@ -77,7 +78,7 @@ impl Origins {
     }
 }
 
-/// Whether the node at the end of a path comes before that of another path in the order of the sentence.
+/// Returns whether the node at the end of a path comes before that of another path in the order of the sentence.
 fn is_before(path: &[u16], other: &[u16]) -> bool
     ensures { result ≡ is_before path.now other.now }
 {
@@ -138,7 +139,7 @@ pub(crate) fn stored_among(items: &[Item]) -> u16
     count
 }
 
-/// Returns the item of a child, by its number from 0, at a node of a production.
+/// Returns the item of the child with index `index`, from 0, of a node of the production `number`.
 pub(crate) fn child_at(grammar: &Grammar, number: u16, index: u16) -> Option<Item>
     requires { index < 65535 }
     ensures { IfSome result (λ x. (q : TheProduction) → IsProduction grammar.now number q
@@ -239,7 +240,7 @@ impl Walk {
         Ok(())
     }
 
-    /// Reads the next record, that of an item, and enters its node.
+    /// Reads the next record, that of an item, and enters its node if it is not a token.
     fn read<D: Device>(
         &mut self,
         alloc: Global,

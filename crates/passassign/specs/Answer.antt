@@ -1,4 +1,4 @@
--- The result of `assign`.
+-- The faults of `assign`.
 use Rattle.std.specs.Prelude.{ℕ, ◌≡◌, ◌<◌, ◌⊎◌, ◌↔◌, List, Some, slice_get}
 use Rattle.ag_grammar.specs.grammars.AttributeGrammar.{Grammar}
 use Rattle.ag_grammar.specs.grammars.Passes.{direction_of}
@@ -25,9 +25,8 @@ pub record IsOfIdlePasses (g : Grammar) (c : Stuck) : Type 0 where
   pub idle : AreIdle g pass before first second
   pub strikes : c ≡ stuck_of (direction_of pass) c.set first second
 
--- The reason why a grammar has no assignment: no assignment is legal; the set has exactly the stuck
--- attributes, in declared order; and with the strikes of the two passes that assign nothing it is a
--- certificate (this project's).
+-- The meaning of A1: no assignment is legal; the set has exactly the stuck attributes, in declared order; and with
+-- the strikes of two consecutive passes that assign nothing it is a certificate (this project's).
 pub record IsRefused (g : Grammar) (c : Stuck) : Type 0 where
   pub none : IsAlternating g → ⊥
   pub all : (s a : ℕ) → Members c.set s a ↔ (IsAttribute g s a × IsStuck g s a)

@@ -79,7 +79,7 @@ abbrev pub IsLink : Grammar → Direction → Strike → List Strike → Type 0
 IsLink g d x [] = WaitsForNone g d x
 IsLink g d x (y ∷ ys) = WaitsFor g d x y.symbol y.attr
 
--- Strikes each of which waits for the next one's attribute, and the last for none.
+-- Each strike waits for the next one's attribute, and the last one waits for none.
 abbrev pub AreLinked : Grammar → Direction → List Strike → Type 0
 AreLinked g d [] = Unit {0}
 AreLinked g d (x ∷ xs) = IsLink g d x xs × AreLinked g d xs

@@ -27,7 +27,7 @@ StuckIsRefused = (g : Grammar) (s a : ℕ) → IsAttribute g s a → IsStuck g s
 abbrev pub CertifiedIsRefused : Type 0
 CertifiedIsRefused = (g : Grammar) (c : Stuck) → Each (IsComplete g) g.productions → IsCertificate g c → IsAlternating g → ⊥
 
--- The passes before pass k assign no attribute a later pass than a legal partial assignment does.
+-- The passes before pass k assign no attribute a later pass than any legal partial assignment does.
 abbrev pub MadeIsAtMost : Type 0
 MadeIsAtMost = (g : Grammar) (k : ℕ) (m n : Partial) → IsMade g k m → IsLegalPartial g n → (s a p q : ℕ) → m s a ≡ Some p
     → n s a ≡ Some q → p ≤ q
@@ -37,12 +37,13 @@ abbrev pub LeftIsLater : Type 0
 LeftIsLater = (g : Grammar) (k : ℕ) (m n : Partial) → IsMade g k m → IsLegalPartial g n → (s a q : ℕ) → m s a ≡ None
     → n s a ≡ Some q → k ≤ q
 
--- The assignment that the passes make is legal, if each production is complete and normal.
+-- The assignment that the passes before pass k make is legal, if each production is complete and normal.
 abbrev pub MadeIsLegal : Type 0
 MadeIsLegal = (g : Grammar) (k : ℕ) (m : Partial) → Each (IsComplete g) g.productions → Each (IsNormal g) g.productions
     → IsMade g k m → IsLegalPartial g m
 
--- If they assign a pass to every attribute, that is the least assignment.
+-- If the passes before pass k assign a pass to every attribute, and each production is complete and normal, their assignment is
+-- the least one.
 abbrev pub WholeIsLeast : Type 0
 WholeIsLeast = (g : Grammar) (k : ℕ) (n : Partial) (m : Passes) → Each (IsComplete g) g.productions
     → Each (IsNormal g) g.productions → IsMade g k n → ((s : ℕ) → length (m s) ≡ length (symbol_kinds (slice_get g.symbols s)))
@@ -94,8 +95,8 @@ abbrev pub StrikesShowLeast : Type 0
 StrikesShowLeast = (g : Grammar) (rows : List (List ℕ)) (lists : List (List Strike)) → IsLegal g (passes_of rows)
     → AreStrikesOf g rows lists → IsLeast g (passes_of rows)
 
--- A certificate meets the same definition: if just its members have pass k or a later one, and none has pass k, its list for
--- that direction has the strikes of pass k.
+-- If exactly the members of a certificate have pass k or a later one, and none has pass k, the certificate's list for the
+-- direction of pass k has the strikes of pass k.
 abbrev pub CertificatesAreStrikes : Type 0
 CertificatesAreStrikes = (g : Grammar) (c : Stuck) (m : Passes) (k : ℕ) → IsCertificate g c
     → ((s a : ℕ) → Members c.set s a ↔ HasPassFrom m k s a) → ((s a : ℕ) → Members c.set s a ↔ HasPassAfter m k s a)

@@ -10,7 +10,7 @@ use Rattle.passassign.specs.declared.stuck.Strike.{Strike}
 use Rattle.passassign.specs.declared.stuck.Stuck.{Stuck}
 use Rattle.passassign.specs.Least.{Partial}
 
--- a strike of an attribute of a symbol, by the argument 0 of a rule of a production
+-- a strike of an attribute of a symbol, by argument 0 of a rule of a production
 abbrev pub strike : (symbol attr production rule : ℕ) → Strike
 strike s a p r = record { symbol = s; attr = a; production = p; rule = r; arg = 0 }
 

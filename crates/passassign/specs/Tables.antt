@@ -75,8 +75,8 @@ after_pass p Open true = Open
 after_pass p Open false = Assigned p
 after_pass p (Assigned q) struck = Assigned q
 
--- The rows of a table: there is one for each symbol, with the passes of its attributes, and 0 if one has
--- none.
+-- The rows of a table: there is one for each symbol, with the passes of its attributes, and 0 for an attribute
+-- that has none.
 pub record AreRowsOfTable (symbols : List Symbol) (states : List State) (rows : List (List ℕ)) : Type 0 where
   pub count : length rows ≡ length symbols
   pub len : (s : ℕ) → length (passes_of rows s) ≡ attribute_count (slice_get symbols s)

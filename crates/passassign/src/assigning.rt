@@ -72,8 +72,8 @@ impl StrikeLog {
     }
 }
 
-/// Assigns the next pass to each attribute without a pass that it can compute. Returns its strikes of
-/// the others.
+/// Makes the next pass: assigns it to those attributes without a pass that it can compute. Returns
+/// its strikes, of the other attributes without a pass.
 fn make_pass(
     alloc: Global,
     dependencies: &Dependencies,
@@ -185,8 +185,8 @@ fn advance(
 }
 
 /// Returns the least legal assignment for the symbols and productions of an accepted grammar, and
-/// its strikes, or no lists if they are not wanted. Fails with A1 if there is none, and with NoMemory
-/// if memory is refused.
+/// its strikes, or no lists if they are not wanted. Fails with A1 if no assignment is legal, and with
+/// NoMemory if memory is refused.
 pub(crate) fn assign_all(
     alloc: Global,
     symbols: &[Symbol],
@@ -228,19 +228,20 @@ pub(crate) fn assign_all(
     Ok((Assignment::of_rows(rows), strikes))
 }
 
-/// Returns the least legal assignment of passes to the attributes of a grammar: no attribute has a
-/// later pass than in any legal assignment. Passes are numbered from 1. No pass is above 8,192,
+/// Returns the least legal assignment of passes to the attributes of a grammar: no legal assignment
+/// gives any attribute an earlier pass. Passes are numbered from 1. No pass is above 8,192,
 /// which is two for each attribute that a grammar may have. There is one row for each symbol, which
 /// has the passes of its attributes.
 ///
-/// Fails with A1 Stuck if no assignment is legal, with any number of passes. The certificate
-/// has exactly the stuck attributes, in declared order: no legal assignment of some attributes gives
-/// them a pass. It shows why they can't have a pass of either direction: it has the strikes of
+/// Fails with A1 Stuck if no assignment is legal, with any number of passes. The certificate has
+/// exactly the stuck attributes, in declared order: no legal assignment of all attributes, or of some,
+/// gives them a pass. It shows why they can't have a pass of either direction: it has the strikes of
 /// the last two passes tried, by their directions. Fails with NoMemory if the allocator refuses
 /// memory.
 ///
-/// Allocates the result, a table of the attributes, the dependencies of the rules and their edges,
-/// the strikes of up to two passes, and what the search of one pass needs.
+/// Allocates the result, a table of the attributes, the places of one production at a time, the
+/// dependencies of the rules and their edges, the strikes of up to two passes, and what the search of
+/// one pass needs.
 pub fn assign(alloc: Global, grammar: &Grammar) -> Result<Assignment, AssignFault>
     ensures least { IfOk result (λ m. IsLeast grammar.now (passes_of m)) }
     ensures few { IfOk result AreWithinMaxPasses }

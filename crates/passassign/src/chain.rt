@@ -40,7 +40,7 @@ fn awaited_attribute(
 
 /// Returns the attribute that a strike waits for: that of its argument. `None` if the argument is at
 /// the target's own child or at one that a pass in the direction visits later, which is a reason by
-/// itself, or if the strike names no attribute of a symbol.
+/// itself, or if there is no such argument or it is not an attribute of a symbol.
 fn waits_for(grammar: &Grammar, direction: Direction, strike: Strike) -> Option<(u16, u16)>
     ensures { IsWait grammar.now direction strike result }
 {
@@ -147,7 +147,7 @@ fn chain_in(
 }
 
 impl Strikes {
-    /// Returns the strikes of a pass, numbered from 1; empty if it has no list. Does not allocate.
+    /// Returns the strikes of pass `pass`, from 1; empty if it has no list. Does not allocate.
     pub fn of_pass(&self, pass: u16) -> &[Strike]
         ensures { result.now ≡ strikes_of self.now.lists pass }
     {
@@ -164,8 +164,8 @@ impl Strikes {
     /// a strike of the attribute down to one that waits for no other. Empty if the pass does not
     /// strike the attribute. An attribute is its symbol's number and its own.
     ///
-    /// Allocates the chain, and fails if memory is refused. Reads at most all strikes of the pass for
-    /// each strike of the chain.
+    /// Allocates the chain, and fails if memory is refused. Reads at most all strikes of the pass once
+    /// for each strike of the chain, and once more.
     pub fn chain_of(
         &self,
         alloc: Global,

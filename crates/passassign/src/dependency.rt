@@ -15,8 +15,8 @@ use ag_grammar::{Item, Production, Rule, Target, occurrences};
 use ag_value::NoMemory;
 use std::alloc::Global;
 
-/// A dependency of a rule's target on one of its arguments that is an attribute of a declared symbol
-/// (Knuth 1968).
+/// A dependency of a rule's target on an argument of the rule, both of which are attributes of
+/// declared symbols (Knuth 1968).
 #[derive(Clone, Copy, Debug, PartialEq, Eq)]
 pub(crate) struct Dependency {
     /// The strike of the target by this argument.
@@ -141,7 +141,7 @@ fn append_rule(
     }
 }
 
-/// Appends the dependencies of rules of one production.
+/// Appends the dependencies of all rules of a production.
 fn append_rules(
     found: &mut Vec<Dependency>,
     places: &[Item],

@@ -26,8 +26,8 @@ pub fn certified_is_refused()
     ensures { CertifiedIsRefused }
 {}
 
-/// States that passes made one after the other, from pass 1 on, assign no attribute a later pass than a
-/// legal partial assignment does.
+/// States that passes made one after the other, from pass 1 on, assign no attribute a later pass than
+/// any legal partial assignment does.
 pub fn made_is_at_most()
     ensures { MadeIsAtMost }
 {}
@@ -38,15 +38,15 @@ pub fn left_is_later()
     ensures { LeftIsLater }
 {}
 
-/// States that the partial assignment that passes made from pass 1 on make is legal, if each production
-/// is complete and normal.
+/// States that the partial assignment of passes made from pass 1 on is legal, if each production is
+/// complete and normal.
 #[tactic(auto, using(crate::proofs::making::Legal::made_legal))]
 pub fn made_is_legal()
     ensures { MadeIsLegal }
 {}
 
-/// States that if passes made from pass 1 on assign a pass to every attribute, their assignment is the
-/// least one.
+/// States that if passes made from pass 1 on assign a pass to every attribute, and each production is
+/// complete and normal, their assignment is the least one.
 pub fn whole_is_least()
     ensures { WholeIsLeast }
 {}
@@ -99,7 +99,8 @@ pub fn strikes_show_least()
     ensures { StrikesShowLeast }
 {}
 
-/// States that the lists of a certificate meet the same definition as those of a pass.
+/// States that the list of a certificate for the direction of pass k has the strikes of pass k of an
+/// assignment, if exactly the certificate's members have pass k or a later one, and none has pass k.
 pub fn certificates_are_strikes()
     ensures { CertificatesAreStrikes }
 {}

@@ -7,7 +7,7 @@
 //! least one is computed pass by pass. A pass strikes each attribute that it can't compute, with the
 //! rule and the argument that are the reason, and the rest get the pass.
 //!
-//! A function that returns a `Result` with `NoMemory` fails only if memory is refused.
+//! A function that returns a `Result<_, NoMemory>` fails only if memory is refused.
 #![tactic(auto)]
 
 mod assigning;

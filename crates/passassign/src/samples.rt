@@ -26,8 +26,8 @@ pub fn third_not_least()
     ensures greater { IsLeast sample third_passes → ⊥ }
 {}
 
-/// Worked example: attributes that depend on a child to the left are struck in pass 1, and assigned to
-/// pass 2.
+/// Worked example: in the grammar `rightward` an attribute depends on a child to the left. Pass 1 strikes
+/// all attributes, and pass 2 is assigned to them.
 #[tactic(auto, using(crate::proofs::making::Earliest::rightward_made))]
 pub fn rightward_made()
     ensures { IsMade rightward 3 (partial_of later_passes) }

@@ -5,7 +5,7 @@ use ag_value::Items;
 
 /// A reason why a pass of some direction can't compute an attribute: one of its rules, and an
 /// argument of this rule that is not computed when the pass reaches the rule. All numbers are from
-/// 0. The data alone don't make a strike true: `Certificate.IsGood` says when it is a good one.
+/// 0. The data alone don't make a strike good: `Certificate.IsGood` says when it is.
 #[derive(Clone, Copy, Debug, PartialEq, Eq)]
 pub struct Strike {
     /// The number of the attribute's symbol.
@@ -21,7 +21,7 @@ pub struct Strike {
 }
 
 /// A certificate that a grammar has no legal assignment: a set of attributes, and for each direction
-/// of passes a list that strikes all of them, in the order of the strikes.
+/// of passes a list that strikes all of them, in the order in which they are struck.
 #[derive(Debug, Drop)]
 pub struct Stuck {
     /// The attributes, each by its symbol's number and its own at the symbol.
@@ -36,6 +36,6 @@ pub struct Stuck {
 /// each of its passes. The list of a pass strikes each attribute that has a later pass.
 #[derive(Debug, Drop)]
 pub struct Strikes {
-    /// One list for each pass, the first for pass 1, each in the order of its strikes.
+    /// One list for each pass, the first for pass 1, each in the order in which the pass strikes.
     pub lists: Items<Items<Strike>>,
 }

@@ -106,7 +106,7 @@ fn pass_at(states: &[State], slot: usize) -> u16
     }
 }
 
-/// Returns the passes of `count` slots of a table from slot `from` on.
+/// Returns the passes in `count` slots of a table from slot `from` on, 0 for a slot that has none.
 fn row(alloc: Global, states: &[State], from: usize, count: usize) -> Result<Vec<u16>, NoMemory>
     requires from { from < 2 ^ 32 }
     requires count { count ≤ max_attributes }
@@ -143,7 +143,7 @@ pub(crate) fn rows(
     Ok(rows)
 }
 
-/// Appends the attribute of a slot in this state, if it has no pass.
+/// Appends the attribute of a slot whose state is `state`, if the slot has one, without a pass.
 fn append_open(found: &mut Vec<(u16, u16)>, state: State, slot: usize) -> Result<(), NoMemory>
     requires { slot < 2 ^ 16 * max_attributes }
     ensures puts { OnOk result (is_open state ≡ true
@@ -189,7 +189,7 @@ fn after(state: State, pass: u16, is_struck: bool) -> State
     }
 }
 
-/// Returns whether a slot is marked; false if it has no mark.
+/// Returns whether a slot is marked; false if `marks` ends before it.
 pub(crate) fn has_mark(marks: &[bool], slot: usize) -> bool
     ensures { result ≡ is_marked marks.now slot }
 {

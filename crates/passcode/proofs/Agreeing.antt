@@ -1,4 +1,4 @@
--- A list that runs keeps the rules of agreement.
+-- A list that runs meets the four conditions of agreement.
 use Rattle.std.proofs.Common.{ℕ, zero, suc, ◌≡◌, ◌<◌, ◌≤◌, inl, inr, List, [], ◌∷◌, Option, Some, slice_get, get_or, length}
 use Rattle.std.proofs.Common.{refl, ap, ◌∙◌, sym, subst, arith}
 use Rattle.std.proofs.lemmas.Bool.{cases_lt}
@@ -67,7 +67,7 @@ module _ (m : Passes) (q : Production) (k : ℕ) (xs : List Instr) (one : 1 ≤ 
     occurring : (P : Type 0) → (P → A (state (length xs))) → (Has xs x → P) → OccursOnceIf P xs x
     occurring P forth back = record { there = λ p. there (forth p); only = back; once = single }
 
-  -- `End` is last, and all is done there
+  -- `End` is last, and there all children are complete and all rules of the pass were run
   end : OccursBefore xs (length xs) instr.End
   end = occurs m q k xs (length xs) may_to (λ s. s.phase ≡ Ended) instr.End (end_mark m q k) (length xs) (omega arith)
       (runs_by_index m q k start xs runs).1
@@ -142,7 +142,7 @@ module _ (m : Passes) (q : Production) (k : ℕ) (xs : List Instr) (one : 1 ≤ 
     go_once is = occurring (λ s. t < run_in s) (instr.Go j) (go_mark m q k t j within here is) (IsChild q j)
         (λ h. (let e = run_final in omega arith)) (λ h. is)
 
-  -- What is there once if a place is of some kind: it is enough to know it of each place of that kind.
+  -- An instruction x j occurs once for each place j with property P, and for no other, if that holds at each place of a turn.
   once_at : (P : ℕ → Type 0) (x : ℕ → Instr) → ((n j : ℕ) → slice_get xs n ≡ Some (x j) → P j) → ((j : ℕ) → P j → HasPlace q j)
       → ((t j : ℕ) → t < arity q → j ≡ place_of q k t → P j → OccursOnceIf (P j) xs (x j)) → (j : ℕ) → OccursOnceIf (P j) xs (x j)
   once_at P x only places each j = record {
@@ -192,7 +192,7 @@ module _ (m : Passes) (q : Production) (k : ℕ) (xs : List Instr) (one : 1 ≤ 
   is_own i (j, a, r, inr e) h = let g = (may h.0 (instr.Def a r) (h.1 ∙ ap Some e)).1 in
       (r, g.rule, g.numbered, e ∙ of_rule (state h.0) 0 a r g)
 
-  -- where a rule's own instruction is it may give its value
+  -- at the index of a rule's own instruction the rule may be run
   may_compute : (j a r n : ℕ) → slice_get xs n ≡ Some (set_or_def j a r) → MayCompute m q k (state n) j a r
   may_compute zero a r n e = (may n (instr.Def a r) e).1
   may_compute (suc j) a r n e = (may n (instr.Set (suc j) a r) e).1

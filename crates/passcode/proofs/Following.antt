@@ -1,4 +1,4 @@
--- A list that keeps the rules of agreement runs, where each rule may use its arguments.
+-- A list that agrees runs, if each rule may use its arguments.
 use Rattle.std.proofs.Common.{ℕ, zero, suc, ◌≡◌, ◌<◌, ◌≤◌, inl, inr, List, Some, slice_get, length, refl, ap, ◌∙◌, sym, subst}
 use Rattle.std.proofs.Common.{arith}
 use Rattle.std.proofs.lemmas.Bool.{cases_eq, cases_lt}
@@ -23,7 +23,7 @@ use Rattle.passcode.proofs.Marks.{rule_mark, run_in}
 use Rattle.passcode.proofs.States.{IsMark, MayRunTo, index_runs, kept, marked, occurs}
 use Rattle.passcode.proofs.Turns.{is_stored_child, place_before, turn_of}
 
--- the phase of a node, by how many children were read and passed
+-- the phase of a node, from the number of children that were read and that of those in which the pass has run
 phase_between : (p : Phase) (t : ℕ) → read_count p t ≤ t → (p ≡ Ended → ⊥) → p ≡ Between
 phase_between Between t le going = refl
 phase_between Ended t le going = absurd (going refl)
@@ -84,9 +84,9 @@ module _ (m : Passes) (q : Production) (k : ℕ) (xs : List Instr) (one : 1 ≤ 
   abbrev state : ℕ → State
   state n = state_at q start xs n
 
-  -- the instruction at an index, if those before it were followed
+  -- the instruction at an index, if each before it may come next
   module _ (n : ℕ) (x : Instr) (is : slice_get xs n ≡ Some x) (may : MayRunTo m q k start xs n) where
-    -- what is before it has left its mark, and what is here has not yet
+    -- the mark of each earlier instruction holds, and that of this one doesn't yet
     seen : (A : State → Type 0) (y : Instr) → IsMark m q k A y → (i : ℕ) → i < n → slice_get xs i ≡ Some y
         → A (state n)
     seen A y mark i less at = marked m q k xs n may A y mark i n less (omega arith) at
@@ -136,7 +136,7 @@ module _ (m : Passes) (q : Production) (k : ℕ) (xs : List Instr) (one : 1 ≤ 
     turn_here p t j within place phase same =
         record { phase_is = phase; within = subst (λ t. t < arity q) same within; place = place ∙ ap (place_of q k) same }
 
-    -- what is at hand at the index is at hand in its state
+    -- an argument that is available at the index is available in the state before it
     hand : (r : ℕ) (u : Rule) → IsRuleAt q r u → HasPass m q u.target k → (o : Target) → IsArgument u o
         → IsAvailableAt m q k xs n o → Course.IsAvailable m q k (state n) o
     hand r u at passed o arg (inl own) = let p = allowed u o k (r, at) arg passed in
@@ -150,7 +150,7 @@ module _ (m : Passes) (q : Production) (k : ℕ) (xs : List Instr) (one : 1 ≤ 
         let run = seen (λ s. turn.0 < run_in s) (instr.Go o.place) mark go.0 go.1 go.2 in
         (k, h.0, omega arith, inr (inr (turn.0, run, turn.2)))
 
-    -- a rule's own instruction may give its value
+    -- at a rule's own instruction the rule may be run
     may_compute : (j a r : ℕ) (u : Rule) → IsRuleAt q r u → u.target ≡ record { place = j; attr = a } → x ≡ instruction_of u r
         → MayCompute m q k (state n) j a r
     may_compute j a r u at target own = record {
@@ -285,7 +285,7 @@ module _ (m : Passes) (q : Production) (k : ℕ) (xs : List Instr) (one : 1 ≤ 
       computed,
     )
       where
-        -- all is before `End`
+        -- every other instruction of the list is before `End`
         prefix : (x : Instr) → (x ≡ instr.End → ⊥) → (i : ℕ) → slice_get xs i ≡ Some x → i < n
         prefix x other i e = elim (cases_eq i n) [
           | inl same ↦ absurd (other (let both : Some x ≡ Some instr.End = sym e ∙ ap (slice_get xs) same ∙ is in cc))

@@ -1,4 +1,4 @@
--- What is left in a state runs from there to the end.
+-- The rest of the list in a state runs from there to the end.
 use Rattle.std.proofs.Common.{ℕ, zero, suc, ◌≡◌, ◌+◌, ◌-◌, ◌<◌, ◌≤◌, ◌⊎◌, inl, inr, Bool, true, false, cond, List, [], ◌∷◌, ◌++◌}
 use Rattle.std.proofs.Common.{append_assoc, Option, Some, None, slice_get, get_or, length, refl, ap, ◌∙◌, sym, subst, arith}
 use Rattle.std.specs.Prelude.{nat_eq, ◌||◌, ◌↔◌}
@@ -45,7 +45,7 @@ same_target o w e = both (nat_eq o.place w.place) refl e
 is_same_refl : (o : Target) → is_same o o ≡ true
 is_same_refl o = ap (λ b. cond b (nat_eq o.attr o.attr) false) (eq-eqb o.place o.place refl) ∙ eq-eqb o.attr o.attr refl
 
--- the rule that was found computes the attribute, and where none was found none does
+-- the rule that was found computes the attribute; if none was found, none does
 rule_found : (us : List Rule) (o : Target) (r : ℕ) → position (λ u. is_same u.target o) us ≡ Some r → (u : Rule)
     × (slice_get us r ≡ Some u) × (u.target ≡ o)
 rule_found [] o r e = absurd cc
@@ -95,7 +95,7 @@ node phase turn done = record { phase = phase; turn = turn; done = done }
 
 module _ (m : Passes) (q : Production) (k : ℕ) (one : 1 ≤ k) (single : DifferIn (λ u. u.target) q.rules)
     (allowed : IsLegalFor (HasPass m) q) (old : List ℕ) where
-  -- What is left for one attribute: nothing, where no rule of the pass that was not run computes it; else its rule's instruction.
+  -- The remaining instructions for one attribute: none, if each rule of the pass for it was run; otherwise that rule's one.
   record IsNothing (o : Target) : Type 0 where
     pub empty : remaining_for m q k old o ≡ []
     pub run : (r : ℕ) (u : Rule) → IsRuleAt q r u → u.target ≡ o → HasPass m q o k → Has old r
@@ -136,7 +136,8 @@ module _ (m : Passes) (q : Production) (k : ℕ) (one : 1 ≤ k) (single : Diffe
       by_pass false n p e is = inl record
           { empty = is; run = λ s u at same has. absurd ((is_the_pass k (pass_at m q o)).1 p has) }
 
-  -- The way through what is left: of the rules of the pass those were run that are old, and those for what was passed.
+  -- While the remaining instructions run, the rules of the pass that were run are the old ones and those for attributes with
+  -- property P.
   abbrev Way : (Target → Type 0) → List ℕ → Type 0
   Way P done = (r : ℕ) (u : Rule) → IsRuleAt q r u → HasPass m q u.target k → Has done r ↔ (Has old r ⊎ P u.target)
 
@@ -147,7 +148,7 @@ module _ (m : Passes) (q : Production) (k : ℕ) (one : 1 ≤ k) (single : Diffe
     λ h. (way r u at has).1 (elim h [ inl is ↦ inl is | inr p ↦ back r u at has p ]),
   )
 
-  -- an attribute at one of the first children, and one that was passed on the way: there, or at a place with a lower number
+  -- An attribute is at one of the first t children; or it is there, or at place j with a number below a.
   abbrev IsDoneAt : ℕ → Target → Type 0
   IsDoneAt t o = IsVisited q k t o.place
 
@@ -158,7 +159,7 @@ module _ (m : Passes) (q : Production) (k : ℕ) (one : 1 ≤ k) (single : Diffe
   place_turn : (o : Target) → HasPass m q o k → (o.place ≡ 0 → ⊥) → (t : ℕ) × (t < arity q) × (o.place ≡ place_of q k t)
   place_turn o has own = let s = has_symbol m q o k one has in turn_of q k o.place (item.Symbol s.0, (omega arith, s.1))
 
-  -- all attributes at a place were computed
+  -- the number of attributes at a place, which is above the number of each of them
   abbrev attribute_count : ℕ → ℕ
   attribute_count j = length (item_passes m (item_at q j))
 
@@ -175,7 +176,7 @@ module _ (m : Passes) (q : Production) (k : ℕ) (one : 1 ≤ k) (single : Diffe
         → Runs m q k (node p t (r ∷ done)) ys → Runs m q k (node p t done) (set_or_def j a r ∷ ys)
 
   module _ (p : Phase) (t j : ℕ) (here : Computes p t j) where
-    -- what was passed one attribute further on was passed before, or is that attribute
+    -- an attribute that is passed before number a + 1 is passed before number a, or is attribute a
     passed_now : (a : ℕ) (o : Target) → IsPassed t j (a + 1) o → IsPassed t j a o ⊎ (o ≡ record { place = j; attr = a })
     passed_now a o (inl h) = inl (inl h)
     passed_now a o (inr (place, less)) = elim (cases_lt o.attr a) [
@@ -255,7 +256,7 @@ module _ (m : Passes) (q : Production) (k : ℕ) (one : 1 ≤ k) (single : Diffe
             ]
           ]
 
-    -- what is left at the place from an attribute on runs, if what comes after it does
+    -- the remaining instructions for the place, from an attribute on, run if the instructions after them do
     abbrev at_place : (a n : ℕ) → List Instr
     at_place a n = flat_map (λ a. remaining_for m q k old (record { place = j; attr = a })) (range_with_len a n)
 
@@ -281,7 +282,7 @@ module _ (m : Passes) (q : Production) (k : ℕ) (one : 1 ≤ k) (single : Diffe
   turn_is : (p : Phase) (t : ℕ) (done : List ℕ) → t < arity q → IsTurnOf q k (node p t done) p (place_of q k t)
   turn_is p t done within = record { phase_is = refl; within = within; place = refl }
 
-  -- a node computes the attributes of the child whose turn it is, and its own where all children are complete
+  -- a node computes the attributes of the child whose turn it is, and its own when all children are complete
   of_child : (t : ℕ) → t < arity q → Computes Got t (place_of q k t)
   of_child t within = record {
     new = λ v. (let same = one_turn q k t v.0 within (omega arith) v.2 in omega arith);
@@ -388,7 +389,8 @@ module _ (m : Passes) (q : Production) (k : ℕ) (one : 1 ≤ k) (single : Diffe
         ),
       )
 
--- A state that a node can come to: there are as many children, and the rules of those in which the pass has run were run.
+-- A state that a node can reach: no more children were read than there are, and all rules of the pass for children in which the
+-- pass has run were run.
 pub record IsReached (m : Passes) (q : Production) (k : ℕ) (s : State) : Type 0 where
   pub within : read_in s ≤ arity q
   pub computed : (t : ℕ) → t < run_in s → AreDone m q k s (place_of q k t)
@@ -427,7 +429,7 @@ module _ (m : Passes) (q : Production) (k : ℕ) (one : 1 ≤ k) where
 
 module _ (m : Passes) (q : Production) (k : ℕ) (one : 1 ≤ k) (single : DifferIn (λ u. u.target) q.rules)
     (allowed : IsLegalFor (HasPass m) q) where
-  -- what is left in a state that a node can come to runs
+  -- the rest of the list in a state that a node can reach runs
   pub remaining_runs : (s : State) → IsReached m q k s → Runs m q k s (remaining_in m q k s.phase s.turn s.done)
   remaining_runs s is = at_phase s.phase refl
     where

@@ -1,4 +1,4 @@
--- What the loops that make a list keep.
+-- Invariants of the loops that make a list.
 use Rattle.std.proofs.Common.{ℕ, zero, suc, ◌≡◌, ◌+◌, ◌<◌, ◌≤◌, inl, inr, Bool, true, false, cond, List, [], ◌∷◌, ◌++◌}
 use Rattle.std.proofs.Common.{append_assoc, append-nil, Some, None, slice_get, get_or, length, refl, ap, ◌∙◌, sym, arith}
 use Rattle.std.specs.List.{flat_map, position, position_or_len, range_with_len}
@@ -6,7 +6,7 @@ use Rattle.std.proofs.lemmas.Bool.{cases_eq, le-ltb, lt-ltb}
 use Rattle.std.proofs.lemmas.List.Sums.{position_or_len_is}
 use Rattle.std.proofs.lemmas.Option.{slice_get_within, slice_get-get_or}
 
--- pieces for the numbers from a on, and one piece more
+-- the pieces for the numbers from a on, and one more piece
 pieces_more : {A : Type 0} (f : ℕ → List A) (n a : ℕ)
     → flat_map f (range_with_len a n) ++ f (a + n) ≡ flat_map f (range_with_len a (suc n))
 pieces_more f zero a = let e : a + 0 ≡ a = omega arith in ap f e ∙ sym (append-nil (f a))
@@ -28,7 +28,7 @@ pushed_more f n old now new piece was push is =
     ∙ ap (λ l. old ++ (flat_map f (range_with_len 0 n) ++ l)) (is ∙ ap f (sym e))
     ∙ ap (λ l. old ++ l) (pieces_more f n 0 ∙ ap (λ n. flat_map f (range_with_len 0 n)) next)
 
--- the first member that passes a test, and that there is none
+-- the position of the first member that passes a test, and None if none does
 module _ {X : Type 0} (p : X → Bool) (xs : List X) (n : ℕ)
     (before : (i : ℕ) (x : X) → i < n → slice_get xs i ≡ Some x → p x ≡ false) where
   pub first_is : (x : X) → slice_get xs n ≡ Some x → p x ≡ true → position p xs ≡ Some n

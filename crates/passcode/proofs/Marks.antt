@@ -1,4 +1,5 @@
--- The marks of instructions: how many children were read, passed or completed, which rules were run, and the end.
+-- The marks of instructions: the numbers of children that were read, in which the pass has run, and that are complete; the rules
+-- that were run; and the end.
 use Rattle.std.proofs.Common.{ℕ, zero, suc, ◌≡◌, ◌<◌, ◌≤◌, ◌⊎◌, inl, inr, [], ◌∷◌, Option, Some, slice_get, refl, ap, ◌∙◌}
 use Rattle.std.proofs.Common.{sym, subst, arith}
 use Rattle.std.proofs.lemmas.Bool.{cases_eq}
@@ -18,7 +19,7 @@ use Rattle.passcode.proofs.States.{IsKept, IsMark}
 use Rattle.passcode.proofs.Turns.{one_turn}
 use Rattle.ag_grammar.specs.declared.grammar.Target.{Target}
 
--- how many children of a node in a state were read, and in how many the pass has run
+-- the number of children of a node in a state that were read, and that of those in which the pass has run
 abbrev pub read_in : State → ℕ
 read_in s = read_count s.phase s.turn
 
@@ -48,8 +49,8 @@ got_symbol (Some (item.Symbol s)) e = (s, refl)
 got_symbol o e = absurd cc
 
 module _ (m : Passes) (q : Production) (k : ℕ) where
-  -- A counter: it begins at 0, and rises from the turn's number by the instruction x of the turn's place, or at a place of
-  -- another kind.
+  -- A counter: it begins at 0, and rises by one from the turn's number. At a place with property P only the instruction x of that
+  -- place raises it.
   record IsCounter (P : ℕ → Type 0) (f : State → ℕ) (x : ℕ → Instr) : Type 0 where
     first : f start ≡ 0
     steps : (s : State) (y : Instr) → MayRun m q k s y → (f (after q s y) ≡ f s)
@@ -61,7 +62,7 @@ module _ (m : Passes) (q : Production) (k : ℕ) where
   counter_stays P f x counter t s y may less = elim (counter.steps s y may)
       [ inl e ↦ omega arith | inr h ↦ (omega arith) ]
 
-  -- so that it has passed a turn is the mark of that turn's instruction
+  -- "the counter is above t" is the mark of the instruction x of turn t's place
   counter_mark : (P : ℕ → Type 0) (f : State → ℕ) (x : ℕ → Instr) → IsCounter P f x → (t j : ℕ) → t < arity q
       → j ≡ place_of q k t → P j → IsMark m q k (λ s. t < f s) (x j)
   counter_mark P f x counter t j within here is = record {
@@ -168,7 +169,7 @@ module _ (m : Passes) (q : Production) (k : ℕ) where
       only s instr.End may e = inr refl
       only s x may e = inl e
 
-  -- a node that has come to a child and not gone into it has come to a declared symbol's
+  -- in the phase `Got` the current child is a declared symbol's node
   pub got_child : IsKept m q k (λ s. s.phase ≡ Got → IsChild q (place_of q k s.turn))
   got_child s (instr.Get j) may was e = let x = got_symbol (item_at q j) e in
       subst (IsChild q) may.place (x.0, (omega arith, x.1))

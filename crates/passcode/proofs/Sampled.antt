@@ -59,7 +59,7 @@ own_attribute : (o : Target) → IsArgument hasty_rule o → attribute 0 1 ≡ o
 own_attribute o (zero, e) = cc
 own_attribute o (suc n, e) = absurd cc
 
--- under this assignment its list runs
+-- under this assignment the production's list runs
 abbrev calm_passes : ℕ → List ℕ
 calm_passes s = 1 ∷ 1 ∷ []
 
@@ -83,7 +83,7 @@ calm_runs = (
     computed : (j : ℕ) → AreDone calm_passes hasty_production 1 (record { phase = start.phase; turn = 0; done = 0 ∷ [] }) j
     computed j r u at place has = (0, ap Some (only_rule r u at).1)
 
--- and so it agrees under the other one too, which differs in an argument's pass alone
+-- so the list agrees under `hasty_passes` too, which differs only in the pass of an argument
 pub hasty_agrees : ListAgrees hasty_passes hasty_production 1 hasty_list
 hasty_agrees = record {
   visits = calm.visits;

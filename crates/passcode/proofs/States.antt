@@ -1,4 +1,4 @@
--- The states before the indexes of a list, and what is kept and what comes up along them.
+-- The states before the indexes of a list, and properties that begin at an instruction and stay true.
 use Rattle.std.proofs.Common.{ℕ, zero, suc, ◌≡◌, ◌<◌, ◌≤◌, ◌⊎◌, inl, inr, List, [], ◌∷◌, Option, Some, None, slice_get, length}
 use Rattle.std.proofs.Common.{refl, ap, ◌∙◌, sym, subst, arith}
 use Rattle.std.proofs.lemmas.Bool.{cases_eq, cases_lt}
@@ -45,12 +45,12 @@ module _ (m : Passes) (q : Production) (k : ℕ) where
   index_runs s (x ∷ xs) each e =
       (each 0 x (omega arith) refl, index_runs (after q s x) xs (λ i y less at. each (suc i) y (omega arith) at) e)
 
-  -- What is so of a state, and stays so by each instruction that may come next.
+  -- A property of states that each instruction that may come next keeps.
   abbrev pub IsKept : (State → Type 0) → Type 0
   IsKept A = (s : State) (x : Instr) → MayRun m q k s x → A s → A (after q s x)
 
   module _ (xs : List Instr) (n : ℕ) (may : MayRunTo start xs n) where
-    -- one instruction more
+    -- one more instruction
     one_more : (A : State → Type 0) → IsKept A → (j : ℕ) → j < n → A (state_at q start xs j) → A (state_at q start xs (suc j))
     one_more A keep j less a = go (slice_get xs j) refl
       where
@@ -65,7 +65,7 @@ module _ (m : Passes) (q : Production) (k : ℕ) where
       | inr other ↦ one_more A keep j (omega arith) (kept A keep i j (omega arith) (omega arith) a)
     ]
 
-  -- A mark of an instruction: what is so of a node from the instruction on, and of no node before it.
+  -- A mark of an instruction: a property of states that holds exactly from the instruction on.
   pub record IsMark (A : State → Type 0) (x : Instr) : Type 0 where
     pub none : A start → ⊥
     pub stays : IsKept A
@@ -83,18 +83,18 @@ module _ (m : Passes) (q : Production) (k : ℕ) where
           | inr same ↦ (j, omega arith, e ∙ ap Some same)
         ]
 
-    -- if the mark is there, the instruction is before
+    -- if the mark holds before an index, the instruction occurs before that index
     pub occurs : (j : ℕ) → j ≤ n → A (state_at q start xs j) → OccursBefore xs j x
     occurs zero most a = absurd (mark.none a)
     occurs (suc j) most a = occurs_next j (omega arith) (λ b. occurs j (omega arith) b) a (slice_get xs j) refl
 
-    -- and after the instruction the mark is there
+    -- and after the instruction the mark holds
     pub marked : (i j : ℕ) → i < j → j ≤ n → slice_get xs i ≡ Some x → A (state_at q start xs j)
     marked i j less most at =
         kept xs n may A mark.stays (suc i) j (omega arith) most
         (subst A (sym (state_next start xs i x at)) (mark.made (state_at q start xs i) (may i x (omega arith) at)))
 
-    -- it is there once,
+    -- the instruction occurs at most once,
     not_before : (i j : ℕ) → i < j → j < n → slice_get xs i ≡ Some x → slice_get xs j ≡ Some x → ⊥
     not_before i j less most at at' = mark.before (state_at q start xs j) (may j x most at') (marked i j less (omega arith) at)
 
@@ -104,7 +104,7 @@ module _ (m : Passes) (q : Production) (k : ℕ) where
       | inr le ↦ elim (cases_lt j i) [ inl less ↦ absurd (not_before j i less a at' at) | inr le' ↦ omega arith ]
     ]
 
-    -- and before each index at which the mark is there
+    -- and before each index at which the mark holds
     pub precedes : (i j : ℕ) → i < n → j < n → slice_get xs i ≡ Some x → A (state_at q start xs j) → i < j
     precedes i j a b at there =
         let s = occurs j (omega arith) there in

@@ -28,7 +28,8 @@ read_count Got t = suc t
 read_count Gone t = suc t
 read_count Ended t = t
 
--- the number of children in which the pass has run, of a node in this phase with t complete children
+-- the number of children in which the pass has run, of a node in this phase with t complete children; a token counts after its
+-- `Get`, since the pass has nothing to do in it
 abbrev pub run_count : Phase → ℕ → ℕ
 run_count Between t = t
 run_count Got t = t
@@ -107,7 +108,8 @@ after q s instr.End = record s { phase = Ended }
 abbrev pub start : State
 start = record { phase = Between; turn = 0; done = [] }
 
--- A list of instructions runs a node from a state to its end: each instruction may come next when it is reached.
+-- A list of instructions runs from a state of a node to the node's end: each instruction may come next when it is reached, and
+-- the last phase is `Ended`.
 abbrev pub Runs : Passes → Production → ℕ → State → List Instr → Type 0
 Runs m q k s [] = s.phase ≡ Ended
 Runs m q k s (x ∷ xs) = MayRun m q k s x × Runs m q k (after q s x) xs

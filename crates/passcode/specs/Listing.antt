@@ -55,7 +55,7 @@ visits m q k done t n = flat_map (λ t. visit m q k done (place_of q k t) (item_
 abbrev pub own_part : Passes → Production → ℕ → List ℕ → List Instr
 own_part m q k done = remaining_at m q k done 0 ++ instr.End ∷ []
 
--- all instructions from the place on that is visited after t others
+-- all instructions from those of the place that is visited after t others
 abbrev pub remaining_from : Passes → Production → ℕ → List ℕ → ℕ → List Instr
 remaining_from m q k done t = visits m q k done t (arity q - t) ++ own_part m q k done
 

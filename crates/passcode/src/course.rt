@@ -17,8 +17,8 @@ use ag_value::NoMemory;
 use passassign::Assignment;
 use std::alloc::Global;
 
-/// Returns the instruction that computes an attribute at a place by the rule with a number: a `Def`
-/// for place 0, the left side, and otherwise a `Set`. Does not allocate.
+/// Returns the instruction that computes an attribute at a place by the rule with number `rule`: a
+/// `Def` for place 0, the left side, and otherwise a `Set`. Does not allocate.
 pub fn instruction(place: u16, attr: u16, rule: u16) -> Instr
     ensures { result ≡ set_or_def place attr rule }
 {
@@ -65,15 +65,15 @@ pub struct ListContext<'a> {
 }
 
 impl<'a> ListContext<'a> {
-    /// Returns the pass of an attribute at a place, or `None` if the place has no attribute with
-    /// this number. Does not allocate.
+    /// Returns the pass of an attribute at a place. `None` if there is no such attribute, or if the
+    /// assignment has no pass for it. Does not allocate.
     pub fn pass_of(&self, target: Target) -> Option<u16>
         ensures { result ≡ pass_at (passes_of self.now.assignment.now) self.now.production.now target }
     {
         self.assignment.pass_at(self.production, target)
     }
 
-    /// Returns whether an attribute at a place has this pass. Does not allocate.
+    /// Returns whether an attribute at a place has the context's pass. Does not allocate.
     pub fn has_pass(&self, target: Target) -> bool
         ensures { IsTrue result ↔ HasPass (passes_of self.now.assignment.now)
             self.now.production.now target self.now.pass }

@@ -18,8 +18,8 @@ use ag_value::NoMemory;
 use passassign::Assignment;
 use std::alloc::Global;
 
-/// Makes the lists of a production, for the passes from 1 to `passes`. (`lists_of` of the specs looks
-/// them up in given code.) Fails with NoMemory if memory is refused.
+/// Returns the lists of a production, for the passes from 1 to `passes`. (`lists_of` of the specs
+/// looks them up in given code.) Fails with NoMemory if memory is refused.
 fn lists_of(
     alloc: Global,
     production: &Production,
@@ -52,8 +52,9 @@ fn lists_of(
 /// this pass in the order of their attributes, the `Go` if a declared symbol is there, and
 /// the `Put`; then the `Def`s of this pass in the order of their attributes; then `End`.
 ///
-/// Fails with NoMemory if the allocator refuses memory. Allocates only the code. Reads each attribute
-/// of each place once in each pass, and searches for its rule only in the attribute's own pass.
+/// Fails with NoMemory if the allocator refuses memory. Allocates only the code. For each list it looks
+/// up each attribute of the left side and of each child that is a symbol once, and searches for the
+/// attribute's rule only if the attribute has the list's pass.
 pub fn generate(alloc: Global, grammar: &Grammar, assignment: &Assignment) -> Result<Code, NoMemory>
     requires { IsLegal grammar.now (passes_of assignment.now) }
     ensures agrees { IfOk result (Agrees grammar.now (passes_of assignment.now)) }

@@ -511,9 +511,9 @@ pub if_ok : {A F : Type 0} {P Q : A → Type 0} (r : Result A F) → ((a : A) �
 if_ok (Ok a) f h = f a h
 if_ok (Err e) f h = h
 
-pub front_is : {X : Type 0} (xs : List X) (d : X) → 1 ≤ length xs → get_or xs 0 d ∷ take (length xs - 1) (drop 1 xs) ≡ xs
-front_is [] d h = absurd (omega arith)
-front_is (x ∷ xs) d h =
+pub prefix_is : {X : Type 0} (xs : List X) (d : X) → 1 ≤ length xs → get_or xs 0 d ∷ take (length xs - 1) (drop 1 xs) ≡ xs
+prefix_is [] d h = absurd (omega arith)
+prefix_is (x ∷ xs) d h =
     ap (λ ys. x ∷ ys) (let n : suc (length xs) - 1 ≡ length xs = omega arith in
     ap (λ n. take n xs) n ∙ take_all (length xs) xs (omega arith))
 

@@ -107,6 +107,6 @@ pub chain_links : (g : Grammar) (d : Direction) (candidate : Attributes) (s a : 
 chain_links g d candidate s a chain links is related =
     record { chain = chain; is_chain = is; are_links = related (chain_names g d candidate chain is.chain) }
 
--- an argument at the same or a later child that is at another one is at a later one
+-- an argument at the target's child or at a later one is at a later one if it is not at the target's
 pub later_ahead : (d : Direction) (j i : ℕ) → IsSameOrLater d j i → (i ≡ j → ⊥) → IsGeometry d j i geometry.Later
 later_ahead d j i ahead other = (ahead, elim ahead.2 [ inl same ↦ absurd (other same) | inr before ↦ before ])

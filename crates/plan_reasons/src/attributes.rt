@@ -145,8 +145,8 @@ fn append_attributes(
 }
 
 impl NameFault<'_> {
-    /// Writes the fault of `name` into a message: what is wrong, and which names there are. Fails if memory is
-    /// refused.
+    /// Writes the fault of `name` into a message: what is wrong and, if `name` has a dot, which names there are. Fails
+    /// if memory is refused.
     pub fn describe(
         &self,
         parts: &mut Parts,

@@ -3,9 +3,9 @@
 //! of `passassign`. A strike names an attribute that a pass can't compute, a rule for it, and an argument of
 //! this rule that is the reason. A link is a strike with these parts looked up in the grammar.
 //!
-//! `links`, `chains` and `uses` find what is printed; the other modules print it. Each function that writes a
-//! text allocates, and fails if memory is refused. Characters that control a terminal are written by their
-//! numbers.
+//! `links`, `chains` and `uses` find what is printed; the other modules serve to print it. Each function that writes a
+//! text allocates, and fails if memory is refused. Characters that control a terminal are written as
+//! escapes, such as `\u{1b}`.
 #![tactic(auto)]
 
 mod attributes;

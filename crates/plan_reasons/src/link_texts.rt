@@ -31,7 +31,8 @@ impl Explanation<'_> {
         )
     }
 
-    /// Writes a line for each link whose rule no pass of a direction can evaluate, at most `MAX_LINES`.
+    /// Writes a line for each link, with the reason why no pass of a direction can evaluate its rule: at most
+    /// `MAX_LINES` lines, and the number of the others.
     pub(crate) fn write_stuck_links(
         &self,
         out: &mut String,

@@ -21,8 +21,8 @@ pub enum Geometry {
     Within,
     /// At a child that the pass visits after the target's.
     Later,
-    /// Elsewhere: at the left side, at a child that the pass visits before the target's, or the target is
-    /// at the left side. The rule can use the argument if the pass or an earlier one computes it.
+    /// Neither: the argument or the target is at the left side, or the argument is at a child that the pass visits
+    /// before the target's. The rule can use the argument if the pass or an earlier one computes it.
     AtHand,
 }
 
@@ -114,7 +114,7 @@ fn append_link(links: &mut Vec<Link>, grammar: &Grammar, strike: Strike) -> Resu
     Ok(())
 }
 
-/// Returns the links of strikes, in their order, without those of strikes that have none. Fails if memory is
+/// Returns the links of strikes, in their order. Strikes that have no link are left out. Fails if memory is
 /// refused.
 pub fn links_of(alloc: Global, grammar: &Grammar, strikes: &[Strike]) -> Result<Vec<Link>, NoMemory>
     ensures { IfOk result (λ links. Each (NamesAttribute grammar.now) strikes.now

@@ -10,8 +10,8 @@ use ag_value::NoMemory;
 const MAX_EXPLAINED_PASSES: u16 = 20;
 
 impl Explanation<'_> {
-    /// Writes the number of passes. For each pass after pass 1 that computes an attribute, writes why the pass
-    /// before it can't compute one of them. Then writes hints. Fails if memory is refused.
+    /// Writes the number of passes. For each pass after pass 1 that has attributes, writes why the pass before it
+    /// can't compute one of them. Then writes hints. Fails if memory is refused.
     pub fn write_plan(&self, out: &mut String, plan: &LeastPlan<'_>) -> Result<(), NoMemory> {
         let passes = plan.assignment.passes();
         let noun = if passes == 1 { "pass" } else { "passes" };

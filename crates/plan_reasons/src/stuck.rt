@@ -51,7 +51,7 @@ impl Explanation<'_> {
         self.write_stuck_links(out, direction, links)
     }
 
-    /// Writes why no pass of either direction computes an attribute, or that it is not one of the certificate's
+    /// Writes why no pass of either direction computes an attribute, or that it is not in the certificate's
     /// set. Fails if memory is refused.
     pub fn write_stuck_attribute(
         &self,

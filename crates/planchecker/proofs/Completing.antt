@@ -1,4 +1,4 @@
--- The lists that agree with a list that was followed up to an index.
+-- Lists that agree and begin with the instructions of a list that was run up to an index.
 use Rattle.std.proofs.Common.{ℕ, zero, suc, ◌≡◌, ◌+◌, ◌<◌, ◌≤◌, ◌⊎◌, ◌↔◌, inl, inr, List, [], ◌∷◌, ◌++◌, Some, slice_get, take}
 use Rattle.std.proofs.Common.{length, refl, ap, ◌∙◌, sym, arith, add-one}
 use Rattle.std.proofs.lemmas.Option.{slice_get_within}
@@ -114,7 +114,7 @@ on_way node phase turn less children m planned k may =
 
 module _ (m : Passes) (q : Production) (planned : IsPlanned m q) (k : ℕ) (one : 1 ≤ k) (xs : List Instr) (n : ℕ)
     (most : n ≤ length xs) (may : MayRunTo m q k start xs n) where
-  -- instructions that were followed and others that run after them are a list that runs
+  -- instructions that were run, and others that run after them, are a list that runs
   prefix_runs : (s : State) (xs zs : List Instr) (n : ℕ) → n ≤ length xs → MayRunTo m q k s xs n
       → Runs m q k (state_at q s xs n) zs → Runs m q k s (take n xs ++ zs)
   prefix_runs s xs zs zero most may runs = runs
@@ -124,7 +124,7 @@ module _ (m : Passes) (q : Production) (planned : IsPlanned m q) (k : ℕ) (one 
     prefix_runs (after q s x) xs zs n (omega arith) (λ i y less at. may (suc i) y (omega arith) at) runs,
   )
 
-  -- some list that agrees begins with the instructions that were followed
+  -- some list that agrees begins with the instructions that were run
   begins : CanBegin m q k xs n
   begins =
       let s = state_at q start xs n in
@@ -148,7 +148,7 @@ module _ (m : Passes) (q : Production) (planned : IsPlanned m q) (k : ℕ) (one 
     );
   }
 
-  -- at its end a list agrees if the node is at its end, and else ends too early
+  -- a list that was run to its end agrees if the phase is then `Ended`, and otherwise it ends too early
   pub whole : n ≡ length xs → (state_at q start xs n).phase ≡ Ended → ListAgrees m q k xs
   whole same over = agrees m q k xs one (index_runs m q k start xs (rw same at may) (rw same at over))
 

@@ -1,4 +1,4 @@
--- A pass of a plan meets the conditions.
+-- A pass of a plan is sound.
 use Rattle.std.proofs.Common.{◌-◌, [], arith}
 use Rattle.std.proofs.lemmas.Option.{slice_get_within, slice_get-get_or}
 use Rattle.passassign.specs.Rows.{passes_of}

@@ -37,7 +37,7 @@ pub(crate) struct NodeState<'a> {
     pub turn: usize,
 }
 
-/// Returns whether an instruction runs the rule with a number.
+/// Returns whether an instruction runs the rule with number `number`.
 fn runs_rule(one: Instr, number: u16) -> bool
     ensures { IsTrue result ↔ RunsRule one number }
 {
@@ -282,8 +282,8 @@ impl NodeState<'_> {
 }
 
 /// Returns the index of the first instruction such that no list that agrees begins with the
-/// instructions up to it. It is the length of the list if the list ends too early, and `None` if the
-/// list agrees.
+/// instructions up to and including it. It is the length of the list if the list ends too early, and
+/// `None` if the list agrees.
 fn first_wrong_index(context: &ListContext, list: &[Instr]) -> Option<usize>
     requires planned { IsPlanned (passes_of context.now.assignment.now) context.now.production.now }
     requires pass { 1 ≤ context.now.pass }
@@ -314,8 +314,8 @@ fn first_wrong_index(context: &ListContext, list: &[Instr]) -> Option<usize>
     }
 }
 
-/// Returns the pass of the first list of a production that does not agree, and its first wrong index.
-/// `lists` are those of the production, the first for pass 1.
+/// Returns the pass of the first list of a production that does not agree, and the list's first wrong
+/// index. `None` if all lists agree. `lists` are those of the production, the first for pass 1.
 pub(crate) fn first_wrong_list(
     assignment: &Assignment,
     production: &Production,

@@ -54,7 +54,8 @@ impl Candidates for PassCandidates<'_> {
     ghost within = { λ x s a h. later_from (passes_of x.assignment.now) x.pass s a h };
 }
 
-/// Returns whether an attribute is struck, if its pass `own` is later than `pass`.
+/// Returns whether an attribute is struck, if its pass `own` is later than `pass`. True if it is not
+/// later.
 fn is_struck_if_later(struck: &Marks, pass: u16, own: u16, symbol: usize, attr: usize) -> bool
     ensures { IsTrue result ↔ (pass < own → IsMarked struck.now symbol attr) }
 {
@@ -115,11 +116,11 @@ fn are_all_strikes(grammar: &Grammar, assignment: &Assignment, lists: &[Items<St
 
 /// Returns whether lists are the strikes of an assignment's passes, one list for each pass. The list
 /// of pass k strikes each attribute that has a later pass, once, and no others. Each strike names a
-/// rule for its attribute and an argument of this rule that the pass can't have computed: the argument
-/// is struck before, or it has pass k or a later one and is at the same child as the rule's target or
-/// at one visited later.
+/// rule for its attribute and an argument of this rule that is not computed when the pass reaches the
+/// rule: the argument is struck before, or it has pass k or a later one and is at the same child as the
+/// rule's target or at one visited later.
 ///
-/// If they are, no legal assignment gives any attribute an earlier pass than this one. So an
+/// If they are, no legal assignment gives any attribute an earlier pass than `assignment` does. So an
 /// assignment that `check_plan` also accepts is the least one.
 ///
 /// Does not allocate, whatever numbers the lists have. A good strike is of an attribute of the

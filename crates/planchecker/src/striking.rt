@@ -86,7 +86,7 @@ fn is_reason<C: Candidates>(
         && is_item_candidate(candidates, item, argument.attr)
 }
 
-/// Returns whether a declared symbol is at a place of a production.
+/// Returns whether the symbol with number `symbol` is at a place of a production.
 fn is_symbol(production: &Production, place: u16, symbol: u16) -> bool
     ensures { IsTrue result ↔ (item_at production.now place ≡ Some (item.Symbol symbol)) }
 {
@@ -119,8 +119,8 @@ fn is_good<C: Candidates>(grammar: &Grammar, candidates: &C, struck: &Marks, str
     is_reason(candidates, struck, production, target.place, *argument)
 }
 
-/// Returns whether a strike may come next if these attributes are struck: it is of another attribute
-/// that the pass has to strike, and it is good.
+/// Returns whether a strike may come next if these attributes are struck: it is of an attribute that
+/// is not struck yet and that the pass has to strike, and it is good.
 fn is_next<C: Candidates>(grammar: &Grammar, candidates: &C, struck: &Marks, strike: Strike) -> bool
     ensures { IsTrue result ↔ IsNextWhere grammar.now (C.direction candidates.now)
         (C.candidates candidates.now) (C.later candidates.now) (IsMarked struck.now) strike }

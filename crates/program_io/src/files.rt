@@ -1,4 +1,4 @@
-//! The files that the commands read, and the report of a rejected sentence.
+//! The files that the commands read, and the reports of refused inputs and sentences.
 
 use ag_job::JobFault;
 use aggen::{Fault, Translator, bytes_of, source_of};
@@ -33,7 +33,8 @@ pub fn report_of_input(alloc: Global, fault: Fault, input: InputPath<'_>) -> Fau
     }
 }
 
-/// Reads a grammar, and returns its translator. Fails if the grammar can't be read, or is refused.
+/// Reads a grammar, and returns its translator. Fails if the grammar can't be read or is refused, and if memory is
+/// refused.
 pub fn read_translator<R: Files + Input>(
     rt: &R,
     alloc: Global,
@@ -43,7 +44,7 @@ pub fn read_translator<R: Files + Input>(
     build_translator(alloc, Source::new(grammar.name(), bytes.as_slice()))
 }
 
-/// Returns the translator of the grammar in a text. Fails if the grammar is refused.
+/// Returns the translator of the grammar in a text. Fails if the grammar is refused, and if memory is refused.
 pub fn build_translator(alloc: Global, grammar: Source<'_>) -> Result<Translator, FaultReport> {
     match Translator::build(alloc, grammar.bytes) {
         Ok(translator) => Ok(translator),

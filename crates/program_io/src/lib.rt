@@ -1,5 +1,5 @@
 //! What the commands of the program have in common: reading their input, the checks that no output replaces a
-//! file that is read, writing output files, and the reports of a rejected input or sentence.
+//! file that is read or another output, writing output files, and the reports of a refused input or sentence.
 #![tactic(auto)]
 
 mod files;

@@ -17,12 +17,12 @@ const MAX_LINKS: usize = 40;
 /// The greatest number of names that are tried for a new file.
 const MAX_NAMES: u32 = 1_000;
 
-/// Writes a translation to the file at `path`: the whole of it, or nothing. A regular file is replaced by a
-/// new one with its mode, and a missing one is created. Any other file is written to, as a device. If
-/// standard output is this file, prints the translation.
+/// Writes a translation to the file at `path`. A regular file is replaced by a new one with its mode, and a missing
+/// one is created, in both cases with the whole translation or not at all. Any other file, and any below /dev/ and
+/// /proc/, is written to directly. If standard output is this regular file, prints the translation.
 ///
-/// Fails with F1 if the file can't be opened or created, and with O2 if a write fails or takes no byte; the
-/// report names the file. Fails with NoMemory if memory is refused.
+/// Fails with F1 if the file can't be opened or created, and with O2 if a write fails or takes no byte, or if the
+/// new file can't be renamed; the report names the file. Fails with NoMemory if memory is refused.
 pub fn write_file<R: Files + Print>(
     rt: &R,
     alloc: Global,
@@ -61,7 +61,7 @@ fn is_of_system(path: &str) -> bool {
     path.starts_with("/dev/") || path.starts_with("/proc/")
 }
 
-/// Opens the existing file at `path` to write at its end. Fails with F1 if that is not allowed.
+/// Opens the existing file at `path` to write at its end. Fails with F1 if it can't be opened so.
 fn open_to_append<R: Files>(rt: &R, path: &str) -> Result<R::File, Fault> {
     let mut how = OpenOptions::new();
     how.append(true);
@@ -89,7 +89,7 @@ fn replace<R: Files>(
         Err(fault) => Err(fault),
     };
     if renamed.is_err() {
-        // the new file is incomplete; nothing more can be done if it can't be removed
+        // the new file is of no use; nothing more can be done if it can't be removed
         let _ = fs::remove_file(rt, new.as_str());
     }
     renamed
@@ -108,10 +108,12 @@ fn fill<F: io::Write + OpenFile + Drop>(
     write_bytes(&mut file, bytes).map_err(Fault::from)
 }
 
-/// Returns the path that the links at `path` lead to, which need not exist. Fails with F1 if there are too many.
+/// Returns the path that the links at `path` lead to, which need not exist. Fails with F1 if there are too
+/// many, or one can't be read.
 fn target_of<R: Files>(rt: &R, alloc: Global, path: &str) -> Result<String, Fault> {
     let mut target = String::from_str(alloc, path)?;
-    for _ in 0..MAX_LINKS {
+    // the last turn only finds out whether the path after `MAX_LINKS` links is one more
+    for _ in 0..=MAX_LINKS {
         match fs::symlink_metadata(rt, target.as_str()) {
             Ok(found) if found.is_symlink() => target = link_at(rt, alloc, target.as_str())?,
             Ok(_) => return Ok(target),
@@ -138,7 +140,7 @@ fn link_at<R: Files>(rt: &R, alloc: Global, path: &str) -> Result<String, Fault>
     Ok(path_in(alloc, folder_of(path), link)?)
 }
 
-/// Creates a new file in the folder of `path`, and returns its path too. Fails with F1 if it can't be created.
+/// Creates a new file in the folder of `path`, and returns its path and the file. Fails with F1 if it can't be created.
 fn create_beside<R: Files>(rt: &R, alloc: Global, path: &str) -> Result<(String, R::File), Fault> {
     let mut how = OpenOptions::new();
     how.write(true).create_new(true);

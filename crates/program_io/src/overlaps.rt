@@ -1,4 +1,4 @@
-//! Files that a command would both read and write: a misused command line.
+//! Files that a command would both read and write, or write twice: a misused command line.
 
 use crate::paths::{folder_of, path_in};
 use crate::same_file::FileId;
@@ -74,8 +74,8 @@ pub fn check_outputs<R: Files>(
     Ok(())
 }
 
-/// Fails with the message `text` about the file at `path` if it is both read and written, and if memory to find that
-/// out was refused.
+/// Fails with the message `text` about the file at `path` if `is_overlap` is true, and if memory to find that out was
+/// refused.
 fn fail_if(
     alloc: Global,
     is_overlap: Result<bool, NoMemory>,
@@ -170,7 +170,7 @@ fn id_of_input<R: Files>(rt: &R, input: InputPath<'_>) -> Result<Option<FileId>,
     }
 }
 
-/// Returns the report of a file that a command would both read and write.
+/// Returns the report of a misused command line with the message `text` about the file at `path`.
 fn overlap(alloc: Global, text: &str, path: &str) -> FaultReport {
     let mut report = FaultReport::new(alloc, Fault::Usage).with_file(alloc, path);
     let written = report.parts.found.push_str(text);

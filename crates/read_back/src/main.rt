@@ -1,6 +1,7 @@
 //! `read_back [--old] PATH` reads a tree file from its end and prints the number of its records; with
-//! `--old` the file is one of version 1. `benches/run` measures the program, and `tests/refused-memory` runs it with each of its requests
-//! for memory refused. A call for which memory was refused is named on standard error and made a second time.
+//! `--old` the file is one of version 1. `benches/run` measures the program, and `tests/refused-memory`
+//! runs it with each of its requests for memory refused. A call of the reader for which memory was
+//! refused is named on standard error and made a second time.
 #![tactic(auto)]
 
 ghost use Rattle.std.specs.Prelude.{IfOk};
@@ -67,8 +68,8 @@ fn run<R: Env + Eprint + Files + AllocGlobal>(rt: &R, alloc: Global) -> Result<u
     }
 }
 
-/// Returns the number of records of the tree file of a device. A call for which memory was refused is
-/// made a second time.
+/// Returns the number of records of the tree file of a device. A call of the reader for which memory was
+/// refused is made a second time.
 fn records<R: Eprint, D: Device>(
     rt: &R,
     alloc: Global,

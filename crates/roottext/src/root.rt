@@ -33,8 +33,8 @@ fn out_among(names: &[Text]) -> Option<usize>
     None
 }
 
-/// Returns the number of the attribute `out` of the start symbol, which each accepted grammar has (otherwise
-/// it is refused with N3).
+/// Returns the number of the attribute `out` of the start symbol. Each accepted grammar has this attribute:
+/// a grammar without it is refused with N3.
 fn out_number(grammar: &Grammar) -> usize
     ensures out { IsOut grammar.now result }
     ensures accepted { IsAccepted grammar.now }
@@ -47,7 +47,7 @@ fn out_number(grammar: &Grammar) -> usize
 }
 
 /// Reads the value of the attribute number `out` in `body`, the root's record in the file of the last
-/// pass. `read_node` is called as by the pass that would follow it, which reads that file.
+/// pass. Calls `read_node` as one pass more would, which would read this file.
 ///
 /// Fails with `Damaged` if the body is not such a record, and with `NoMemory` if memory is refused.
 fn read_out(
@@ -135,7 +135,7 @@ fn last_value<D: Device>(
 /// NotATreeFile if there are fewer than 6 bytes or the first four are not `AGT2`; else with B2
 /// Damaged and the number of bytes as its offset, if no frame ends there, or if its body is not the
 /// record of a production of the start symbol with a well value for each attribute, then the copies
-/// of its children's, and no more bytes. Fails with D1 Device if a call of the device failed, and
+/// of its children's values, and no more bytes. Fails with D1 Device if a call of the device failed, and
 /// with NoMemory if memory was refused.
 ///
 /// The number of the pass in the header is ignored. Takes memory for the record and for its values.

@@ -4,7 +4,8 @@ ghost use Rattle.std.specs.Prelude.{◌≡◌, ◌↔◌, ◌+◌, ◌≤◌, dr
 
 use crate::rope::{Rope, RopeNode};
 
-/// The number of bytes of a block in which two ropes that are cut at different places are compared.
+/// The greatest number of bytes of a block: ropes that are cut at different places are compared block
+/// by block.
 const BLOCK: usize = 1024;
 
 impl Rope {
@@ -83,8 +84,8 @@ impl Rope {
     }
 }
 
-/// Returns whether two ropes of the same length have the same bytes, which are compared by blocks if
-/// neither rope is one piece.
+/// Returns whether two ropes of the same length have the same bytes. If neither rope is one piece, they
+/// are compared block by block.
 fn same_by_blocks(one: &Rope, another: &Rope) -> bool
     requires { length one.now ≡ length another.now }
     ensures { IsTrue result ↔ (one.now ≡ another.now) }

@@ -8,13 +8,15 @@ use std::alloc::{AllocError, Global};
 /// The greatest length in bytes of a piece that is made of two.
 const MAX_PIECE: usize = 256;
 
-/// The greatest depth of a piece that is extended: the root has depth 0. In a text that grows at both
-/// ends the last piece has depth 1, and the first piece depth 2.
+/// The greatest depth of a piece that is extended: the root has depth 0. If a text gets nodes at both
+/// ends in turn, the piece at the end that got a node last has depth 1, and that at the other end has
+/// depth 2.
 const MAX_LEVELS: u32 = 2;
 
 impl Rope {
-    /// Joins two ropes in constant time. A short piece becomes part of the piece that it meets in the
-    /// other rope, if that is at most two nodes down and has room. Fails with AllocError.
+    /// Joins two ropes in constant time. A rope of one piece becomes part of the piece that it meets in
+    /// the other rope, if that piece is at most two nodes below the root and both pieces together have
+    /// at most 256 bytes. Fails with AllocError.
     pub fn join(alloc: Global, left: Rope, right: Rope) -> Result<Rope, AllocError>
         requires { length left + length right < 2 ^ 64 }
         ensures { IfOk result (λ rope. rope ≡ left ++ right) }
@@ -33,8 +35,8 @@ impl Rope {
     }
 }
 
-/// Returns the rope with bytes before its first piece, or `None` if that is more than `levels` nodes
-/// down or has no room for them. Fails with AllocError.
+/// Returns the rope with `bytes` added at the front of its first piece, or `None` if that piece is more
+/// than `levels` nodes below the root or has no room for them. Fails with AllocError.
 fn extend_first(
     alloc: Global,
     bytes: &[u8],
@@ -59,8 +61,8 @@ fn extend_first(
     }
 }
 
-/// Returns the rope with bytes after its last piece, or `None` if that is more than `levels` nodes down
-/// or has no room for them. Fails with AllocError.
+/// Returns the rope with `bytes` added at the end of its last piece, or `None` if that piece is more
+/// than `levels` nodes below the root or has no room for them. Fails with AllocError.
 fn extend_last(
     alloc: Global,
     rope: &Rope,
@@ -85,8 +87,8 @@ fn extend_last(
     }
 }
 
-/// Returns two parts as a rope of one piece, or `None` if they are too long together. Fails with
-/// AllocError.
+/// Returns two parts as a rope of one piece, or `None` if they have more than `MAX_PIECE` bytes
+/// together. Fails with AllocError.
 fn joined_piece(alloc: Global, first: &[u8], second: &[u8]) -> Result<Option<Rope>, AllocError>
     ensures { IfOk result (λ found. IfSome found (λ joined. joined ≡ first.now ++ second.now)) }
 {

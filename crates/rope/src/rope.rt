@@ -9,8 +9,10 @@ use std::marker::Model;
 use std::rc::Rc;
 
 /// Bytes with several owners: one piece, or two ropes one after the other. `share` copies no byte, and
-/// `join` at most 256. The tree is not balanced: every function recurses into the side with fewer bytes
-/// and loops over the other one, so the depth of recursion is at most the number of bits of the length.
+/// `join` at most 256. The tree is not balanced, and may be deep. So `drop`, `same` and `has_bytes`
+/// recurse into the side with fewer bytes, and `copy_part` into the side with fewer bytes to copy, and
+/// they loop over the other side: the depth of recursion is at most the number of bits of the length.
+/// `join` recurses at most twice.
 #[cycle(rope)]
 pub struct Rope {
     pub(crate) node: RopeNode,
@@ -31,7 +33,7 @@ pub(crate) enum RopeNode {
 pub(crate) struct JoinedRopes {
     pub(crate) left: Rope,
     pub(crate) right: Rope,
-    /// The number of bytes of both.
+    /// The number of bytes of both together.
     pub(crate) len: usize,
 }
 
@@ -60,7 +62,8 @@ impl fmt::Debug for Rope {
 }
 
 impl Drop for Rope {
-    /// Drops the shorter side by recursion and the longer one in the loop.
+    /// Drops the shorter side by recursion and the longer one in the loop. A node that has another owner
+    /// stays.
     fn drop(mut self) {
         loop {
             let Rope { node } = self;
@@ -94,8 +97,8 @@ impl Rope {
         })
     }
 
-    /// Returns the number of bytes. Takes no memory. Its clause `bytes` says that each of them is below 256,
-    /// which the invariant knows and a caller may need.
+    /// Returns the number of bytes. Takes no memory. The clause `bytes` says that each of them is below
+    /// 256: that is part of the invariant, and callers may need it.
     pub fn len(&self) -> usize
         ensures len { result ≡ length self.now }
         ensures bytes { AreBytes self.now }

@@ -1,14 +1,15 @@
-//! Deep ropes: no clause says how deep a recursion is.
+//! Tests of deep ropes, since no clause bounds the depth of recursion, and of a text that grows at both
+//! ends.
 
 use crate::rope::Rope;
 use std::alloc::{AllocError, Global};
 use std::test::Fail;
 
-/// The number of nodes of a deep rope, none of which is balanced. A recursion over them would need
-/// tens of megabytes of stack.
+/// The number of nodes of a deep rope that have two sides; at least one of the sides is one byte. A
+/// recursion over all of them would need tens of megabytes of stack.
 const NODES: u32 = 200_000;
 
-/// Returns the byte at an index of the text of `grown_at_end` and `grown_at_front`.
+/// Returns the byte at an index of the text of `grown_at_end` and `grown_at_start`.
 fn byte_at(index: u32) -> u8 {
     (index % 251) as u8
 }
@@ -18,7 +19,8 @@ fn single(alloc: Global, byte: u8) -> Result<Rope, AllocError> {
     Rope::from_vec(alloc, [byte].to_vec(alloc)?)
 }
 
-/// Returns a node over two ropes. Fails with AllocError if one of them is long.
+/// Returns a node over two ropes. Fails with AllocError, also if one of them has more than 1,000,000
+/// bytes.
 fn pair(alloc: Global, left: Rope, right: Rope) -> Result<Rope, AllocError> {
     if left.len() > 1_000_000 || right.len() > 1_000_000 {
         return Err(AllocError);
@@ -26,7 +28,7 @@ fn pair(alloc: Global, left: Rope, right: Rope) -> Result<Rope, AllocError> {
     Rope::pair(alloc, left, right)
 }
 
-/// Joins two ropes. Fails with AllocError if one of them is long.
+/// Joins two ropes. Fails with AllocError, also if one of them has more than 1,000,000 bytes.
 fn join(alloc: Global, left: Rope, right: Rope) -> Result<Rope, AllocError> {
     if left.len() > 1_000_000 || right.len() > 1_000_000 {
         return Err(AllocError);
@@ -44,7 +46,7 @@ fn grown_at_end(alloc: Global) -> Result<Rope, AllocError> {
 }
 
 /// Returns the text as a rope of which each left side is one byte.
-fn grown_at_front(alloc: Global) -> Result<Rope, AllocError> {
+fn grown_at_start(alloc: Global) -> Result<Rope, AllocError> {
     let mut rope = single(alloc, byte_at(NODES))?;
     for count in 0..NODES {
         rope = pair(alloc, single(alloc, byte_at(NODES - 1 - count))?, rope)?;
@@ -55,16 +57,16 @@ fn grown_at_front(alloc: Global) -> Result<Rope, AllocError> {
 #[test]
 fn deep_ropes(rt: HostRuntime) -> Result<(), Fail> {
     let end = grown_at_end(rt.alloc())?;
-    let front = grown_at_front(rt.alloc())?;
-    assert!(rt; end.same(&front));
+    let start = grown_at_start(rt.alloc())?;
+    assert!(rt; end.same(&start));
     let mut bytes = Vec::new(rt.alloc());
     end.append_to(&mut bytes)?;
     assert_eq!(rt; bytes.len(), 200_001);
     assert_eq!(rt; bytes.get(200_000).copied(), Some(204));
-    assert!(rt; front.has_bytes(bytes.as_slice()));
+    assert!(rt; start.has_bytes(bytes.as_slice()));
     let shared = end.share()?;
     drop(end);
-    assert!(rt; shared.same(&front));
+    assert!(rt; shared.same(&start));
     Ok(())
 }
 

@@ -58,7 +58,7 @@ fn print_wrong<R: Print>(rt: &R, number: u64, wrong: &Option<String>) -> io::Res
     }
 }
 
-/// The current texts, and the lines of the last answer that were not compared yet.
+/// The current texts, the lines of the last answer that were not compared yet, and the number of right lines.
 #[derive(Drop)]
 struct Sheet {
     texts: CurrentTexts,
@@ -130,8 +130,8 @@ impl Sheet {
         Ok(None)
     }
 
-    /// Runs a line that isn't an answer. Returns what is wrong with it or, if nothing is, whether lines of the last
-    /// answer were not compared.
+    /// Runs a line that isn't an answer. Returns what is wrong with it or, if nothing is, a message if lines of the
+    /// last answer were not compared.
     fn ask<Q: Questions>(
         &mut self,
         alloc: Global,

@@ -78,8 +78,8 @@ pub fn short_numbers(alloc: Global, text: &str) -> Result<Vec<u16>, Mistake> {
     Ok(numbers)
 }
 
-/// Returns the bytes that the words of a text spell, with two hexadecimal digits each. The word `00*1000`
-/// spells the byte 0 1,000 times.
+/// Returns the bytes that the words of a text spell, with two hexadecimal digits for each byte. The word `00*1000`
+/// spells 1,000 zero bytes.
 pub fn bytes_of(alloc: Global, text: &str) -> Result<Vec<u8>, Mistake> {
     let mut bytes = Vec::new(alloc);
     for word in text.split_whitespace() {
@@ -91,7 +91,7 @@ pub fn bytes_of(alloc: Global, text: &str) -> Result<Vec<u8>, Mistake> {
     Ok(bytes)
 }
 
-/// Returns the bytes that a word spells, with two hexadecimal digits each.
+/// Returns the bytes that a word spells, with two hexadecimal digits for each byte.
 fn bytes_of_word(alloc: Global, word: &str) -> Result<Vec<u8>, Mistake> {
     match decode(alloc, word.as_bytes()) {
         Ok(bytes) => Ok(bytes),

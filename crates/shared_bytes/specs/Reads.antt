@@ -2,7 +2,7 @@
 use Rattle.std.specs.Prelude.{◌≡◌, ℕ, ◌+◌, ◌<◌, ◌≤◌, List, take, drop, length}
 
 -- The first `done` bytes of `out` are those of `content` from offset `at` on. If `out` has room for more, these bytes reach
--- offset `place` of `content`.
+-- at least offset `place` of `content`.
 pub record HasRead (place at done : ℕ) (content out : List ℕ) : Type 0 where
   pub within : done ≤ length out
   pub same : take done out ≡ take done (drop at content)

@@ -8,8 +8,8 @@ abbrev pub spliced : ℕ → List ℕ → List Splice → List ℕ
 spliced base own [] = own
 spliced base own (g ∷ gs) = take (g.own - base) own ++ (g.bytes ++ spliced g.own (drop (g.own - base) own) gs)
 
--- Splices are in order between own byte number `base` and number `end`, each at the offset that it has, if number `base` is at
--- offset `at`; the bytes end at offset `total`.
+-- Splices are in order between own byte number `base` and number `end`, and the offset in each is right, if own byte number
+-- `base` is at offset `at`; the bytes end at offset `total`.
 abbrev pub AreSplices : ℕ → ℕ → ℕ → ℕ → List Splice → Type 0
 AreSplices base at end total [] = (base ≤ end) × (total ≡ at + (end - base))
 AreSplices base at end total (g ∷ gs) =

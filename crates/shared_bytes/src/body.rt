@@ -59,7 +59,8 @@ fn own_from(from: usize, start: u64, end: usize, offset: u64) -> Option<usize>
     Some(own)
 }
 
-/// Returns whether at least `own` own bytes come before splice `count`, or there are only `count` splices.
+/// Returns whether at least `own` own bytes come before the splice with index `count`, or there is no such
+/// splice.
 fn is_before(splices: &[Splice], count: usize, own: usize) -> bool
     ensures { IsTrue result → IsBeforeSplice splices.now count own }
 {
@@ -79,7 +80,7 @@ struct Start {
     at: u64,
 }
 
-/// Returns the number of own bytes before `offset`, if no splice comes before it.
+/// Returns the number of own bytes before `offset`, if no splice comes before it, and otherwise `None`.
 fn first_own(splices: &[Splice], start: Start, end: usize, offset: u64) -> Option<usize>
     ensures cut { IfSome result (λ own. CutAt start.base start.at splices.now 0 own offset) }
     ensures within { IfSome result (λ own. own ≤ end) }
@@ -91,7 +92,8 @@ fn first_own(splices: &[Splice], start: Start, end: usize, offset: u64) -> Optio
     Some(own)
 }
 
-/// Returns the number of own bytes before `offset`, if exactly `count` splices come before it.
+/// Returns the number of own bytes before `offset`, if exactly `count` splices come before it, and
+/// otherwise `None`.
 fn next_own(
     splices: &[Splice],
     start: Start,
@@ -169,8 +171,8 @@ impl<'a> Body<'a> {
     }
 
     /// Splits the body at an offset from its first byte, after `count` of its shared values. Returns
-    /// `None` if the offset is inside a shared value or past the last byte, or if the number of shared
-    /// values before it is not `count`; no clause says when. Takes no memory.
+    /// `None` if the offset is inside a shared value or greater than the length, or if the number of
+    /// shared values before it is not `count`; no clause says when. Takes no memory.
     pub fn cut(self, offset: u64, count: usize) -> Option<(Body<'a>, Body<'a>)>
         ensures parts { IfSome result (λ p. self.entry ≡ p.0 ++ p.1) }
         ensures size { IfSome result (λ p. length p.0 ≡ offset) }
@@ -302,7 +304,7 @@ impl<'a> Body<'a> {
     /// Takes the value whose encoding is a prefix of the body: a shared one in one step, and one of own
     /// bytes as `Carried::read` does. Returns the value and the rest of the body, or `None` if the body
     /// begins with no value that is either shared or of own bytes alone: then only a copy of all bytes
-    /// (`append_to`) shows whether it begins with a value. Fails with NoMemory.
+    /// (`append_to`) shows whether the body begins with a value. Fails with NoMemory.
     pub fn take(&self, alloc: Global) -> Result<Option<(Carried, Body<'a>)>, NoMemory>
         ensures well { IfOk result (λ found. IfSome found (λ p. IsWell p.0)) }
         ensures encoded { IfOk result
@@ -314,7 +316,7 @@ impl<'a> Body<'a> {
         }
     }
 
-    /// Takes the shared value with which the body begins; `bytes` is its encoding.
+    /// Takes the shared value with which the body begins; `bytes` is its encoding. Fails with NoMemory.
     fn take_shared(&self, bytes: &Encoded) -> Result<Option<(Carried, Body<'a>)>, NoMemory>
         requires { take (length bytes.now) self.now ≡ bytes.now }
         ensures well { IfOk result (λ found. IfSome found (λ p. IsWell p.0)) }
@@ -327,7 +329,8 @@ impl<'a> Body<'a> {
         Ok(Some((bytes.value()?, rest)))
     }
 
-    /// Takes the value whose encoding is a prefix of the own bytes with which the body begins.
+    /// Takes the value whose encoding is a prefix of the own bytes with which the body begins, or returns
+    /// `None` if there is none. Fails with NoMemory.
     fn take_own(&self, alloc: Global) -> Result<Option<(Carried, Body<'a>)>, NoMemory>
         ensures well { IfOk result (λ found. IfSome found (λ p. IsWell p.0)) }
         ensures encoded { IfOk result

@@ -6,9 +6,10 @@ ghost use Rattle.shared_bytes.specs.Reads.{HasRead};
 
 use ag_carried::Encoded;
 
-/// Returns the part of a piece that comes next, as its index in the piece and its length, or `None` if
-/// no byte of the piece comes next. The piece has the `len` bytes from offset `place` on. They go to a
-/// slice of `size` bytes that is to hold those from offset `at` on, and has the first `done` of them.
+/// Returns the index in a piece of the next byte to copy, and the number of bytes to copy from there; or
+/// `None` if the slice is full, or if the piece doesn't have the next byte. The piece has the `len` bytes
+/// from offset `place` on. The slice has `size` bytes: it is to hold the bytes from offset `at` on, and
+/// has the first `done` of them.
 fn next_part(place: u64, len: usize, at: u64, done: usize, size: usize) -> Option<(usize, usize)>
     requires within { done ≤ size }
     requires room { at + size < 2 ^ 64 }
@@ -30,7 +31,7 @@ fn next_part(place: u64, len: usize, at: u64, done: usize, size: usize) -> Optio
 }
 
 /// Copies bytes of a piece, which begins at offset `place`, into `out`, which is to hold the bytes from
-/// offset `at` on and has the first `done` of them. Returns the number of bytes that it then has.
+/// offset `at` on and has the first `done` of them. Returns the number of bytes that `out` then has.
 pub(crate) fn copy_own(piece: &[u8], place: u64, at: u64, done: usize, out: &mut [u8]) -> usize
     requires within { done ≤ length out.old }
     requires room { at + length out.old < 2 ^ 64 }

@@ -11,8 +11,8 @@ use ag_value::NoMemory;
 use std::alloc::{AllocError, Global};
 use std::marker::Model;
 
-/// A growing list of bytes: own ones in one vector, and between them the encodings of large values,
-/// which are shared and not copied. Contracts see the list of all bytes.
+/// A growing list of bytes: own ones in one vector, and between them the encodings of shared values
+/// (large ones, shared texts and trees), which are not copied. Contracts see the list of all bytes.
 #[derive(Drop)]
 pub struct SharedBytes {
     alloc: Global,
@@ -78,8 +78,8 @@ impl SharedBytes {
         Ok(())
     }
 
-    /// Appends a copy of bytes whose number still fits in 64 bits. Fails with AllocError; then nothing
-    /// changes.
+    /// Appends a copy of bytes; the number of all bytes then has to be below 2^64. Fails with AllocError;
+    /// then nothing changes.
     #[inline(always)]
     fn append_own(&mut self, bytes: &[u8]) -> Result<(), AllocError>
         requires { length self.old + length bytes.now < 2 ^ 64 }
@@ -91,7 +91,7 @@ impl SharedBytes {
         Ok(())
     }
 
-    /// Appends the encoding of a large value, as one more owner. Fails with NoMemory; then nothing
+    /// Appends the encoding of a shared value, as one more owner. Fails with NoMemory; then nothing
     /// changes.
     pub fn append_encoded(&mut self, bytes: &Encoded) -> Result<(), NoMemory>
         ensures ok { OnOk result (self.new ≡ self.old ++ bytes.now) }
@@ -104,8 +104,8 @@ impl SharedBytes {
         Ok(())
     }
 
-    /// Appends an encoding whose bytes still fit in the count, as one more owner. Fails with AllocError;
-    /// then nothing changes.
+    /// Appends an encoding, as one more owner; the number of all bytes then has to be below 2^64. Fails
+    /// with AllocError; then nothing changes.
     fn append_shared(&mut self, bytes: &Encoded) -> Result<(), AllocError>
         requires { length self.old + length bytes.now < 2 ^ 64 }
         ensures ok { OnOk result (self.new ≡ self.old ++ bytes.now) }
@@ -145,8 +145,8 @@ impl SharedBytes {
         Ok(())
     }
 
-    /// Appends all bytes of `other`, whose number still fits in the count. Fails with AllocError; then
-    /// nothing changes.
+    /// Appends all bytes of `other`; the number of all bytes then has to be below 2^64. Fails with
+    /// AllocError; then nothing changes.
     fn append_counted(&mut self, other: &SharedBytes) -> Result<(), AllocError>
         requires { length self.old + length other.now < 2 ^ 64 }
         ensures ok { OnOk result (self.new ≡ self.old ++ other.now) }

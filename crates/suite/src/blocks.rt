@@ -64,7 +64,7 @@ fn file_of_name(alloc: Global, letters: u32) -> Result<Vec<u8>, AllocError> {
 }
 
 /// Returns a file of a version and pass 0, with bodies of these lengths in bytes. Each byte of a
-/// body is its number in the file, from 0, modulo 256.
+/// body is the body's number in the file, from 0, modulo 256.
 pub(crate) fn file_of_lengths(
     alloc: Global,
     version: FileVersion,

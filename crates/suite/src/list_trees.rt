@@ -1,4 +1,4 @@
-//! List trees: what no clause says, that each call succeeds, and the balance.
+//! Tests of list trees for what no clause states: that each call succeeds, and that the trees are balanced.
 
 use ag_value::{NoMemory, Value, ValueFault, decode};
 use list_tree::ListTree;
@@ -26,7 +26,7 @@ fn joined(alloc: Global, left: &ListTree, right: &ListTree) -> Result<ListTree, 
     }
 }
 
-/// Returns the numbers from 0 on, appended one by one.
+/// Returns the list of the numbers below `count`, which is at least 1, appended one by one.
 fn numbers(alloc: Global, count: u16) -> Result<ListTree, ValueFault> {
     let mut list = single(alloc, 0)?;
     for number in 1..count {
@@ -115,7 +115,7 @@ fn trees_are_balanced(rt: HostRuntime) -> Result<(), ValueFault> {
         at_end = joined(alloc, &at_end, &one)?;
         at_beginning = joined(alloc, &one, &at_beginning)?;
     }
-    // 1 + 1.45 · log2(4096) is 18.4
+    // a balanced tree of 4,096 items has a height of at most 1 + 1.45 · log2(4096), which is 18.4; these are lower
     assert!(rt; at_end.height() <= 17 && at_beginning.height() <= 17);
     assert_eq!(rt; rebuilt(alloc, &at_end)?.height(), 13);
     let short = numbers(alloc, 3)?;

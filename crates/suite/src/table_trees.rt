@@ -1,4 +1,4 @@
-//! Table trees: what no clause says, that each call succeeds, and the balance.
+//! Tests of table trees for what no clause states: that each call succeeds, and that the trees are balanced.
 
 use ag_value::{Items, NoMemory, Text, Value};
 use std::alloc::{AllocError, Global};
@@ -80,7 +80,7 @@ fn trees_are_balanced(rt: HostRuntime) -> Result<(), PutFault> {
         down = with_number(alloc, &down, count.saturating_sub(key))?;
         mixed = with_number(alloc, &mixed, key.wrapping_mul(2_654_435_769) % 65_536)?;
     }
-    // 1.45 · log2(4098) is 17.4
+    // a balanced tree of 4,096 entries has a height of at most 1.45 · log2(4098), which is 17.4
     assert!(rt; up.height() <= 17 && down.height() <= 17 && mixed.height() <= 17);
     assert_eq!(rt; rebuilt(alloc, &mixed)?.height(), 13);
     Ok(())

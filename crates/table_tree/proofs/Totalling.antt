@@ -110,7 +110,7 @@ fault_of ps t (Some fault.TooHeavy) are is =
     (omega arith, omega arith)
 fault_of ps t (Some fault.NoMemory) are is = is
 
--- a table in which a key has a value exceeds no limit if its pairs and this one would not
+-- a table in which a key has a value exceeds no limit if the pairs of the old table and this one together exceed none
 pub room : (key : List ℕ) (x : Value) (ps : List Pair) (none added own most : Totals) → AreTotals [] none
     → AreTotals ((key, x) ∷ []) added → AreTotals ps own → AreJoined none added own most → IsLimitFault most None
     → IsFaultOf (with_pair key x ps) None

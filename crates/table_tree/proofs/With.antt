@@ -115,7 +115,7 @@ found_equal key ps before p after s e =
 
 -- ---- measures of the table in which a key has a value
 
--- what passes neither of two tests can only make it lighter
+-- the pairs before a key and those after it weigh at most as much as all pairs
 sides_lighter : (key : List ℕ) (f : Pair → ℕ) (ps : List Pair)
     → sum (map f (filter (is_left key) ps)) + sum (map f (filter (is_right key) ps)) ≤ sum (map f ps)
 sides_lighter key f [] = omega arith

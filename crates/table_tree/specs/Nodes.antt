@@ -14,7 +14,8 @@ abbrev pub pairs_of : TableNode → List (List ℕ × Value)
 pairs_of Leaf = []
 pairs_of (Fork rc) = rc.value.left ++ rc.value.entry.value ∷ rc.value.right
 
--- a well table, whose encoding are bytes, its totals, and a block, which is none or the encodings of the pairs
+-- The pairs are a well table, and these are its totals. All numbers in the encodings of the pairs are bytes. The block, if there
+-- is one, has these encodings one after the other.
 pub record IsTotalled (pairs : List (List ℕ × Value)) (totals : Totals) (block : Option (List ℕ)) : Type 0 where
   pub well : IsWell (value.Table pairs)
   pub are : AreTotals pairs totals

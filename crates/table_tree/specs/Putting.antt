@@ -9,14 +9,14 @@ use Rattle.table_tree.specs.declared.putting.PutFault.TheVariants as fault
 use Rattle.table_tree.specs.declared.totals.Totals.{Totals}
 
 -- The result is a table, and this table is the expected value; or it is TooDeep or TooHeavy, and the expected value is the
--- error `deep` or `big`; or memory ran out.
+-- error `deep` or `big`; or it is NoMemory.
 abbrev pub IsPut : Value → Result (List (List ℕ × Value)) PutFault → Type 0
 IsPut expected (Ok pairs) = expected ≡ value.Table pairs
 IsPut expected (Err fault.TooDeep) = expected ≡ value.Fault Deep
 IsPut expected (Err fault.TooHeavy) = expected ≡ value.Fault Big
 IsPut expected (Err fault.NoMemory) = Unit {0}
 
--- the limit that a table exceeds: first that of the depth, then that of the weight
+-- the limit that a table exceeds, if there is one: first that of the depth, then that of the weight
 abbrev pub IsFaultOf : List (List ℕ × Value) → Option PutFault → Type 0
 IsFaultOf pairs None = (depth_of (value.Table pairs) ≤ max_value_depth) × (weight_of (value.Table pairs) ≤ max_weight)
 IsFaultOf pairs (Some fault.TooDeep) = max_value_depth < depth_of (value.Table pairs)
@@ -24,7 +24,7 @@ IsFaultOf pairs (Some fault.TooHeavy) =
     (depth_of (value.Table pairs) ≤ max_value_depth) × (max_weight < weight_of (value.Table pairs))
 IsFaultOf pairs (Some fault.NoMemory) = ⊥
 
--- the limit that a table with these totals exceeds: first that of the depth, then that of the weight
+-- the limit that a table with these totals exceeds, if there is one: first that of the depth, then that of the weight
 abbrev pub IsLimitFault : Totals → Option PutFault → Type 0
 IsLimitFault totals None = (totals.depth < max_value_depth) × (5 + totals.bytes ≤ max_weight)
 IsLimitFault totals (Some fault.TooDeep) = max_value_depth ≤ totals.depth

@@ -12,7 +12,8 @@ use std::alloc::Global;
 use std::rc::Rc;
 
 /// Returns the table of the pairs of a table, a pair and the pairs of another table. If one side is
-/// higher than the other by two levels, the root is taken from it. Fails with NoMemory.
+/// higher than the other by at least two levels, the root is taken from the higher side. Fails with
+/// NoMemory.
 pub(crate) fn balanced(
     alloc: Global,
     left: TableTree,
@@ -33,7 +34,8 @@ pub(crate) fn balanced(
     TableTree::fork(alloc, left, entry, right)
 }
 
-/// Returns the same table. If its right side was the higher one, the root is taken from there.
+/// Returns the same table. If its right side was the higher one, the root is taken from there. Fails
+/// with NoMemory.
 fn with_high_left(alloc: Global, table: TableTree) -> Result<TableTree, NoMemory>
     ensures { IfOk result (λ same. same ≡ table) }
 {
@@ -51,7 +53,8 @@ fn with_high_left(alloc: Global, table: TableTree) -> Result<TableTree, NoMemory
     )
 }
 
-/// Returns the same table. If its left side was the higher one, the root is taken from there.
+/// Returns the same table. If its left side was the higher one, the root is taken from there. Fails
+/// with NoMemory.
 fn with_high_right(alloc: Global, table: TableTree) -> Result<TableTree, NoMemory>
     ensures { IfOk result (λ same. same ≡ table) }
 {
@@ -69,8 +72,8 @@ fn with_high_right(alloc: Global, table: TableTree) -> Result<TableTree, NoMemor
     )
 }
 
-/// Returns the table of the pairs of a table, a pair and the pairs of another table, with the root of
-/// the left side as its root. Fails with NoMemory.
+/// Returns the table of the pairs of a table, a pair and the pairs of another table. The root is that of
+/// `left`, unless `left` is empty. Fails with NoMemory.
 fn turned_right(
     alloc: Global,
     left: TableTree,
@@ -87,8 +90,8 @@ fn turned_right(
     TableTree::fork(alloc, root.left.share()?, root.entry.clone()?, lower)
 }
 
-/// Returns the table of the pairs of a table, a pair and the pairs of another table, with the root of
-/// the right side as its root. Fails with NoMemory.
+/// Returns the table of the pairs of a table, a pair and the pairs of another table. The root is that of
+/// `right`, unless `right` is empty. Fails with NoMemory.
 fn turned_left(
     alloc: Global,
     left: TableTree,

@@ -5,8 +5,9 @@ ghost use Rattle.std.specs.Prelude.{◌≡◌, ◌↔◌, ◌+◌, ◌<◌, ◌�
 use crate::tree::TableTree;
 
 impl TableTree {
-    /// Returns whether two tables are equal. Takes no memory, and time that grows with the number of
-    /// pairs.
+    /// Returns whether two tables are equal. Takes no memory. Takes time that is linear in the length of
+    /// the encoding if the trees have the same shape, and otherwise at most the time of an `entry_at`
+    /// more for each pair.
     pub fn same(&self, other: &TableTree) -> bool
         ensures { IsTrue result ↔ (self.now ≡ other.now) }
     {
@@ -31,7 +32,8 @@ impl TableTree {
         root.right.same(other_root.right)
     }
 
-    /// Returns whether two tables with the same number of pairs are equal, if both have a block.
+    /// Returns whether two tables with the same number of pairs are equal, or `None` unless both have a
+    /// block.
     fn same_block(&self, other: &TableTree) -> Option<bool>
         requires { length self.now ≡ length other.now }
         ensures { IfSome result (λ same. IsTrue same ↔ (self.now ≡ other.now)) }
@@ -42,7 +44,7 @@ impl TableTree {
         Some(one == another)
     }
 
-    /// Returns whether the pairs of another table from an index on begin with those of this one.
+    /// Returns whether the pairs of another table from `index` on begin with those of this one.
     fn is_part(&self, other: &TableTree, index: usize) -> bool
         requires within { index + length self.now ≤ length other.now }
         requires small { length other.now < 2 ^ 64 }

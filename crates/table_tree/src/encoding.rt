@@ -13,7 +13,7 @@ use crate::entry::byte_count;
 use crate::tree::TableTree;
 use ag_value::NoMemory;
 
-/// The number of bytes before the first pair: the tag of a table, and the number of pairs.
+/// The number of bytes before the first pair: the kind of a table, and the number of pairs.
 pub(crate) const HEADER_LEN: usize = 5;
 
 impl TableTree {
@@ -119,8 +119,8 @@ impl TableTree {
     }
 }
 
-/// Copies the bytes of a piece into `out` from index `done` on, as far as there is room. Returns the
-/// index after the last byte copied.
+/// Copies the bytes of a piece into `out` from index `done` on, as far as there is room. Returns `done`
+/// plus the number of bytes copied.
 fn copy_piece(piece: &[u8], done: usize, out: &mut [u8]) -> usize
     requires { done ≤ length out.old }
     ensures count { result ≡ done + min (length piece.now) (length out.old - done) }

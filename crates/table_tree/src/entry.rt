@@ -125,7 +125,7 @@ fn encoded_pair(alloc: Global, key: &str, value: &Value) -> Result<Vec<u8>, NoMe
     Ok(bytes)
 }
 
-/// Returns the number of bytes.
+/// Returns the number of bytes. The clause `bytes` says that each of them is below 256.
 #[inline(always)]
 pub(crate) fn byte_count(bytes: &[u8]) -> usize
     ensures len { result ≡ length bytes.now }

@@ -9,8 +9,8 @@ use crate::tree::TableTree;
 use ag_value::{Text, Value};
 
 impl TableTree {
-    /// Returns whether a value is this table. Takes no memory, and time that grows with the number of
-    /// pairs.
+    /// Returns whether a value is this table. Takes no memory, and time that is linear in the length of
+    /// the encoding.
     pub fn is_value(&self, value: &Value) -> bool
         ensures { IsTrue result ↔ (v.Table self.now ≡ value.now) }
     {
@@ -34,7 +34,7 @@ impl TableTree {
         self.has_encoded_pairs(pairs)
     }
 
-    /// Returns whether the table has these pairs.
+    /// Returns whether the pairs of the table are exactly these, in this order.
     fn has_pairs(&self, pairs: &[(Text, Value)]) -> bool
         ensures { IsTrue result ↔ (self.now ≡ pairs.now) }
     {

@@ -26,7 +26,7 @@ pub enum PutFault {
     TooDeep,
     /// The weight of the table would exceed 1,048,576.
     TooHeavy,
-    /// The allocator refused memory, or a node has 2^64 - 1 owners.
+    /// The allocator refused memory, or a node or a pair has 2^64 - 1 owners.
     NoMemory,
 }
 
@@ -39,9 +39,11 @@ impl<M: OutOfMemory> From<M> for PutFault {
 }
 
 impl TableTree {
-    /// Returns the table in which a key has a value, and all other pairs are those of this table. Takes
-    /// time and memory that grow with the logarithm of the number of pairs, and shares the other nodes.
-    /// Fails with TooDeep or TooHeavy if the result exceeds the limits of well values, and with NoMemory.
+    /// Returns the table in which a key has a value, and all other pairs are those of this table. The
+    /// nodes that are not on the way to the key are shared: time and memory grow with the logarithm of
+    /// the number of pairs, and with the size of the new pair. Fails with TooDeep if the result would
+    /// exceed the greatest depth of well values, else with TooHeavy if it would exceed their greatest
+    /// weight; and with NoMemory.
     pub fn put(&self, alloc: Global, key: &str, value: Value) -> Result<TableTree, PutFault>
         requires short { length key.now ≤ max_weight }
         requires well { IsWell value }
@@ -57,9 +59,9 @@ impl TableTree {
         Ok(table)
     }
 
-    /// Returns the limit of well values that the table in which the key of an entry has its value
-    /// exceeds, if there is one. Takes constant time if the pairs of the table and this one are within
-    /// the limits.
+    /// Returns TooDeep or TooHeavy if the table in which the entry's key has the entry's value exceeds
+    /// that limit of well values; TooDeep if it exceeds both. Takes constant time if the pairs of the
+    /// table and this one together are within the limits.
     fn fault_with(&self, entry: &Entry) -> Option<PutFault>
         ensures fault { IsFaultOf (with_pair entry.now.0 entry.now.1 self.now) result }
         ensures well { IsWell (v.Table self.now) }
@@ -71,7 +73,7 @@ impl TableTree {
         }
     }
 
-    /// Returns the totals of the table in which the key of an entry has its value.
+    /// Returns the totals of the table in which the entry's key has the entry's value.
     fn totals_with(&self, entry: &Entry) -> Totals
         ensures totals { AreTotals (with_pair entry.now.0 entry.now.1 self.now) result }
         ensures well { IsWell (v.Table self.now) }
@@ -88,7 +90,7 @@ impl TableTree {
         }
     }
 
-    /// Returns the table in which the key of an entry has its value. Fails with NoMemory.
+    /// Returns the table in which the entry's key has the entry's value. Fails with NoMemory.
     fn with_entry(&self, alloc: Global, entry: Rc<Entry>) -> Result<TableTree, NoMemory>
         requires { IsWell (v.Table (with_pair entry.value.0 entry.value.1 self.now)) }
         ensures { IfOk result (λ table. table ≡ with_pair entry.value.0 entry.value.1 self.now) }
@@ -115,7 +117,8 @@ impl TableTree {
     }
 }
 
-/// Returns the limit of well values that a table with these totals exceeds, if there is one.
+/// Returns TooDeep or TooHeavy if a table with these totals exceeds that limit of well values; TooDeep
+/// if it exceeds both.
 fn limit_fault(totals: Totals) -> Option<PutFault>
     ensures { IsLimitFault totals result }
 {

@@ -27,16 +27,16 @@ const MIN_SHORT_BLOCK: usize = 192;
 
 const MAX_SHORT_BLOCK: usize = 512;
 
-/// A well table: its pairs in the order of their keys, as a balanced tree whose nodes have several
-/// owners. Contracts see the list of the pairs. A table made of another shares all nodes with it but
-/// those on the way to one key.
+/// A well table: its pairs in the order of their keys, as a balanced tree whose nodes may have several
+/// owners. Contracts see the list of the pairs. A table that `put` makes of another shares all nodes
+/// with it but those on the way to the key.
 #[cycle(tree)]
 #[derive(Drop)]
 pub struct TableTree {
     node: TableNode,
 }
 
-/// What a tree consists of.
+/// The root of a tree, or `Leaf` if the tree is empty.
 #[cycle(tree)]
 #[derive(Drop)]
 enum TableNode {
@@ -109,7 +109,7 @@ impl TableTree {
     }
 
     /// Returns the same table for one more owner, in constant time. Takes no memory. Fails with NoMemory
-    /// if the table has 2^64 - 1 owners.
+    /// if its root has 2^64 - 1 owners.
     pub fn share(&self) -> Result<TableTree, NoMemory>
         ensures { IfOk result (λ table. table ≡ self.now) }
     {
@@ -202,7 +202,7 @@ impl TableTree {
     }
 
     /// Returns the table of the pairs of a table, a pair and the pairs of another table. Takes memory for
-    /// one node. Fails with NoMemory.
+    /// one node and for its block, if it has one. Fails with NoMemory.
     pub(crate) fn fork(
         alloc: Global,
         left: TableTree,
@@ -238,8 +238,9 @@ fn is_block_length(len: usize) -> bool {
     (MIN_BLOCK <= len && len <= MAX_BLOCK) || (MIN_SHORT_BLOCK <= len && len <= MAX_SHORT_BLOCK)
 }
 
-/// Returns the encodings of the pairs of a table, of a pair and of the pairs of another table, if they
-/// have the length of a block. Takes memory for them. Fails with NoMemory.
+/// Returns the encodings of the pairs of a table, of a pair and of the pairs of another table, one after
+/// the other, if `totals.bytes`, their number of bytes, is the length of a block, and otherwise `None`.
+/// Takes memory for them. Fails with NoMemory.
 fn block_of(
     alloc: Global,
     left: &TableTree,

@@ -15,7 +15,7 @@ use std::rt::{Clock, Files};
 /// sentence that fails, and goes on; returns the status of the first of these, or 0. The grammar is read first.
 ///
 /// Fails before a sentence is read if the grammar can't be read or is refused, if the folder for the translations is
-/// missing (F1), if a translation's file is one of the inputs, or if memory is refused.
+/// missing or not a folder (F1), if a translation's file is one of the inputs, or if memory is refused.
 pub fn run_sentences<'a, R: Files + Input + Print + Eprint + Clock>(
     rt: &'a R,
     alloc: Global,
@@ -87,8 +87,8 @@ fn check_folder<R: Files>(rt: &R, alloc: Global, path: &str) -> Result<(), Fault
     Err(FaultReport::of_file(alloc, fault, path))
 }
 
-/// Reads the sentence at `path`, translates it, and writes the translation to the file at `output`. A report names the
-/// sentence.
+/// Reads the sentence at `path`, translates it, and writes the translation to the file at `output`. Each report but
+/// that of refused memory names the sentence.
 fn translate<R: Files + Input + Print + Eprint + Clock>(
     translating: &TranslationRun<'_, R>,
     path: &str,

@@ -21,7 +21,8 @@ pub(crate) struct CauseFinder<'a> {
 
 impl CauseFinder<'_> {
     /// Returns what a message says of the cause of a fault, if the fault is a translation that is an error.
-    /// `a` and `b` contain the last two tree files. Returns `None` for other faults, and if the cause can't be found.
+    /// `b` contains the last tree file if the number of passes is odd, `a` if it is even. Returns `None` for other
+    /// faults, and if the cause can't be found.
     pub(crate) fn cause_of<D: Device>(
         self,
         alloc: Global,

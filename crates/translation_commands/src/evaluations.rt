@@ -186,7 +186,7 @@ impl<R: Files + Input + Print + Eprint + Clock> EvaluationRun<'_, R> {
     }
 
     /// Returns what the message says of the cause, if the translation is an error. Translates the tree once more, with
-    /// the tree files in memory, since the cause is found in the last two.
+    /// the tree files in memory, since the cause is found in the last one.
     fn cause_of<T: Device>(&self, fault: &Fault, tree: &mut T) -> Option<String> {
         if !matches!(fault, Fault::NoText(_)) {
             return None;

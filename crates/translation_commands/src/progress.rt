@@ -15,7 +15,7 @@ const DELAY: u64 = 2_000;
 /// How long a line is shown before the next one, in milliseconds.
 const INTERVAL: u64 = 200;
 
-/// The number of appended records after which the clock is read, while a sentence is parsed.
+/// The number of calls that append after which the clock is read, while a sentence is parsed.
 const APPENDS: u32 = 256;
 
 /// How far a translation is: the pass, and how far the tree file that it reads has been read. A line on
@@ -33,7 +33,7 @@ pub struct Progress<'a, R> {
     first: u16,
     /// The number of tree files that were begun.
     written: Cell<u16>,
-    /// The number of records that were appended since the clock was last read for them.
+    /// The number of calls that appended since the clock was last read for them.
     appends: Cell<u32>,
 }
 
@@ -64,7 +64,7 @@ impl<'a, R: Clock + Eprint> Progress<'a, R> {
             .saturating_sub(1)
     }
 
-    /// Notes that a record is appended. While the sentence is parsed, shows a line if one is due.
+    /// Notes a call that appends. While the sentence is parsed, shows a line if one is due.
     fn note_append(&self) {
         let appends = self.appends.get().saturating_add(1);
         if appends < APPENDS {
@@ -90,7 +90,7 @@ impl<'a, R: Clock + Eprint> Progress<'a, R> {
         }
     }
 
-    /// Returns whether a line is due, and notes that it is shown now: the next one is due after `INTERVAL`.
+    /// Returns whether a line is due. If so, notes that it is shown now: the next one is due after `INTERVAL`.
     fn is_due(&self) -> bool {
         let Ok(now) = self.rt.monotonic() else {
             return false;
@@ -122,7 +122,7 @@ fn percent_of(part: u64, whole: u64) -> u64 {
 #[derive(Drop)]
 pub struct ShownDevice<'a, D, R> {
     inner: D,
-    /// The length in bytes that the last call of `len` returned, 0 before.
+    /// The length in bytes that the last call of `len` returned; 0 if it failed, or before the first call.
     length: u64,
     progress: &'a Progress<'a, R>,
 }

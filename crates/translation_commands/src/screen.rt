@@ -20,7 +20,7 @@ const END: &str = "\u{1b}[0m";
 /// How messages are printed, and whether the progress of a translation is shown.
 #[derive(Clone, Copy)]
 pub struct Screen {
-    /// Whether no message of a refusal is printed.
+    /// Whether only messages about a misused command line are printed.
     is_quiet: bool,
     /// Whether the fault's number and the place are marked with colour.
     is_marked: bool,
@@ -38,9 +38,9 @@ impl Screen {
         }
     }
 
-    /// Returns how messages are printed. They are marked on a terminal, unless the environment has the
-    /// variable `NO_COLOR` with a text that is not empty or the terminal is a dumb one, or as the command line says. Progress is shown
-    /// on a terminal, unless messages are off or the terminal is a dumb one.
+    /// Returns how messages are printed. They are marked as the command line says. If it leaves that open, they are
+    /// marked on a terminal, unless the environment variable `NO_COLOR` is not empty, or the terminal is a dumb one.
+    /// Progress is shown on a terminal, unless messages are off or the terminal is a dumb one.
     pub fn new<R: Env + AllocGlobal>(rt: &R, messages: Messages, is_terminal: bool) -> Screen {
         let is_marked = match messages.color {
             Color::Always => true,
@@ -101,7 +101,7 @@ fn allows_colors<R: Env + AllocGlobal>(rt: &R) -> bool {
     }
 }
 
-/// Returns whether the terminal is one that shows text alone.
+/// Returns whether the terminal is a dumb one, which shows text alone: `TERM` is `dumb`, or can't be read.
 fn is_dumb<R: Env + AllocGlobal>(rt: &R) -> bool {
     match std::env::var(rt, "TERM") {
         Ok(value) => value.as_str() == "dumb",
@@ -131,7 +131,8 @@ fn number_len(fault: &str) -> usize {
     }
 }
 
-/// Returns the offset of a report's place in what follows its fault: after ` (`, or at the end.
+/// Returns the offset of a report's place in what follows its fault: after ` (` for a position, and else that of the
+/// file at the end; 0 if there is neither.
 fn place_start(report: &FaultReport, rest: &str) -> usize {
     match (report.location, &report.file) {
         (Location::At(_), _) => 2,
@@ -140,8 +141,8 @@ fn place_start(report: &FaultReport, rest: &str) -> usize {
     }
 }
 
-/// Returns the number of bytes of a report's place: a file with line and column, or a file alone. None if
-/// memory is refused.
+/// Returns the number of bytes of a report's place: a file with line and column, or a file alone; 0 without a file.
+/// None if memory is refused.
 fn place_len(alloc: Global, report: &FaultReport) -> Option<usize> {
     match (report.location, &report.file) {
         (Location::At(Position { line, column }), Some(file)) => {

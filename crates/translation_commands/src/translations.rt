@@ -100,7 +100,7 @@ pub struct TranslationRun<'a, R> {
 }
 
 impl<'a, R> TranslationRun<'a, R> {
-    /// Returns a translator that keeps its trees in memory.
+    /// Returns a run of a translator that keeps its trees in memory.
     fn in_memory(
         rt: &'a R,
         alloc: Global,

@@ -1,4 +1,4 @@
-//! Tests that no contract covers: a pass reads by blocks, and writes while it reads.
+//! Tests of what no contract states: a pass reads by blocks, and writes while it reads.
 
 ghost use Rattle.std.specs.Prelude.{◌≡◌, IfOk};
 ghost use Rattle.planchecker.specs.Plans.{IsPlan};
@@ -47,8 +47,8 @@ fn frames_answer(alloc: Global, bytes: u64, puts: u64, before: u64) -> Result<St
     format!(in alloc; "{read} read, {put} put")
 }
 
-/// Returns whether each file of a device was read at least 112 times, and whether at least 400 frames were appended
-/// between two reads. The read of the header and the last read are ignored.
+/// Returns whether each file of a device was read at least 112 times after its header, and at least 400 frames were
+/// appended between each of these reads and the next. What was appended before the last read is ignored.
 fn is_by_blocks(device: &CountingDevice<'_>) -> bool {
     device.fewest_reads() >= 112 && device.least_gap() >= 400
 }

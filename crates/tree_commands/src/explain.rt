@@ -29,7 +29,7 @@ const WIDTH: usize = 60;
 ///
 /// Fails:
 /// - if an input can't be read or is refused, if the tree file is damaged, and if its tree exceeds a limit;
-/// - if a text is not a path, and if the tree does not have the node;
+/// - if the text that names the node is not a path, and if the tree does not have the node;
 /// - if the sentence does not have the line and column, and if its tokens are not the tree's;
 /// - if the node does not have one of the attributes;
 /// - with `--errors`, if the tree file is not of the last pass;

@@ -58,8 +58,8 @@ pub fn no_memory(alloc: Global) -> FaultReport {
     FaultReport::new(alloc, Fault::NoMemory)
 }
 
-/// Returns a path as child numbers from the root; none, as of the root, if `path` is `None`. Fails if the text is not
-/// a path.
+/// Returns a path as child numbers from the root; that of the root, with no numbers, if `path` is `None`. Fails if the
+/// text is not a path.
 pub fn places_of(alloc: Global, path: Option<&str>) -> Result<Vec<u16>, FaultReport> {
     let Some(text) = path else {
         return Ok(Vec::new(alloc));

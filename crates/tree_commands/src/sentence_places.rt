@@ -24,7 +24,7 @@ const OTHER_SENTENCE: &str = "name the sentence that the tree was made from";
 pub struct TreeSentence<'a> {
     /// The translator.
     pub translator: &'a Translator,
-    /// The name of the tree file.
+    /// The path of the tree file.
     pub tree: &'a str,
     /// The index of the tree file.
     pub index: &'a TreeIndex,
@@ -40,9 +40,9 @@ struct TokenText {
 }
 
 impl TreeSentence<'_> {
-    /// Returns the path, as child numbers from the root, to the innermost node whose tokens include the one at a
-    /// position; between two tokens, to the innermost node that has both; before the first and after the last one, to
-    /// the root.
+    /// Returns the path, as child numbers from the root, to the innermost node of a symbol whose tokens include the one
+    /// at a position; between two tokens, to the innermost node that has both; before the first and after the last one,
+    /// to the root.
     ///
     /// Fails if the sentence can't be cut into tokens, if it does not have the position, if its tokens are not the
     /// tree's, if a record is damaged or can't be read, and if memory is refused.
@@ -81,8 +81,8 @@ impl TreeSentence<'_> {
         }
     }
 
-    /// Returns the path, as child numbers from the root, to the innermost node that has all tokens of a range. Returns
-    /// that of the root if `range` is `None`.
+    /// Returns the path, as child numbers from the root, to the innermost node of a symbol that has all tokens of a
+    /// range. Returns that of the root if `range` is `None`.
     fn find_node(self, alloc: Global, range: Option<TokenRange>) -> Result<Vec<u16>, NoMemory> {
         let Some(range) = range else {
             return Ok(Vec::new(alloc));
@@ -264,7 +264,7 @@ fn write_kind(out: &mut String, kind: Terminal) -> Result<(), AllocError> {
     }
 }
 
-/// Writes that a text does not have a position, and where its line ends, or the text.
+/// Writes that a text does not have a position, and where the line ends or, if the text has fewer lines, the text.
 fn write_no_place(out: &mut String, text: &str, position: Position) -> Result<(), AllocError> {
     let Position { line, column } = position;
     write!(out, "the sentence has no place {line}:{column}, ")?;
@@ -319,7 +319,7 @@ fn offset_of(text: &str, position: Position) -> Option<usize> {
     }
 }
 
-/// Returns the number, from 0, of the token at an offset of a sentence in bytes, or those of both tokens around it.
+/// Returns a range of token numbers, from 0: the token at an offset of a sentence in bytes, or both tokens around it.
 /// Returns `None` before the first token and after the last one.
 fn range_at(mut tokens: Tokens<'_>, at: usize) -> Option<TokenRange> {
     for number in 0..=MAX_TEXT_BYTES as u32 {

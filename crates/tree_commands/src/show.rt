@@ -19,7 +19,7 @@ use treefile::{Device, FileDevice};
 ///
 /// Fails:
 /// - if an input can't be read or is refused, if the tree file is damaged, and if its tree exceeds a limit;
-/// - if a text is not a path, and if the tree does not have the node;
+/// - if the text that names the node is not a path, and if the tree does not have the node;
 /// - if the grammar does not have one of the attributes;
 /// - if the output fails (O2), and if memory is refused.
 pub fn show_tree<R: Files + Input + Print>(

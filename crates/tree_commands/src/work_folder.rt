@@ -18,8 +18,8 @@ pub enum TreePath<'a> {
 }
 
 impl<'a> TreePath<'a> {
-    /// Returns `path`, or if that is a folder, the path of the tree file of the greater pass there, of a.agt and b.agt.
-    /// Fails if memory is refused.
+    /// Returns `path` or, if that is a folder, the path of a.agt or b.agt there: of the tree file of the greater pass,
+    /// and of a.agt if neither has a greater one. Fails if memory is refused.
     pub fn find<R: Files>(rt: &R, alloc: Global, path: &'a str) -> Result<TreePath<'a>, NoMemory> {
         if FileId::of_folder(rt, path)?.is_none() {
             return Ok(TreePath::Given(path));
@@ -47,7 +47,8 @@ impl<'a> TreePath<'a> {
     }
 }
 
-/// Returns one more than the pass of the tree file at `path`; 0 if there is none. Fails if memory is refused.
+/// Returns one more than the pass of the tree file at `path`; 0 if there is none, or it can't be read. Fails if memory
+/// is refused.
 fn pass_rank<R: Files>(rt: &R, alloc: Global, path: &str) -> Result<u32, NoMemory> {
     let Ok(mut tree) = FileDevice::existing(rt, alloc, path, CallRecord::new()) else {
         return Ok(0);

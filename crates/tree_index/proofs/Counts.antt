@@ -8,7 +8,7 @@ use Rattle.ag_grammar.specs.declared.direction.Direction.TheVariants.{LeftToRigh
 use Rattle.ag_grammar.specs.grammars.AttributeGrammar.{Grammar}
 use Rattle.ag_grammar.specs.grammars.Solution.{Valuation, children, rest}
 use Rattle.ag_grammar.specs.grammars.Tree.{Forest, Tree, leaf, more, node, node_count, none}
-use Rattle.tree_index.specs.Nodes.{HasNodes, StandsAt, Subtree, back_from, both, kind_at, nodes_of, nodes_of_all, size_of}
+use Rattle.tree_index.specs.Nodes.{HasNodes, IsSubtreeAt, Subtree, back_from, both, kind_at, nodes_of, nodes_of_all, size_of}
 use Rattle.tree_index.specs.Tokens.{HasNoTokens, HasTokens, count_before, own_count, token_count, token_counts}
 use Rattle.tree_index.specs.declared.index.NodeKind.{NodeKind}
 use Rattle.tree_index.specs.declared.index.TreeIndex.{TreeIndex}
@@ -59,7 +59,7 @@ mutual
       let together = own_both g d (nodes_of d t (vs 0)) (nodes_of_all d ts (rest vs)) in
       omega arith
 
--- the tokens of the nodes of a front
+-- the tokens of the nodes of a prefix
 before_length : (g : Grammar) (xs ys : List Subtree) → count_before g (map kind_at (xs ++ ys)) (length xs) ≡ own_counts g xs
 before_length g [] ys = none_before g (map kind_at ys)
 before_length g (x ∷ xs) ys = let later = before_length g xs ys in omega arith
@@ -71,7 +71,7 @@ before_prefix g xs ys n is = subst (λ (i : ℕ). count_before g (map kind_at (x
 
 -- those of a subtree
 pub subtree_tokens : (g : Grammar) (k : ℕ) (t : Tree) (v : Valuation) (index : TreeIndex) (number : ℕ) (tree : Tree)
-    (w : Valuation) → HasNodes k t v index → StandsAt (back_from k) (nodes_of (back_from k) t v) number tree w
+    (w : Valuation) → HasNodes k t v index → IsSubtreeAt (back_from k) (nodes_of (back_from k) t v) number tree w
     → count_before g index.kinds.items (number + node_count tree) ≡ count_before g index.kinds.items number + token_count g tree
 subtree_tokens g k t v index number tree w has s =
     let d = back_from k in
@@ -122,7 +122,7 @@ if_tokens P (Some n) a b is each = each n is
 
 -- a subtree ends within the nodes
 ends_within : (k : ℕ) (t : Tree) (v : Valuation) (number : ℕ) (tree : Tree) (w : Valuation)
-    → StandsAt (back_from k) (nodes_of (back_from k) t v) number tree w → number + node_count tree ≤ node_count t
+    → IsSubtreeAt (back_from k) (nodes_of (back_from k) t v) number tree w → number + node_count tree ≤ node_count t
 ends_within k t v number tree w s =
     let d = back_from k in
     let below = nodes_of d tree w in
@@ -142,7 +142,7 @@ no_subtree index counts number nothing g k t v tree w are has long few s =
 
 size_is : (k : ℕ) (t : Tree) (v : Valuation) (index : TreeIndex) (number size : ℕ) (tree : Tree) (w : Valuation)
     → size_of index number ≡ Some size → HasNodes k t v index
-    → StandsAt (back_from k) (nodes_of (back_from k) t v) number tree w → node_count tree ≡ size
+    → IsSubtreeAt (back_from k) (nodes_of (back_from k) t v) number tree w → node_count tree ≡ size
 size_is k t v index number size tree w of_size has s =
     let both : Some (node_count tree) ≡ Some size = sym (size_there k t v index number tree w has s) ∙ of_size in
     let same : node_count tree ≡ size = cc in

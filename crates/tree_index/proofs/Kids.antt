@@ -16,34 +16,34 @@ use Rattle.ag_grammar.specs.grammars.Tree.{Fits, Forest, Tree, leaf, node, node_
 use Rattle.treefile.specs.records.TreeFile.{version_two}
 use Rattle.treefile.specs.framing.Backward.{next_before}
 use Rattle.tree_index.specs.Nodes.{AreEnds, HasChild, HasCount, HasItem, HasLater, HasNodes, IsIndexOf, IsKidOf, StandAt}
-use Rattle.tree_index.specs.Nodes.{StandsAt, Subtree, back_from, end_of, in_order, kids, kind_at, kind_in, nodes_in, nodes_of}
+use Rattle.tree_index.specs.Nodes.{IsSubtreeAt, Subtree, back_from, end_of, in_order, kids, kind_at, kind_in, nodes_in, nodes_of}
 use Rattle.tree_index.specs.Nodes.{nodes_of_all, record_at, record_of, size_at, size_of}
 use Rattle.tree_index.specs.declared.index.NodeKind.{NodeKind}
 use Rattle.tree_index.specs.declared.index.NodeKind.TheVariants as kind
 use Rattle.tree_index.specs.declared.index.TreeIndex.{TreeIndex}
 use Rattle.tree_index.proofs.Children.{drop_there, is_there, kids_length, kids_nodes, nodes_length, order_length, ordered_at}
 
--- the member after a front
+-- the member after a prefix
 at_length : {X : Type 0} (xs : List X) (x : X) (ys : List X) → slice_get (xs ++ x ∷ ys) (length xs) ≡ Some x
 at_length [] x ys = refl
 at_length (z ∷ xs) x ys = at_length xs x ys
 
-after_front : {X : Type 0} (xs : List X) (x : X) (ys : List X) (n : ℕ) → length xs ≡ n → slice_get (xs ++ x ∷ ys) n ≡ Some x
-after_front xs x ys n is = subst (λ (i : ℕ). slice_get (xs ++ x ∷ ys) i ≡ Some x) is (at_length xs x ys)
+next_after_prefix : {X : Type 0} (xs : List X) (x : X) (ys : List X) (n : ℕ) → length xs ≡ n → slice_get (xs ++ x ∷ ys) n ≡ Some x
+next_after_prefix xs x ys n is = subst (λ (i : ℕ). slice_get (xs ++ x ∷ ys) i ≡ Some x) is (at_length xs x ys)
 
 -- a subtree has the index of its node
-pub first_of : (d : Direction) (nodes : List Subtree) (n : ℕ) (t : Tree) (v : Valuation) → StandsAt d nodes n t v
+pub first_of : (d : Direction) (nodes : List Subtree) (n : ℕ) (t : Tree) (v : Valuation) → IsSubtreeAt d nodes n t v
     → slice_get nodes n ≡ Some (record { tree = t; values = v })
-first_of d nodes n (leaf c x) v s = ap (λ (ns : List Subtree). slice_get ns n) s.split ∙ after_front s.prefix _ _ n s.at
-first_of d nodes n (node p ts) v s = ap (λ (ns : List Subtree). slice_get ns n) s.split ∙ after_front s.prefix _ _ n s.at
+first_of d nodes n (leaf c x) v s = ap (λ (ns : List Subtree). slice_get ns n) s.split ∙ next_after_prefix s.prefix _ _ n s.at
+first_of d nodes n (node p ts) v s = ap (λ (ns : List Subtree). slice_get ns n) s.split ∙ next_after_prefix s.prefix _ _ n s.at
 
 -- the root is the first node
-pub root_occurs : (d : Direction) (t : Tree) (v : Valuation) → StandsAt d (nodes_of d t v) 0 t v
+pub root_occurs : (d : Direction) (t : Tree) (v : Valuation) → IsSubtreeAt d (nodes_of d t v) 0 t v
 root_occurs d t v = record { prefix = []; others = []; split = sym (append-nil (nodes_of d t v)); at = refl }
 
 -- after a node come its children,
 kids_occur : (d : Direction) (nodes : List Subtree) (n : ℕ) (p : ℕ) (ts : Forest) (v : Valuation)
-    → StandsAt d nodes n (node p ts) v → StandAt d nodes (n + 1) (in_order d (kids ts (children v)))
+    → IsSubtreeAt d nodes n (node p ts) v → StandAt d nodes (n + 1) (in_order d (kids ts (children v)))
 kids_occur d nodes n p ts v s =
     let top : Subtree = record { tree = node p ts; values = v } in
     let all = nodes_of_all d ts (children v) in
@@ -76,7 +76,7 @@ next_occur d nodes n kid later s =
 
 -- The first of some subtrees has the first index.
 pub first_occurs : (d : Direction) (nodes : List Subtree) (n : ℕ) (kid : Subtree) (later : List Subtree)
-    → StandAt d nodes n (kid ∷ later) → StandsAt d nodes n kid.tree kid.values
+    → StandAt d nodes n (kid ∷ later) → IsSubtreeAt d nodes n kid.tree kid.values
 first_occurs d nodes n kid later s =
     let below = nodes_of d kid.tree kid.values in
     let others = nodes_in d later in
@@ -89,7 +89,7 @@ first_occurs d nodes n kid later s =
 
 -- what the index says of a node
 pub kind_there : (k : ℕ) (t : Tree) (v : Valuation) (index : TreeIndex) (n : ℕ) (tree : Tree) (w : Valuation)
-    → HasNodes k t v index → StandsAt (back_from k) (nodes_of (back_from k) t v) n tree w
+    → HasNodes k t v index → IsSubtreeAt (back_from k) (nodes_of (back_from k) t v) n tree w
     → kind_in index n ≡ Some (kind_at (record { tree = tree; values = w }))
 kind_there k t v index n tree w has s =
     ap (λ (ks : List NodeKind). slice_get ks n) has.kinds
@@ -98,7 +98,7 @@ kind_there k t v index n tree w has s =
 
 pub size_there : (k : ℕ) (t : Tree) (v : Valuation) (index : TreeIndex) (n : ℕ) (tree : Tree) (w : Valuation)
     → HasNodes k t v index
-    → StandsAt (back_from k) (nodes_of (back_from k) t v) n tree w → size_of index n ≡ Some (node_count tree)
+    → IsSubtreeAt (back_from k) (nodes_of (back_from k) t v) n tree w → size_of index n ≡ Some (node_count tree)
 size_there k t v index n tree w has s =
     ap (λ (ss : List ℕ). slice_get ss n) has.sizes
     ∙ slice_get-map size_at (nodes_of (back_from k) t v) n
@@ -133,7 +133,7 @@ kid_at : (g : Grammar) (index : TreeIndex) (number count place before child : �
     (tree : Tree) (w : Valuation) (what : Option NodeKind) → what ≡ Some (kind_at (record { tree = tree; values = w }))
     → HasCount g what count → before < count → nth (back_from index.pass) count before ≡ place - 1 → 0 < place
     → HasLater index number before child → HasNodes k t v index → Fits g x tree
-    → StandsAt (back_from k) (nodes_of (back_from k) t v) number tree w
+    → IsSubtreeAt (back_from k) (nodes_of (back_from k) t v) number tree w
     → IsKidOf (back_from k) (nodes_of (back_from k) t v) tree w place child
 kid_at g index number count place before child k t v x (leaf c y) w what is counted less turn from_one later has fits s =
     let none : count ≡ 0 = subst (λ (o : Option NodeKind). HasCount g o count) is counted in
@@ -187,7 +187,7 @@ end_at content (e ∷ ends) (b ∷ bodies) (suc n) end body a is there = end_at 
 
 pub record_there : (g : Grammar) (m : Passes) (k : ℕ) (t : Tree) (v : Valuation) (content : List ℕ) (index : TreeIndex)
     (n end : ℕ) (tree : Tree) (w : Valuation) → IsIndexOf g m k t v content index
-    → StandsAt (back_from k) (nodes_of (back_from k) t v) n tree w → end_of index n ≡ Some end
+    → IsSubtreeAt (back_from k) (nodes_of (back_from k) t v) n tree w → end_of index n ≡ Some end
     → next_before version_two content end ≡ Ok (Some (record_of g m k tree w))
 record_there g m k t v content index n end tree w indexed s is =
     let nodes = nodes_of (back_from k) t v in

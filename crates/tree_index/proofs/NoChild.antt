@@ -9,7 +9,7 @@ use Rattle.ag_grammar.specs.declared.grammar.Item.TheVariants as item
 use Rattle.ag_grammar.specs.grammars.AttributeGrammar.{Grammar, stored_items}
 use Rattle.ag_grammar.specs.grammars.Solution.{Valuation, children}
 use Rattle.ag_grammar.specs.grammars.Tree.{Fits, Forest, Tree, leaf, node, node_count}
-use Rattle.tree_index.specs.Nodes.{HasCount, HasLater, HasNoChild, HasNoLater, HasNodes, StandAt, StandsAt, Subtree, back_from}
+use Rattle.tree_index.specs.Nodes.{HasCount, HasLater, HasNoChild, HasNoLater, HasNodes, StandAt, IsSubtreeAt, Subtree, back_from}
 use Rattle.tree_index.specs.Nodes.{child_in, in_order, kids, kind_at, kind_in, nodes_in, nodes_of, size_of}
 use Rattle.tree_index.specs.declared.index.NodeKind.{NodeKind}
 use Rattle.tree_index.specs.declared.index.TreeIndex.{TreeIndex}
@@ -33,7 +33,7 @@ ends_within d nodes n kid later s =
 -- the child that comes next
 next_child : (index : TreeIndex) (number before child : ℕ) (k : ℕ) (t : Tree) (v : Valuation) (p : ℕ) (ts : Forest)
     (w : Valuation) → HasLater index number before child → HasNodes k t v index → before < length (kids ts (children w))
-    → StandsAt (back_from k) (nodes_of (back_from k) t v) number (node p ts) w → (kid : Subtree) × (later : List Subtree)
+    → IsSubtreeAt (back_from k) (nodes_of (back_from k) t v) number (node p ts) w → (kid : Subtree) × (later : List Subtree)
     × StandAt (back_from k) (nodes_of (back_from k) t v) child (kid ∷ later)
 next_child index number before child k t v p ts w later has less s =
     let d = back_from k in
@@ -50,7 +50,7 @@ next_child index number before child k t v p ts w later has less s =
 -- its subtree ends before the number of nodes
 child_within : (index : TreeIndex) (number before child : ℕ) (k : ℕ) (t : Tree) (v : Valuation) (p : ℕ) (ts : Forest)
     (w : Valuation) → HasLater index number before child → HasNodes k t v index → before < length (kids ts (children w))
-    → StandsAt (back_from k) (nodes_of (back_from k) t v) number (node p ts) w → (size : ℕ) × (size_of index child ≡ Some size)
+    → IsSubtreeAt (back_from k) (nodes_of (back_from k) t v) number (node p ts) w → (size : ℕ) × (size_of index child ≡ Some size)
     × (child + size ≤ node_count t)
 child_within index number before child k t v p ts w later has less s =
     let d = back_from k in
@@ -113,7 +113,7 @@ few_children g index number place count counted more k t v x tree w has few fits
 none_later : (g : Grammar) (index : TreeIndex) (number before count place k : ℕ) (t : Tree) (v : Valuation) (x : Item)
     (tree : Tree) (w : Valuation) → HasCount g (Some (kind_at (record { tree = tree; values = w }))) count → before < count
     → HasNoLater index number before → HasNodes k t v index → node_count t < 2 ^ 32 → Fits g x tree
-    → StandsAt (back_from k) (nodes_of (back_from k) t v) number tree w → child_in tree w place ≡ None
+    → IsSubtreeAt (back_from k) (nodes_of (back_from k) t v) number tree w → child_in tree w place ≡ None
 none_later g index number before count place k t v x (leaf c y) w counted less none has few fits s = absurd (omega arith)
 none_later g index number before count place k t v (item.Terminal a) (node p ts) w counted less none has few
     fits s = elim fits [ ]
@@ -129,7 +129,7 @@ no_child g index number before count place counted less none k t v x tree w has 
     (subst (λ (o : Option NodeKind). HasCount g o count) (kind_there k t v index number tree w has s) counted) less none has few
     fits s
 
--- a fact that holds without a condition also holds if there is no number
+-- a fact that holds in any case also holds if there is no number
 pub if_none : (r : Option ℕ) (P : Type 0) → P → IfNone r P
 if_none None P h = h
 if_none (Some n) P h = tt

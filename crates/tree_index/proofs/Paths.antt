@@ -7,8 +7,8 @@ use Rattle.ag_grammar.specs.declared.grammar.Item.TheVariants as item
 use Rattle.ag_grammar.specs.grammars.AttributeGrammar.{Grammar, stored_items}
 use Rattle.ag_grammar.specs.grammars.Solution.{Valuation, children, rest}
 use Rattle.ag_grammar.specs.grammars.Tree.{Fits, FitsAll, Forest, Tree, leaf, more, node, none}
-use Rattle.tree_index.specs.Nodes.{HasChild, HasNoChild, HasNoNodeAt, HasNodeAt, IsAtEndOf, IsKidOf, StandsAt, Subtree, back_from}
-use Rattle.tree_index.specs.Nodes.{child_in, kids, nodes_of}
+use Rattle.tree_index.specs.Nodes.{HasChild, HasNoChild, HasNoNodeAt, HasNodeAt, IsAtEndOf, IsKidOf, IsSubtreeAt, Subtree}
+use Rattle.tree_index.specs.Nodes.{back_from, child_in, kids, nodes_of}
 use Rattle.tree_index.specs.declared.index.TreeIndex.{TreeIndex}
 use Rattle.tree_index.proofs.Kids.{root_occurs}
 
@@ -55,7 +55,7 @@ further_at (p ∷ places) place t v s child (kid, at, further) there = (
 -- the child that the index has is that of the tree
 pub kid_in : (d : Direction) (nodes : List Subtree) (t : Tree) (v : Valuation) (place number : ℕ)
     → IsKidOf d nodes t v place number → (child : Subtree) × (child_in t v place ≡ Some child)
-    × StandsAt d nodes number child.tree child.values
+    × IsSubtreeAt d nodes number child.tree child.values
 kid_in d nodes (leaf c x) v place number is = absurd is
 kid_in d nodes (node p ts) v place number is = (is.kid, ap (child_in (node p ts) v) is.counted ∙ is.there, is.occurs)
 

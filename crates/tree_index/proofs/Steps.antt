@@ -422,7 +422,7 @@ module _ (g : Grammar) (m : Passes) (k : ℕ) (t : Tree) (v : Valuation) (conten
             (subst (ReadsBack version_two content (length content)) same back);
       }
 
--- the same of other names for the same
+-- the same of terms that are equal to these
 so_far_same : (g : Grammar) (m : Passes) (k : ℕ) (t : Tree) (v : Valuation) (content : List ℕ) (at at2 records records2 : ℕ)
     (os os2 : List OpenRecord) (index : TreeIndex) → at2 ≡ at → records2 ≡ records → os2 ≡ os
     → IsSoFar g m k t v content at records os index → IsSoFar g m k t v content at2 records2 os2 index

@@ -18,7 +18,7 @@ use Rattle.tree_index.specs.declared.index.NodeKind.{NodeKind}
 use Rattle.tree_index.specs.declared.index.NodeKind.TheVariants as kind
 use Rattle.tree_index.specs.declared.index.TreeIndex.{TreeIndex}
 
--- a node of a tree, as the tree below it with its values
+-- a node of a tree: the subtree whose root it is, with its values
 pub record Subtree : Type 0 where
   pub tree : Tree
   pub values : Valuation
@@ -28,7 +28,7 @@ abbrev pub kids : Forest → (ℕ → Valuation) → List Subtree
 kids none vs = []
 kids (more t ts) vs = record { tree = t; values = vs 0 } ∷ kids ts (rest vs)
 
--- in a direction
+-- a list that is given from left to right, in the order of a direction
 abbrev pub in_order : {X : Type 0} → Direction → List X → List X
 in_order LeftToRight xs = xs
 in_order RightToLeft xs = reverse xs
@@ -125,7 +125,7 @@ HasCount g (Some (kind.Token c)) count = count ≡ 0
 HasCount g (Some (kind.Node p)) count = (q : Production) → IsProduction g p q → count ≡ length (stored_items q.items)
 
 -- The nodes of a subtree are in a list of nodes from a number on.
-pub record StandsAt (d : Direction) (nodes : List Subtree) (number : ℕ) (t : Tree) (v : Valuation) : Type 0 where
+pub record IsSubtreeAt (d : Direction) (nodes : List Subtree) (number : ℕ) (t : Tree) (v : Valuation) : Type 0 where
   pub prefix : List Subtree
   pub others : List Subtree
   pub split : nodes ≡ prefix ++ (nodes_of d t v ++ others)
@@ -144,7 +144,7 @@ pub record IsKid (d : Direction) (nodes : List Subtree) (ts : Forest) (v : Valua
   pub counted : place ≡ suc index
   pub kid : Subtree
   pub there : slice_get (kids ts (children v)) index ≡ Some kid
-  pub occurs : StandsAt d nodes number kid.tree kid.values
+  pub occurs : IsSubtreeAt d nodes number kid.tree kid.values
 
 abbrev pub IsKidOf : Direction → List Subtree → Tree → Valuation → ℕ → ℕ → Type 0
 IsKidOf d nodes (leaf c x) v place number = ⊥
@@ -153,20 +153,20 @@ IsKidOf d nodes (node p ts) v place number = IsKid d nodes ts v place number
 -- In each tree of the grammar that the index has, a number is that of the child at a place of the node of another number.
 abbrev pub HasChild : Grammar → TreeIndex → ℕ → ℕ → ℕ → Type 0
 HasChild g index number place child = (k : ℕ) (t : Tree) (v : Valuation) (x : Item) (tree : Tree) (w : Valuation)
-    → HasNodes k t v index → Fits g x tree → StandsAt (back_from k) (nodes_of (back_from k) t v) number tree w
+    → HasNodes k t v index → Fits g x tree → IsSubtreeAt (back_from k) (nodes_of (back_from k) t v) number tree w
     → IsKidOf (back_from k) (nodes_of (back_from k) t v) tree w place child
 
 -- The number is that of the child of a node that comes after `before` others, in the direction in which the file is read.
 abbrev pub HasLater : TreeIndex → ℕ → ℕ → ℕ → Type 0
 HasLater index number before child = (k : ℕ) (t : Tree) (v : Valuation) (p : ℕ) (ts : Forest) (w : Valuation)
     → HasNodes k t v index → before ≤ length (kids ts (children w))
-    → StandsAt (back_from k) (nodes_of (back_from k) t v) number (node p ts) w
+    → IsSubtreeAt (back_from k) (nodes_of (back_from k) t v) number (node p ts) w
     → StandAt (back_from k) (nodes_of (back_from k) t v) child (drop before (in_order (back_from k) (kids ts (children w))))
 
 -- The item of the node of a number, in each tree of the grammar that an index has.
 abbrev pub HasItem : Grammar → TreeIndex → ℕ → Item → Type 0
 HasItem g index number found = (k : ℕ) (t : Tree) (v : Valuation) (x : Item) (tree : Tree) (w : Valuation) → HasNodes k t v index
-    → Fits g x tree → StandsAt (back_from k) (nodes_of (back_from k) t v) number tree w → x ≡ found
+    → Fits g x tree → IsSubtreeAt (back_from k) (nodes_of (back_from k) t v) number tree w → x ≡ found
 
 -- the child at a place, which counts from 1
 abbrev pub child_in : Tree → Valuation → ℕ → Option Subtree
@@ -184,7 +184,7 @@ IsAtEndOf (place ∷ places) t v found = (child : Subtree) × (child_in t v plac
 pub record IsNumberIn (d : Direction) (t : Tree) (v : Valuation) (places : List ℕ) (number : ℕ) : Type 0 where
   pub found : Subtree
   pub there : IsAtEndOf places t v found
-  pub numbered : StandsAt d (nodes_of d t v) number found.tree found.values
+  pub numbered : IsSubtreeAt d (nodes_of d t v) number found.tree found.values
 
 -- so it is in each tree of the grammar that the index has
 abbrev pub HasNodeAt : Grammar → TreeIndex → List ℕ → ℕ → Type 0
@@ -195,13 +195,13 @@ HasNodeAt g index places number = (k : ℕ) (t : Tree) (v : Valuation) → HasNo
 abbrev pub HasNoLater : TreeIndex → ℕ → ℕ → Type 0
 HasNoLater index number before = (k : ℕ) (t : Tree) (v : Valuation) (p : ℕ) (ts : Forest) (w : Valuation) → HasNodes k t v index
     → node_count t < 2 ^ 32 → before < length (kids ts (children w))
-    → StandsAt (back_from k) (nodes_of (back_from k) t v) number (node p ts) w → ⊥
+    → IsSubtreeAt (back_from k) (nodes_of (back_from k) t v) number (node p ts) w → ⊥
 
 -- In no such tree of the grammar the node has a child at a place.
 abbrev pub HasNoChild : Grammar → TreeIndex → ℕ → ℕ → Type 0
 HasNoChild g index number place = (k : ℕ) (t : Tree) (v : Valuation) (x : Item) (tree : Tree) (w : Valuation)
     → HasNodes k t v index → node_count t < 2 ^ 32 → Fits g x tree
-    → StandsAt (back_from k) (nodes_of (back_from k) t v) number tree w → child_in tree w place ≡ None
+    → IsSubtreeAt (back_from k) (nodes_of (back_from k) t v) number tree w → child_in tree w place ≡ None
 
 -- In no tree of the grammar that the index has, and which has fewer than 2 ^ 32 nodes, a node is at the end of some places.
 abbrev pub HasNoNodeAt : Grammar → TreeIndex → List ℕ → Type 0

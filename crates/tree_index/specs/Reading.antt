@@ -51,7 +51,7 @@ pub record HasAdded (end : ℕ) (what : NodeKind) (old new : TreeIndex) : Type 0
   pub kinds : new.kinds.items ≡ old.kinds.items ++ what ∷ []
   pub sizes : new.sizes.items ≡ old.sizes.items ++ 1 ∷ []
 
--- a number in four bytes, as great as a count if it fits
+-- a count in four bytes: the count itself, or the greatest such number if it does not fit
 abbrev pub in_four_bytes : ℕ → ℕ
 in_four_bytes count = min count 4294967295
 

@@ -7,7 +7,7 @@ use Rattle.ag_grammar.specs.declared.grammar.Terminal.TheVariants.{Class, Litera
 use Rattle.ag_grammar.specs.grammars.AttributeGrammar.{Grammar}
 use Rattle.ag_grammar.specs.grammars.Solution.{Valuation}
 use Rattle.ag_grammar.specs.grammars.Tree.{Forest, Tree, leaf, more, node, node_count, none}
-use Rattle.tree_index.specs.Nodes.{HasNodes, StandsAt, back_from, nodes_of}
+use Rattle.tree_index.specs.Nodes.{HasNodes, IsSubtreeAt, back_from, nodes_of}
 use Rattle.tree_index.specs.Reading.{in_four_bytes}
 use Rattle.tree_index.specs.declared.index.NodeKind.{NodeKind}
 use Rattle.tree_index.specs.declared.index.NodeKind.TheVariants as kind
@@ -55,11 +55,11 @@ pub record AreCounts (g : Grammar) (index : TreeIndex) (counts : TokenCounts) : 
 -- The number of tokens of the subtree of a node, in each tree that the index has.
 abbrev pub HasTokens : TreeIndex → TokenCounts → ℕ → ℕ → Type 0
 HasTokens index counts number count = (g : Grammar) (k : ℕ) (t : Tree) (v : Valuation) (tree : Tree) (w : Valuation)
-    → AreCounts g index counts → HasNodes k t v index → StandsAt (back_from k) (nodes_of (back_from k) t v) number tree w
+    → AreCounts g index counts → HasNodes k t v index → IsSubtreeAt (back_from k) (nodes_of (back_from k) t v) number tree w
     → count ≡ token_count g tree
 
 -- In no tree that the index has, and which has fewer than 2 ^ 32 nodes, a node has the number.
 abbrev pub HasNoTokens : TreeIndex → TokenCounts → ℕ → Type 0
 HasNoTokens index counts number = (g : Grammar) (k : ℕ) (t : Tree) (v : Valuation) (tree : Tree) (w : Valuation)
     → AreCounts g index counts → HasNodes k t v index → length index.ends.items ≡ node_count t → node_count t < 2 ^ 32
-    → StandsAt (back_from k) (nodes_of (back_from k) t v) number tree w → ⊥
+    → IsSubtreeAt (back_from k) (nodes_of (back_from k) t v) number tree w → ⊥

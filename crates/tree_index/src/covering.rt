@@ -10,7 +10,7 @@ use ag_grammar::{Grammar, Item, Terminal};
 use ag_value::NoMemory;
 use std::alloc::Global;
 
-/// Tokens of a node, from one to another, by their numbers among the tokens of the node, from 0.
+/// Tokens of the subtree of a node, from one to another, by their numbers among its tokens, from 0.
 #[derive(Clone, Copy, Debug, PartialEq, Eq)]
 pub struct TokenRange {
     /// The number of the first token.
@@ -19,7 +19,8 @@ pub struct TokenRange {
     pub last: u32,
 }
 
-/// A child that has all tokens of a range: its number in the index, its place, and the range among its tokens.
+/// A child whose subtree has all tokens of a range: its number in the index, its place, and the range among the
+/// tokens of its subtree.
 #[derive(Clone, Copy)]
 struct Step {
     node: u32,
@@ -33,7 +34,8 @@ impl TokenRange {
         self.last < count
     }
 
-    /// Returns the range among the tokens after the first `count` ones; `None` if it begins before them.
+    /// Returns the range among the tokens after the first `count` ones; `None` if it begins with one of these
+    /// `count`.
     fn after(self, count: u32) -> Option<TokenRange> {
         Some(TokenRange {
             first: self.first.checked_sub(count)?,
@@ -43,8 +45,8 @@ impl TokenRange {
 }
 
 impl TreeIndex {
-    /// Returns the places from the root to the deepest node of a production that has all tokens of a range. It
-    /// is the root if the tree does not have them. Fails if memory is refused.
+    /// Returns the places from the root to the deepest node of a production whose subtree has all tokens of a
+    /// range of the sentence. It is the root if the tree does not have them. Fails if memory is refused.
     pub fn find_covering(
         &self,
         alloc: Global,
@@ -69,8 +71,8 @@ impl TreeIndex {
         Ok(places)
     }
 
-    /// Returns the child of a node that is a node of a production and has all tokens of a range, if there is
-    /// one.
+    /// Returns the child of a node that is a node of a production and whose subtree has all tokens of a range, if
+    /// there is one.
     fn covering_child(
         &self,
         grammar: &Grammar,

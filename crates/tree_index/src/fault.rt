@@ -39,13 +39,13 @@ impl From<NoMemory> for ShapeFault {
 /// Why a tree file was not read.
 #[derive(Clone, Copy, Debug, PartialEq, Eq)]
 pub enum TreeFault {
-    /// R1: no tree of the grammar has this file. The offset in bytes is 0 if the file does not begin as a
+    /// R1: no tree of the grammar has this file by the plan. The offset in bytes is 0 if the file does not begin as a
     /// tree file, 4 if the plan does not have its pass, else the end of the first record from the end of the
     /// file that shows it, or the offset at which one should end.
     Damaged(u64),
-    /// P2: the tree has more than `MAX_DEPTH` levels.
+    /// P2: no tree of at most `MAX_DEPTH` levels has this file.
     TooDeep,
-    /// P3: the tree has more than `MAX_NODES` records.
+    /// P3: no tree of at most `MAX_NODES` nodes has this file.
     TooManyNodes,
     /// D1: a call of the device failed.
     Device,

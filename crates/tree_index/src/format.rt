@@ -53,7 +53,7 @@ impl<'a> FileFormat<'a> {
         }
     }
 
-    /// Returns the number of values of an item in the row of its parent.
+    /// Returns the number of copies of an item's values in the row of its parent.
     pub(crate) fn copied_width(&self, item: Item) -> usize {
         count_up_to(copied_passes(self.grammar, self.plan, item), self.pass)
     }
@@ -69,7 +69,7 @@ impl<'a> FileFormat<'a> {
         at
     }
 
-    /// Returns the pass of an attribute of an item; 0 for a token's text.
+    /// Returns the pass of an attribute of an item, 0 for a token's text; `None` if the item does not have it.
     pub fn pass_of(&self, item: Item, attr: u16) -> Option<u16> {
         match item {
             Item::Symbol(symbol) => { passes_of(self.plan, symbol).get(usize::from(attr)).copied() }

@@ -178,7 +178,7 @@ fn others_before(direction: Direction, count: u16, place: u16) -> u16
     }
 }
 
-/// Returns a count of nodes as a number.
+/// Returns a count of nodes in four bytes; 4,294,967,295 for a greater one.
 fn number_of(count: usize) -> u32
     ensures { result ≡ in_four_bytes count }
 {

@@ -35,7 +35,7 @@ pub(crate) fn copied_passes<'a>(grammar: &Grammar, plan: &'a Plan, item: Item) -
     }
 }
 
-/// Returns the number of passes up to `last`.
+/// Returns the number of those passes that are at most `last`.
 pub(crate) fn count_up_to(passes: &[u16], last: u16) -> usize {
     let mut count = 0usize;
     for pass in passes {

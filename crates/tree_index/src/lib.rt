@@ -3,7 +3,7 @@
 //! the sentence, without reading the file from its end again.
 //!
 //! `TreeIndex::read` reads a file as a pass reads it, and fails as a pass does (R1, P2, P3, D1). It accepts
-//! the file of any pass of the plan.
+//! the file of any pass of the plan, and that of the parser (pass 0).
 #![tactic(auto)]
 
 mod bodies;

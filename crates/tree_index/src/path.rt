@@ -5,7 +5,7 @@ use ag_value::NoMemory;
 use std::alloc::Global;
 use std::fmt;
 
-/// A run of a path: the same place several times.
+/// A run of a path: the same place, one or more times.
 #[derive(Clone, Copy, Debug, PartialEq, Eq)]
 struct Run {
     place: u16,
@@ -44,7 +44,7 @@ impl NodePath {
         Ok(self.runs.push(Run { place, count: 1 })?)
     }
 
-    /// Makes the last run longer by one if it is of a place. Returns whether it is.
+    /// Makes the last run longer by one if it is of this place. Returns whether it is.
     fn extend(&mut self, place: u16) -> bool {
         match self.runs.last_mut() {
             Some(run) if run.place == place => {
@@ -73,10 +73,10 @@ impl NodePath {
         }
     }
 
-    /// Reads a path: `/` for the root, or `/` and a step, any number of times. A step is a place, from 1,
-    /// or a place, `*` and a number of repetitions, from 1 to 65,535: `/1/1/1` is the same as `/1*3`. Fails
-    /// with `NotAPath` for another text (also for one that ends with `/`, except `/` itself), and with
-    /// `NoMemory` if memory is refused.
+    /// Reads a path: `/` for the root, or `/` and a step, one or more times. A step is a place, from 1 to
+    /// 65,535, or a place, `*` and a number of repetitions, from 1 to 65,535: `/1/1/1` is the same as
+    /// `/1*3`. A number may begin with `+` or zeros. Fails with `NotAPath` for another text (also for one
+    /// that ends with `/`, except `/` itself), and with `NoMemory` if memory is refused.
     pub fn parse(alloc: Global, text: &str) -> Result<NodePath, PathFault> {
         let Some(rest) = text.strip_prefix('/') else {
             return Err(PathFault::NotAPath);
@@ -130,7 +130,7 @@ fn run_of(part: &str) -> Option<Run> {
     Some(Run { place, count })
 }
 
-/// Reads a decimal number.
+/// Reads a decimal number, which may begin with `+` or zeros.
 fn number_in(text: &str) -> Option<u32> {
     text.parse::<u32>().ok()
 }

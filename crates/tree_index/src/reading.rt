@@ -25,15 +25,15 @@ use treefile::Device;
 /// The offset in bytes of the number of the pass in a header.
 const PASS_OFFSET: u64 = 4;
 
-/// The greatest number of bytes of a file whose bodies are copied, in large blocks. They could be lent one
+/// The greatest number of bytes of a file whose bodies are always copied, in blocks. They could be lent one
 /// by one, which takes longer for small bodies.
 const MAX_COPIED: u64 = 4_194_304;
 
-/// The greatest number of turns of a walk: one to each node below the root, one to leave each node, and one at
+/// A bound of the number of turns of a reading: one to each node below the root, one to leave each node, and one at
 /// which no node is open.
 const MAX_TURNS: u32 = 2 * MAX_NODES + 1;
 
-/// An open node: its record was read, and the records of some of its children were not.
+/// An open node: its record was read, and it was not closed yet.
 #[derive(Clone, Copy)]
 pub(crate) struct OpenRecord {
     /// Its number in the index.
@@ -142,8 +142,8 @@ impl Mode<'_> {
     }
 }
 
-/// Reads the next body of a file as the record of an item, and appends its row. If bodies are lent and the device
-/// has this one in memory, looks only at what it begins with.
+/// Reads the next body of a file as the record of an item, and appends its row if values are read. If bodies are
+/// lent and the device lends this one, reads only its kind and its number.
 fn fetch<D: Device>(
     mode: &Mode<'_>,
     item: Item,
@@ -205,7 +205,8 @@ pub(crate) struct Reading {
 }
 
 impl Reading {
-    /// Reads the next record, compares it with the copies in its parent's row, and opens its node.
+    /// Reads the next record, compares its values with the copies in its parent's row, and opens its node if it is
+    /// not a token.
     fn read<D: Device>(
         &mut self,
         mode: &Mode<'_>,
@@ -237,7 +238,7 @@ impl Reading {
         self.open(mode.format.grammar, fetched)
     }
 
-    /// Returns whether the values from `start` on begin with the copies of them.
+    /// Returns whether the values from index `start` on begin with those of the copies.
     fn has_copies(&self, copies: Copies, start: usize) -> bool {
         if copies.width == 0 {
             return true;
@@ -253,7 +254,8 @@ impl Reading {
             && are_same(&own[..copies.width], &copied[..copies.width])
     }
 
-    /// Adds a record that was read to the index, and opens its node. The text of a token is not kept.
+    /// Adds a record that was read to the index, and opens its node if it is not a token. The text of a token is
+    /// not kept.
     fn open(&mut self, grammar: &Grammar, fetched: Fetched) -> Result<(), TreeFault>
         ensures opened { OnOk result (HasOpened grammar.now fetched.item fetched.end fetched.number
             self.old.index self.new.index self.old.nodes.items self.new.nodes.items) }
@@ -357,7 +359,7 @@ impl Reading {
     }
 }
 
-/// Returns whether two lists have the same values.
+/// Returns whether two lists of the same length have the same values.
 fn are_same(own: &[Carried], copied: &[Carried]) -> bool {
     for (value, copy) in own.iter().zip(copied) {
         if !value.same(copy) {
@@ -434,8 +436,8 @@ impl TreeIndex {
     /// Reads the tree file that a device contains, as a pass reads it, and makes its index.
     ///
     /// Fails with R1, P2 or P3 as a pass does, or with R1 at 4 if the file is of a pass that the plan does
-    /// not have; with D1 if a call of the device fails; and if memory is refused. Takes memory for 16 bytes
-    /// a node, and for the rows of the nodes from the root to the current one.
+    /// not have; with D1 if a call of the device fails; and if memory is refused. Takes memory for a buffer,
+    /// for 16 bytes a node, and for the rows of the nodes from the root to the current one.
     pub fn read<D: Device>(
         alloc: Global,
         grammar: &Grammar,

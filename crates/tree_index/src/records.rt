@@ -81,7 +81,7 @@ fn is_token_text(alloc: Global, value: &Carried) -> Result<bool, NoMemory> {
     match (value.as_number(), value.as_value()) {
         (Some(_), _) => Ok(false),
         (None, Some(value)) => Ok(is_short_text(value)),
-        // a long text that is not stored in one piece
+        // an error, or a value that is not stored in one piece
         (None, None) => Ok(is_short_text(&value.to_value(alloc)?)),
     }
 }

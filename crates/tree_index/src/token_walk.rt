@@ -6,7 +6,8 @@ use ag_grammar::{Grammar, Item, Terminal};
 use ag_value::NoMemory;
 use std::alloc::Global;
 
-/// The greatest number of turns to an open node between two tokens: one for each child, and one to leave it.
+/// A bound of the number of turns between two tokens: one to enter each node, one to leave it, and one at which
+/// no node is open.
 const MAX_TURNS: u32 = 2 * MAX_NODES + 1;
 
 /// A token of a tree.
@@ -14,7 +15,7 @@ const MAX_TURNS: u32 = 2 * MAX_NODES + 1;
 pub enum TreeToken {
     /// The literal of this number.
     Literal(u16),
-    /// The token of a class that this node is.
+    /// The token of a class: the node with this number in the index.
     Word(u32),
 }
 
@@ -62,7 +63,7 @@ impl<'a> TokenWalk<'a> {
         Ok(walk)
     }
 
-    /// Visits the next token; `None` after the last one. Fails if memory is refused.
+    /// Returns the next token; `None` after the last one. Fails if memory is refused.
     pub fn next(&mut self) -> Result<Option<TreeToken>, NoMemory> {
         for _turn in 0..MAX_TURNS {
             let Some(open) = self.nodes.pop() else {
@@ -102,7 +103,7 @@ impl<'a> TokenWalk<'a> {
         }
     }
 
-    /// Opens a node again after its next item, in which there are `children` children.
+    /// Opens a node again after its next item. `children` is 1 if that item is a child, and 0 if it is a literal.
     fn go_on(&mut self, open: OpenRecord, children: u16) -> Result<(), NoMemory> {
         Ok(
             self.nodes.push(OpenRecord {

@@ -12,8 +12,8 @@ use std::alloc::Global;
 /// The numbers of tokens in the subtrees of a tree, literals among them.
 #[derive(Drop)]
 pub struct TokenCounts {
-    /// For each node, the number of tokens of the nodes before it in the index, without what is below them;
-    /// and at last that of all nodes.
+    /// For each node, the number of tokens that the nodes before it in the index have themselves, as `own_tokens`
+    /// counts them; and at last that of all nodes.
     before: Vec<u32>,
 }
 
@@ -36,8 +36,8 @@ impl TokenCounts {
         Ok(TokenCounts { before })
     }
 
-    /// Returns the number of tokens of the nodes from one number up to another, which is not among them. Returns `None`
-    /// if there are no such nodes.
+    /// Returns the number of tokens of the nodes from `first` on and before `after`, in the order of the index.
+    /// Returns `None` if one of the two is above the number of nodes, or if `after` has fewer tokens before it.
     pub fn between(&self, first: u32, after: u32) -> Option<u32> {
         let before_first = *self.before.get(first as usize)?;
         self.before.get(after as usize)?.checked_sub(before_first)

@@ -13,11 +13,11 @@ use std::alloc::Global;
 pub struct NodeVisit {
     /// The number of the node in the index.
     pub node: u32,
-    /// The number of levels below the node at which the walk began.
+    /// The level of the node; that at which the walk began has level 0.
     pub level: u32,
 }
 
-/// A node that was visited, and not yet all of its children.
+/// A node that was visited and not left yet.
 #[derive(Clone, Copy)]
 struct OpenRecord {
     node: u32,
@@ -62,15 +62,15 @@ impl<'a> SentenceWalk<'a> {
         self.depth = depth;
     }
 
-    /// Lets the walk begin at the node at the end of a path, and visit nothing above it. Returns the node,
-    /// if there is one. Fails if memory is refused.
+    /// Lets the walk begin at the node at the end of a path, and visit only its subtree. Returns the node,
+    /// if there is one; else nothing is visited. Fails if memory is refused.
     pub fn begin_at(&mut self, alloc: Global, places: &[u16]) -> Result<Option<u32>, NoMemory> {
         self.path = NodePath::of_places(alloc, places)?;
         self.first = self.index.find(self.grammar, places);
         Ok(self.first)
     }
 
-    /// Visits the next node; `None` after the last one. Fails if memory is refused.
+    /// Visits and returns the next node; `None` after the last one. Fails if memory is refused.
     pub fn next(&mut self) -> Result<Option<NodeVisit>, NoMemory> {
         let Some(node) = self.next_node()? else {
             return Ok(None);
@@ -100,7 +100,7 @@ impl<'a> SentenceWalk<'a> {
             let Some(open) = self.nodes.pop() else {
                 return Ok(None);
             };
-            // the node that the walk began at has no way up
+            // the node at `level` 0 was visited last and has this path; each further one is a level up
             if level != 0 {
                 self.path.pop();
             }

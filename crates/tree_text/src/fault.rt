@@ -10,7 +10,7 @@ use tree_index::TreeFault;
 /// Why a tree file was not printed.
 #[derive(Clone, Copy, Debug, PartialEq, Eq)]
 pub enum ShowFault {
-    /// The file could not be read, or is damaged.
+    /// The file could not be read, is damaged, or has a tree that exceeds a limit.
     Tree(TreeFault),
     /// O2: the output failed.
     Write,

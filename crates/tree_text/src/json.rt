@@ -9,7 +9,7 @@ use ag_value::{ErrorCode, NoMemory, Text, Value};
 use std::alloc::Global;
 use tree_index::NodePath;
 
-/// The greatest number that each reader of JSON keeps exactly, 2^53 - 1; `-MAX_EXACT` is the least.
+/// 2^53 - 1. Readers of JSON that store numbers as 64-bit floats keep the integers from `-MAX_EXACT` to `MAX_EXACT`.
 const MAX_EXACT: i64 = 9_007_199_254_740_991;
 
 /// A member of an object: the name of an attribute, and its value.
@@ -109,7 +109,7 @@ fn write_carried(alloc: Global, out: &mut String, value: &Carried) -> Result<(),
     match (value.as_number(), value.as_value()) {
         (Some(number), _) => write_number(out, number),
         (None, Some(value)) => write_json(out, value),
-        // a long text that is not stored in one piece
+        // an error, or a text, table or list that is not stored as a `Value`
         (None, None) => write_json(out, &value.to_value(alloc)?),
     }
 }

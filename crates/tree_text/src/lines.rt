@@ -13,8 +13,8 @@ use tree_index::NodePath;
 const MAX_INDENTED: u32 = 24;
 
 impl TreeText<'_> {
-    /// Writes the line of a node: its path, its production or its class, and its values. A node whose
-    /// children are left out gets their number.
+    /// Writes the line of a node: its path, its production or its class, and its values. If the nodes below it are
+    /// left out, also writes their number.
     pub(crate) fn write_line(
         &self,
         alloc: Global,

@@ -18,7 +18,7 @@ use treefile::Device;
 #[derive(Drop)]
 pub(crate) struct ShownNode {
     pub(crate) node: u32,
-    /// The number of levels below the first node that is printed.
+    /// The number of levels below the first node of the walk.
     pub(crate) level: u32,
     pub(crate) item: Item,
     pub(crate) record: NodeRecord,
@@ -34,9 +34,9 @@ pub struct TreeText<'a> {
     pub format: FileFormat<'a>,
     /// Its index.
     pub index: &'a TreeIndex,
-    /// The attributes that are printed; all if there are none.
+    /// The attributes that are printed; if the list is empty, all are.
     pub only: &'a [SelectedAttribute],
-    /// The greatest level that is printed; that of the first node is 0.
+    /// The greatest level that is printed; that of the walk's first node is 0.
     pub depth: u32,
     /// The greatest number of characters of a value; 0 for whole values.
     pub width: usize,
@@ -141,7 +141,7 @@ pub fn write_tree<D: Device, W: Write>(
     flush(&mut buffer, out)
 }
 
-/// Writes a text to the output, and empties it. Fails with O2 alone.
+/// Writes the buffer to the output, and empties the buffer. Fails with O2 alone.
 fn flush<W: Write>(buffer: &mut String, out: &mut W) -> Result<(), ShowFault> {
     let Ok(()) = write_text(out, buffer.as_str()) else {
         return Err(ShowFault::Write);

@@ -15,6 +15,7 @@ pub struct SelectedAttribute {
 }
 
 /// Returns the attribute of a name, such as `L.sum` or `NUMBER.lex`. Fails if the grammar has no such attribute.
+/// Each class has `lex`, even if the grammar does not use the class.
 pub fn selected_attribute<'a>(
     grammar: &Grammar,
     name: &'a str,

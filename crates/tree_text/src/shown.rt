@@ -1,4 +1,4 @@
-//! Values as text, of which only the first characters are written.
+//! Values as text, whole or only their first characters.
 
 use ag_carried::Carried;
 use ag_value::{NoMemory, Text, Value, show};
@@ -18,7 +18,7 @@ pub fn write_value(
     }
     match value.as_value() {
         Some(value) => write_flat(alloc, out, value, width),
-        // a long text that is not stored in one piece
+        // an error, or a text, table or list that is not stored as a `Value`
         None => write_flat(alloc, out, &value.to_value(alloc)?, width),
     }
 }
@@ -37,8 +37,8 @@ fn write_flat(
     write_first(out, shown.as_str(), width)
 }
 
-/// Writes the first characters of a value that is a text. Of a long text, only a prefix is shown
-/// first, one character longer than what is written.
+/// Writes the first characters of a value that is a text. Unless `width` is 0, converts only the first `width + 1`
+/// characters of the text: no more are needed.
 fn write_text(alloc: Global, out: &mut String, text: &str, width: usize) -> Result<(), NoMemory> {
     let needed = if width == 0 {
         text.len()

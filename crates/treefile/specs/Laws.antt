@@ -1,8 +1,8 @@
 -- The statements of the laws on the files of trees. The letters are those of `records/Records.antt` and
 -- `framing/ExpectedRecords.antt`, with these additions: u and w are values of a tree too, f the values of a node's attributes, ys
--- and zs are children, and ps passes. In some statements a letter has another meaning. `OneNode` compares the number p, the
--- production q and its symbol s with r, w and z. In `OneTreeBefore`, `OneTreeAtEnd` and `OneReading` s is a tree. In
--- `ValuesAreWhole` and in each `λ p` p is a pass.
+-- and zs are children, vs the values of a record as a list, and ps passes. In some statements a letter has another meaning.
+-- `OneNode` compares the number p, the production q and its symbol s with r, w and z. In `OneTreeBefore`, `OneTreeAtEnd` and
+-- `OneReading` s is a tree. In `ValuesAreWhole` and in each `λ p` p is a pass.
 use Rattle.std.specs.Prelude.{ℕ, suc, ◌≡◌, ◌^◌, ◌<◌, ◌≤◌, ◌++◌, ◌↔◌, List, [], ◌∷◌, Some, None, Ok, slice_get, drop, length, true}
 use Rattle.ag_value.specs.declared.value.Value.{Value}
 use Rattle.ag_grammar.specs.Lists.{Each}

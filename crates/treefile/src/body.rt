@@ -8,9 +8,9 @@ ghost use Rattle.treefile.specs.declared.body.Kind.{Kind};
 /// The kind of a record of a tree file.
 #[derive(Clone, Copy, Debug, PartialEq, Eq)]
 pub enum Kind {
-    /// A node of a tree; the record's number is that of its production, from 0.
+    /// A node of a production; the record's number is that of the production, from 0.
     Node,
-    /// A leaf of a tree; the record's number is that of its class of tokens, from 0.
+    /// A token, which is a leaf of the tree; the record's number is that of its class, from 0.
     Token,
 }
 

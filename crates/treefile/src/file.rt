@@ -171,9 +171,10 @@ impl<F: Read + Write + Seek + OpenFile> FileDevice<F> {
         }
     }
 
-    /// Appends bytes as `append` does, also if they do not fit in the buffer: writes the buffered bytes to
-    /// the file first, and bytes that fill a buffer directly. Fails with `Failed` if the file is only read,
-    /// or if this write or an earlier one failed, and with `NoMemory` if memory is refused.
+    /// Appends bytes as `append` does, also if they do not fit in the buffer: then it first writes the
+    /// buffered bytes to the file. Writes 65,536 bytes or more to the file without buffering them. Fails
+    /// with `Failed` if the file is only read, or if a write, now or earlier, failed, and with `NoMemory` if
+    /// memory is refused.
     #[cold]
     #[inline(never)]
     fn append_slowly(&mut self, bytes: &[u8]) -> Result<(), DeviceFault>
@@ -200,7 +201,7 @@ impl<F: Read + Write + Seek + OpenFile> FileDevice<F> {
     /// Opens the file at `path` for reading and appending, and creates it if there is none. An
     /// existing content stays until `clear`, unlike with std's `File::create`, which empties the file.
     /// `before` is the record of calls that the device continues: `CallRecord::new()` for a new one.
-    /// Fails with F1 if the file can't be opened. Takes no memory.
+    /// Fails with F1 if the file can't be opened or created. Takes no memory.
     pub fn create<Rt: Files<File = F>>(
         rt: &Rt,
         alloc: Global,

@@ -12,8 +12,8 @@ use std::marker::Model;
 /// A device that forwards the calls of `len`, `append`, `read_at` and `clear` to another one, `inner`,
 /// except one of them: that call fails and does nothing. Only these calls count. `append_parts` copies
 /// the parts and calls `append` of this device, and `lend_before` always returns `None`. The device is
-/// honest if `inner` is. `left` is the number of calls up to the failing one (1: the next; 0: none
-/// fails), and `failed` the number of failed calls that were not forwarded.
+/// honest if `inner` is. `left` is the number of calls up to the failing one (1: the next; 0: there is
+/// none), and `failed` the number of failed calls that were not forwarded.
 #[derive(Drop)]
 pub struct FuseDevice<D> {
     inner: D,
@@ -30,8 +30,8 @@ impl<D> Model for FuseDevice<D> {
 }
 
 impl<D: Device> FuseDevice<D> {
-    /// Makes a device whose k-th counted call from now on fails (1: the next). With 0 no call fails.
-    /// Content and honesty are those of `inner`. Takes no memory.
+    /// Makes a device whose k-th counted call from now on fails (1: the next). With 0 all calls are
+    /// forwarded. Content and honesty are those of `inner`. Takes no memory.
     pub fn new(inner: D, k: u64) -> FuseDevice<D>
         ensures inner { result.inner ≡ inner }
         ensures left { result.left ≡ k }

@@ -52,8 +52,8 @@ pub fn last_is_read()
         last_body_of version content ≡ Err (Damaged at) → at ≡ length content }
 {}
 
-/// States that, in a usable version, the file of a pass below 2^16 begins as a tree file of that pass.
-/// There a file of bodies whose lengths are within the limits of the version is read back from its end
+/// States three facts of a usable version. The file of a pass below 2^16 begins as a tree file of that
+/// pass. A file of bodies whose lengths are within the limits of the version is read back from its end
 /// to its header as these bodies, the last one first. A content that has only bytes, begins as a tree
 /// file and is read back as some bodies is the file of these.
 pub fn files_are_read_back()

@@ -62,7 +62,7 @@ impl FileVersion {
     }
 }
 
-/// Returns the header of the file of a pass.
+/// Returns the header of the file of a pass, in version 2.
 pub(crate) fn header_of(pass: u16) -> [u8; 6]
     ensures { result ≡ header version_two pass }
 {

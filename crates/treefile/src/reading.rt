@@ -17,7 +17,7 @@ use crate::device::{Device, DeviceFault};
 use crate::layout::{FileVersion, HEADER_BYTES, LEAST_BODY, LENGTH_BYTES};
 use std::alloc::{AllocError, Global};
 
-/// The reasons why no body can be read from a tree file.
+/// The reasons why a tree file can't be read.
 #[derive(Clone, Copy, Debug, PartialEq, Eq)]
 pub enum FrameFault {
     /// B1: there are fewer than 6 bytes, or the first four are not the magic of the expected

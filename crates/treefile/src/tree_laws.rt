@@ -79,7 +79,7 @@ pub fn trees_are_read_back()
 
 /// Worked examples: the files of `1` in the grammar of binary fractions, byte for byte, and the file of
 /// pass 0 of `iffy if` in `token_sample`. In pass 0 the only values are the texts of tokens. In version
-/// 2 a record has copies too.
+/// 2 the record of a node has copies too.
 pub fn worked_files()
     ensures first { (values : Valuation) →
         file_of_tree version_one binary binary_passes 0 tree_of_one values ≡ pass_0_of_one }
@@ -195,11 +195,12 @@ pub fn worked_records()
     ensures missing { AreSpelled 2 (spelled_number ++ 9 ∷ []) → ⊥ }
 {}
 
-/// Worked example: reading the file of pass 0 of `1`, in version 1, from its end and from right to
-/// left. N is expected first, and after its record Q and then L, one level deeper. The bodies are those
-/// of a tree of three levels, and of none of two; nor is the file that of a tree of at most three
-/// nodes. A header alone is the file of no tree, nor is a file with only Q's record, nor is this one a
-/// file of pass 1.
+/// Worked examples: T's record in pass 1 and the record of the token `iffy` have no children, and Q's
+/// record is none of N. The others read the file of pass 0 of `1`, in version 1, from its end and from
+/// right to left. N is expected first, and after its record Q and then L, one level deeper. The bodies
+/// are those of a tree of three levels, and of none of two; nor is the file that of a tree of at most
+/// three nodes. A header alone is the file of no tree, nor is a file with only Q's record, nor is this
+/// one a file of pass 1.
 pub fn worked_reading()
     ensures one { IsRecordOf version_one binary binary_passes 1 (item.Symbol 3, None)
         record_of_t [] }

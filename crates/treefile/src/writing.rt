@@ -1,6 +1,6 @@
 //! Writing a tree file: its header, and then the frames of its records. The private functions that fill a
-//! buffer or parts fail only if memory is refused; these then have arbitrary bytes. Records with one, two or
-//! three numbers have functions of their own, which need no buffer.
+//! buffer or `parts`, or append to it, fail only if memory is refused; it has arbitrary bytes then. Records
+//! without values, and those whose values are one, two or three numbers, have functions that need no buffer.
 
 ghost use Rattle.std.specs.Prelude.{◌≡◌, ◌++◌, ◌∷◌, ◌+◌, ◌-◌, ◌<◌, ◌≤◌, ◌^◌, ◌⊎◌, [], length};
 ghost use Rattle.std.specs.Prelude.{true, false, All, IfOk, IfSome, IsErrOf, Ok, OnOk};
@@ -71,14 +71,14 @@ impl Writer {
         })
     }
 
-    /// Appends the frame of a record by one call of the device. Takes memory for the frame if there
-    /// are more than three values, or one that is not a number.
+    /// Appends the frame of a record by one call of the device. Takes memory for a buffer with the frame
+    /// if there are more than three values, or one that is not a number; the device may take some too.
     ///
     /// Requires at most 272 values, each of them well, and fewer than u64::MAX frames appended
     /// before.
     ///
-    /// Fails with D1 Failed if the device failed: the device has a prefix of the frame more, and
-    /// the writer is broken. A broken writer always fails with D1, and doesn't touch the device.
+    /// Fails with D1 Failed if the device failed: then a prefix of the frame was appended, and the
+    /// writer is broken. A broken writer always fails with D1, and doesn't touch the device.
     /// After NoMemory nothing has changed.
     #[inline(always)]
     pub fn put<D: Device>(
@@ -230,7 +230,7 @@ impl Writer {
         device.append(self.buffer.as_slice())
     }
 
-    /// Appends the frame of a given body by one call of the device. Takes memory for the frame.
+    /// Appends the frame of a given body by one call of the device. Takes memory for a buffer with the frame.
     ///
     /// Requires a body of 3 to 285,212,675 bytes, and fewer than u64::MAX frames appended before.
     ///

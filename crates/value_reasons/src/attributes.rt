@@ -21,7 +21,7 @@ use treefile::Device;
 pub struct NodeRequest<'a> {
     /// The places from the root to the node.
     pub places: &'a [u16],
-    /// The names of the attributes; all if there are none.
+    /// The names of the attributes; if the list is empty, all are explained.
     pub names: &'a [&'a str],
     /// The greatest number of characters of a value; 0 for whole values.
     pub width: usize,
@@ -36,8 +36,8 @@ struct RulePlace<'a> {
 
 impl<'a> ExplainedTree<'a> {
     /// Writes the values of a node, each with the rule that computed it and the values that the rule used;
-    /// after an error its cause, if the file is of the last pass. Fails with R1 if a record is damaged, with
-    /// D1 if a call of the device fails, and if memory is refused.
+    /// after an error its cause, if the file is of the last pass. Writes nothing if the tree does not have
+    /// the node. Fails with R1 if a record is damaged, with D1 if a call of the device fails, and if memory is refused.
     pub fn write_node<D: Device>(
         &self,
         out: &mut String,
@@ -107,7 +107,7 @@ impl<'a> ExplainedTree<'a> {
         }
     }
 
-    /// Writes the value of an attribute, or the pass that computes it.
+    /// Writes the name of an attribute and its value or, if the file does not have that, the pass that computes it.
     fn write_value_line(
         &self,
         out: &mut String,
@@ -138,8 +138,9 @@ impl<'a> ExplainedTree<'a> {
         Ok(out.push('\n')?)
     }
 
-    /// Writes the rule for an attribute of a node, if there is one, with the values of its arguments. Fails with R1
-    /// if a record is damaged, with D1 if a call of the device fails, and if memory is refused.
+    /// Writes the rule for an attribute of a node, if there is one, with the values of its arguments, as far as the
+    /// file has them. Fails with R1 if a record is damaged, with D1 if a call of the device fails, and if memory is
+    /// refused.
     fn write_reason<D: Device>(
         &self,
         out: &mut String,
@@ -232,8 +233,8 @@ impl<'a> ExplainedTree<'a> {
         Some((node, rule_for(production.rules.as_slice(), place.target)?))
     }
 
-    /// Writes a line for each argument of a rule of the node at the end of a path: its value, and the path
-    /// of its node.
+    /// Writes a line for each argument of a rule of the node at the end of a path, if the node's record has its value:
+    /// the argument, its value, and the path of its node.
     fn write_arguments(
         &self,
         out: &mut String,
@@ -305,7 +306,7 @@ fn is_error(value: Option<&Carried>) -> bool {
     }
 }
 
-/// Writes how a line about a cause begins, and returns the text that says where its node is.
+/// Writes how a line about a cause begins, and returns the text that says where the cause's node is.
 fn write_beginning(alloc: Global, out: &mut String, cause: &Cause) -> Result<String, NoMemory> {
     out.push_str("  the error ")?;
     let path = NodePath::of_places(alloc, cause.places.as_slice())?;

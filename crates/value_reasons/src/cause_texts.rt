@@ -29,12 +29,12 @@ pub struct ErrorTranslation<'a> {
 
 impl<'a> ErrorTranslation<'a> {
     /// Returns what a message says of the error after its value: the rule in which it arises, the rule's
-    /// position, the place in the sentence of the first token of the rule's node, the values of its
-    /// arguments, and the number of rules that passed the error on. `device` contains the file of the last
+    /// position, where the rule's node is in the sentence (without a sentence, in the tree), the values of the
+    /// rule's arguments, and the number of rules that passed the error on. `device` contains the file of the last
     /// pass, which was just written.
     ///
-    /// Returns `None` if the file does not have the cause. Fails with R1, P2 or P3 if it is damaged, with D1
-    /// if a call of the device fails, and if memory is refused.
+    /// Returns `None` if the file does not have the cause. Fails with R1 if it is damaged, with P2 or P3 if its
+    /// tree exceeds a limit, with D1 if a call of the device fails, and if memory is refused.
     pub fn describe_cause<D: Device>(
         &self,
         alloc: Global,
@@ -101,7 +101,7 @@ impl<'a> ErrorTranslation<'a> {
     }
 
     /// Returns a text with the place in a sentence of the first token of a cause's node; for a node without tokens
-    /// that of the next token. It is empty if the place can't be found.
+    /// that of the next token, or the sentence's end. It is empty if the place can't be found.
     fn place_in_sentence(
         &self,
         tree: &ExplainedTree<'_>,
@@ -135,7 +135,7 @@ fn number_of_out(names: &[Text]) -> u16 {
     0
 }
 
-/// Returns a text with the place of a cause's node in its tree: its path, and its first tokens.
+/// Returns a text with the place of a cause's node in its tree: its path, and its first tokens if it has any.
 fn place_in_tree(alloc: Global, cause: &Cause, tokens: &str) -> Result<String, NoMemory> {
     let path = NodePath::of_places(alloc, cause.places.as_slice())?;
     if tokens.is_empty() {

@@ -114,7 +114,7 @@ impl<'a> ExplainedTree<'a> {
 }
 
 /// Prints a line for each rule of a tree in which an error arises, in the order of the sentence, and then
-/// their number. The file is that of the last pass. Fails with R1 if the file has changed since its index was
+/// their number. The file has to be that of the last pass. Fails with R1 if the file has changed since its index was
 /// made, with D1 if a call of the device fails, with O2 if the output fails, and if memory is refused.
 pub fn write_errors<D: Device, W: Write>(
     tree: &ExplainedTree<'_>,
@@ -147,7 +147,7 @@ pub fn write_errors<D: Device, W: Write>(
     flush(&mut buffer, out)
 }
 
-/// Writes a text to the output, and empties it. Fails with O2 alone.
+/// Writes the buffer to the output, and empties the buffer. Fails with O2 alone.
 fn flush<W: Write>(buffer: &mut String, out: &mut W) -> Result<(), ShowFault>
     ensures { IfErr result (λ fault. fault ≡ ShowFault.Write) }
 {

@@ -14,10 +14,10 @@ use treefile::Device;
 /// The greatest number of tokens that are written.
 const MAX_TOKENS: usize = 3;
 
-/// The greatest number of characters of a token.
+/// The greatest number of characters of a token that are written.
 const MAX_CHARACTERS: usize = 24;
 
-/// A node of which some tokens were written.
+/// A node that was entered. Its items before `item` were visited.
 #[derive(Clone, Copy)]
 struct OpenNode {
     node: u32,
@@ -34,14 +34,14 @@ enum NextToken {
     Literal(u16),
     /// The token of this node.
     Token(u32),
-    /// What is below this node.
+    /// The tokens below this node of a symbol.
     Below(u32),
     /// Nothing more of the node.
     Nothing,
 }
 
 impl<'a> ExplainedTree<'a> {
-    /// Writes the first tokens of a node, with a space between. Writes nothing if it has none.
+    /// Writes the first tokens of a node, at most `MAX_TOKENS`, with a space between. Writes nothing if it has none.
     pub(crate) fn write_first_tokens<D: Device>(
         &self,
         out: &mut String,
@@ -95,7 +95,7 @@ impl<'a> ExplainedTree<'a> {
     }
 
     /// Writes the next item if it is a token, with a space before it if `before` other tokens were written. Returns
-    /// whether it is a token.
+    /// whether it is a token whose text is known.
     fn write_token<D: Device>(
         &self,
         out: &mut String,
@@ -140,7 +140,7 @@ impl<'a> ExplainedTree<'a> {
     }
 }
 
-/// Adds a node of which nothing was written.
+/// Adds a node none of whose items was visited.
 fn push(nodes: &mut Vec<OpenNode>, node: u32) -> Result<(), NoMemory> {
     Ok(nodes.push(OpenNode {
         node,
@@ -149,7 +149,7 @@ fn push(nodes: &mut Vec<OpenNode>, node: u32) -> Result<(), NoMemory> {
     })?)
 }
 
-/// Puts a node back after its next item was read, and the node of that item after it.
+/// Puts a node back after its next item was visited and, if that is a symbol, puts the child there after it.
 fn push_next(nodes: &mut Vec<OpenNode>, open: OpenNode, next: NextToken) -> Result<(), NoMemory> {
     let is_child = !matches!(next, NextToken::Literal(_));
     let children = if is_child {
@@ -168,7 +168,8 @@ fn push_next(nodes: &mut Vec<OpenNode>, open: OpenNode, next: NextToken) -> Resu
     }
 }
 
-/// Writes the first characters of a token, with a space before it if `before` is not 0.
+/// Writes the first `MAX_CHARACTERS` characters of a token, and `..` if there are more. Writes a space before them if
+/// `before` is not 0.
 fn write_shortened(out: &mut String, text: &str, before: usize) -> Result<(), NoMemory> {
     if before != 0 {
         out.push_str(" ")?;

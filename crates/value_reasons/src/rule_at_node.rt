@@ -28,7 +28,7 @@ pub(crate) struct RuleAtNode<'a> {
 
 impl<'a> ExplainedTree<'a> {
     /// Reads the record of a node, and returns it with the rule of number `index` of the node's production. Returns
-    /// `None` if that production does not have the rule.
+    /// `None` if there is no such node or rule.
     pub(crate) fn rule_at<D: Device>(
         &self,
         node: u32,
@@ -85,7 +85,7 @@ impl<'a> ExplainedTree<'a> {
 
     /// Writes where an error arises: the target of the rule and its position, the text `place`, the values of the
     /// rule's arguments, and the number of rules that passed the error on. Writes nothing if the node has no such
-    /// rule. Fails as reading the records of the rule's node does, and if memory is refused.
+    /// rule. Fails as reading the record of the rule's node does, and if memory is refused.
     pub fn write_cause<D: Device>(
         &self,
         out: &mut String,

@@ -94,7 +94,7 @@ impl<'a> ExplainedTree<'a> {
     }
 }
 
-/// Returns the length in bytes of the rule with which a text begins, up to its `;`.
+/// Returns the length in bytes of the rule with which a text begins, without its `;`.
 fn rule_length(text: &str) -> usize {
     let mut is_quoted = false;
     let mut is_escaped = false;

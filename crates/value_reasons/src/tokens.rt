@@ -26,7 +26,7 @@ impl fmt::Display for TokenPosition<'_> {
 }
 
 /// Returns where the token is that follows the first `before` tokens of a sentence. Returns `None` if the sentence
-/// has fewer tokens than `before`, or memory is refused.
+/// can't be cut into tokens or has fewer than `before`, or if memory is refused.
 pub fn position_of_token<'a>(
     alloc: Global,
     grammar: &Grammar,

@@ -155,7 +155,7 @@ pub fn number(value: &Value) -> Value
     }
 }
 
-/// Returns the number that a text spells, if it spells one.
+/// Returns the number that a text denotes in decimal, if it denotes one in the range of i64.
 #[tactic(auto, using(crate::proofs::Spelled::parses))]
 fn spelled_number(text: &str) -> Option<i64>
     ensures { result ≡ spelled_number text.now }

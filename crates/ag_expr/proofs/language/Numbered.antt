@@ -1,4 +1,4 @@
--- A map that follows a list still follows it after one more occurrence in both.
+-- A map that has the indexes of a list's occurrences (`AreIndexesOf`) still has them after one more is added to both.
 use Rattle.std.proofs.Common.{ℕ, ◌≡◌, ◌+◌, Bool, true, false, cond, List, [], ◌∷◌, ◌++◌, length, Some, None, position, get_or}
 use Rattle.std.proofs.Common.{is_some, IfSome, ◌<◌, refl, ap, sym, ◌∙◌, arith}
 use Rattle.std.proofs.lemmas.Bool.{eq-eqb}
@@ -101,7 +101,7 @@ has_number listed x = (
 abbrev at_key : Key → ℕ → Occ
 at_key key at = record { place = key.0; attr = key.1.now; at = at }
 
--- the map with the index of one more occurrence follows the list with that occurrence
+-- the map with the index of one more occurrence has the indexes of the list with that occurrence
 follows_on : {S : Type 0} (numbers new : HashMap Key ℕ S) (listed : List Occ) (key : Key) (at : ℕ)
     → list_any (is_of key.0 key.1.now) listed ≡ false → AreIndexesOf numbers listed
     → Updates same_key numbers new key (Some (length listed)) → AreIndexesOf new (listed ++ at_key key at ∷ [])

@@ -43,7 +43,8 @@ use Rattle.ag_expr.proofs.language.Manner.{Exact, First, Steady, manner, deep_is
 use Rattle.ag_expr.proofs.language.Agree.{AllApart, operators, other_exact, other_starts, ranked_exact, all_apart, next_exact}
 use Rattle.ag_expr.proofs.language.Agree.{next_starts, atom_exact, expr_exact, expr_first}
 use Rattle.ag_expr.proofs.reading.Steady as steady
-use Rattle.ag_expr.proofs.reading.Steady.{Heads, first, first_of, same_front, then_steady, or_steady, ends_steady, further_steady}
+use Rattle.ag_expr.proofs.reading.Steady.{Heads, first, first_of, same_first_token, then_steady, or_steady, ends_steady}
+use Rattle.ag_expr.proofs.reading.Steady.{further_steady}
 
 -- ---- chains
 
@@ -373,7 +374,7 @@ expr_steady listed d zero scope =
               inl (
                 same,
                 λ k fr. (refused_first listed (suc d) scope).at k
-                    (same_front (begins listed scope) k.left i.left fr ∙ unlike),
+                    (same_first_token (begins listed scope) k.left i.left fr ∙ unlike),
               );
         }
 

@@ -23,11 +23,11 @@ abbrev pub is_semicolon : GrammarToken → Bool
 is_semicolon = is_sign (mark punctuation.Semicolon)
 
 -- the next token is that of the cursor, unless it ends the tokens
-pub front_is : (s : State) → next_token (input s) ≡ before_end s.is_statement (next_token s.tokens)
+pub prefix_is : (s : State) → next_token (input s) ≡ before_end s.is_statement (next_token s.tokens)
 unfolding input
-front_is s = grind arith
+prefix_is s = grind arith
 
--- the fault for it
+-- the fault for a cursor with this token fault, at its offset
 abbrev pub reported : Option TokenFault → ℕ → ExprFault
 reported None at = fault.Unexpected at
 reported (Some token_fault.Nothing) at = fault.NoToken at
@@ -51,7 +51,7 @@ pub ends_is : (s : State) → is_end (input s).ending (input s).left ≡ stops s
 unfolding input
 ends_is s = grind arith
 
--- there is a next token
+-- t is the next token
 pub record HasToken (s : State) (t : GrammarToken) : Type 0 where
   pub is : input s ≡ with_token (offset s.tokens) t (input (after_token s))
   pub following : from_end s.is_statement (next s.tokens) ≡ from_end s.is_statement s.tokens

@@ -213,9 +213,9 @@ token_at (word at all w cs t qs end rest split is longest are) (u ∷ us) p ps e
     )
 
 module _ (from : ℕ) (cs : List ℕ) (i : Input) (lexes : Lexes from cs i) where
-  pub stands_at : (us : List PlacedToken) (p : PlacedToken) (ps : List PlacedToken) → i.left ≡ us ++ p ∷ ps
+  pub occurs_at : (us : List PlacedToken) (p : PlacedToken) (ps : List PlacedToken) → i.left ≡ us ++ p ∷ ps
       → (there : TokenAt from cs p.at) × (there.0.token ≡ p.token)
-  stands_at us p ps cut = let one = token_at lexes.before us p ps cut in
+  occurs_at us p ps cut = let one = token_at lexes.before us p ps cut in
       ((one.0, ap is_within one.1 ∙ placed_inner us p ps (sym (ap all_within cut) ∙ lexes.within)), one.1)
 
   -- the ending of the tokens is at its offset
@@ -261,11 +261,11 @@ module _ (from : ℕ) (cs : List ℕ) (i : Input) (lexes : Lexes from cs i) wher
 
       says : (us rest : List PlacedToken) → part.left ≡ us ++ rest → IsFaultFrom from cs (refusal_of part.ending rest)
       says us [] here = ends
-      says us (p ∷ ps) here = inl (stands_at us p (ps ++ following) (further us (p ∷ ps) here)).0
+      says us (p ∷ ps) here = inl (occurs_at us p (ps ++ following) (further us (p ∷ ps) here)).0
 
       go : IsReportedFirst listed levels part f → IsFaultFrom from cs f
       go (inl w) = subst (IsFaultFrom from cs) (sym w.says) (says w.before w.rest w.cut)
-      go (inr d) = let one = stands_at d.before d.first (d.rest ++ following) (further d.before (d.first ∷ d.rest) d.cut) in
+      go (inr d) = let one = occurs_at d.before d.first (d.rest ++ following) (further d.before (d.first ∷ d.rest) d.cut) in
           subst (IsFaultFrom from cs) (sym d.says) (one.0, ap begins_expression one.1 ∙ d.begins_one)
 
   -- and the same for all tokens

@@ -25,7 +25,7 @@ use Rattle.ag_expr.proofs.language.Agree.{read_of}
 use Rattle.ag_expr.proofs.language.Listing.{listed_are_different}
 use Rattle.ag_expr.proofs.language.Manner.{sign_is}
 use Rattle.ag_expr.proofs.language.States.{all_at_end}
-use Rattle.ag_expr.proofs.language.Texts.{spells_of, spelled_back, reported_of, stands_at, ends_at, reported_before, reported_at}
+use Rattle.ag_expr.proofs.language.Texts.{spells_of, spelled_back, reported_of, occurs_at, ends_at, reported_before, reported_at}
 use Rattle.ag_expr.proofs.language.Texts.{unless_memory}
 
 -- ---- the first semicolon
@@ -167,7 +167,7 @@ module _ (i : Input) (f : ExprFault) where
       → IsFaultFrom from cs f
   says_until from cs lexes (Some at) h reported =
       let cut = split_first i.left at h in
-      let stop = stands_at from cs i lexes (before_semicolon i.left) (semicolon at) (after_semicolon i.left) cut.0 in
+      let stop = occurs_at from cs i lexes (before_semicolon i.left) (semicolon at) (after_semicolon i.left) cut.0 in
       reported_before from cs i lexes (record { left = before_semicolon i.left; ending = ending.EndsAt at })
       (semicolon at ∷ after_semicolon i.left) cut.0 (inl stop.0) _ max_levels f reported
   says_until from cs lexes None h (inl reported) = reported_at from cs i lexes _ max_levels f reported

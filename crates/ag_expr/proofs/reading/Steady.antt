@@ -63,9 +63,9 @@ same_first : (us : List PlacedToken) (j k : Input) → first k ≡ first j → f
 same_first [] j k e = e
 same_first (u ∷ us) j k e = refl
 
-pub same_front : (test : GrammarToken → Bool) (ps qs : List PlacedToken) → first_of ps ≡ first_of qs
+pub same_first_token : (test : GrammarToken → Bool) (ps qs : List PlacedToken) → first_of ps ≡ first_of qs
     → first_is test ps ≡ first_is test qs
-same_front test ps qs e = grind arith
+same_first_token test ps qs e = grind arith
 
 same_sign : {A : Type 0} (sign : ℕ → GrammarToken → Option A) (k i : Input) → first k ≡ first i
     → meaning_of sign (offset k) (next_token k) ≡ meaning_of sign (offset i) (next_token i)
@@ -160,7 +160,7 @@ module _ {T Fault : Type 0} {m : Manner T Fault} where
       record { ok = λ j a. found (sees test i) refl j a; err = λ f. refused (sees test i) refl f }
     where
       seen : (us : List PlacedToken) (j k : Input) → i ≡ before us j → first k ≡ first j → sees test (before us k) ≡ sees test i
-      seen us j k e fr = same_front test (us ++ k.left) (us ++ j.left) (same_first us j k fr) ∙ ap (sees test) (sym e)
+      seen us j k e fr = same_first_token test (us ++ k.left) (us ++ j.left) (same_first us j k fr) ∙ ap (sees test) (sym e)
 
       found : (b : Bool) → sees test i ≡ b → (j : Input) (a : A) → (if b then l i else n i) ≡ Ok (a, j)
           → (us : List PlacedToken) × (i ≡ before us j) × languages.◌or◌ L M (map m.item us) a

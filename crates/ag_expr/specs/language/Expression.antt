@@ -37,7 +37,8 @@ abbrev pub IsRefused : List ℕ → ExprFault → Type 0
 IsRefused text fault.NoMemory = Unit {0}
 IsRefused text e = ReadsAsNone text
 
--- whether an expression can begin with this name: one that is not reserved, `let`, `if`, or the name of a call
+-- whether an expression can begin with this name, if it is bound: one that is not reserved, `let`, `if`, or the name of
+-- a call
 abbrev pub begins_with : List ℕ → Bool
 begins_with name =
     not (is_reserved name) || (bytes_eq name (codes "let") || (bytes_eq name (codes "if") || is_some (call_of name)))

@@ -10,14 +10,14 @@ use Rattle.ag_expr.specs.language.Offsets.{IsReportedFirst}
 use Rattle.ag_expr.specs.language.Reading.{expr_of}
 use Rattle.ag_expr.specs.language.Syntax.{IsExpr}
 
--- The parser returns a tree for tokens, read to their end, if and only if the syntax relates the tokens to
--- the tree.
+-- The reading function of expressions (`expr_of`) returns a tree for all tokens of a text if and only if the syntax
+-- relates these tokens to the tree.
 abbrev pub ReadingAgrees : Type 0
 ReadingAgrees = (listed : List Occ) (levels at : ℕ) (placed : List PlacedToken) (tree : Node)
     → (expr_of listed levels (record { left = placed; ending = ending.EndsAt at }) ≡ Ok
     (tree, record { left = []; ending = ending.EndsAt at })) ↔ IsExpr listed levels (tokens placed) tree
 
--- The parser rejects tokens that are not an expression at the first token that cannot be accepted.
+-- The reading function of expressions rejects tokens that are not an expression at the first one that cannot be accepted.
 abbrev pub RefusesAtTheFirst : Type 0
 RefusesAtTheFirst = (listed : List Occ) (levels : ℕ) (i : Input) (f : ExprFault) → expr_of listed levels i ≡ Err f
     → IsReportedFirst listed levels i f

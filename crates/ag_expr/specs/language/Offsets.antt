@@ -24,8 +24,8 @@ abbrev pub NoneGoesOn : List Occ → List GrammarToken → Ending → List Place
 NoneGoesOn listed ts e [] = (at : ℕ) → e ≡ ending.EndsAt at → (levels : ℕ) (tree : Node) → IsExpr listed levels ts tree → ⊥
 NoneGoesOn listed ts e (p ∷ ps) = Begins listed (ts ++ p.token ∷ []) → ⊥
 
--- The fault is at the first token of `rest`: the tokens before it are a prefix of an expression, and no
--- expression continues with this token.
+-- The fault is at the first token of `rest`, or at the ending if `rest` is empty. The tokens before it are a prefix of
+-- an expression. No expression continues with this token; if the text ends there, the tokens before are no expression.
 pub record IsFirstWrong (listed : List Occ) (i : Input) (f : ExprFault) : Type 0 where
   pub before : List PlacedToken
   pub rest : List PlacedToken
@@ -34,7 +34,7 @@ pub record IsFirstWrong (listed : List Occ) (i : Input) (f : ExprFault) : Type 0
   pub says : f ≡ refusal_of i.ending rest
   pub none : NoneGoesOn listed (tokens before) i.ending rest
 
--- The fault is at a token that begins an inner expression and continues some expression, but none of this
+-- The fault is at a token that begins an inner expression and continues some expression, but none of at most this
 -- number of levels.
 pub record IsTooDeep (listed : List Occ) (levels : ℕ) (i : Input) (f : ExprFault) : Type 0 where
   pub before : List PlacedToken

@@ -1,5 +1,5 @@
--- The parser of expressions as a plain function on tokens with offsets: it returns a result and the remaining
--- input, or the fault at the first token that cannot be accepted.
+-- The reading function of expressions: their parser as a plain function on tokens with offsets. It returns a result and
+-- the remaining input, or the fault at the first token that cannot be accepted.
 use Rattle.std.specs.Prelude.{◌≡◌, cond, ℕ, zero, suc, Bool, true, false, ◌||◌, if◌then◌else◌, List, [], ◌∷◌, ◌++◌, Option, Some}
 use Rattle.std.specs.Prelude.{None, Err, is_some, codes}
 use Rattle.ag_tokens.specs.declared.token.Punctuation.TheVariants as punctuation

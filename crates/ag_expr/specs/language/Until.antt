@@ -91,8 +91,8 @@ pub record IsUnended (i : Input) (f : ExprFault) : Type 0 where
   pub tree : Node
   pub spells : IsExpr (occurrences_of i) max_levels (tokens i.left) tree
 
--- The fault is at the first token, before the first semicolon, that cannot be accepted. If there is no
--- semicolon, it is at the first of all tokens that cannot be accepted, or at the end of the text.
+-- The fault is at the first token that cannot be accepted, where the first semicolon counts as the end of the text. If
+-- there is no semicolon, the fault is at the first of all tokens that cannot be accepted, or at the end of the text.
 abbrev pub IsReportedUntil : Option ℕ → Input → ExprFault → Type 0
 IsReportedUntil (Some at) i f =
     IsReportedFirst (distinct_occurrences (all_occurrences (before_semicolon i.left))) max_levels

@@ -24,7 +24,7 @@ pub lends_same : (r : Rule) (e f : ℕ → ℕ → Value) (env : ℕ → Value)
     → ((o : Target) → IsArgument r o → e o.place o.attr ≡ f o.place o.attr) → Supplies r e env → Supplies r f env
 lends_same r e f env same h k o is = h k o is ∙ same o (k, is)
 
--- two valuations in which a rule holds have the same value at its target, if they have at its arguments
+-- two valuations in which a rule holds have the same value at its target, if they have the same values at its arguments
 pub target_same : (r : Rule) (e f : ℕ → ℕ → Value) → Holds r e → Holds r f
     → ((o : Target) → IsArgument r o → e o.place o.attr ≡ f o.place o.attr)
     → e r.target.place r.target.attr ≡ f r.target.place r.target.attr

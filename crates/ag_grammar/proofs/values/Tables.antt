@@ -24,7 +24,7 @@ Pair = List ℕ × Value
 pub item_table : (pairs : List Pair) → IsWell (v.Table pairs) → is_item (v.Table pairs) ≡ true
 item_table pairs well = item_of (v.Table pairs) well (ap fault_at (outs-Table pairs))
 
--- its keys rise and are UTF-8, and its values are allowed in it
+-- the keys of a well table ascend and are UTF-8, and its values are allowed in it
 pub table_parts : (pairs : List Pair) → IsWell (v.Table pairs)
     → (is_ascending (map key_of pairs) ≡ true) × (all_true (map is_utf8 (map key_of pairs)) ≡ true)
     × (all_true (map is_item_pair pairs) ≡ true)

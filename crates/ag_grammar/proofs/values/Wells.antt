@@ -36,7 +36,7 @@ pub short_table : (w : Value) (pairs : List (List ℕ × Value)) → w ≡ v.Tab
 short_table w pairs is well = let light : weight_of (v.Table pairs) ≤ max_weight =
     subst (λ (u : Value). weight_of u ≤ max_weight) is well.light in omega (arith, light, weight-Table pairs, few_pairs pairs)
 
--- a value that is allowed in a list is formed
+-- a value that is allowed in a list satisfies the clause `formed` of `IsWell`
 pub formed : (w : Value) → is_item w ≡ true → (is_fault w || is_item w) ≡ true
 formed w item = rw item (or-true (is_fault w))
 
@@ -56,7 +56,7 @@ decimal_short z within = let e = length_signed_le 19 z (omega arith) within in o
 pub within_width : (z : ℤ) → mag (to_z w64 (of_z w64 z)) < 2 ^ 63
 within_width z = first_of (search rules, omega (arith, ints), grind (arith, ints))
 
--- the decimal text of a number that was read from memory
+-- the decimal text of an i64 is well
 pub well_decimal : (text : List ℕ) (z : ℤ) → text ≡ signed_decimal (to_z w64 (of_z w64 z)) → IsUtf8 text → IsWell (v.Text text)
 well_decimal text z is utf8 =
     let short : length (signed_decimal (to_z w64 (of_z w64 z))) ≤ 1048571 = decimal_short _ (within_width z) in

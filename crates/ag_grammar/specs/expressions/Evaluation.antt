@@ -28,7 +28,7 @@ abbrev pub item_values : (ℕ → Value) → List Value → List Meaning → Lis
 item_values env bound [] = []
 item_values env bound (x ∷ xs) = x env bound ∷ item_values env bound xs
 
--- the value of a bound name; the tree of an expression names none that is not bound
+-- the value of a bound name; the error `kind` for a name that is not bound, which the tree of an `Expr` does not contain
 abbrev pub bound_value : Option Value → Value
 bound_value (Some v) = v
 bound_value None = value.Fault Kind

@@ -17,8 +17,7 @@ abbrev pub ValueOfOccurrences : Type 0
 ValueOfOccurrences = (e : Node) (env other : ℕ → Value) (bound : List Value) → AgreeOn e env other
     → value_in e env bound ≡ value_in e other bound
 
--- If the number of each occurrence in a tree is below n, the tree contains no occurrence whose number is n or
--- more.
+-- If a tree is within n, where `bound` names are bound around it, it contains no occurrence whose number is n or more.
 abbrev pub OccurrencesAreListed : Type 0
 OccurrencesAreListed = (n k bound : ℕ) (e : Node) → is_within n e bound ≡ true → has_occurrence k e ≡ true → k < n
 

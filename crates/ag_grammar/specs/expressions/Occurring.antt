@@ -6,7 +6,7 @@ use Rattle.ag_grammar.specs.declared.syntax.node.Node.{Node}
 use Rattle.ag_grammar.specs.declared.syntax.node.Node.TheFolds.{fold-Node}
 use Rattle.ag_grammar.specs.declared.syntax.node.Node.TheOpen.{Node-F}
 
--- whether some operand of a chain, or some item of a list, has the property
+-- whether some operand of a chain after the first, or some item of a list, has the property
 abbrev pub some_operand : List (Operator × Bool) → Bool
 some_operand [] = false
 some_operand (x ∷ xs) = x.1 || some_operand xs

@@ -6,7 +6,8 @@ use Rattle.ag_grammar.specs.declared.syntax.node.Node.{Node}
 use Rattle.ag_grammar.specs.declared.syntax.node.Node.TheFolds.{fold-Node}
 use Rattle.ag_grammar.specs.declared.syntax.node.Node.TheOpen.{Node-F}
 
--- whether the test of each operand of a chain, or of each item of a list, holds with `bound` names bound around it
+-- whether the test of each operand of a chain after the first, or of each item of a list, holds with `bound` names bound
+-- around it
 abbrev pub all_hold : ℕ → List (Operator × (ℕ → Bool)) → Bool
 all_hold bound [] = true
 all_hold bound (x ∷ xs) = x.1 bound && all_hold bound xs
@@ -38,6 +39,6 @@ is_within n = fold-Node (ℕ → Bool) (below_step n)
 abbrev pub is_below : ℕ → Node → Bool
 is_below n e = is_within n e 0
 
--- the same for every operand of a chain
+-- `is_within` for every operand of a chain after the first
 abbrev pub all_below : ℕ → ℕ → List (Operator × Node) → Bool
 all_below n bound others = all_hold bound (map (λ p. (p.0, is_within n p.1)) others)

@@ -147,7 +147,7 @@ pub record IsComplete (g : Grammar) (q : Production) : Type 0 where
 abbrev pub IsNormal : Grammar → Production → Type 0
 IsNormal g q = Each (λ r. Each (λ o. HasKind g q o (used_kind o.place)) r.args) q.rules
 
--- A productive symbol, which derives a list of terminals: it has a production whose declared symbols are all
+-- A productive symbol, which derives a list of terminals: it has a production on whose right side all symbols are
 -- productive (the textbook).
 mutual
   pub data IsProductive (g : Grammar) : ℕ → Type 0 where
@@ -165,8 +165,8 @@ pub data IsReached (g : Grammar) : ℕ → Type 0 where
   within : (p : ℕ) (q : Production) {s : ℕ} → IsProduction g p q → IsReached g q.left → Has q.items (item.Symbol s)
       → IsReached g s
 
--- An accepted grammar: named, complete (Knuth 1968), normal (Bochmann 1976), reduced, which means that each symbol is
--- productive and reached (the textbook), and within the limits (this project's).
+-- An accepted grammar: named, with a start symbol as `IsStart` defines it, complete (Knuth 1968), normal (Bochmann 1976),
+-- reduced, which means that each symbol is productive and reached (the textbook), and within the limits (this project's).
 pub record IsAccepted (g : Grammar) : Type 0 where
   pub named : IsNamed g
   pub start : IsStart g

@@ -63,7 +63,7 @@ abbrev pub symbol_kinds : Option Symbol → List Kind
 symbol_kinds None = []
 symbol_kinds (Some s) = map (λ n. Synthesized) s.syn ++ map (λ n. Inherited) s.inh
 
--- The kinds of an item's attributes. A token has one attribute, `lex`, of number 0, which counts as
+-- The kinds of an item's attributes. A token of a class has one attribute, `lex`, of number 0, which counts as
 -- synthesized; a literal has none (this project's).
 abbrev pub item_kinds : Grammar → Option Item → List Kind
 item_kinds g None = []
@@ -96,8 +96,8 @@ abbrev pub symbol_names : Option Symbol → List (List ℕ)
 symbol_names None = []
 symbol_names (Some s) = attribute_names s
 
--- the names of an item's attributes, indexed by their numbers: `lex` for a token, none for a literal (this
--- project's)
+-- the names of an item's attributes, indexed by their numbers: `lex` for a token of a class, none for a literal
+-- (this project's)
 abbrev pub item_names : Grammar → Option Item → List (List ℕ)
 item_names g None = []
 item_names g (Some (item.Symbol s)) = symbol_names (slice_get g.symbols s)

@@ -23,12 +23,13 @@ OneSolution = (g : Grammar) (m : Passes) (t : Tree) (v w : Valuation) → IsStar
     → Each (IsNormal g) g.productions → IsLegal g m → IsTreeOf g t → Solves AnyRule g t v → Solves AnyRule g t w
     → Same AnyPass g m t v w
 
--- Hence a tree has at most one translation.
+-- Hence a tree of an accepted grammar with a legal assignment has at most one translation.
 abbrev pub OneTranslation : Type 0
 OneTranslation = (g : Grammar) (m : Passes) (t : Tree) (v w : Valuation) (x y : Value) → IsAccepted g → IsLegal g m → IsTreeOf g t
     → Solves AnyRule g t v → Solves AnyRule g t w → IsTranslation g v x → IsTranslation g w y → x ≡ y
 
--- The equations of a pass stay true as long as the values of this pass and of the earlier ones are kept.
+-- If the rules use only what the assignment allows, the equations of a pass stay true as long as the values of this pass
+-- and of the earlier ones are kept.
 abbrev pub EquationsKept : Type 0
 EquationsKept = (g : Grammar) (m : Passes) (k j : ℕ) (x : Item) (t : Tree) (v w : Valuation)
     → Each (IsLegalFor (HasPass m)) g.productions → k ≤ j → Fits g x t → Same (λ p. p ≤ j) g m t v w → Solves (OfPass m k) g t v
@@ -40,7 +41,7 @@ PassesSolve = (g : Grammar) (m : Passes) (t : Tree) (v : Valuation)
     → Each (λ q. Each (λ r. (k : ℕ) × HasPass m q r.target k) q.rules) g.productions → ((k : ℕ) → Solves (OfPass m k) g t v)
     → Solves AnyRule g t v
 
--- Before any pass has run, the values are unchanged: any values that give each leaf its text.
+-- Before any pass has run, the values are those at the beginning, which are any that give each leaf its text.
 abbrev pub RunBegins : Type 0
 RunBegins = (g : Grammar) (m : Passes) (t : Tree) (u : Valuation) (first : ℕ) → Solves NoRule g t u
     → RanThrough g m t u first first u
@@ -56,13 +57,14 @@ abbrev pub RunSolvesRest : Type 0
 RunSolvesRest = (g : Grammar) (m : Passes) (t : Tree) (u w : Valuation) (first last : ℕ) → IsLastPass last m
     → RanThrough g m t u first (suc last) w → Solves (FromPass m first) g t w
 
--- If passes from pass 1 to the last one ran, the values are the solution.
+-- If the passes from pass 1 to the last one ran, the values are the solution, for an accepted grammar with a legal
+-- assignment.
 abbrev pub RunIsTheSolution : Type 0
 RunIsTheSolution = (g : Grammar) (m : Passes) (t : Tree) (u w : Valuation) (last : ℕ) → IsAccepted g → IsLegal g m
     → IsLastPass last m → IsTreeOf g t → RanThrough g m t u 1 (suc last) w → IsTheSolution g m t w
 
--- The rules of a tree are the rules of the passes up to the last one, since each target belongs to one of
--- these.
+-- For an accepted grammar with a legal assignment, the numbers of rules of the passes up to the last one add up to the
+-- number of rules of a tree, since each target belongs to exactly one of these passes.
 abbrev pub PassesHaveAllRules : Type 0
 PassesHaveAllRules = (g : Grammar) (m : Passes) (t : Tree) (last : ℕ) → IsAccepted g → IsLegal g m → IsLastPass last m
     → sum_of_passes (λ k. rules_of_pass m k g t) 0 last ≡ rules_of g t

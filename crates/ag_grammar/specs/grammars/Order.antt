@@ -19,7 +19,7 @@ literal_number (item.Terminal (Class c)) = None
 abbrev pub literal_numbers : Grammar → List ℕ
 literal_numbers g = filter_map literal_number (flat_map (λ q. q.items) g.productions)
 
--- Numbers are in the order of their first appearance: all smaller numbers appear before a number.
+-- Numbers are in the order of their first appearance: before each number, all smaller ones appear.
 abbrev pub IsInOrderOfAppearance : List ℕ → Type 0
 IsInOrderOfAppearance ns = (i n m : ℕ) → slice_get ns i ≡ Some n → m < n → Has (take i ns) m
 

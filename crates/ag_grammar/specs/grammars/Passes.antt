@@ -63,9 +63,9 @@ abbrev pub MayUse : (k j i p : ℕ) → Type 0
 MayUse k zero i p = p ≤ k
 MayUse k (suc j) i p = ((i ≡ 0) × (p ≤ k)) ⊎ (IsBefore (direction_of k) i (suc j) × (p ≤ k)) ⊎ (p < k)
 
--- Each argument of a rule of the production has a pass that the pass of its target may use; the relation P
--- assigns passes to attributes at places. P need not assign a pass to every attribute: then attributes with a
--- pass depend only on attributes with a pass.
+-- If the target of a rule of the production has a pass, each argument of the rule has a pass that this pass may use. The
+-- relation P assigns passes to attributes at places, but perhaps not to all: so attributes with a pass depend only on
+-- attributes with a pass.
 abbrev pub IsLegalFor : (Production → Target → ℕ → Type 0) → Production → Type 0
 IsLegalFor P q = (r : Rule) (o : Target) (k : ℕ) → IsRule q r → IsArgument r o → P q r.target k
     → (p : ℕ) × P q o p × MayUse k r.target.place o.place p

@@ -1,9 +1,9 @@
 -- Two grammars to try the definitions on. In the first, `out` is a number and not a text: the definitions do
--- not restrict the kind of `out`, and the grammar is shorter this way.
+-- not require a text, and the grammar is shorter this way.
 --   start R; symbol R syn out; symbol A syn s inh i;
 --   R = A A { $0.out = $1.s; $1.i = $2.s; $2.i = 0; }
 --   A = "x" { $0.s = $0.i + 1; }
--- The second has a token.
+-- The second has a NAME.
 --   start S; symbol S syn out;
 --   S = NAME "if" { $0.out = $1.lex; }
 use Rattle.std.specs.Prelude.{ℕ, zero, suc, List, [], ◌∷◌, ◌++◌, pos}
@@ -125,7 +125,7 @@ production_back = record {
   rules = copy_rule (attribute 0 0) 2 s_name 0 ∷ zero_rule (attribute 1 1) ∷ copy_rule (attribute 2 1) 1 s_name 0 ∷ [];
 }
 
--- the first grammar with this production added: each direction is wrong for one of the two productions
+-- the first grammar with this production added: each direction is wrong for one of the two productions of R
 abbrev pub both_ways : Grammar
 both_ways = record sample { productions = sample.productions ++ production_back ∷ []; literals = (120 ∷ []) ∷ (121 ∷ []) ∷ [] }
 

@@ -50,7 +50,7 @@ Supplies r e env = (k : ℕ) (o : Target) → slice_get r.args k ≡ Some o → 
 abbrev pub Holds : Rule → (ℕ → ℕ → Value) → Type 0
 Holds r e = (env : ℕ → Value) → Supplies r e env → e r.target.place r.target.attr ≡ value_of r.expr.0 env
 
--- each rule of a production that satisfies W holds
+-- each rule of a production holds, if the rule satisfies W
 abbrev pub RulesHold : (Production → Rule → Type 0) → Option Production → (ℕ → ℕ → Value) → Type 0
 RulesHold W None e = Unit {0}
 RulesHold W (Some q) e = (r : Rule) → IsRule q r → W q r → Holds r e

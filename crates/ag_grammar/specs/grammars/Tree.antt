@@ -10,7 +10,7 @@ use Rattle.ag_grammar.specs.declared.limits.TheConstants.{MAX_REVERSED_NODES}
 use Rattle.ag_grammar.specs.grammars.AttributeGrammar.{Grammar, stored_items, IsProduction}
 
 mutual
-  -- A leaf is a token: its class and its text. A node has the number of its production and one tree for each
+  -- A leaf is a token of a class: its class and its text. A node has the number of its production and one tree for each
   -- child item, from left to right (the textbook; literals have no tree).
   pub data Tree : Type 0 where
     leaf : (class : ℕ) (text : List ℕ) → Tree

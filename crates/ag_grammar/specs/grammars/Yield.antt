@@ -17,14 +17,14 @@ abbrev pub right_side : Option Production → List Item
 right_side None = []
 right_side (Some q) = q.items
 
--- The yield (the textbook's): the terminals of a tree with their texts, from left to right, with the literals
--- of each production in their places.
+-- The yield (the textbook's): the terminals of a tree with their texts, from left to right, the literals of its
+-- productions included.
 abbrev mutual
   pub yield_of : Grammar → Tree → List Lexeme
   yield_of g (leaf c x) = (Class c, x) ∷ []
   yield_of g (node p ts) = yield_along g (right_side (slice_get g.productions p)) ts
 
-  -- the yield of trees along the items of a right side; a missing tree yields nothing
+  -- the yield of trees along the items of a right side; it ends where a tree is missing
   pub yield_along : Grammar → List Item → Forest → List Lexeme
   yield_along g [] ts = []
   yield_along g (item.Terminal (Literal l) ∷ xs) ts = (Literal l, literal_text g l) ∷ yield_along g xs ts

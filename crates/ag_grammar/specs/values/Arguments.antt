@@ -1,12 +1,12 @@
--- The treatment of arguments that every operator and call shares, except `let`, `if`, `iserr` and `orelse`.
--- All definitions are this project's.
+-- The treatment of arguments that operators, calls and lists share, except the calls `iserr` and `orelse`, whose
+-- values are defined here too. All definitions are this project's.
 use Rattle.std.specs.Prelude.{Bool, true, false, pos, List, [], ◌∷◌, Option, Some, None}
 use Rattle.ag_value.specs.declared.value.ErrorCode.{ErrorCode}
 use Rattle.ag_value.specs.declared.value.Value.{Value, out-Value}
 use Rattle.ag_value.specs.declared.value.Value.TheOpen.{Value-F}
 use Rattle.ag_value.specs.declared.value.Value.TheVariants as value
 
--- the error code of a value that is an error
+-- the error code of a value, if it is an error
 abbrev pub fault_at : Value-F Value → Option ErrorCode
 fault_at (Value-F.Num n) = None
 fault_at (Value-F.Text text) = None

@@ -36,7 +36,7 @@ binary_call_result binary.OrElse v w = or_else v w
 abbrev pub put : Value → Value → Value → Value
 put t k v = strict (t ∷ k ∷ v ∷ []) (put_result t k v)
 
--- `if c then e else f`: c if that is an error, the error `kind` if c is not a number; f if c is 0, else e
+-- `if c then e else f`: f if c is 0, e if c is another number, c if c is an error, and else the error `kind`
 abbrev pub chosen_at : Value-F Value → Value → Value → Value
 chosen_at (Value-F.Num (pos zero)) e f = f
 chosen_at (Value-F.Num (pos (suc n))) e f = e

@@ -12,7 +12,7 @@ use Rattle.ag_grammar.specs.values.Arguments.{strict, truth}
 use Rattle.ag_grammar.specs.values.Lists.{concatenation}
 use Rattle.ag_grammar.specs.values.Numbers.{number_value, of_numbers, quotient, remainder}
 
--- `a == b`, for values of any kinds: 1 if they are the same value. Different well values have different
+-- `a == b`, for values of any kinds: 1 if they are the same value, else 0. Different well values have different
 -- spellings.
 abbrev pub comparison_result : Value → Value → Value
 comparison_result left right = truth (bytes_eq (spelling_of left) (spelling_of right))

@@ -13,7 +13,7 @@ use Rattle.ag_grammar.specs.values.Fitting.{fit}
 abbrev pub pair_with : List ℕ → List (List ℕ × Value) → Option (List ℕ × Value)
 pair_with key pairs = find (λ p. bytes_eq p.0 key) pairs
 
--- the pairs in the order of their keys, with this value at this key; the others are unchanged
+-- for pairs whose keys ascend: the pairs with this value at this key, in the order of their keys; the others are unchanged
 abbrev pub with_pair : List ℕ → Value → List (List ℕ × Value) → List (List ℕ × Value)
 with_pair key v pairs = filter (λ p. is_before p.0 key) pairs ++ (key, v) ∷ filter (λ p. is_before key p.0) pairs
 
@@ -49,7 +49,7 @@ has_at table key = value.Fault Kind
 abbrev pub has_result : Value → Value → Value
 has_result table key = has_at (out-Value table) (out-Value key)
 
--- `keys(t)`: the keys in ascending order
+-- `keys(t)`: the keys in the order of the table, which is ascending if the table is well
 abbrev pub keys_at : Value-F Value → Value
 keys_at (Value-F.Table pairs) = value.List (map (λ p. value.Text p.0) pairs)
 keys_at v = value.Fault Kind
@@ -62,8 +62,8 @@ abbrev pub has_key : List ℕ → Option (List ℕ × Value) → Bool
 has_key key (Some p) = bytes_eq p.0 key
 has_key key None = false
 
--- i is the index at which a key is or would be in a table: the number of pairs with smaller keys. Either the pair at i has the
--- key, or no pair has it.
+-- i is the index at which a key is or would be in a table: the first i pairs are those with smaller keys. Either the pair at i
+-- has the key, or no pair has it.
 pub record IsIndex (key : List ℕ) (pairs : List (List ℕ × Value)) (i : ℕ) : Type 0 where
   pub prefix : filter (λ p. is_before p.0 key) pairs ≡ take i pairs
   pub occurs : has_key key (slice_get pairs i) ≡ true

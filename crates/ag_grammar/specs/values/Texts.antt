@@ -23,7 +23,8 @@ bytes_at v = []
 abbrev pub bytes_of : Value → List ℕ
 bytes_of v = bytes_at (out-Value v)
 
--- the texts, joined with the separator between neighbours, or the error `kind` if an item is not a text
+-- the texts, joined with the separator between neighbours, after the check of the limits; the error `kind` if an item is
+-- not a text
 abbrev pub joined_texts : List Value → List ℕ → Value
 joined_texts items separator =
     if list_all is_text items then fit (value.Text (join_by bytes_of separator items)) else value.Fault Kind

@@ -9,7 +9,8 @@ use crate::syntax::occurrence::Occ;
 use smallvec::SmallVec;
 use std::marker::Model;
 
-/// An expression: its tree, and its distinct occurrences in the order of their first appearance.
+/// An expression: its tree, and the list of its distinct occurrences. The parser lists them in the
+/// order of their first appearance.
 #[derive(Debug, Drop)]
 pub struct Expr {
     node: Node,
@@ -55,8 +56,8 @@ impl Expr {
     }
 }
 
-/// Returns the distinct occurrences of an expression, in the order of their first appearance in its
-/// text. Does not allocate.
+/// Returns the distinct occurrences of an expression, in the order in which `Expr::new` got them.
+/// Does not allocate.
 pub fn occurrences(expr: &Expr) -> &[Occ]
     ensures lent { result.now ≡ expr.now.1 }
     ensures listed { is_below (length result.now) expr.now.0 ≡ true }

@@ -4,14 +4,15 @@ use ag_value::Text;
 use std::alloc::Global;
 use std::default::MadeWith;
 
-/// An occurrence of an attribute in an expression's text.
+/// An occurrence of an attribute in the text of a rule: in its expression, or as its target.
 #[derive(Debug, Drop)]
 pub struct Occ {
-    /// The place: 0 is the left side of a production, 1, 2, .. are its children.
+    /// The place: 0 is the left side of a production; 1, 2, .. are its children.
     pub place: u16,
     /// The attribute's name.
     pub attr: Text,
-    /// The offset in bytes of the `$` of the first occurrence of this pair of place and name.
+    /// The offset in bytes of the `$`: in an expression, that of the first occurrence of this pair of
+    /// place and name.
     pub at: usize,
 }
 

@@ -51,7 +51,7 @@ module _ (v : Vocabulary) (cs : List ℕ) where
       tie : IsLiteral v.literals cut.word → ⊥
       tie is = let k = less cut.word f.rest cut.split is in omega arith
 
-  -- and a literal is if no word of a class is longer
+  -- and a literal is the token if no word of a class at the beginning is longer
   literal_token : (f : LeadingWord) → (cut : IsLeadingLiteral v.literals cs f)
       → ((word more : List ℕ) → cs ≡ word ++ more → IsClassWord v.classes word → length word ≤ length cut.word)
       → IsLeadingToken v cs f

@@ -13,7 +13,7 @@ use Rattle.unicode_ident.proofs.IdentLemmas.{is_xid_continue-ascii, is_xid_start
 use Rattle.ag_grammar.specs.Lists.{Has}
 use Rattle.ag_grammar.specs.declared.grammar.Terminal.TheVariants.{Class}
 use Rattle.ag_tokens.specs.Tokens.{is_quotable, starts_name, IsName, IsDigits}
-use Rattle.ag_tokens.proofs.Fronts.{prefix_passes, prefix_reaches, front_ends}
+use Rattle.ag_tokens.proofs.Prefixes.{prefix_passes, prefix_reaches, prefix_ends}
 use Rattle.ag_tokens.proofs.TokenLaws.{no_start}
 use Rattle.ag_scan.specs.Words.{IsWordOfClass, IsClassWord, IsLongest, BeginsNone}
 use Rattle.ag_scan.specs.Cutting.{LeadingWord, prefix_in, rest_after, span_from, close_quote, text_from, uses, class_from}
@@ -106,7 +106,7 @@ text_reached classes body more used all = record {
         append_assoc body (34 ∷ []) more,
         no_start 34 (lit< tt) refl refl,
         has_used classes 2 used.0 used.1,
-        front_ends is_quotable body more 34 all refl,
+        prefix_ends is_quotable body more 34 all refl,
         take-append_seam body (34 ∷ more),
         drop-append_seam body (34 ∷ more),
       ) refl;

@@ -11,13 +11,13 @@ use Rattle.ag_scan.specs.Cutting.{IsLeadingLiteral}
 use Rattle.ag_scan.specs.Table.{IsPrefix, IsLongestPrefix, HasNoPrefix}
 use Rattle.ag_scan.specs.Words.{IsLiteral, IsLongest, BeginsNone}
 use Rattle.ag_scan.proofs.words.Choosing.{no_longer}
-use Rattle.ag_scan.proofs.words.Tables.{front_fits}
+use Rattle.ag_scan.proofs.words.Tables.{prefix_fits}
 
 -- a text that is a prefix of another ends at a character boundary
 pub boundary : (text word : List ℕ) → IsUtf8 text → IsUtf8 word → IsPrefix word text → IsCharBoundary text (length word)
 boundary text word utf8 utf8' prefix =
     let taken : take (length word) text ≡ word = ap (take (length word)) prefix.1 ∙ take-append_seam word prefix.0 in
-    IsCharBoundary-from_take text (length word) utf8 (front_fits word text prefix) (subst IsUtf8 (sym taken) utf8')
+    IsCharBoundary-from_take text (length word) utf8 (prefix_fits word text prefix) (subst IsUtf8 (sym taken) utf8')
 
 pub split_characters : (text word rest : List ℕ) → IsUtf8 word → IsPrefix word text → rest ≡ drop (length word) text
     → chars text ≡ chars word ++ chars rest

@@ -26,8 +26,8 @@ pub same_there : {A : Type 0} (xs : List A) (i j : ℕ) (x y : A) → slice_get 
 same_there xs i j x y ex ey e = grind arith
 
 -- a prefix is not longer than the text
-pub front_fits : (p text : List ℕ) → IsPrefix p text → length p ≤ length text
-front_fits p text (rest, e) = omega (arith, ap length e, length-append p rest)
+pub prefix_fits : (p text : List ℕ) → IsPrefix p text → length p ≤ length text
+prefix_fits p text (rest, e) = omega (arith, ap length e, length-append p rest)
 
 -- no entry after the last one that is a prefix of the text is a prefix of it
 pub last_after : (entries : List LiteralEntry) (bound : ℕ) (text : List ℕ) (o : Option ℕ) → IsLastPrefixIfAny entries bound text o
@@ -92,7 +92,7 @@ module _ (literals : List (List ℕ)) (entries : List LiteralEntry) (shorter : L
           absurd
           (split j bound (λ less. last.last.none j u (omega arith) less at is)
           (λ far. others.none j u far (slice_get_within entries j u at) at is)))
-          (λ le. front_fits u.text.now w.text.now
+          (λ le. prefix_fits u.text.now w.text.now
           (prefix_between u.text.now w.text.now text (table.ordered.each j k u w le at there)
           (up.each k w last.below there) is))
 
@@ -155,8 +155,8 @@ sorted_is_ordered entries up = record {
 -- ---- the position of the text among the entries
 
 -- whether an entry is not after the text
-abbrev pub stands_up : List ℕ → LiteralEntry → Bool
-stands_up text w = is_le (slice_cmp nat_cmp w.text.now text)
+abbrev pub is_up_to : List ℕ → LiteralEntry → Bool
+is_up_to text w = is_le (slice_cmp nat_cmp w.text.now text)
 
 up_of_test : (a b : List ℕ) → is_le (slice_cmp nat_cmp a b) ≡ true → IsNotAfter a b
 up_of_test a b h = record { up = grind arith }
@@ -164,7 +164,7 @@ up_of_test a b h = record { up = grind arith }
 test_of_up : (a b : List ℕ) → IsNotAfter a b → is_le (slice_cmp nat_cmp a b) ≡ true
 test_of_up a b h = let up = h.up in grind arith
 
-pub parted : (entries : List LiteralEntry) (text : List ℕ) → AreOrdered entries → IsPartitionedBy (stands_up text) entries
+pub parted : (entries : List LiteralEntry) (text : List ℕ) → AreOrdered entries → IsPartitionedBy (is_up_to text) entries
 parted entries text ordered i j d le within passes =
     let first = slice_get-get_or entries i d (omega arith) in
     let second = slice_get-get_or entries j d within in
@@ -174,17 +174,17 @@ parted entries text ordered i j d le within passes =
     (up_of_test (get_or entries j d).text.now text passes))
 
 pub up_to_point : (entries : List LiteralEntry) (text : List ℕ) (n : ℕ)
-    → IsPartitionPoint (λ w. stands_up text w ≡ true) (λ w. stands_up text w ≡ false) entries n → AreNotAfter entries n text
+    → IsPartitionPoint (λ w. is_up_to text w ≡ true) (λ w. is_up_to text w ≡ false) entries n → AreNotAfter entries n text
 up_to_point entries text n point =
     record {
       each =
           λ i w less at. up_of_test w.text.now text
-          (subst (λ (u : LiteralEntry). stands_up text u ≡ true) (get_or_from_slice_get entries i w w at)
+          (subst (λ (u : LiteralEntry). is_up_to text u ≡ true) (get_or_from_slice_get entries i w w at)
           (point.0 i w (omega arith) less));
     }
 
 pub none_past_point : (entries : List LiteralEntry) (text : List ℕ) (n : ℕ)
-    → IsPartitionPoint (λ w. stands_up text w ≡ true) (λ w. stands_up text w ≡ false) entries n
+    → IsPartitionPoint (λ w. is_up_to text w ≡ true) (λ w. is_up_to text w ≡ false) entries n
     → NoPrefix entries n (length entries) text
 none_past_point entries text n point = record {
   none = λ i w low high at prefix.

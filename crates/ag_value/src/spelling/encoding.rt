@@ -28,8 +28,8 @@ pub fn encode(value: &Value, out: &mut Vec<u8>) -> Result<(), NoMemory>
     }
 }
 
-/// Appends the spelling of a value. Fails with NoMemory, and then may have appended a part of it; so
-/// do the other functions of this file except `encode`.
+/// Appends the spelling of a value. Fails with NoMemory, and then may have appended a part of it; this
+/// is also true of the functions below that return a `Result`.
 #[cycle(encoding)]
 #[tactic(auto, using(crate::proofs::Extending::appending))]
 fn append_value(out: &mut Vec<u8>, value: &Value) -> Result<(), NoMemory>

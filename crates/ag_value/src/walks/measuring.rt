@@ -33,8 +33,8 @@ fn weight_of_items(items: &[Value]) -> u64
     total
 }
 
-/// Returns the sum of the weights of pairs, saturated at `u64::MAX`: 4, the key's bytes, and the
-/// value's weight.
+/// Returns the sum of the weights of pairs, saturated at `u64::MAX`. The weight of a pair is 4, the
+/// number of the key's bytes, and the value's weight together.
 #[cycle(weighing)]
 fn weight_of_pairs(pairs: &[(Text, Value)]) -> u64
     ensures { result ≡ min (sum (map weight_of_pair pairs.now)) (2 ^ 64 - 1) }

@@ -14,7 +14,7 @@ pub struct Report {
     /// The number of records that the passes read: for each pass as many as the tree has nodes. The
     /// records that the parser wrote are not counted.
     pub read: u64,
-    /// The number of records that the passes wrote, which is the same.
+    /// The number of records that the passes wrote: as many as they read.
     pub written: u64,
     /// The device that has the file of the last pass. The other one has that of the pass before it,
     /// except if `Translator::evaluate_tree` ran one pass: then the tree's own device has it.

@@ -27,9 +27,9 @@ use treefile::Device;
 ///
 /// Fails before the device is used with X1 to X4 if the text is not an expression, and with X2 at
 /// its first `$` if it has occurrences. Fails with D1 Device if the device failed, with B1 or B2 if
-/// it does not return the bytes that were written, and with NoMemory if memory is refused. Only then
-/// writes to `out`, and fails with O2 Write if a write fails or takes no byte. After each fault
-/// except X the device has its old content, or a prefix of the file.
+/// it does not return the bytes that were written, and with NoMemory if memory is refused. Writes to
+/// `out` last, and fails with O2 Write if a write fails or takes no byte. After each fault except X
+/// the device has its old content, or a prefix of the file.
 pub fn show_value<D: Device, W: Write>(
     alloc: Global,
     text: &str,
@@ -121,7 +121,7 @@ fn first_occurrence(expr: &Expr) -> Option<usize>
     }
 }
 
-/// The environment of an expression without occurrences. It lends 0 for each, which is never used.
+/// The environment of an expression without occurrences. It lends 0 for any number; that is never used.
 #[derive(Drop)]
 struct NoOccurrences {
     number: Value,

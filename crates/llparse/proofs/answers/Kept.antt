@@ -32,7 +32,7 @@ parted texts others own base is at =
     (ap (take base) is ∙ take_at others own base (sym at), ap (drop base) is ∙ drop_at others own base (sym at))
 
 module _ (g : Grammar) where
-  -- trees of some items have no more texts, and each is well
+  -- trees of some items have at most as many texts as there are items, and each text is well
   texts_fit : (xs : List Item) (ts : Forest) → FitsAll g xs ts → (length (leaf_texts ts) ≤ length xs) × All IsWell (leaf_texts ts)
   texts_fit [] none f = (omega arith, All-nil IsWell)
   texts_fit [] (more t ts) f = absurd f

@@ -32,7 +32,7 @@ other_next xs i x a there other e =
     let same : ahead.Terminal x.kind ≡ ahead.Terminal a = sym (ap ahead_of (next_is xs i x there)) ∙ e in
     other (cc)
 
--- and at the end of none
+-- and at the end there is none
 pub none_is : (xs : List Token) (i : ℕ) (a : Terminal) → slice_get xs i ≡ None
     → ahead_of (drop i (words_of xs)) ≡ ahead.Terminal a → ⊥
 none_is xs i a none e = let bad : ahead.End ≡ ahead.Terminal a = sym (ap ahead_of (no_next xs i none)) ∙ e in cc

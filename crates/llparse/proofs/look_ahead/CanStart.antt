@@ -59,7 +59,7 @@ adds_rest {Y} c R items at following d flag A B C lt step is old new = subst (λ
       ];
     }
 
--- the look-ahead one item further back
+-- whether the items can start with the look-ahead, from one item earlier on
 pub next_more : (b n : Item → Bool) (last : Bool) (items : List Item) (at following : ℕ) (d : Item) (flag : Bool)
     → at < length items → following ≡ at + 1 → flag ≡ can_start_in b n last (drop following items)
     → (b (get_or items at d) || (n (get_or items at d) && flag)) ≡ can_start_in b n last (drop at items)
@@ -67,7 +67,7 @@ next_more b n last items at following d flag lt step is =
     let split : drop at items ≡ get_or items at d ∷ drop following items = rw (step, add-one) (drop-cons items at d lt) in
     rw (split, is) refl
 
--- an item with such a rest splits the list, and each such split has one
+-- an item after which the rest has the property splits the list there, and the converse
 pub rest_split : {Y : Type 0} (c : List Item → Bool) (R : Item → Y → Type 0) (items : List Item) (y : Y) → OfRest c R items y
     → (xs : List Item) × (z : Item) × (ys : List Item) × (items ≡ xs ++ z ∷ ys) × (c ys ≡ true) × R z y
 rest_split c R [] y h = absurd h

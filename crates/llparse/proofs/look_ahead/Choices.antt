@@ -10,7 +10,7 @@ use Rattle.closure.specs.Following.{is_marked}
 use Rattle.llparse.specs.declared.table.choosing.Pair.{Pair}
 
 module _ (qs : List Production) (marks : List Bool) where
-  -- a marked production from a number on is that one, or comes after it
+  -- a number from i on is i, or comes after it
   from_cases : (i j : ℕ) → i ≤ j → (j ≡ i) ⊎ (i + 1 ≤ j)
   from_cases i j le = elim (cases_eq j i) [
     | inl same ↦ inl same
@@ -66,7 +66,7 @@ module _ (qs : List Production) (marks : List Bool) where
       ];
     }
 
-    -- if the first of a clash is this production, the second is of its symbol
+    -- if this production is the first of a conflicting pair, the second is of its symbol
     second_of : (b : ℕ) → AreConflicting qs marks i b → IsMarkedOf qs marks q.left b
     second_of b conflict_with =
         subst (λ z. IsMarkedOf qs marks z b) (same_symbol i conflict_with.1.0 q.left conflict_with.1.1 this) conflict_with.1.2
@@ -117,12 +117,13 @@ module _ (qs : List Production) (marks : List Bool) where
     keeps_pair choices (Some p) e old least = keeps_some choices p e old least
 
     -- the least pair, by the choice for the symbol
-    pub clashes : (choices : List (Option ℕ)) (chosen : Option ℕ) (pair result : Option Pair) → chosen ≡ choice_at choices q.left
+    pub pairs_conflict : (choices : List (Option ℕ)) (chosen : Option ℕ) (pair result : Option Pair)
+        → chosen ≡ choice_at choices q.left
         → ((r : ℕ) → chosen ≡ Some r → result ≡ Some (record { first = i; second = r })) → (chosen ≡ None → result ≡ pair)
         → AreEarliestFrom qs marks (i + 1) choices → IsLeastFrom qs marks (i + 1) pair → IsLeastFrom qs marks i result
-    clashes choices (Some r) pair result read some none old least =
+    pairs_conflict choices (Some r) pair result read some none old least =
         subst (IsLeastFrom qs marks i) (sym (some r refl)) (put_pair choices r (sym read) old)
-    clashes choices None pair result read some none old least =
+    pairs_conflict choices None pair result read some none old least =
         subst (IsLeastFrom qs marks i) (sym (none refl)) (keeps_pair choices pair (sym read) old least)
 
   -- a production that is not marked changes nothing

@@ -204,7 +204,7 @@ module _ (g : Grammar) (ok : IsAccepted g) where
           ]
         ]))
 
-  -- a predicted look-ahead is one of the grammar's
+  -- a look-ahead that predicts a production is a literal of the grammar, a class, or the end
   mutual
     first_known : (s : ℕ) (a : Terminal) → InFirst g s a → IsKnownAhead g (ahead.Terminal a)
     first_known s a (of_production p q e l h) =
@@ -242,7 +242,7 @@ module _ (g : Grammar) (ok : IsAccepted g) where
   of_known (ahead.Terminal (Class c)) h = grind (arith, nat_tests)
   of_known ahead.End h = refl
 
-  -- if no conflict is left, the grammar has none
+  -- if there is no conflict at any look-ahead, the grammar has none
   pub free_of : IsLeastBelow g (length g.literals + 4) None → HasNoConflict g
   free_of none a b x c =
       let known = predicts_known a c.one x c.first_is c.one_predicts in
@@ -308,7 +308,7 @@ module _ (g : Grammar) (ok : IsAccepted g) where
     pub fits : FitsGrammar g t
     fits s x k = (there s x k (is_known t.literals x) refl, back s x k)
 
--- the same conflict in other words
+-- the least conflict, by equal numbers and an equal look-ahead
 pub same_least : (g : Grammar) (s s' a a' b b' : ℕ) (x x' : Ahead) → IsLeastConflict g s a b x → s ≡ s' → a ≡ a' → b ≡ b' → x ≡ x'
     → IsLeastConflict g s' a' b' x'
 same_least g s s' a a' b b' x x' h es ea eb ex =

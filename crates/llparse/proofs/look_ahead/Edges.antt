@@ -30,37 +30,37 @@ cons_cases y xs x h = elim (Contains-append_cases (y ∷ []) xs x h) [
 drop_more : (items : List Item) (at : ℕ) (d : Item) → at < length items → drop at items ≡ get_or items at d ∷ drop (at + 1) items
 drop_more items at d lt = rw add-one (drop-cons items at d lt)
 
-front_goes : (n : ℕ → Bool) (y : Item) (zs : List Item) → is_nullable_item n y ≡ true
+prefix_goes_on : (n : ℕ → Bool) (y : Item) (zs : List Item) → is_nullable_item n y ≡ true
     → starting_items n (y ∷ zs) ≡ y ∷ starting_items n zs
-front_goes n y zs h = rw h refl
+prefix_goes_on n y zs h = rw h refl
 
-front_ends : (n : ℕ → Bool) (y : Item) (zs : List Item) → is_nullable_item n y ≡ false → starting_items n (y ∷ zs) ≡ y ∷ []
-front_ends n y zs h = rw h refl
+prefix_ends : (n : ℕ → Bool) (y : Item) (zs : List Item) → is_nullable_item n y ≡ false → starting_items n (y ∷ zs) ≡ y ∷ []
+prefix_ends n y zs h = rw h refl
 
--- one more item of the front is passed
+-- a nullable item is a starting item, and the starting items go on after it
 pub prefix_step : (n : ℕ → Bool) (items : List Item) (at : ℕ) (d : Item) → at < length items
     → is_nullable_item n (get_or items at d) ≡ true → starting_items n items ≡ take at items ++ starting_items n (drop at items)
     → starting_items n items ≡ take (at + 1) items ++ starting_items n (drop (at + 1) items)
 prefix_step n items at d lt h is =
     is ∙ ap (λ zs. take at items ++ starting_items n zs) (drop_more items at d lt)
-    ∙ ap (λ zs. take at items ++ zs) (front_goes n (get_or items at d) (drop (at + 1) items) h)
+    ∙ ap (λ zs. take at items ++ zs) (prefix_goes_on n (get_or items at d) (drop (at + 1) items) h)
     ∙ sym (append_assoc (take at items) (get_or items at d ∷ []) (starting_items n (drop (at + 1) items)))
     ∙ ap (λ zs. zs ++ starting_items n (drop (at + 1) items)) (sym (take_more items at d lt))
 
--- an item that is not nullable is the last of the front
+-- an item that is not nullable is the last starting item
 pub prefix_stop : (n : ℕ → Bool) (items : List Item) (at : ℕ) (d : Item) → at < length items
     → is_nullable_item n (get_or items at d) ≡ false → starting_items n items ≡ take at items ++ starting_items n (drop at items)
     → take (at + 1) items ≡ starting_items n items
 prefix_stop n items at d lt h is =
     take_more items at d lt
     ∙ sym (is ∙ ap (λ zs. take at items ++ starting_items n zs) (drop_more items at d lt)
-    ∙ ap (λ zs. take at items ++ zs) (front_ends n (get_or items at d) (drop (at + 1) items) h))
+    ∙ ap (λ zs. take at items ++ zs) (prefix_ends n (get_or items at d) (drop (at + 1) items) h))
 
--- the front has all items
-pub front_whole : (n : ℕ → Bool) (items : List Item) (at : ℕ) → length items ≤ at
+-- all items are starting items
+pub prefix_whole : (n : ℕ → Bool) (items : List Item) (at : ℕ) → length items ≤ at
     → starting_items n items ≡ take at items ++ starting_items n (drop at items)
     → take (length items) items ≡ starting_items n items
-front_whole n items at most is =
+prefix_whole n items at most is =
     take_all (length items) items (omega arith)
     ∙ sym (is ∙ ap (λ zs. take at items ++ starting_items n zs) (drop_all at items most) ∙ append-nil (take at items)
     ∙ take_all at items most)

@@ -1,4 +1,4 @@
--- FIRST is the set of nodes that are reached.
+-- The symbols with a look-ahead in FIRST are those that the edges for FIRST reach from it.
 use Rattle.std.proofs.Common.{ℕ, Contains, take, ◌+◌, ◌≡◌, ◌<◌, ◌⊎◌, ◌↔◌, Bool, true, false, List, [], ◌∷◌, length, map, get_or}
 use Rattle.std.proofs.Common.{All, refl, ap, sym, ◌∙◌, subst, inl, inr, arith}
 use Rattle.std.specs.Prelude.{if◌then◌else◌}
@@ -70,11 +70,11 @@ module _ (g : Grammar) (ok : IsAccepted g) where
   first_below s a (of_production p q e l h) = rw (← l) (ok.named.left_sides p q e)
 
   module _ (n : ℕ → Bool) where
-    front_within : (xs : List Item) (y : Item) → Contains (starting_items n xs) y → Contains xs y
-    front_within [] y h = h
-    front_within (x ∷ xs) y h = elim (cons_cases x (if is_nullable_item n x then starting_items n xs else []) y h) [
+    prefix_within : (xs : List Item) (y : Item) → Contains (starting_items n xs) y → Contains xs y
+    prefix_within [] y h = h
+    prefix_within (x ∷ xs) y h = elim (cons_cases x (if is_nullable_item n x then starting_items n xs else []) y h) [
       | inl e ↦ rw e (contains_here y xs)
-      | inr more ↦ contains_there x xs y (front_within xs y (among (is_nullable_item n x) (starting_items n xs) more))
+      | inr more ↦ contains_there x xs y (prefix_within xs y (among (is_nullable_item n x) (starting_items n xs) more))
     ]
       where
         among : (b : Bool) (zs : List Item) → Contains (if b then zs else []) y → Contains zs y
@@ -93,7 +93,7 @@ module _ (g : Grammar) (ok : IsAccepted g) where
     later_in sound xs y a (item.Symbol s) rec h = later_at xs y a s (n s) (sound s) rec h
     later_in sound xs y a (item.Terminal b) rec h = absurd (contains_none y h)
 
-    -- the items begin with what an item of their front begins with
+    -- the items begin with what one of their starting items begins with
     pub prefix_first : ((s : ℕ) → n s ≡ true → IsNullable g s) → (xs : List Item) (y : Item) (a : Terminal)
         → Contains (starting_items n xs) y → ((zs : List Item) → InFirstOf g (y ∷ zs) a) → InFirstOf g xs a
     prefix_first sound [] y a h begins = absurd (contains_none y h)
@@ -126,7 +126,7 @@ module _ (g : Grammar) (ok : IsAccepted g) where
     edges_below edges some_edge k d lt =
         let r = some_edge (get_or edges k d) (Contains-get_or edges k d lt) in
         let below = left_in r.0 r.1 in
-        let from = node_below r.2.0 (named_in r.0 r.2.0 r.1 (front_within r.0.items r.2.0 r.2.1)) in
+        let from = node_below r.2.0 (named_in r.0 r.2.0 r.1 (prefix_within r.0.items r.2.0 r.2.1)) in
         let is = r.2.2 in
         record { from = rw is.tail from; to = omega (arith, is.head) }
 
@@ -147,7 +147,7 @@ module _ (g : Grammar) (ok : IsAccepted g) where
           let same : index_of (length g.literals) x ≡ index_of (length g.literals) (ahead.Terminal a) = omega arith in
           (a, refl, same_ahead x (ahead.Terminal a) known (known_terminal a h) same)
 
-      -- a node that is reached is the look-ahead, or begins with it
+      -- a node that is reached is that of the look-ahead, or of an item that begins with it
       reached_may : ((s : ℕ) → n s ≡ true → IsNullable g s)
           → ((e : Edge) → Contains edges e → OfSome (IsFirstEdge g n) g.productions e) → (t : ℕ) → Reached t → (t ≡ root) ⊎ May t
       reached_may sound some_edge = reached_in edges (root ∷ []) (λ t. (t ≡ root) ⊎ May t) (λ t h. elim (cons_cases root [] t h) [
@@ -160,7 +160,7 @@ module _ (g : Grammar) (ok : IsAccepted g) where
           let y = r.2.0 in
           elim before [
             | inl at_root ↦
-                let f = root_item y (named_in q y r.1 (front_within q.items y r.2.1)) (sym r.2.2.tail ∙ at_root) in
+                let f = root_item y (named_in q y r.1 (prefix_within q.items y r.2.1)) (sym r.2.2.tail ∙ at_root) in
                 inr (
                   f.0,
                   f.2,

@@ -1,4 +1,4 @@
--- FOLLOW is the set of nodes that are reached.
+-- The symbols with a look-ahead in FOLLOW are those that the edges for FOLLOW reach from its seeds.
 use Rattle.std.proofs.Common.{ℕ, Contains, take, ◌+◌, ◌≡◌, ◌<◌, ◌⊎◌, ◌↔◌, Bool, true, false, List, ◌∷◌, ◌++◌, length, map, get_or}
 use Rattle.std.proofs.Common.{All, refl, sym, ◌∙◌, subst, inl, inr, arith}
 use Rattle.std.proofs.lemmas.List.Elements.{Contains-get_or, Contains-append_right}
@@ -28,7 +28,7 @@ module _ (g : Grammar) (ok : IsAccepted g) (n : ℕ → Bool) where
   pub start_below : g.start < length g.symbols
   start_below = slice_get_within g.symbols g.start ok.start.symbol ok.start.declared
 
-  -- the item at which the right side of a production is split
+  -- an item at which the right side of a production is split is named
   split_named : (q : Production) (xs ys : List Item) (z : Item) → Contains g.productions q → q.items ≡ xs ++ z ∷ ys
       → IsNamedItem g z
   split_named q xs ys z hq e =
@@ -64,7 +64,7 @@ module _ (g : Grammar) (ok : IsAccepted g) (n : ℕ → Bool) where
         omega arith
   ]
 
-  -- the start symbol is a seed if the look-ahead is the end
+  -- the seeds are those of the productions, and the start symbol if the look-ahead is the end
   pub all_seeds : (b : ℕ → Bool) (x : Ahead) (ended : Bool) (start : ℕ) (before seeds : List ℕ) → ended ≡ true ↔ x ≡ ahead.End
       → start ≡ g.start → ((t : ℕ) → Contains before t ↔ OfSome (IsFollowSeed g n b) g.productions t)
       → Adds (λ t. (ended ≡ true) × (t ≡ start)) (Contains before) (Contains seeds) → (t : ℕ)

@@ -1,4 +1,4 @@
--- The productions that predict a look-ahead.
+-- The productions that a look-ahead predicts.
 use Rattle.std.proofs.Common.{ℕ, zero, suc, ◌+◌, ◌≡◌, ◌<◌, ◌↔◌, Bool, true, List, [], ◌∷◌, ◌++◌, length, get_or, refl, ap, sym}
 use Rattle.std.proofs.Common.{◌∙◌, subst, inl, inr, arith}
 use Rattle.std.proofs.lemmas.Bool.{cases_eq}
@@ -18,7 +18,8 @@ use Rattle.llparse.proofs.look_ahead.CanStart.{can_start_iff, next_after, next_c
 use Rattle.closure.proofs.Positions.{element_at}
 use Rattle.llparse.proofs.look_ahead.Firsts.{left_in, named_in}
 
--- a production is predicted if the look-ahead comes next along its items, or follows it
+-- a production is predicted exactly if its items can start with the look-ahead, or are all nullable and its left side has it in
+-- FOLLOW
 pub predicts_iff : (g : Grammar) (ok : IsAccepted g) (n : ℕ → Bool) (known : (s : ℕ) → n s ≡ true ↔ IsNullable g s) (x : Ahead)
     (begins follows : List Bool) → AreFirstMarks g x begins → AreFollowMarks g x follows
     → (p : ℕ) (q : Production) → IsProduction g p q

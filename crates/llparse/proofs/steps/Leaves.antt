@@ -19,7 +19,7 @@ use Rattle.llparse.specs.declared.ahead.Ahead.TheVariants as ahead
 use Rattle.llparse.specs.declared.sentence.parser.OpenProduction.{OpenProduction}
 use Rattle.llparse.proofs.steps.Begins.{begins_leaf, begins_reading}
 use Rattle.ag_scan.proofs.Lefts.{following}
-use Rattle.llparse.proofs.steps.Fronts.{one_more}
+use Rattle.llparse.proofs.steps.Prefixes.{one_more}
 use Rattle.llparse.proofs.answers.Kept.{texts-joined}
 use Rattle.llparse.proofs.steps.Shown.{length-shows}
 use Rattle.llparse.proofs.steps.Sizes as size

@@ -36,7 +36,7 @@ module _ (k : Task) where
       subst (λ ys. Reading k node.production node.base ys fs i n rs)
       (rest_at (right_side k.grammar node.production) node.passed x next)
 
-  -- an open node at its end
+  -- an open node at its end has no item left
   pub ends : (node : OpenProduction) (fs : List OpenProduction) (i n : ℕ) (rs : Output)
       → slice_get (right_side k.grammar node.production) node.passed ≡ None
       → Between k (node ∷ fs) i n rs → Reading k node.production node.base [] fs i n rs
@@ -44,7 +44,7 @@ module _ (k : Task) where
       subst (λ ys. Reading k node.production node.base ys fs i n rs)
       (rest_none (right_side k.grammar node.production) node.passed over)
 
-  -- is closed
+  -- an open node at its end is closed
   pub closed : (p base : ℕ) (fs : List OpenProduction) (i n : ℕ) (rs out : Output)
       → WhenHonest k.honest (out.bytes ≡ rs.bytes ++ node_frame p (drop base rs.texts)) → out.texts ≡ take base rs.texts
       → Reading k p base [] fs i n rs → Between k fs i n out
@@ -104,7 +104,7 @@ module _ (k : Task) where
   large_leaf accepted c (f ∷ fs) i n rs large b =
       leaves.large_leaf k accepted large b
 
--- ---- fewer steps are left
+-- fewer steps are left
 
 most_is : (ps : List Production) (p : ℕ) → length (yields.right_side (slice_get ps p)) ≤ total_length ps
 most_is [] p = omega arith

@@ -126,7 +126,7 @@ module _ (k : Task) where
         only = λ others t e p. let w = a.complete others t e p in passed w.0 w.1 t w.4;
       }
 
-  -- a node that is opened counts, and is below the others
+  -- if a node is to be opened and a limit is reached, the words leave only trees beyond it
   pub deep_node : {s : ℕ} {fs : List OpenProduction} {i n : ℕ} {rs : Output} → IsAccepted k.grammar → k.depth ≤ length fs
       → AtSymbol k s fs i n rs → IsTooDeep k
   deep_node {fs = fs} accepted full a =

@@ -57,7 +57,7 @@ module _ (g : Grammar) where
       back (c, us, is, e, (fs, vs, fit, e2, k)) =
           (more c fs, vs, (is, fit), e ∙ ap (λ x. words c ++ x) e2 ∙ sym (append_assoc (words c) (all_words fs xs) vs), k)
 
-  -- a word after a child of the innermost open node is in FOLLOW of its symbol
+  -- the look-ahead after a child of the innermost open node is in FOLLOW of the child's symbol
   follow_of : (os : List Open) (s : ℕ) → IsStack g os s → (c : Tree) (ws : List Lexeme) (t : Tree) → Continues g os c ws t
       → InFollow g s (ahead_of ws)
   follow_of [] s is c ws t (e, same) =
@@ -210,7 +210,7 @@ module _ (g : Grammar) where
       back (fs, vs, fit, e, k) =
           (fs, vs, fit, e, subst (λ x. Continues g os (node p x) vs t) (joined_assoc done (more c none) fs) k)
 
-  -- two trees of the same words are the same
+  -- the grammar of the tables has no conflict, so two trees of the same words are the same
   pub free : (tables : Choices) → FitsGrammar g tables → HasNoConflict g
   free tables fits i j x c =
       let one : choice_of tables c.one.left x ≡ Some i = (fits c.one.left x i).1 (c.one, c.first_is, refl, c.one_predicts) in

@@ -42,7 +42,7 @@ module _ (k : Task) (tables : Choices) (fits : FitsGrammar k.grammar tables) (s 
   pub not_begun : IsAccepted k.grammar → choice_of tables s (ahead_of (drop 0 k.words)) ≡ None → IsStuckAt k.grammar k.words 0
   not_begun accepted unnamed = no_rule k tables fits accepted s unnamed at_start
 
--- consecutive calls of the device persist
+-- the effects of two consecutive calls on the device are those of one, but for the cause of a failure
 pub persists_on : {E : Type 0} (a b d : Bool) (x y z : ℕ) → Persists a b x y ⊥ → Persists b d y z E → Persists a d x z ⊥
 persists_on a b d x y z p q =
     let first = p.kept in

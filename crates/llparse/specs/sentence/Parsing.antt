@@ -35,11 +35,11 @@ abbrev pub task_of : Grammar → List Token → Bool → List ℕ → Task
 task_of g tokens honest prefix =
     record { grammar = g; words = words_of tokens; depth = max_depth; nodes = max_nodes; honest = honest; prefix = prefix }
 
--- the right side of a production's number, empty if there is none
+-- the right side of the production with this number, empty if there is none
 abbrev pub right_side : Grammar → ℕ → List Item
 right_side g p = yields.right_side (slice_get g.productions p)
 
--- the frames of a leaf and of a node, which has no value of its own yet, but copies of its leaves' texts
+-- the frames of a leaf and of a node; a node has no value of its own yet, but copies of the texts of its children that are leaves
 abbrev pub leaf_frame : ℕ → List ℕ → List ℕ
 leaf_frame c x = frame (token_body c x)
 
@@ -89,7 +89,7 @@ abbrev pub IsShallow : ℕ → List Open → Type 0
 IsShallow depth [] = Unit {0}
 IsShallow depth (o ∷ os) = (deepest o.done + suc (length os) ≤ depth) × IsShallow depth os
 
--- the position `at` in the words, the count of nodes, the records and the texts agree with the open nodes
+-- the position `at` in the words, the count of nodes, the records and the texts agree with the open nodes, within the limits
 pub record Agrees (k : Task) (os : List Open) (at count : ℕ) (made : Output) : Type 0 where
   pub within : at ≤ length k.words
   pub content : WhenHonest k.honest (made.bytes ≡ k.prefix ++ written os)
@@ -123,7 +123,8 @@ pub record AtSymbol (k : Task) (s : ℕ) (fs : List OpenProduction) (at count : 
   pub complete : (rest : List Lexeme) (t : Tree) → ahead_of rest ≡ ahead_of (drop at k.words) → IsTreeAfter k at rest t
       → ContinuesWith k.grammar under s rest t
 
--- A tree is done, and nothing is open; it is the one tree of the words read so far, and no tree has more words.
+-- A tree is done, and nothing is open; it is the one tree of the words read so far, and no tree continues them with the terminal
+-- of the next word.
 pub record Finished (k : Task) (at count : ℕ) (bytes : List ℕ) : Type 0 where
   pub tree : Tree
   pub within : at ≤ length k.words

@@ -6,7 +6,7 @@ use Rattle.treefile.specs.declared.device.DeviceFault.TheVariants as device_faul
 use Rattle.llparse.specs.declared.sentence.parse_fault.ParseFault.{ParseFault}
 use Rattle.llparse.specs.declared.sentence.parse_fault.ParseFault.TheVariants as parse_fault
 
--- of a call that writes: the device failed, or memory was refused
+-- the fault of a parse for the fault of a call that writes
 abbrev pub parse_fault_of : DeviceFault → ParseFault
 parse_fault_of device_fault.Failed = parse_fault.Device
 parse_fault_of device_fault.NoMemory = parse_fault.NoMemory
@@ -17,8 +17,8 @@ IsResourceFault parse_fault.Device = Unit {0}
 IsResourceFault parse_fault.NoMemory = Unit {0}
 IsResourceFault fault = ⊥
 
--- The effects of a call that appends records on the device, besides its content, and on the writer: the
--- writer is broken exactly if the call returns that the device failed, and then failures rose.
+-- The effects that a call which appends records has on the writer, and on the device besides its content: the
+-- writer is broken exactly if the call fails because the device failed, and then failures rose.
 pub record BreaksWriter {D : Type 0} (honest : D → Bool) (failures : D → ℕ) (old new : D) (is_broken : Bool)
     (failed : Type 0) : Type 0 where
   pub persists : Persists (honest old) (honest new) (failures old) (failures new) failed

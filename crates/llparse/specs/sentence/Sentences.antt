@@ -1,4 +1,4 @@
--- The result of parsing a sentence: the tree of its tokens and its file, or the reason why it has none.
+-- The result of parsing a sentence: the tree of its tokens, or the reason why they are rejected.
 use Rattle.std.specs.Prelude.{ℕ, ◌≡◌, ◌<◌, ◌≤◌, ◌++◌, List, length, map, take, drop}
 use Rattle.ag_grammar.specs.grammars.AttributeGrammar.{Grammar}
 use Rattle.ag_grammar.specs.grammars.Tree.{Tree, IsTreeOf, depth_of, node_count}
@@ -32,7 +32,7 @@ pub record IsStuckAt (g : Grammar) (words : List Lexeme) (index : ℕ) : Type 0 
 -- the look-ahead there, is beyond the limit; the given words are such words, so each tree of them is beyond
 -- the limit. The words that continue with the look-ahead may be those of no tree, and then no tree has the
 -- words. An index where no such tree has reached the limit can't be the index of this record, so a token that
--- merely doesn't fit there is P1, and not P2 or P3.
+-- merely doesn't fit there gets P1, and not P2 or P3.
 pub record LeavesOnly (g : Grammar) (words : List Lexeme) (size : Tree → ℕ) (begun : List Open → ℕ) (limit : ℕ) : Type 0 where
   pub index : ℕ
   pub within : index ≤ length words
@@ -45,14 +45,14 @@ pub record LeavesOnly (g : Grammar) (words : List Lexeme) (size : Tree → ℕ) 
   pub only : (others : List Lexeme) (t : Tree) → ahead_of others ≡ ahead_of (drop index words)
       → IsTreeWith g (take index words ++ others) t → limit < size t
 
--- P2: the number of nodes above the next one is the greatest number of levels
+-- P2: the number of open nodes above the next one has reached the greatest number of levels
 abbrev pub LeavesOnlyDeeper : ℕ → Grammar → List Lexeme → Type 0
 LeavesOnlyDeeper limit g words = LeavesOnly g words depth_of (λ above. length above) limit
 
--- P3: the number of nodes begun before the next one is the greatest number of nodes
+-- P3: the number of nodes opened before the next one has reached the greatest number of nodes
 abbrev pub LeavesOnlyLarger : ℕ → Grammar → List Lexeme → Type 0
 LeavesOnlyLarger limit g words = LeavesOnly g words node_count opened limit
 
--- an offset is that of the token that can't be taken, or of the last one if the sentence can't end
+-- an offset is that of the token that can't be taken, or of the last one (0 if there is none) if the sentence can't end
 abbrev pub IsUnexpectedAt : Grammar → List Token → ℕ → Type 0
 IsUnexpectedAt g ts at = (i : ℕ) × IsStuckAt g (words_of ts) i × (at ≡ offset_at ts i)

@@ -34,11 +34,12 @@ IsAtItem k x node p bytes = AtItem k x (node ∷ reverse p.waiting.items) p.toke
 abbrev pub FitsTables : Choices → Grammar → Type 0
 FitsTables tables g = IsAccepted g × FitsGrammar g tables
 
--- an accepted grammar whose literals and classes include those of the tokens
+-- an accepted grammar to whose vocabulary the tokens belong
 abbrev pub FitsTokens : List Token → Grammar → Type 0
 FitsTokens tokens g = IsAccepted g × FitAll (vocabulary_of g) tokens
 
--- For each grammar with property P, and the task of parsing these tokens over it: A before a step implies B after it.
+-- For each grammar with property P, and the task of parsing these tokens over it: A before a step implies B after it, for the
+-- same content of the device.
 abbrev pub Leads : (Grammar → Type 0) → List Token → (Task → List ℕ → Type 0) → (Task → List ℕ → Type 0) → Type 0
 Leads P tokens A B = (g : Grammar) (honest : Bool) (prefix bytes : List ℕ) → P g → A (task_of g tokens honest prefix) bytes
     → B (task_of g tokens honest prefix) bytes
@@ -53,7 +54,7 @@ Writes P tokens honest old new A B = (g : Grammar) (prefix : List ℕ) → P g �
 abbrev pub Refuses : (Grammar → Type 0) → List Token → (Task → List ℕ → Type 0) → ParseFault → Type 0
 Refuses P tokens A e = Leads P tokens A (λ k bytes. IsRefused k (offset_at tokens) e)
 
--- the limit that a parser has reached
+-- a parser has reached the limit of a fault
 abbrev pub IsFull : Parser → ParseFault → Type 0
 IsFull p fault.TooDeep = max_depth ≤ length p.waiting.items + 1
 IsFull p fault.TooManyNodes = max_nodes ≤ p.count

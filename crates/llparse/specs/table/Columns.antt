@@ -37,7 +37,7 @@ AreColumns g n columns = (y : Ahead) → IsKnownAhead g y → index_of (length g
 abbrev pub at_ahead : Pair → Ahead → Conflict
 at_ahead p x = record { first = p.first; second = p.second; ahead = x }
 
--- the lesser of a conflict and a pair at a later look-ahead, if there are both
+-- the lesser of a conflict and a pair at a later look-ahead, if there are both; otherwise the one that there is, or none
 abbrev pub IsLesserConflict : Option Conflict → Option Pair → Ahead → Option Conflict → Type 0
 IsLesserConflict None None x result = result ≡ None
 IsLesserConflict None (Some p) x result = result ≡ Some (at_ahead p x)

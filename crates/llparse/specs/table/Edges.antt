@@ -35,7 +35,7 @@ pub record IsEdge (from to : ℕ) (e : Edge) : Type 0 where
 abbrev pub node_in : Grammar → Item → ℕ
 node_in g x = node_of (length g.symbols) (length g.literals) x
 
--- the starting items for a set of nullable symbols: those up to the first that is not nullable, with that one
+-- the starting items for a set of nullable symbols: the first that is not nullable and all before it, or all if all are nullable
 abbrev pub starting_items : (ℕ → Bool) → List Item → List Item
 starting_items n [] = []
 starting_items n (x ∷ xs) = x ∷ (if is_nullable_item n x then starting_items n xs else [])
@@ -44,7 +44,7 @@ starting_items n (x ∷ xs) = x ∷ (if is_nullable_item n x then starting_items
 abbrev pub IsFirstEdge : Grammar → (ℕ → Bool) → Production → Edge → Type 0
 IsFirstEdge g n q e = OfSome (λ x e. IsEdge (node_in g x) q.left e) (starting_items n q.items) e
 
--- the number of nodes of a grammar: its symbols, its literals, the classes and the end
+-- the number of nodes of a grammar: its symbols, its literals, the three classes and the end
 abbrev pub node_count : Grammar → ℕ
 node_count g = length g.symbols + (length g.literals + 4)
 
@@ -60,7 +60,7 @@ IsOver g P clauses = (edges : List Edge) × (clauses ≡ clauses_of_edges edges 
 abbrev pub AreFirstEdges : Grammar → List Bool → List Edge → Type 0
 AreFirstEdges g nullable edges = (e : Edge) → Contains edges e ↔ OfSome (IsFirstEdge g (is_marked nullable)) g.productions e
 
--- a look-ahead is one of a grammar's
+-- a look-ahead is a literal of a grammar, a class, or the end
 abbrev pub IsKnownAhead : Grammar → Ahead → Type 0
 IsKnownAhead g (ahead.Terminal (Literal l)) = l < length g.literals
 IsKnownAhead g (ahead.Terminal (Class c)) = c < class_count

@@ -18,7 +18,7 @@ use ag_value::NoMemory;
 use std::alloc::Global;
 
 /// Takes the next token, which has to be `terminal`, but writes no record and keeps no text. Fails
-/// with P1 if the token is another one, and with P2 or P3 if a limit is reached.
+/// with P1 if the token is another one or there is none, and with P2 or P3 if a limit is reached.
 fn take_unwritten(parser: &mut Parser<'_>, terminal: Terminal) -> Result<(), ParseFault>
     ensures waiting { OnOk result (parser.new.waiting.items ≡ parser.old.waiting.items) }
     ensures count { OnOk result (parser.old.count ≤ parser.new.count) }
@@ -43,9 +43,9 @@ fn next_if_any(grammar: &Grammar, node: &mut OpenProduction) -> Option<Item>
     None
 }
 
-/// Continues with the innermost open node and those that wait for it, until `until` tokens are
-/// taken or no node is open, and writes nothing. Returns the node that is then the innermost one,
-/// if any. After a fault the parser is at the token that it can't take.
+/// Continues with the innermost open node and those that wait for it, until `until` tokens of the
+/// sentence are taken or no node is open, and writes nothing. Returns the node that is then the
+/// innermost one, if any. After a fault the next token is the one where the parser stopped.
 fn continue_until(
     parser: &mut Parser<'_>,
     innermost: OpenProduction,
@@ -128,9 +128,9 @@ fn can_accept(
     }
 }
 
-/// A parser that has taken some tokens of a sentence, and its innermost open node. It is `None` only
-/// before the first token, since that token chooses the root's production. After the last token it is
-/// the node of that token, which may be at its end.
+/// A parser that has taken the first tokens of a sentence, possibly none, and its innermost open node.
+/// The node is `None` only if no token is taken, since the first token chooses the root's production.
+/// Otherwise it is the node that has the last token taken on its right side; it may be at its end.
 #[derive(Drop)]
 struct Position<'t> {
     parser: Parser<'t>,
@@ -191,8 +191,8 @@ pub struct StuckPlace<'t> {
     pub index: usize,
     /// The token that can't be taken; `None` if the sentence can't end there.
     pub found: Option<Token<'t>>,
-    /// The expected look-aheads: the literals in the grammar's order, the classes, and then the end
-    /// of the sentence.
+    /// The expected look-aheads, in this order: literals in the grammar's order, classes, and then the
+    /// end of the sentence.
     pub expected: Vec<Ahead>,
 }
 
@@ -236,12 +236,14 @@ fn position_after<'t>(
 /// there. Each look-ahead is tried after the tokens before that place, with all nodes that are open
 /// there, so one that the tables allow only in other contexts is not returned. If `parse` doesn't
 /// reject the sentence with P1, no look-ahead is returned, and the place is only where the parser
-/// stopped: at the end, or where it reached a limit.
+/// stopped: at the end, or where it reached a limit. (This is said of a `parse` that doesn't fail with
+/// D1 or NoMemory.)
 ///
 /// If the tables are not the grammar's, the result is the place where a parse by them is stuck, and
-/// what they allow there: literals of the grammar, classes and the end. Reads the tokens twice, and
-/// takes memory for three stacks of open nodes like the one of `parse` (without texts), and for the
-/// result. Fails with NoMemory if memory is refused.
+/// what they allow there: literals of the grammar, classes and the end. Reads the tokens before the
+/// place twice, and copies the stack of open nodes there for each look-ahead of the grammar. Takes
+/// memory for three stacks of open nodes like the one of `parse` (without texts), and for the result.
+/// Fails with NoMemory if memory is refused.
 pub fn expected_at<'t>(
     alloc: Global,
     grammar: &Grammar,

@@ -111,7 +111,7 @@ struct Leaf<'t> {
     lex: &'t str,
 }
 
-/// Appends the record of a leaf, and keeps its text after the others.
+/// Appends the record of a leaf, and keeps its text after the others. Fails with D1 or NoMemory.
 #[inline(always)]
 fn put_leaf<D: Device>(
     alloc: Global,
@@ -143,7 +143,8 @@ fn put_leaf<D: Device>(
     Ok(())
 }
 
-/// Appends the record of a node, with the texts of the tokens among its children.
+/// Appends the record of a symbol's node, with the texts of the tokens of a class among its children.
+/// Fails with D1 or NoMemory.
 #[inline(always)]
 pub(crate) fn put_node<D: Device>(
     production: u16,
@@ -165,7 +166,8 @@ pub(crate) fn put_node<D: Device>(
     ensures device { BreaksWriter D.is_honest D.failures device.old device.new
         writer.new.is_broken (IsErrOf result ParseFault.Device) }
 {
-    // Most nodes have no texts: with a constant list `put`, which is inlined, tests nothing else.
+    // Most nodes have no texts. `put` is inlined: with a list that is known to be empty, the compiler
+    // drops its tests of the values.
     if texts.is_empty() {
         writer.put(device, Kind::Node, production, &[])?;
         return Ok(());
@@ -175,8 +177,8 @@ pub(crate) fn put_node<D: Device>(
 }
 
 /// The state of parsing a sentence: the nodes that wait for the innermost open one, the outermost
-/// first; the texts of the tokens among the children of open nodes, those of the innermost one
-/// last; the position in the tokens; and the number of nodes opened so far, with leaves, and with
+/// first; the texts of the tokens of a class among the children of open nodes, those of the innermost
+/// one last; the position in the tokens; and the number of nodes opened so far, with leaves, and with
 /// the root from the beginning. It takes sixteen bytes for a waiting node, and memory for the texts.
 #[derive(Drop)]
 pub(crate) struct Parser<'t> {
@@ -229,8 +231,8 @@ impl<'t> Parser<'t> {
         &self.texts[base..]
     }
 
-    /// Opens a node of the symbol that comes next in `outer`, which waits for it. Fails with P1,
-    /// P2, P3 or NoMemory.
+    /// Opens a node of the symbol that comes next in `outer`, which waits for it. Fails with P1 if no
+    /// production is predicted, with P2 or P3 if a limit is reached, and with NoMemory.
     #[inline(always)]
     pub(crate) fn open(
         &mut self,
@@ -259,8 +261,8 @@ impl<'t> Parser<'t> {
     }
 
     /// Takes the next token, which has to be `terminal`. A token of a class has a record, which is
-    /// appended, and its text is kept. Fails with P1 if the token is another one, with P2 or P3 if
-    /// a limit is reached, and with D1 or NoMemory.
+    /// appended, and its text is kept. Fails with P1 if the token is another one or there is none, with
+    /// P2 or P3 if a limit is reached, and with D1 or NoMemory.
     #[inline(always)]
     pub(crate) fn take<D: Device>(
         &mut self,

@@ -28,7 +28,7 @@ use std::alloc::Global;
 use treefile::{Device, Writer};
 
 /// Appends the records of the one tree of the tokens to the device, and returns the number of
-/// nodes.
+/// nodes. Fails as `parse` does.
 #[inline(never)]
 fn run<D: Device>(
     alloc: Global,
@@ -77,10 +77,11 @@ fn run<D: Device>(
     Ok(parser.count)
 }
 
-/// Writes the file of pass 0 of the one tree of a sentence's tokens in a single pass, and returns
-/// the number of its nodes: one frame for each node, after those of its children from
-/// left to right, and one for each token of a class; a literal has none. The record of a node has
-/// the texts of the tokens of a class among its children.
+/// Appends the frames of the one tree of a sentence's tokens to the device, after the header, so that
+/// the content is the tree's file of pass 0. Returns the number of the tree's nodes. There is one
+/// frame for each node of a symbol, after those of its children from left to right, and one for each
+/// token of a class; a literal has none, and is no node. The record of a symbol's node has the texts
+/// of the tokens of a class among its children.
 ///
 /// Requires tables of the grammar, a sentence whose tokens fit it, and a writer that was just begun
 /// on the device with pass 0. The tokens are taken one by one, and only their texts are kept. Takes
@@ -88,12 +89,13 @@ fn run<D: Device>(
 /// of the tokens of a class among the children of open nodes, and for one frame.
 ///
 /// Fails with P1 Unexpected if no tree has these tokens, unless a limit is reached first. Fails
-/// with P2 TooDeep or P3 TooManyNodes if at some token a tree that begins with the tokens before it
-/// has reached the limit, and each tree that begins with these tokens and continues with the
-/// look-ahead there is beyond the limit. So is then each tree with all tokens, and there may be
-/// none. Fails with D1 Device if the device failed. After a fault an honest device has a prefix of
-/// a file of pass 0: of its header and frames of any bodies whose lengths are in range (after P1
-/// there is no tree). The writer is broken after D1, and after no other fault.
+/// with P2 TooDeep or P3 TooManyNodes if, at some token or at the end, a tree that begins with the
+/// tokens before it has reached the limit, and each tree that begins with those tokens and continues
+/// with the look-ahead there is beyond the limit. Each tree with all tokens is then beyond the limit
+/// too, and there may be none. Fails with D1 Device if the device failed, and with NoMemory if memory
+/// is refused. After a fault an honest device has a prefix of a file of pass 0: of its header and
+/// frames of any bodies whose lengths are in range (after P1 there is no tree). The writer is broken
+/// after D1, and after no other fault.
 pub fn parse<D: Device>(
     alloc: Global,
     grammar: &Grammar,
@@ -133,11 +135,11 @@ pub fn parse<D: Device>(
     ensures large { IsErrOf result ParseFault.TooManyNodes
         → LeavesOnlyLarger max_nodes grammar.now (words_of sentence.now) }
 
-    // Err: the device has a prefix of a file of pass 0, possibly only its header.
+    // Err: an honest device has a prefix of a file of pass 0.
     ensures left { IfErr result (λ _. WhenHonest (D.is_honest device.new)
         (BeginsFile 0 (D.content device.new))) }
 
-    // The writer is broken exactly if the device failed.
+    // The writer is broken exactly if the result is D1, and then the failures of the device rose.
     ensures device { BreaksWriter D.is_honest D.failures device.old device.new
         writer.new.is_broken (IsErrOf result ParseFault.Device) }
 {

@@ -1,5 +1,5 @@
-//! The production that one look-ahead chooses for each symbol, and the least two that conflict
-//! there.
+//! The production that one look-ahead chooses for each symbol, and the least pair of productions that
+//! conflict there.
 ghost use Rattle.std.specs.Prelude.{◌≡◌, ◌≤◌, ◌<◌, ℕ, true, length, slice_get};
 ghost use Rattle.std.specs.Prelude.{Some, IfOk};
 ghost use Rattle.ag_grammar.specs.declared.grammar.Production.{Production as AProduction};
@@ -10,14 +10,15 @@ use ag_grammar::Production;
 use ag_value::NoMemory;
 use std::alloc::Global;
 
-/// Two productions that conflict.
+/// Two productions that conflict, by their numbers; `first` is the lesser one.
 #[derive(Clone, Copy, Debug, PartialEq, Eq)]
 pub(crate) struct Pair {
     pub(crate) first: u16,
     pub(crate) second: u16,
 }
 
-/// The choices of one look-ahead: for each symbol the first production, and the least conflict.
+/// The choices of one look-ahead, for each symbol the first production that it predicts, and the least
+/// conflict.
 #[derive(Drop)]
 pub(crate) struct Column {
     pub(crate) choices: Vec<Option<u16>>,
@@ -26,7 +27,7 @@ pub(crate) struct Column {
 
 /// Returns the least conflict after one more production, whose number is less than those handled so
 /// far (they are handled from the last to the first): `production` and `chosen`, the choice so far
-/// for its symbol, or `conflict`, the least so far.
+/// for its symbol, if there is one; otherwise `conflict`, the least so far.
 fn conflict_with(production: u16, chosen: Option<u16>, conflict: Option<Pair>) -> Option<Pair>
     ensures some { (r : ℕ) → chosen ≡ Some r → result ≡ Some
         (record { first = production; second = r }) }
@@ -70,8 +71,8 @@ impl Column {
     }
 }
 
-/// Returns the choices of the look-ahead that predicts the marked productions, for this number of
-/// symbols. Fails with `NoMemory` if memory is refused.
+/// Returns the choices and the least conflict of the look-ahead that predicts the marked productions,
+/// for this number of symbols. Fails with `NoMemory` if memory is refused.
 pub(crate) fn choose(
     alloc: Global,
     productions: &[Production],

@@ -13,7 +13,8 @@ use ag_grammar::Grammar;
 use ag_value::NoMemory;
 use std::alloc::Global;
 
-/// Two productions that conflict, and the look-ahead that predicts both.
+/// Two productions that conflict, by their numbers, the lesser one first, and the look-ahead that
+/// predicts both.
 #[derive(Clone, Copy, Debug, PartialEq, Eq)]
 pub(crate) struct Conflict {
     pub(crate) first: u16,
@@ -21,14 +22,15 @@ pub(crate) struct Conflict {
     pub(crate) ahead: Ahead,
 }
 
-/// For each look-ahead, by its index, its choice for each symbol; and the least conflict.
+/// For each look-ahead, by its index, its choice for each symbol; and the least conflict at all of them.
 #[derive(Drop)]
 pub(crate) struct Columns {
     pub(crate) choices: Vec<Vec<Option<u16>>>,
     pub(crate) conflict: Option<Conflict>,
 }
 
-/// Returns the choices of one look-ahead. Fails with `NoMemory` if memory is refused.
+/// Returns the choices of one look-ahead and the least conflict at it. Fails with `NoMemory` if memory
+/// is refused.
 fn column_of(
     alloc: Global,
     grammar: &Grammar,
@@ -46,7 +48,8 @@ fn column_of(
     Ok(column)
 }
 
-/// Returns the lesser of a conflict and of a pair that conflicts at a later look-ahead.
+/// Returns the lesser of a conflict and of a pair that conflicts at a later look-ahead; if there is only
+/// one of them, that one; if there is none, `None`.
 fn lesser_conflict(least: Option<Conflict>, pair: Option<Pair>, ahead: Ahead) -> Option<Conflict>
     ensures { IsLesserConflict least pair ahead result }
 {
@@ -70,7 +73,7 @@ fn lesser_conflict(least: Option<Conflict>, pair: Option<Pair>, ahead: Ahead) ->
     Some(least)
 }
 
-/// Returns the columns of a grammar. Fails with `NoMemory` if memory is refused.
+/// Returns the columns of a grammar and its least conflict. Fails with `NoMemory` if memory is refused.
 pub(crate) fn columns_of(alloc: Global, grammar: &Grammar) -> Result<Columns, NoMemory>
     ensures columns { IfOk result (λ columns. AreColumns grammar.now
         (length grammar.now.literals + 4) (rows columns.choices.items)) }

@@ -75,8 +75,8 @@ pub(crate) fn add_seed_if(seeds: &mut Vec<usize>, seed: usize, wanted: bool) -> 
     Ok(())
 }
 
-/// Adds the node of each item after which the items of a right side can start with the look-ahead
-/// whose FIRST marks are `in_first`.
+/// Adds the node of each item of a right side after which the rest of this side can start with the
+/// look-ahead whose FIRST marks are `in_first`.
 fn add_seeds(
     seeds: &mut Vec<usize>,
     sizes: Sizes,

@@ -8,8 +8,8 @@ use crate::table::nodes::Sizes;
 use std::marker::Model;
 
 /// The production of each symbol at each look-ahead. Contracts see the number of literals and, for
-/// each look-ahead, the choices for all symbols. It takes an `Option<u16>` for each symbol and each
-/// look-ahead.
+/// each look-ahead, the choices for all symbols. Takes memory for an `Option<u16>` for each symbol and
+/// each look-ahead.
 #[derive(Drop)]
 pub struct Tables {
     pub(crate) literals: u16,
@@ -43,8 +43,8 @@ fn entry(choices: &[Option<u16>], symbol: usize) -> Option<u16>
 }
 
 impl Tables {
-    /// Returns the production of a symbol at a look-ahead, in constant time, or `None` if it
-    /// predicts no production of the symbol. Takes no memory.
+    /// Returns the production of a symbol at a look-ahead, in constant time, or `None` if the tables
+    /// have none: the look-ahead predicts no production of the symbol. Takes no memory.
     #[inline(always)]
     pub fn choice(&self, symbol: u16, ahead: Ahead) -> Option<u16>
         ensures { result ≡ choice_of self.now symbol ahead }

@@ -82,7 +82,7 @@ impl Sizes {
         Ahead::End
     }
 
-    /// Returns whether a look-ahead is one of the grammar's.
+    /// Returns whether a look-ahead is a literal of the grammar, a class, or the end.
     pub(crate) fn knows(self, ahead: Ahead) -> bool
         ensures { result ≡ is_known self.literals ahead }
     {

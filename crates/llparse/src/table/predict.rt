@@ -16,7 +16,7 @@ use std::alloc::Global;
 
 /// Returns whether items can start with the look-ahead whose FIRST marks are `in_first`: an item
 /// has it in FIRST and all before that item are nullable, or all items are nullable and
-/// `following`.
+/// `following` is true.
 fn items_can_start(
     sizes: Sizes,
     nullable: &[bool],
@@ -62,10 +62,10 @@ fn edges_of(
     Ok((first, follow))
 }
 
-/// What the predictions for all look-aheads are computed from: the marks of the nullable symbols,
-/// and the edges of two graphs. `first` and `follow` are these edges, and not FIRST and FOLLOW
-/// sets: for one look-ahead, the nodes that they reach are the symbols that have it in FIRST, or
-/// in FOLLOW.
+/// The data from which the predictions for all look-aheads are computed: the marks of the nullable
+/// symbols, and the edges of two graphs. `first` and `follow` are these edges, and not FIRST and
+/// FOLLOW sets: for one look-ahead, `first` reaches from its node the symbols that have it in FIRST,
+/// and `follow` reaches from its seeds the symbols that have it in FOLLOW.
 #[derive(Drop)]
 pub(crate) struct Sets {
     nullable: Vec<bool>,
@@ -91,8 +91,8 @@ impl Sets {
         })
     }
 
-    /// Returns the marks of the nodes with a look-ahead in FIRST (of a terminal, itself). Fails with
-    /// `NoMemory` if memory is refused.
+    /// Returns the marks of the nodes with a look-ahead in FIRST (FIRST of a terminal has that terminal
+    /// alone). Fails with `NoMemory` if memory is refused.
     fn first_marks(
         &self,
         alloc: Global,

@@ -37,7 +37,7 @@ fn conflict_of<'a>(fault: TableFault, raw: &'a RawGrammar) -> Option<Conflict<'a
     }
 }
 
-/// Returns the location of the first of the two productions.
+/// Returns the location of the first of the two productions. `InFault` if it is not known.
 pub fn locate_conflict(fault: TableFault, text: &GrammarText<'_>) -> Location {
     match &text.raw {
         Some(raw) => match conflict_of(fault, raw) {
@@ -122,7 +122,7 @@ fn write_help(
     }
 }
 
-/// Writes how a list that is repeated on the left is repeated on the right.
+/// Writes how left-recursive productions are written without left recursion.
 fn write_repetition(out: &mut String, left: &str) -> Result<(), AllocError> {
     let rest = if left == "Rest" { "More" } else { "Rest" };
     write!(
@@ -131,7 +131,7 @@ fn write_repetition(out: &mut String, left: &str) -> Result<(), AllocError> {
     )
 }
 
-/// Writes that a symbol that can be empty has to be separated from a token that can follow it too.
+/// Writes that the look-ahead can also follow a symbol that can be empty, and that a token has to separate the two.
 fn write_separation(
     out: &mut String,
     left: &str,

@@ -23,7 +23,7 @@ pub fn endless_symbols<'a>(
     Ok(None)
 }
 
-/// Adds each symbol to `ending` that has a production of symbols in `ending` alone. Returns whether one was added.
+/// Adds each symbol to `ending` that has a production whose symbols are all in `ending`. Returns whether one was added.
 fn add_ending<'a>(raw: &'a RawGrammar, ending: &mut HashSet<&'a str>) -> Result<bool, NoMemory> {
     let mut is_new = false;
     for production in raw.productions.as_slice() {

@@ -88,7 +88,7 @@ impl<'a> Declarations<'a> {
     }
 
     /// Returns the number of places in productions that a refusal N1, N7, N8 or N9 is true of, and 0 for
-    /// other faults. An attribute that an expression uses several times counts once. Takes memory.
+    /// other faults. An occurrence that is several times in an expression counts once. Takes memory.
     fn count(
         &self,
         fault: &NormalFault,

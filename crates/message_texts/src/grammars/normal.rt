@@ -15,7 +15,7 @@ use normalform::NormalFault;
 use std::alloc::{AllocError, Global};
 
 /// Returns the location of the name, the occurrence or the production for which a grammar is refused, or
-/// `Whole` if the whole grammar exceeds a limit.
+/// `Whole` if the whole grammar exceeds a limit. `InFault` if memory for reading its text again was refused.
 pub fn locate_in_grammar(fault: &NormalFault, text: &GrammarText<'_>) -> Location {
     let Some(raw) = &text.raw else {
         return Location::InFault;
@@ -65,7 +65,7 @@ pub fn describe_normal(
     }
 }
 
-/// Returns whether a fault is of one place, so that other places can have it too.
+/// Returns whether a fault is one whose message has the number of further places: N1, N7, N8 or N9.
 fn is_of_one_place(fault: &NormalFault) -> bool {
     matches!(
         fault,
@@ -145,7 +145,7 @@ fn describe_undeclared(parts: &mut Parts, name: &str) -> Result<(), AllocError> 
     )
 }
 
-/// Writes what exists at the place of an occurrence, or the last place.
+/// Writes what exists at the place of an occurrence, or the last place if nothing does.
 fn write_existing(
     out: &mut String,
     raw: &RawGrammar,
@@ -345,7 +345,8 @@ fn describe_missing_by(
     }
 }
 
-/// Describes N6 with the rules that a production lacks, and the number of all that are missing.
+/// Describes N6 with the rules that a production lacks, and the number of those that other productions lack. All
+/// productions together lack `all` rules.
 fn describe_rules(
     parts: &mut Parts,
     production: &RawProduction,
@@ -381,7 +382,7 @@ fn write_others(out: &mut String, others: usize) -> Result<(), AllocError> {
     }
 }
 
-/// Describes N7 to N9: why an occurrence can't be where it is, and which can.
+/// Describes N7 to N9: why an occurrence can't be where it is, and what to do.
 fn describe_misplaced(
     parts: &mut Parts,
     fault: &NormalFault,
@@ -450,8 +451,8 @@ fn describe_unusable(
     parts.help.push_str("the expression that defines it")
 }
 
-/// Writes the occurrences that the rules of a production define, or those that they can use. Returns their
-/// number.
+/// Writes the occurrences that the rules of a production define or, unless `is_defined`, those that they can use: the
+/// first `MAX_NAMED`, and that there are more. Returns the number of all.
 fn write_occurrences(
     out: &mut String,
     raw: &RawGrammar,
@@ -490,7 +491,8 @@ fn write_at_place(
     Ok(shown)
 }
 
-/// Writes an occurrence after a number of others. Returns the number of all.
+/// Writes an occurrence after `before` others or, in place of those after the first `MAX_NAMED`, that there are more.
+/// Returns the number of all.
 fn write_occurrence(
     out: &mut String,
     before: usize,

@@ -11,7 +11,7 @@ use std::alloc::AllocError;
 /// The greatest number of rules that a message names.
 const MAX_NAMED_RULES: usize = 8;
 
-/// Describes A1. The fault itself prints the attributes that no pass can have; this names the rules that keep
+/// Describes A1. The fault itself prints the attributes that no pass can compute; this names the rules that keep
 /// them out of the passes of one direction: the one with fewer such rules, or that of the first pass if both have
 /// as many. Nothing if memory for reading the text again is refused.
 pub fn describe_stuck(
@@ -85,8 +85,8 @@ impl Obstacle<'_> {
 }
 
 /// The strikes of the passes of a direction, and the grammar as it is written. A strike is an argument of a rule,
-/// for which the rule's target can't have a pass of the direction. It waits for another strike if the pass reaches
-/// the argument in time, but another strike keeps the argument out of the pass.
+/// because of which the rule's target can't have a pass of the direction. It waits for another strike if the pass
+/// reaches the argument in time, but another strike keeps the argument out of the pass.
 #[derive(Clone, Copy)]
 struct DirectionStrikes<'a> {
     direction: Direction,

@@ -18,7 +18,8 @@ const LITERAL_NEEDS: &str =
 /// What a writer may have meant by a name that no `let` binds.
 const ATTRIBUTE: &str = "an attribute is written with its place, as in `$1.s`";
 
-/// Returns the location from which on a text can't be read as a grammar, or `Whole` if it is too long.
+/// Returns the location from which on a text can't be read as a grammar, or `Whole` if the text is too long or memory
+/// was refused.
 pub fn locate_in_text(fault: TextFault, text: &GrammarText<'_>) -> Location {
     match offset_of(fault) {
         Some(at) => text.location(at),

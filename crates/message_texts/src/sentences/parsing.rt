@@ -13,7 +13,7 @@ use std::alloc::{AllocError, Global};
 /// What has no tree within the limits.
 const SENTENCE: &str = "the sentence";
 
-/// Returns the location of the token at which the parser stops, or `Whole` for a limit.
+/// Returns the location of the token at which the parser stops, or `Whole` for any fault but P1.
 pub fn locate_in_sentence(fault: ParseFault, sentence: &Source<'_>) -> Location {
     match fault {
         ParseFault::Unexpected(at) => Location::At(sentence.position(at as usize)),
@@ -29,7 +29,7 @@ pub struct ParsedSentence<'a> {
     pub source: Source<'a>,
 }
 
-/// Describes P1 to P3 of a sentence, which is scanned again. Takes memory.
+/// Describes P1 to P3 of a sentence, which is scanned again for P1. Takes memory.
 pub fn describe_parse(
     alloc: Global,
     parts: &mut Parts,

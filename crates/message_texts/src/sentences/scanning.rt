@@ -19,10 +19,11 @@ const NO_SECOND_QUOTE: &str = "this TEXT has no second quote in the same line";
 /// What to do about it.
 const ADD_QUOTE: &str = "add the quote (a TEXT has no escapes)";
 
-/// What is wrong with any sentence but the empty one of a grammar without terminals.
+/// What is wrong with a character of a sentence if the grammar has no terminals.
 const NO_TERMINALS: &str = ", but the grammar has no literal and no class";
 
-/// Returns the location at which a sentence can't be cut into tokens, or `Whole` if it is too long.
+/// Returns the location at which a sentence can't be cut into tokens, or `Whole` if it is too long or memory was
+/// refused.
 pub fn locate_token(fault: ScanFault, sentence: &Source<'_>) -> Location {
     match fault {
         ScanFault::BadUtf8(at) | ScanFault::NoToken(at) | ScanFault::LongToken(at) => {

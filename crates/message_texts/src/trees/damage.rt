@@ -21,16 +21,16 @@ const OLD_FILE: &str =
 /// What is expected of the number of the pass.
 const PASS: &str = "expected a tree file of pass 0";
 
-/// What is wrong with a file that begins otherwise.
+/// What is wrong with a file that does not begin as a tree file of the version.
 const ANOTHER_FILE: &str = "found another file";
 
 /// What is wrong with a file of another pass.
 const ANOTHER_PASS: &str = "found one of another pass";
 
-/// What to do about a file that is not a tree's.
+/// What to do about a damaged tree file, or one of another pass.
 const AGAIN: &str = "make the file again by `aggen parse` with this grammar";
 
-/// What to do if it may be a file of version 1.
+/// What to do about a file that may be of version 1.
 const AGAIN_OR_UPGRADE: &str =
     "make the file again by `aggen parse` with this grammar, or convert one that begins with `AGT1` by `aggen upgrade`";
 
@@ -56,7 +56,7 @@ pub struct TreeFormat<'a> {
 
 /// Describes R1 of a tree file at the offset `at` in bytes. If a record is damaged, and not the header, the file
 /// is read once more from its end. Takes memory for the records that the tree needs there. If that is refused, or
-/// the file can't be read, leaves out what was expected.
+/// a record can't be read, leaves out what was expected.
 pub fn describe_damage<D: Device>(
     alloc: Global,
     parts: &mut Parts,
@@ -81,7 +81,7 @@ pub fn describe_damage<D: Device>(
 }
 
 impl TreeFormat<'_> {
-    /// Describes how a tree file begins, and that this one doesn't.
+    /// Describes how a tree file begins, and that this one begins otherwise.
     fn describe_header(&self, parts: &mut Parts, at: u64) -> Result<(), AllocError> {
         if at != 0 {
             parts.expected.push_str(PASS)?;
@@ -173,6 +173,7 @@ impl TreeFormat<'_> {
                 " with the texts of its tokens"
             }
             Item::Symbol(_) => " without values",
+            Item::Terminal(_) if self.version == FileVersion::One => " with a text in UTF-8",
             Item::Terminal(_) => " with the text that its parent's record has",
         }
     }
@@ -202,7 +203,7 @@ impl TreeFormat<'_> {
             && has_token(production.items.as_slice()))
     }
 
-    /// Writes a child: a node of a symbol, or a token of a class. A literal has no record.
+    /// Writes an item: a node of a symbol, or a token of a class. A literal has no record, so nothing is written.
     fn write_item(&self, out: &mut String, item: Item) -> Result<(), AllocError> {
         match item {
             Item::Symbol(number) => match self.grammar.symbols().get(usize::from(number)) {

@@ -1,4 +1,4 @@
--- Keys that are each new at their place are distinct, and the converse.
+-- Keys of which none is among the earlier ones are distinct, and the converse.
 use Rattle.std.proofs.Common.{zero, suc, ℕ, ◌≡◌, ◌<◌, ◌≢◌, Bool, true, false, cond, not, List, [], ◌∷◌, ◌++◌, length, get_or, map}
 use Rattle.std.proofs.Common.{None, Some, slice_get, AllPairs, refl, sym, ap, ◌∙◌, inl, inr, arith, append-nil, append_assoc}
 use Rattle.std.proofs.Common.{length-append}
@@ -41,7 +41,7 @@ apart_new same decides seen key rest apart =
     apart k (length seen) d lt (omega (arith, length-append seen (key ∷ rest)))
     (get_or_append_left seen (key ∷ rest) d k lt ∙ e ∙ sym (get_or_at seen key rest d (length seen) refl))))
 
--- the check of a key at its place, and then further checks
+-- the check that an element's key is not among the earlier ones, and then further checks
 abbrev pub key_checks : {X K : Type 0} → (K → K → Bool) → (X → NormalFault) → (X → K) → (X → List Check) → List K → X → List Check
 key_checks same fault key more seen x = (fault x, not (list_any (same (key x)) seen)) ∷ more x
 
@@ -111,7 +111,7 @@ key_at : {X K : Type 0} (key : X → K) (xs : List X) (n : ℕ) (z d : X) → sl
     → get_or (map key xs) n (key d) ≡ key z
 key_at key xs n z d e = get_or-map key xs n d (key d) (slice_get_within xs n z e) ∙ ap key (get_or_from_slice_get xs n z d e)
 
--- keys are distinct if elements differ in them
+-- elements differ in their keys if the keys are distinct
 pub apart_differ : {X K : Type 0} (key : X → K) (xs : List X) → Apart (map key xs) → DifferIn key xs
 apart_differ key xs apart i j x y e f same = elim (cases_lt i j) [
   | inl lt ↦ absurd

@@ -69,7 +69,7 @@ each_along f n (y ∷ ys) h =
     together (f n y) (checks_along f next_index (n + 1) ys) (rw here at (h zero y refl))
     (each_along f (n + 1) ys (λ i x e. let there : n + suc i ≡ (n + 1) + i = omega arith in rw there at (h (suc i) x e)))
 
--- an element of concatenated lists is in one of them
+-- an element of one of some lists is in their concatenation
 pub has_left : {X : Type 0} (xs ys : List X) (x : X) → Has xs x → Has (xs ++ ys) x
 has_left [] ys x (i, e) = absurd (cc)
 has_left (z ∷ zs) ys x (zero, e) = (zero, e)

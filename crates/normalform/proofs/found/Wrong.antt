@@ -32,7 +32,7 @@ first_of xs ys fault e = rw (wrong-append xs ys, ← e) refl
 pub rest_of : (xs ys : List Check) → None ≡ first_wrong xs → first_wrong ys ≡ first_wrong (xs ++ ys)
 rest_of xs ys e = rw (wrong-append xs ys, ← e) refl
 
--- one step along a list that gives checks
+-- one step along a list whose elements have checks
 pub wrong_more : {X : Type 0} (f : X → List Check) (xs : List X) (i : ℕ) (d : X) → i < length xs
     → first_wrong (flat_map f (drop i xs)) ≡ option_or (first_wrong (f (get_or xs i d)))
     (first_wrong (flat_map f (drop (i + 1) xs)))
@@ -46,7 +46,7 @@ pub wrong_here : {X : Type 0} (f : X → List Check) (xs : List X) (i : ℕ) (x 
 wrong_here f xs i x fault all lt is here so_far = let e : first_wrong (f (get_or xs i x)) ≡ Some fault = rw (← is) (sym here) in
     sym (ap (λ o. option_or o (first_wrong (flat_map f (drop (i + 1) xs)))) e) ∙ sym (wrong_more f xs i x lt) ∙ so_far
 
--- or it has none
+-- if an element has no fault, the first fault is that of the elements after it
 pub wrong_past : {X : Type 0} (f : X → List Check) (xs : List X) (i : ℕ) (x : X) (all : Option NormalFault) → i < length xs
     → x ≡ get_or xs i x → None ≡ first_wrong (f x) → first_wrong (flat_map f (drop i xs)) ≡ all
     → first_wrong (flat_map f (drop (i + 1) xs)) ≡ all
@@ -161,7 +161,7 @@ each_alone : {X : Type 0} (f : X → Check) (xs : List X) → flat_map (λ x. f 
 each_alone f [] = refl
 each_alone f (x ∷ xs) = ap (λ ys. f x ∷ ys) (each_alone f xs)
 
--- the checks of targets
+-- the checks of targets are those of N8
 pub defined_checks : (ss : List Symbol) (qs : List RawProduction) → checks_of rule_check.Defined ss qs ≡ not_defined_here ss qs
 defined_checks ss [] = refl
 defined_checks ss (q ∷ qs) =

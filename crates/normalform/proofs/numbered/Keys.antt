@@ -121,7 +121,7 @@ some_of : {X : Type 0} (p : X → Bool) (xs : List X) → list_any p xs ≡ true
 some_of p [] h = absurd (cc)
 some_of p (x ∷ xs) h = omega arith
 
--- no key has its text and the length
+-- no key of a text has the number of keys as its integer
 is_fresh : (keys : List Key) (text : List ℕ) → AreNumbered keys
     → list_any (λ (k : Key). bytes_eq text k.0.now && nat_eq (length keys) k.1) keys ≡ false
 is_fresh keys text numbered = list_any_none (λ (k : Key). bytes_eq text k.0.now && nat_eq (length keys) k.1) keys (λ i d lt.

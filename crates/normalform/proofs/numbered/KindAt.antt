@@ -58,12 +58,12 @@ inherits_is o s syn inh a e f g =
       length-map s.inh (λ (n : Named). n.name),
     ) refl
 
--- after the synthesized ones
+-- the same of a number after the synthesized ones
 pub inherits_after : (o : Option Symbol) (s : RawSymbol) (syn inh : List Named) (a : ℕ) → o ≡ Some (symbol_of s) → syn ≡ s.syn
     → inh ≡ s.inh → length syn ≤ a → nat_lt (a - length syn) (length inh) ≡ is_kind Inherited (slice_get (symbol_kinds o) a)
 inherits_after o s syn inh a e f g le = let h = le-leb (length syn) a le in rw h at (inherits_is o s syn inh a e f g)
 
--- not one of these
+-- the number of a synthesized attribute is not that of an inherited one
 pub inherits_none : (o : Option Symbol) (s : RawSymbol) (syn : List Named) (a : ℕ) → o ≡ Some (symbol_of s) → syn ≡ s.syn
     → a < length syn → nat_le (length syn) a ≡ is_kind Inherited (slice_get (symbol_kinds o) a)
 inherits_none o s syn a e f lt = let h : nat_le (length syn) a ≡ false = grind (arith, nat_tests) in

@@ -173,7 +173,7 @@ map_same : {X : Type 0} (xs : List X) → map (λ x. x) xs ≡ xs
 map_same [] = refl
 map_same (x ∷ xs) = ap (λ ys. x ∷ ys) (map_same xs)
 
--- elements at two indices differ
+-- in a list without repetition, equal elements have the same index
 pub apart_same : {X : Type 0} (xs : List X) → Apart xs → (i j : ℕ) (x y : X) → slice_get xs i ≡ Some x → slice_get xs j ≡ Some y
     → x ≡ y → i ≡ j
 apart_same xs apart = apart_differ (λ x. x) xs (rw (map_same xs) apart)

@@ -81,7 +81,7 @@ has_its_kind raw q t k h =
     is_its_kind k (slice_get (item_kinds (declared (symbols raw)) (slice_get (placed (symbols raw) q) t.place)) t.attr)
     (sym (ap (λ ks. slice_get ks t.attr) (kinds_at raw q t.place)) ∙ h)
 
--- the text of its number
+-- a listed text is the one with its number
 pub text_at : (texts : List (List ℕ)) (text : List ℕ) → list_any (bytes_eq text) texts ≡ true
     → slice_get texts (number_in texts text) ≡ Some text
 text_at texts text h =
@@ -90,7 +90,7 @@ text_at texts text h =
     (bytes_eq-Decides text (get_or texts (number_in texts text) [])).0 (passes_at_first (bytes_eq text) texts [] lt) in
     slice_get-get_or texts (number_in texts text) [] lt ∙ ap (λ t. Some t) (sym e)
 
--- the number of kinds is the number of names
+-- there are as many kinds as names
 symbol_long : (o : Option Symbol) → length (symbol_kinds o) ≡ length (names_of_symbol o)
 symbol_long None = refl
 symbol_long (Some s) = length-append (map (λ (n : List ℕ). Synthesized) s.syn) (map (λ (n : List ℕ). Inherited) s.inh)
@@ -129,7 +129,7 @@ stands_for raw q o h = record {
       (names_of raw q o.place) ∙ text_at (names_at (symbols raw) (placed (symbols raw) q) o.place) o.attr h;
 }
 
--- and the converse
+-- an attribute that has a kind is known by its name
 pub named_there : (raw : RawGrammar) (q : RawProduction) (o : Occ) (k : Kind)
     → HasKind (numbered raw) (produces raw q) (target_of (symbols raw) (placed (symbols raw) q) o) k
     → list_any (bytes_eq o.attr) (names_at (symbols raw) (placed (symbols raw) q) o.place) ≡ true

@@ -1,4 +1,4 @@
--- Within the limits the numbers are small.
+-- Within the limits the numbers have 16 bits.
 use Rattle.std.proofs.Common.{ℕ, zero, suc, ◌≡◌, ◌<◌, ◌≤◌, Bool, true, false, ◌&&◌, not, List, [], ◌∷◌, length, Some, None}
 use Rattle.std.proofs.Common.{Option, slice_get, bytes_eq, refl, arith}
 use Rattle.std.proofs.lemmas.Bool.{leb-true}
@@ -17,11 +17,11 @@ use Rattle.normalform.specs.numbers.Numbers.{number_in, declared_names, declared
 pub number_within : (texts : List (List ℕ)) (text : List ℕ) → number_in texts text ≤ length texts
 number_within texts text = prefix_len-le-length (λ x. not (bytes_eq text x)) texts
 
--- the number of a symbol
+-- the number of a symbol has 16 bits
 pub symbol_small : (ss : List Symbol) (name : List ℕ) → length ss ≤ 256 → number_in (declared_names ss) name < 65536
 symbol_small ss name few = omega (arith, number_within (declared_names ss) name, length-map ss (λ (s : Symbol). s.name))
 
--- of a literal
+-- the number of a literal has 16 bits
 pub text_small : (texts : List (List ℕ)) (text : List ℕ) → length texts ≤ 1024 → number_in texts text < 65536
 text_small texts text few = omega (arith, number_within texts text)
 
@@ -29,7 +29,7 @@ both : (a b : Bool) → (a && b) ≡ true → (a ≡ true) × (b ≡ true)
 both true b h = (refl, h)
 both false b h = absurd (cc)
 
--- a test that all members pass, each passes
+-- if all elements of a list pass a test, each one does
 pub passes_at : {X : Type 0} (p : X → Bool) (xs : List X) (i : ℕ) (x : X) → list_all p xs ≡ true → slice_get xs i ≡ Some x
     → p x ≡ true
 passes_at p [] i x all e = absurd (cc)
@@ -46,7 +46,7 @@ names_few ss few (Some (item.Symbol s)) = go (slice_get ss s) refl
 names_few ss few (Some (item.Terminal (Class c))) = omega arith
 names_few ss few (Some (item.Terminal (Literal l))) = omega arith
 
--- and of an attribute
+-- the number of an attribute has 16 bits
 pub attribute_small : (ss : List Symbol) (items : List Item) (o : Occ) → list_all few_attributes ss ≡ true
     → (target_of ss items o).attr < 65536
 attribute_small ss items o few =

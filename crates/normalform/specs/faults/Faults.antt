@@ -244,7 +244,7 @@ further_checks raw = let ss = map symbol_of raw.symbols in rule_kinds ss raw.pro
 abbrev pub AreAll : (ℕ → Type 0) → RawGrammar → Type 0
 AreAll P raw = (s : ℕ) → s < length raw.symbols → P s
 
--- The first fault: the first check that fails, of the first kind that has one.
+-- The first fault: the first check that fails, or the first wrong symbol (N4, N5), of the first kind that has one.
 pub data IsFirstFault (raw : RawGrammar) : NormalFault → Type 0 where
   in_names : {f : NormalFault} → first_wrong (naming_checks raw) ≡ Some f → IsFirstFault raw f
   in_productive : {name : Named} → first_wrong (naming_checks raw) ≡ None
@@ -263,15 +263,15 @@ pub record HasNoFault (raw : RawGrammar) : Type 0 where
   pub reached : AreAll (IsReached (numbered raw)) raw
   pub rules : first_wrong (further_checks raw) ≡ None
 
--- A literal or a class as they come from a text: a literal is not empty and has no separator, a class is
--- known.
+-- A literal or a class as it comes from a text: the literal is not empty and has no separator, or the class is
+-- known. A name always is.
 abbrev pub IsReadableItem : RawItem → Type 0
 IsReadableItem (raw_item.Name name) = Unit {0}
 IsReadableItem (raw_item.Literal text) = (1 ≤ length text) × Each (λ b. IsSeparator b → ⊥) text
 IsReadableItem (raw_item.Class c) = c < class_count
 
--- the literals of a raw grammar are words, not empty and without separators, and its classes are known; so is each
--- grammar that was read from a text
+-- the literals of a raw grammar are not empty and have no separators, and its classes are known; that is so of each grammar that
+-- was read from a text
 abbrev pub IsReadable : RawGrammar → Type 0
 IsReadable raw = Each (λ q. Each IsReadableItem q.items) raw.productions
 
@@ -288,7 +288,7 @@ pub record IsSmall (ss : List Symbol) (literals : List (List ℕ)) : Type 0 wher
   pub attributes : list_all few_attributes ss ≡ true
   pub texts : length literals ≤ max_literals
 
--- the name of the symbol of a number
+-- the name of the symbol with this number
 abbrev pub IsNameAt : List RawSymbol → ℕ → Named → Type 0
 IsNameAt ss number name = (s : RawSymbol) × (slice_get ss number ≡ Some s) × (s.name ≡ name)
 

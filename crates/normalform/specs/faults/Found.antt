@@ -1,4 +1,4 @@
--- The result of the search for faults: a fault, or the number of a symbol whose name is moved into one.
+-- The result of the search for faults: none, a fault, or the number of a symbol whose name is moved into one.
 use Rattle.std.specs.Prelude.{ℕ, ◌<◌, Option, Some, None, length}
 use Rattle.ag_grammar.specs.declared.raw.Named.{Named}
 use Rattle.ag_grammar.specs.declared.raw.RawGrammar.{RawGrammar}
@@ -8,7 +8,7 @@ use Rattle.normalform.specs.declared.fault.NormalFault.{NormalFault}
 use Rattle.normalform.specs.declared.fault.NormalFault.TheVariants as fault
 use Rattle.normalform.specs.faults.Faults.{IsFirstFault, HasNoFault, IsNameAt}
 
--- with the name of the symbol of this number it is the first fault
+-- n is the number of a symbol, and the fault that is made of its name is the first one
 pub record IsFoundAt (raw : RawGrammar) (make : Named → NormalFault) (n : ℕ) : Type 0 where
   pub within : n < length raw.symbols
   pub first : (name : Named) → IsNameAt raw.symbols n name → IsFirstFault raw (make name)

@@ -5,7 +5,7 @@ use Rattle.ag_grammar.specs.declared.grammar.Terminal.TheVariants.{Class}
 use Rattle.normalform.specs.declared.faults.placed.PlacedItem.{PlacedItem}
 use Rattle.normalform.specs.declared.faults.placed.PlacedItem.TheVariants as placed
 
--- the item
+-- the item that is represented
 abbrev pub item_placed : PlacedItem → Item
 item_placed (placed.Symbol s) = item.Symbol s
 item_placed (placed.Class c) = item.Terminal (Class c)

@@ -1,5 +1,5 @@
 -- The numbering of a raw grammar (this project's): a name has the number of its first declaration, a literal
--- that of its first appearance. An undeclared name has the number of declared ones, so that each raw grammar
+-- that of its first appearance. The number of an undeclared name is the count of the declared ones, so that each raw grammar
 -- can be numbered.
 use Rattle.std.specs.Prelude.{ℕ, ◌==◌, Bool, false, cond, List, [], ◌∷◌, ◌++◌, map, filter, fold, bytes_eq, slice_get}
 use Rattle.std.specs.List.{list_any, position_or_len}
@@ -20,7 +20,7 @@ use Rattle.ag_grammar.specs.declared.raw.RawProduction.{RawProduction}
 use Rattle.ag_grammar.specs.declared.raw.RawRule.{RawRule}
 use Rattle.ag_grammar.specs.declared.raw.RawSymbol.{RawSymbol}
 
--- the number of a text: the index of the first equal one, or the number of texts if there is none
+-- the number of a text: the index of the first equal one, or the count of texts if there is none
 abbrev pub number_in : List (List ℕ) → List ℕ → ℕ
 number_in texts text = position_or_len (bytes_eq text) texts
 
@@ -84,7 +84,7 @@ names_at ss items place = item_names (declared ss) (slice_get items place)
 abbrev pub target_of : List Symbol → List Item → Occ → Target
 target_of ss items o = record { place = o.place; attr = number_in (names_at ss items o.place) o.attr }
 
--- a rule, with an argument for each different occurrence of its expression, in their order
+-- a rule, with an argument for each listed occurrence of its expression, in their order
 abbrev pub rule_of : List Symbol → List Item → RawRule → Rule
 rule_of ss items r = record { target = target_of ss items r.target; expr = r.expr; args = map (target_of ss items) r.expr.1 }
 

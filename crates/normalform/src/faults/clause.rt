@@ -58,7 +58,7 @@ pub fn clauses_of(
     Ok(clauses)
 }
 
-/// Appends the edges from the head to each number of a body.
+/// Appends the edges of a clause, from its head to each number of its body.
 fn push_edges(edges: &mut Vec<Edge>, clause: &Clause) -> Result<(), NoMemory>
     ensures { OnOk result (edges.new.items ≡ edges.old.items ++ edges_of clause.now) }
 {

@@ -1,4 +1,5 @@
-//! The faults N1 and N2: names that are not declared, and names that are declared twice.
+//! The faults N1 and N2: names that are not declared, places that do not exist, and names that are
+//! declared twice.
 ghost use Rattle.std.specs.Prelude.{◌≡◌, ◌++◌, ◌∷◌, [], fold, None, IfOk, OnOk, flat_map};
 ghost use Rattle.normalform.specs.faults.Faults as spec;
 ghost use Rattle.normalform.specs.faults.Faults.{first_wrong, name_check, item_checks, new_check};

@@ -14,7 +14,7 @@ use std::alloc::Global;
 /// The item at a place of a production.
 #[derive(Clone, Copy, Debug, PartialEq, Eq)]
 pub enum PlacedItem {
-    /// A symbol, by its number; an undeclared one has the number of declared symbols.
+    /// A symbol, by its number; the number of an undeclared one is the count of declared symbols.
     Symbol(usize),
     /// A token of a class.
     Class(u16),

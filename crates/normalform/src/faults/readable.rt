@@ -30,7 +30,7 @@ fn is_readable_text(text: &[u8]) -> bool
     true
 }
 
-/// Returns whether a literal is readable, or a class known.
+/// Returns whether a literal is readable, or a class is known; the name of a symbol always passes.
 fn is_readable_item(item: &RawItem) -> bool
     ensures { result ≡ readable_item item.now }
 {

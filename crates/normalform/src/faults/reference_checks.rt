@@ -75,7 +75,8 @@ fn first_among(
     None
 }
 
-/// Returns the first fault of a rule, if there is one: of its target, and then of its arguments.
+/// Returns the first fault of a rule, if there is one. N1 is checked of its target, and then of its
+/// arguments; N8 of the target alone; N9 of the arguments alone.
 fn first_in_rule(
     rule_check: RuleCheck,
     declared: &Declared<'_>,

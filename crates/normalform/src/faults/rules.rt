@@ -1,5 +1,5 @@
-//! The faults N6 to N9: rules that are missing or duplicate, targets that a production's rules do
-//! not define, and arguments that they may not use.
+//! The faults N6 to N9: rules that are missing or duplicate, targets that a production's rules must
+//! not define, and arguments that they must not use.
 ghost use Rattle.std.specs.Prelude.{◌≡◌, [], map, IfOk, OnOk, not};
 ghost use Rattle.std.specs.List.{list_any};
 ghost use Rattle.normalform.specs.faults.Faults as spec;
@@ -50,8 +50,7 @@ fn targets_of(
     Ok(targets)
 }
 
-/// Returns the fault of the first attribute at a place of a production that needs a rule and has
-/// none.
+/// Returns N6 for the first attribute, at one place of a production, that needs a rule and has none.
 fn missing_at(
     declared: &Declared<'_>,
     targets: &Targets,
@@ -74,8 +73,7 @@ fn missing_at(
     None
 }
 
-/// Returns the fault of the first attribute at the places of a production that needs a rule and has
-/// none.
+/// Returns N6 for the first attribute, at all places of a production, that needs a rule and has none.
 fn missing_among(
     declared: &Declared<'_>,
     targets: &Targets,
@@ -93,7 +91,7 @@ fn missing_among(
     None
 }
 
-/// Returns the fault of the first attribute in a production that needs a rule and has none.
+/// Returns N6 for the first attribute, in a production, that needs a rule and has none.
 fn missing_in(
     alloc: Global,
     declared: &Declared<'_>,
@@ -130,8 +128,7 @@ pub fn first_missing(
     Ok(None)
 }
 
-/// Returns the fault of a rule whose target is one of the earlier ones, and adds its target to
-/// them.
+/// Returns N7 if the target of a rule is one of the earlier ones, and adds it to them.
 fn doubled_rule(
     targets: &mut Targets,
     declared: &Declared<'_>,
@@ -150,7 +147,7 @@ fn doubled_rule(
     }
 }
 
-/// Returns the fault of the first rule with the target of an earlier one.
+/// Returns N7 for the first rule with the target of an earlier one.
 fn doubled_among(
     alloc: Global,
     declared: &Declared<'_>,
@@ -170,7 +167,7 @@ fn doubled_among(
     Ok(None)
 }
 
-/// Returns the fault of the first rule of a production with the target of an earlier one.
+/// Returns N7 for the first rule of a production with the target of an earlier one.
 fn doubled_in_production(
     alloc: Global,
     declared: &Declared<'_>,
@@ -204,8 +201,8 @@ pub fn first_doubled_rule(
     Ok(None)
 }
 
-/// Returns the first fault N8: a target that is inherited at place 0, or synthesized at a later
-/// place.
+/// Returns the first fault N8: a target that is neither synthesized at place 0 nor inherited at a
+/// later place.
 pub fn first_not_defined(
     alloc: Global,
     declared: &Declared<'_>,
@@ -216,8 +213,8 @@ pub fn first_not_defined(
     first_in_productions(alloc, RuleCheck::Defined, declared, productions)
 }
 
-/// Returns the first fault N9: an argument that is synthesized at place 0, or inherited at a later
-/// place.
+/// Returns the first fault N9: an argument that is neither inherited at place 0 nor synthesized at a
+/// later place.
 pub fn first_not_normal(
     alloc: Global,
     declared: &Declared<'_>,

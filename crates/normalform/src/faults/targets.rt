@@ -9,7 +9,8 @@ use indexmap::IndexSet;
 use std::alloc::Global;
 use std::marker::Model;
 
-/// Different targets: attributes at places of a production, each as its place and its number.
+/// Different targets: attributes at places of a production, each as its place and the attribute's
+/// number.
 /// Contracts see the list of them, in the order in which they were added.
 #[derive(Drop)]
 pub struct Targets {

@@ -118,7 +118,7 @@ impl<'t> Declared<'t> {
         self.symbols.len()
     }
 
-    /// Returns the number of a symbol, or the number of declared symbols if it is not declared.
+    /// Returns the number of a symbol, or the count of declared symbols if it is not declared.
     pub fn number(&self, name: &str) -> usize
         ensures { result ≡ number_in (declared_names self.now) name.now }
     {
@@ -132,7 +132,7 @@ impl<'t> Declared<'t> {
         self.names.has(name)
     }
 
-    /// Returns the number of an attribute of a symbol, or the number of its attributes if it has no
+    /// Returns the number of an attribute of a symbol, or the count of its attributes if it has no
     /// such attribute.
     fn attribute_of(&self, symbol: usize, name: &str) -> usize
         ensures { result ≡ number_in (attributes_of (slice_get self.now symbol)) name.now }
@@ -154,7 +154,7 @@ impl<'t> Declared<'t> {
         }
     }
 
-    /// Returns the number of the attribute that an occurrence names, or the number of attributes at
+    /// Returns the number of the attribute that an occurrence names, or the count of attributes at
     /// its place if none of them has the name.
     pub fn attribute(&self, items: &[PlacedItem], occurrence: &Occ) -> usize
         ensures { result ≡ (target_of self.now (map item_placed items.now) occurrence.now).attr }

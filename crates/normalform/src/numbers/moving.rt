@@ -1,4 +1,4 @@
-//! The parts of a raw grammar that are moved into the numbered one.
+//! Moving parts of a raw grammar, into the numbered one or into a fault.
 ghost use Rattle.std.specs.Prelude.{◌≡◌, ◌<◌, length, map, IfOk};
 ghost use Rattle.ag_grammar.specs.grammars.Raw.{texts_of};
 ghost use Rattle.normalform.specs.faults.Faults.{IsNameAt};

@@ -12,8 +12,8 @@ use std::marker::Model;
 /// Texts in order. The number of a text is the index of the first that is the same. Contracts see
 /// the list of the texts.
 ///
-/// A key is a text with a number: 0 for the first key of the text, and for a later one its position among
-/// the keys. So no two keys are the same, and key i is that of text i.
+/// A key is a text with an integer (not the text's number): 0 for the first key of the text, and for a
+/// later one its index among the keys. So no two keys are the same, and key i is that of text i.
 #[derive(Drop)]
 pub struct Names<'t> {
     keys: IndexSet<(&'t str, usize)>,
@@ -61,7 +61,7 @@ impl<'t> Names<'t> {
         Ok(is_new)
     }
 
-    /// Returns the number of a text, or the number of texts if it is not there.
+    /// Returns the number of a text, or the count of texts if it is not there.
     pub fn number(&self, text: &str) -> usize
         ensures { result ≡ number_in self.now text.now }
     {
@@ -84,7 +84,7 @@ impl<'t> Names<'t> {
         self.keys.len()
     }
 
-    /// Lends the texts, each with a number that has no meaning here.
+    /// Lends the texts, each with the integer of its key, which has no meaning to callers.
     pub fn listed(&self) -> &[(&'t str, usize)]
         ensures { texts_of_keys result.now ≡ self.now }
     {

@@ -177,7 +177,7 @@ impl<'t> Numbering<'t> {
     }
 }
 
-/// Returns the literals of productions as owned texts.
+/// Returns the literals of productions as owned texts, each once, in the order of first appearance.
 pub fn literal_texts(alloc: Global, productions: &[RawProduction]) -> Result<Items<Text>, NoMemory>
     ensures { IfOk result (λ texts. texts ≡ spec.literals_of productions.now) }
 {

@@ -20,7 +20,7 @@ use Rattle.passassign.specs.Sample.{strikes_by, rightward, nothing_yet, third_pa
 use Rattle.passassign.proofs.strikes.Sample.{no_reason, others_good}
 use Rattle.passassign.proofs.making.Whole.{whole_least}
 
--- of a rule no argument is a reason
+-- no argument of a rule is a reason
 abbrev Quiet : Direction → Attributes → Production → Rule → Type 0
 Quiet d candidate q r = Each (λ o. IsReason d candidate [] q r.target.place o → ⊥) r.args
 

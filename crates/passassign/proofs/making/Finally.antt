@@ -25,7 +25,7 @@ use Rattle.passassign.proofs.making.Made.{made_before}
 use Rattle.passassign.proofs.making.Refusing.{open_step}
 use Rattle.passassign.proofs.making.Whole.{whole_least}
 
--- a symbol has an attribute with each number below its number of attributes
+-- a symbol has an attribute for each number below its number of attributes
 declared_at : (symbols : List Symbol) (s a : ℕ) → a < attribute_count (slice_get symbols s) → IsDeclared symbols s a
 declared_at symbols s a lt = go (symbol_kinds (slice_get symbols s)) refl
   where

@@ -43,7 +43,7 @@ token_pass : (a : ℕ) (x : Kind) → slice_get (Synthesized ∷ []) a ≡ Some 
 token_pass zero x e = refl
 token_pass (suc a) x e = cc
 
--- it is not inherited
+-- a token's attribute is not inherited
 not_inherited : (a : ℕ) → slice_get (Synthesized ∷ []) a ≡ Some Inherited → ⊥
 not_inherited zero e = cc
 not_inherited (suc a) e = cc

@@ -1,5 +1,5 @@
--- The assignment that passes make is at most every legal partial assignment, and has no pass that isn't made
--- yet.
+-- The assignment that passes make gives no attribute a later pass than any legal partial assignment, and no pass that
+-- isn't made yet.
 use Rattle.std.proofs.Common.{ℕ, suc, ◌≡◌, ◌<◌, ◌≤◌, [], Option, Some, None, refl, arith}
 use Rattle.ag_grammar.specs.grammars.AttributeGrammar.{Grammar}
 use Rattle.passassign.specs.Least.{Partial, IsLegalPartial}

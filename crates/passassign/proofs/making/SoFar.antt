@@ -60,7 +60,7 @@ module _ (g : Grammar) (k : ℕ) (m after : Partial) (strikes : List Strike) (ma
       none_of (m s a) (λ p e. let lt : p < k = made_before made s a p e in let low : k < p = i.1 p (pass.kept s a p e) in
       omega arith)
 
-  -- and a struck one has none up to it
+  -- and a struck attribute has no pass up to this one
   left : (s a : ℕ) → IsStruckBy strikes s a → HasNoPassUpTo g after k s a
   left s a hit =
       let i = strikes_open g (direction_of k) (IsOpen g m) [] strikes pass.good s a hit in
@@ -139,7 +139,7 @@ some_given (x ∷ xs) (y ∷ ys) len lt =
       | inr less ↦ (let w = some_given xs ys (omega arith) less in (suc w.0, w.1, w.2))
     ]
 
--- if a pass leaves fewer open, some attribute has its number
+-- if a pass leaves fewer attributes open, some attribute has this pass
 module _ (g : Grammar) (all : List Dependency) (old new : PassesSoFar) (strikes : List Strike) (before : IsProgress g all old)
     (next : IsNext g all old new strikes) (len : length new.states.items ≡ length old.states.items)
     (one : new.next ≡ old.next + 1) (less : open_count new.states.items < open_count old.states.items) where
@@ -162,7 +162,7 @@ module _ (g : Grammar) (all : List Dependency) (old new : PassesSoFar) (strikes 
       given_here (w.0 / 16) (w.0 % 16) i small (λ o. w.2 (sym (ap (state_at new.states.items) at) ∙ o))
       (state_of new.states.items (w.0 / 16) (w.0 % 16)) refl
 
--- If every attribute has a pass, they are the strikes of the assignment.
+-- If every attribute has a pass, the strikes made so far are those of the assignment.
 module _ (g : Grammar) (rows : List (List ℕ)) (next : ℕ) (m : Partial) (lists : List (List Strike))
     (legal : IsLegal g (passes_of rows)) (is : (s a : ℕ) → partial_of (passes_of rows) s a ≡ m s a) (made : IsMade g next m)
     (so_far : AreStrikesSoFar g next m lists) (last : (next ≡ 1) ⊎ IsLastInUse next m) where

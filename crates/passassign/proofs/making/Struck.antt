@@ -14,7 +14,7 @@ use Rattle.passassign.specs.declared.stuck.Strike.{Strike}
 use Rattle.passassign.specs.Certificate.{Attributes, IsStruckBy, IsOneOf, IsReason, IsGood, AreGood}
 use Rattle.passassign.specs.Least.{Partial, pass_at, HasPassIn, IsLegalPartial}
 
--- of two places each is not before the other
+-- no two places are each before the other
 not_both : (d : Direction) (i j : ℕ) → IsBefore d i j → IsBefore d j i → ⊥
 not_both LeftToRight i j h l = omega arith
 not_both RightToLeft i j h l = omega arith

@@ -141,7 +141,7 @@ module _ (g : Grammar) (d : Direction) (candidate : Attributes) (xs : List Strik
         reason = reason;
       }
 
-  -- one that waits for no attribute is good before all others
+  -- a strike that waits for no attribute is good if none is struck before it
   pub root_good : WaitsForNone g d x → ((s a : ℕ) → IsStruckBy xs s a → candidate s a) → IsGood g d candidate [] x
   root_good none within = following [] (go (item_at good.production good.argument.place) refl good.reason)
     where
@@ -187,7 +187,7 @@ module _ (g : Grammar) (d : Direction) (candidate : Attributes) (xs : List Strik
         (subst (λ (o : Target). IsSameOrLater d waits.rule.target.place o.place) (sym same_argument)
         (subst (λ (u : Rule). IsSameOrLater d u.target.place good.argument.place) (sym same_rule) h))
 
-    -- the attribute that it waits for is struck
+    -- the attribute that the strike waits for is struck
     pub awaited_struck : IsStruckBy xs s a
     awaited_struck = go good.reason
       where
@@ -195,7 +195,7 @@ module _ (g : Grammar) (d : Direction) (candidate : Attributes) (xs : List Strik
         go (inl i) = subst (IsStruckBy xs s) own_attr (subst (λ y. IsOneOf (IsStruckBy xs) y good.argument.attr) at_place i)
         go (inr (ahead, i)) = absurd (not_same_or_later ahead)
 
-    -- and it is good after a strike of only that one
+    -- and the strike is good if only that attribute is struck
     pub link_good : (y : Strike) → y.symbol ≡ s → y.attr ≡ a → IsGood g d candidate (y ∷ []) x
     link_good y e f =
         following (y ∷ [])
@@ -275,7 +275,7 @@ module _ (g : Grammar) (d : Direction) (candidate : Attributes) where
   pub good_awaited : (xs : List Strike) → AreGood g d candidate [] xs → AreAwaitedBefore g d xs
   good_awaited xs good i x at s a waits = awaited_before xs good i x at s a waits
 
-  -- and linked ones are a chain.
+  -- and good strikes that are linked are a chain.
   pub linked_chain : (xs : List Strike) → AreGood g d candidate [] xs → (links : List Strike)
       → ((i : ℕ) (x : Strike) → slice_get links i ≡ Some x → Has xs x) → AreLinked g d links → IsChain g d candidate links
   linked_chain xs good [] among linked = tt

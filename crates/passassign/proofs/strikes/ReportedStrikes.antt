@@ -124,7 +124,7 @@ module _ (all barred : List Dependency) (d : Direction) (states : List State) (b
         let w = by_name (IsAddedBefore added i) x.number x.reason t.0 t.1 (order.reasoned i x e) in
         record { u = t.0; among = w.0; strike = t.2; target = w.1; why = w.2 }
 
-    -- the additions are struck, in the same order, and the converse
+    -- the slot of an addition before index n is struck before index n, and the converse
     struck_before : (n k : ℕ) → IsAddedBefore added n k → IsStruckAt (take n xs) k
     struck_before n k (i, x, lt, e, is) = let t = reported_at i x e in
         (t.u.strike, (i, take_has n xs i t.u.strike lt t.strike), t.target ∙ is)

@@ -18,7 +18,7 @@ use Rattle.passcode.specs.Rows.{Lists, IsListAt, row_of, rows_of}
 abbrev pub IsGenerated : Passes → Production → ℕ → List Instr → Type 0
 IsGenerated m q k xs = xs ≡ generated_list m q k
 
--- a list more is collected
+-- one more list is collected
 pub lists_more : (m : Passes) (q : Production) (n : ℕ) (lists new : List (Vec Instr)) (one : Vec Instr) → new ≡ lists ++ one ∷ []
     → length lists ≡ n → IsGenerated m q (n + 1) one.items
     → ((i : ℕ) (xs : List Instr) → slice_get (row_of lists) i ≡ Some xs → IsGenerated m q (i + 1) xs) → (i : ℕ) (xs : List Instr)
@@ -100,7 +100,7 @@ module _ (g : Grammar) (m : Passes) (passes : ℕ) (code : Lists) (many : length
       let e : found.0 ≡ q = cc in
       subst (λ w. IsGenerated m w k xs) e found.2
 
--- the rows of all productions are as many as these
+-- there are as many rows as productions
 pub all_rows : (g : Grammar) (slice : List Production) (rows : List (Vec (Vec Instr))) (n : ℕ) (code : Lists)
     → slice ≡ g.productions → length rows ≡ n → n ≡ length slice → code ≡ rows_of rows → length code ≡ length g.productions
 all_rows g slice rows n code lent len end is = ap length is ∙ length-map rows (λ (v : Vec (Vec Instr)). row_of v.items) ∙ len

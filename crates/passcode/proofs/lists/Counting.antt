@@ -17,7 +17,7 @@ use Rattle.passcode.specs.Counts.{is_computation}
 use Rattle.passcode.specs.Laws.{ListsEvaluateRules}
 use Rattle.passcode.proofs.Leaving.{is_the_pass}
 
--- an instruction evaluates the rule of a number
+-- whether an instruction evaluates rule n
 abbrev evaluates : ℕ → Instr → Bool
 evaluates n (instr.Get j) = false
 evaluates n (instr.Set j a r) = nat_eq r n
@@ -26,12 +26,12 @@ evaluates n (instr.Put j) = false
 evaluates n (instr.Def a r) = nat_eq r n
 evaluates n instr.End = false
 
--- how many instructions of a list evaluate one of some rules, of which the first has a number
+-- the number of instructions of a list that evaluate one of some rules, which are numbered from n
 abbrev evaluated : ℕ → List Rule → List Instr → ℕ
 evaluated n [] xs = 0
 evaluated n (u ∷ us) xs = count_by (evaluates n) xs + evaluated (suc n) us xs
 
--- the same of one instruction
+-- the same for one instruction: 1 or 0
 abbrev evaluated_by : ℕ → List Rule → Instr → ℕ
 evaluated_by n [] i = 0
 evaluated_by n (u ∷ us) i = cond (evaluates n i) 1 0 + evaluated_by (suc n) us i
@@ -45,7 +45,7 @@ evaluated_more : (n : ℕ) (us : List Rule) (i : Instr) (xs : List Instr)
 evaluated_more n [] i xs = refl
 evaluated_more n (u ∷ us) i xs = omega (arith, count_more (evaluates n) i xs, evaluated_more (suc n) us i xs)
 
--- an instruction that evaluates no rule of these numbers
+-- an instruction that evaluates no rule numbered from n on
 by_none : (n : ℕ) (us : List Rule) (i : Instr) → ((k : ℕ) → n ≤ k → evaluates k i ≡ false) → evaluated_by n us i ≡ 0
 by_none n [] i never = refl
 by_none n (u ∷ us) i never =
@@ -59,7 +59,7 @@ by_one n r (u ∷ us) i is from to = elim (cases_lt n r) [
   | inr past ↦ grind (arith, is n ∙ eq-eqb r n (omega arith), by_none (suc n) us i (λ k le. is k ∙ ne_eqb r k (λ e. omega arith)))
 ]
 
--- the number of the rule that an instruction evaluates is one of these, where it evaluates one
+-- if an instruction evaluates a rule, the rule's number is below n
 abbrev IsNumberBelow : ℕ → Instr → Type 0
 IsNumberBelow n i = (r : ℕ) → ((k : ℕ) → evaluates k i ≡ nat_eq r k) → r < n
 
@@ -101,7 +101,7 @@ count_one f (i ∷ xs) (suc at) x e is only =
       count_one f xs at x e is (λ n j h ne. only (suc n) j h (λ z. ne (omega arith))),
     )
 
--- what evaluates a rule of a number in a list that agrees is that rule's own instruction
+-- in a list that agrees, an instruction that evaluates rule r is that rule's own instruction
 own_number : (place attr r k : ℕ) → evaluates k (set_or_def place attr r) ≡ nat_eq r k
 own_number zero a r k = refl
 own_number (suc j) a r k = refl
@@ -149,7 +149,7 @@ module _ (m : Passes) (q : Production) (k : ℕ) (xs : List Instr) (is : ListAgr
       go false other = count_none (evaluates r) xs (λ n i e. by_bool (evaluates r i)
           (λ t. (is_the_pass k (pass_at m q u.target)).1 other (once.only (n, e ∙ ap Some (own n r u i at e t)))))
 
-  -- each rule of some, of which the first has a number
+  -- each of some rules, which are numbered from n
   each_rule : (n : ℕ) (us : List Rule) → ((i : ℕ) (u : Rule) → slice_get us i ≡ Some u → IsRuleAt q (n + i) u)
       → evaluated n us xs ≡ count_by (is_of_pass m k q) us
   each_rule n [] at = refl

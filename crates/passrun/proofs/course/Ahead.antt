@@ -96,11 +96,11 @@ no_record c (item.Terminal (Class d)) body copy none ys (text, fits, is, same, m
 no_record c (item.Terminal (Literal l)) body copy none ys h = elim h [ ]
 
 -- The children still to be read at a node, one after the other.
-pub behind_next : (c : Setting) (q : Production) (e : Table) (i level : ℕ) (others : Pending) (x : Item) → i < arity q
+pub after_next : (c : Setting) (q : Production) (e : Table) (i level : ℕ) (others : Pending) (x : Item) → i < arity q
     → item_at q (place_of q c.write i) ≡ Some x
     → following c q e i level others ≡ (level, (x, Some (values_up_to c.read (copied_passes c x) (e (place_of q c.write i)))))
     ∷ following c q e (suc i) level others
-behind_next c q e i level others x within occurs =
+after_next c q e i level others x within occurs =
     let long = copies_length c c.read (stored_items q.items) (copies c c.read (stored_items q.items) (in_children e)) in
     let copy = values_up_to c.read (copied_passes c x) (e (place_of q c.write i)) in
     let child = copies_at c c.read (stored_items q.items) (in_children e) (nth (pass_direction c) (arity q) i) x occurs in

@@ -25,10 +25,10 @@ use Rattle.passrun.specs.layouts.BuiltLayouts.{AreWithin, IsWithin, argument_slo
 use Rattle.passrun.specs.layouts.BuiltLayouts.{production_slots, rows_after, rule_slots, rule_slots_by, start_in, target_slot_by}
 use Rattle.passrun.specs.layouts.Starts.{AreLow, AreSmall}
 
-items_behind : (c : Setting) (start : ℕ) (xs : List Item) (b : ℕ) → item_in (rows_after c start xs) b ≡ slice_get xs b
-items_behind c start [] b = refl
-items_behind c start (x ∷ xs) zero = refl
-items_behind c start (x ∷ xs) (suc b) = items_behind c (start + copied_width c x) xs b
+items_after : (c : Setting) (start : ℕ) (xs : List Item) (b : ℕ) → item_in (rows_after c start xs) b ≡ slice_get xs b
+items_after c start [] b = refl
+items_after c start (x ∷ xs) zero = refl
+items_after c start (x ∷ xs) (suc b) = items_after c (start + copied_width c x) xs b
 
 starts_after : (c : Setting) (start : ℕ) (xs : List Item) (b : ℕ) → b < length xs
     → start_in (rows_after c start xs) b ≡ start + copied_before c xs b
@@ -85,7 +85,7 @@ module _ (c : Setting) (q : Production) where
 
   item_same : (j : ℕ) → item_in rows j ≡ item_at q j
   item_same zero = refl
-  item_same (suc b) = items_behind c (own_width c q) (stored_items q.items) b
+  item_same (suc b) = items_after c (own_width c q) (stored_items q.items) b
 
   start_same : (j : ℕ) → j < length (places_of q) → start_in rows j ≡ copy_start c q j
   start_same zero less = refl

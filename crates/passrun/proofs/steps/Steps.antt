@@ -45,7 +45,7 @@ use Rattle.passrun.specs.passing.RunInvariant.{state_of}
 use Rattle.passrun.specs.passing.Places.{Table, copied_passes, copies, in_children, rest_of, stored}
 use Rattle.passrun.specs.reading.Reading.{AgreeAt, IsNodeRead, IsTokenRead}
 use Rattle.passrun.specs.layouts.Slots.{copied_width, copy_start, stored_width}
-use Rattle.passrun.proofs.course.Ahead.{after_last, behind_next, after_same, is_record, of_node_is}
+use Rattle.passrun.proofs.course.Ahead.{after_last, after_next, after_same, is_record, of_node_is}
 use Rattle.passrun.proofs.places.Copies.{agree_table, copies_row, shown_both, shown_row}
 use Rattle.passrun.proofs.Damage.{leaves_on}
 use Rattle.passrun.proofs.course.Forests.{add_tree, add_values, fits_none, rules_add}
@@ -246,7 +246,7 @@ module _ (c : Setting) (sound : IsSound c) where
       let rest = following c q o.table (suc o.i) (suc level) others in
       let ys : List Child = children_of c read.production of_child in
       let first : todo ≡ (suc level, (item.Symbol s', Some copy)) ∷ rest =
-      o.todo_is ∙ behind_next c q o.table o.i (suc level) others (item.Symbol s') within occurs in
+      o.todo_is ∙ after_next c q o.table o.i (suc level) others (item.Symbol s') within occurs in
       let next_todo = before_others (other (direction_of c.read)) (suc (suc level)) ys rest in
       record {
         next = next_todo;
@@ -347,7 +347,7 @@ module _ (c : Setting) (sound : IsSound c) where
       let copy = values_up_to c.read (copied_passes c x') (o.table pl) in
       let rest = following c q o.table (suc o.i) (suc level) others in
       let first : todo ≡ (suc level, (x', Some copy)) ∷ rest =
-      o.todo_is ∙ behind_next c q o.table o.i (suc level) others x' within occurs in
+      o.todo_is ∙ after_next c q o.table o.i (suc level) others x' within occurs in
       record {
         next = rest;
         records =
@@ -959,7 +959,7 @@ module _ (c : Setting) (sound : IsSound c) where
       ∙ ap (λ vs. under ++ vs) (append-nil (stored c q (o.table 0) o.copied)) in (
         o.copied pl,
         following c q o.table (suc o.i) level others,
-        o.todo_is ∙ behind_next c q o.table o.i level others x' turn.within occurs
+        o.todo_is ∙ after_next c q o.table o.i level others x' turn.within occurs
             ∙ ap (λ vs. first level vs (following c q o.table (suc o.i) level others)) copies_same,
         (λ row.
             let found = copies_there c q (o.table 0) o.copied under row b x.base x' o.base occurs in (

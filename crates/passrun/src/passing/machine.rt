@@ -399,7 +399,8 @@ impl Machine {
             (IsRunFault (setting at.now.context.now) (D.content from.old) f)) }
         // each step lowers the measure, so the loop of a pass ends
         ensures less { IfOk result (λ next.
-            measure (setting at.now.context.now) self.new next < measure (setting at.now.context.now) self.old (Some at.now.node)) }
+            measure (setting at.now.context.now) self.new next
+            < measure (setting at.now.context.now) self.old (Some at.now.node)) }
         ensures begun { self.new.begun ≡ self.old.begun }
         ensures rises { meter.old ≤ meter.new }
         ensures content { LeavesContent (D.is_honest from.new)

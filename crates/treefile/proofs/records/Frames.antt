@@ -125,10 +125,10 @@ parts content a b c p q =
     (drop_split content a b p ∙ ap (λ (rest : List ℕ). slice_range content a b ++ rest) (drop_split content b c q)
     ∙ sym (append_assoc (slice_range content a b) (slice_range content b c) (drop c content)))
 
-stands_at : (version : Version) (content : List ℕ) (at len from : ℕ) → IsBytes content → at ≤ length content
+occurs_at : (version : Version) (content : List ℕ) (at len from : ℕ) → IsBytes content → at ≤ length content
     → number_before content at ≡ len → Fits version at len → from + len + 4 ≡ at
     → IsBodyBefore version content at (slice_range content from (from + len))
-stands_at version content at len from bytes within number f ends =
+occurs_at version content at len from bytes within number f ends =
     let body = slice_range content from (from + len) in
     let size : length body ≡ len = length_part content from (from + len) (omega arith) (omega arith) ∙ omega arith in
     let start : at - 4 ≡ from + len = omega arith in
@@ -160,7 +160,7 @@ read_is_frame version content body at bytes within e =
     let found = kept (fits_before version at len) (Damaged at) (slice_range content from (from + len)) body late.1 in
     let f = fit version at len found.0 in
     subst (IsBodyBefore version content at) found.1
-    (stands_at version content at len from bytes within refl f (omega (arith, f.room)))
+    (occurs_at version content at len from bytes within refl f (omega (arith, f.room)))
 
 -- a body is read, or the offset is reported
 pub answers : (version : Version) (content : List ℕ) (at : ℕ)

@@ -2,8 +2,8 @@
 use Rattle.std.specs.Prelude.{◌≡◌, ◌≢◌, ℕ, ◌+◌, ◌-◌, min, Bool}
 use Rattle.treefile.specs.devices.Device.{HasRisen, Persists, max_failures}
 
--- the device that gets the calls, the number of calls up to the one that fails (1: the next; 0: none fails
--- any more), and the number of failed calls that the device did not get
+-- the device that gets the calls, the number of calls up to the one that fails (1: the next; 0: there is
+-- none), and the number of failed calls that the device did not get
 pub record Fuse (D : Type 0) : Type 0 where
   pub inner : D
   pub left : ℕ
@@ -19,8 +19,8 @@ FusePersists honest failures old new failed =
     Persists (honest old.inner) (honest new.inner) (failures_of failures old) (failures_of failures new) failed
 
 -- The effect of a call: the number of calls up to the failing one falls by one, and stays 0 if it is 0. The
--- failing call fails, and the device that gets the calls is unchanged. Any other call is forwarded to that
--- device: no failure is counted that it did not get, and the call fails only if its failures rose.
+-- failing call fails with D1, and the device that gets the calls is unchanged. Any other call is forwarded to that
+-- device: it adds nothing to `failed`, and fails with D1 only if the failures of that device rose.
 pub record FuseEffect {D : Type 0} (failures : D → ℕ) (old new : Fuse D) (failed : Type 0) : Type 0 where
   pub left : new.left ≡ old.left - 1
   pub fails : old.left ≡ 1 → failed × (new.inner ≡ old.inner)

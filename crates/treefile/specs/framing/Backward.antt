@@ -25,7 +25,7 @@ some_body (Ok body) = Ok (Some body)
 some_body (Err fault) = Err fault
 
 -- The result of reading before an offset: nothing if the header ends there, else the body of the frame that
--- ends there.
+-- ends there, or B2 if no frame does.
 unfoldable pub next_before : Version → List ℕ → ℕ → Result (Option (List ℕ)) FrameFault
 next_before version content at = if nat_eq at header_bytes then Ok None else some_body (body_before version content at)
 

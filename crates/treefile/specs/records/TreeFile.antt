@@ -22,11 +22,11 @@ pub record Version : Type 0 where
   pub max_values : ℕ
   pub has_copies : Bool
 
--- version 1: AGT1, and at most as many values as a symbol has attributes
+-- version 1: AGT1, and at most as many values as a symbol may have attributes
 abbrev pub version_one : Version
 version_one = record { magic = 65 ∷ 71 ∷ 84 ∷ 49 ∷ []; max_values = MAX_ATTRIBUTES; has_copies = false }
 
--- version 2: AGT2, and at most as many values again for each child
+-- version 2: AGT2, and at most as many values again for each child that a node may have
 abbrev pub version_two : Version
 version_two =
     record { magic = 65 ∷ 71 ∷ 84 ∷ 50 ∷ []; max_values = MAX_ATTRIBUTES + MAX_CHILDREN * MAX_ATTRIBUTES; has_copies = true }

@@ -1,5 +1,5 @@
 use Rattle.std.proofs.Common.{rules, ap, ◌∙◌, chars}
-use Rattle.ag_tokens.proofs.Spans.{goes_on, nearer, boundary, front_cut, back_cut}
+use Rattle.ag_tokens.proofs.Spans.{goes_on, nearer, boundary, prefix_is_cut, back_cut}
 use Rattle.ag_tokens.proofs.lexer.split_after.Goals as goal
 
 pub loop-after-smaller : goal.loop-after-smaller
@@ -17,7 +17,7 @@ split_at-requires c =
 
 pub returns-clause-prefix : goal.returns-clause-prefix
 returns-clause-prefix c =
-    c.split_at.ensures.front ∙ front_cut c.args.class c.args.text.now c.loop-after.rest.now c.loop-after.invariant.1
+    c.split_at.ensures.front ∙ prefix_is_cut c.args.class c.args.text.now c.loop-after.rest.now c.loop-after.invariant.1
     c.in_default.ensures
 
 pub returns-clause-rest : goal.returns-clause-rest

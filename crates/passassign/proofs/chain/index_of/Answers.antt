@@ -1,6 +1,6 @@
 use Rattle.std.proofs.Common.{◌≡◌, ◌↔◌, IsTrue, false}
 use Rattle.passassign.specs.declared.stuck.Strike.{Strike}
-use Rattle.passassign.proofs.slots.Lists.{front_all, front_more}
+use Rattle.passassign.proofs.slots.Lists.{whole_prefix, prefix_more}
 use Rattle.passassign.proofs.strikes.Following.{strikes_has}
 use Rattle.passassign.proofs.chain.index_of.Goals as goal
 
@@ -12,11 +12,11 @@ is_no h q = let e = h.1 q in let bad : ⊥ = cc in bad
 
 pub loop-index-preserved : goal.loop-index-preserved
 loop-index-preserved c =
-    front_more (λ k (x : Strike). (x.symbol ≡ c.args.symbol) × (x.attr ≡ c.args.attr) → ⊥) c.args.strikes.now c.loop-index.index
+    prefix_more (λ k (x : Strike). (x.symbol ≡ c.args.symbol) × (x.attr ≡ c.args.attr) → ⊥) c.args.strikes.now c.loop-index.index
     none c.loop-index-test.true c.loop-index.invariant (is_no c.if-is_strike_of.ensures)
 
 pub returns-clause-none : goal.returns-clause-none
 returns-clause-none c = λ same h.
     let w = strikes_has c.args.strikes.now c.args.symbol c.args.attr h in
-    front_all (λ k (x : Strike). (x.symbol ≡ c.args.symbol) × (x.attr ≡ c.args.attr) → ⊥) c.args.strikes.now c.loop-index.index
+    whole_prefix (λ k (x : Strike). (x.symbol ≡ c.args.symbol) × (x.attr ≡ c.args.attr) → ⊥) c.args.strikes.now c.loop-index.index
     c.loop-index-test.false c.loop-index.invariant w.1.0 w.0 w.1.1 (w.2, w.3)

@@ -1,12 +1,12 @@
 use Rattle.std.proofs.Common.{◌≤◌, length, subst}
 use Rattle.passcode.proofs.Slices.{read_at}
-use Rattle.planchecker.proofs.Loops.{front_more, front_whole, is_no, is_yes, says_no, says_yes}
+use Rattle.planchecker.proofs.Loops.{prefix_more, prefix_whole, is_no, is_yes, says_no, says_yes}
 use Rattle.plan_reasons.specs.Hints.{IsUnusedIn}
 use Rattle.plan_reasons.proofs.uses.is_unused.Goals as goal
 
 pub loop-production-preserved : goal.loop-production-preserved
 loop-production-preserved c =
-    front_more (λ i q. IsUnusedIn c.args.attribute.0 c.args.attribute.1 q) c.args.grammar.now.productions
+    prefix_more (λ i q. IsUnusedIn c.args.attribute.0 c.args.attribute.1 q) c.args.grammar.now.productions
     c.loop-production.production-index c.production-item.result
     (read_at c.args.grammar.now.productions c.productions-production-items.result.now c.loop-production.production-index
     c.production-item.result c.productions-production-items.ensures.lent c.loop-production-test.true c.production-item.is)
@@ -21,7 +21,7 @@ returns-then-not-is_unused_in c =
 pub returns : goal.returns
 returns c =
     says_yes
-    (front_whole (λ i q. IsUnusedIn c.args.attribute.0 c.args.attribute.1 q) c.args.grammar.now.productions
+    (prefix_whole (λ i q. IsUnusedIn c.args.attribute.0 c.args.attribute.1 q) c.args.grammar.now.productions
     c.loop-production.production-index
     (subst (λ xs. length xs ≤ c.loop-production.production-index) c.productions-production-items.ensures.lent
     c.loop-production-test.false) c.loop-production.invariant)

@@ -1,12 +1,12 @@
 use Rattle.std.proofs.Common.{◌≤◌, length, subst}
 use Rattle.passcode.proofs.Slices.{read_at}
-use Rattle.planchecker.proofs.Loops.{front_more, front_whole, is_no, is_yes, says_no, says_yes}
+use Rattle.planchecker.proofs.Loops.{prefix_more, prefix_whole, is_no, is_yes, says_no, says_yes}
 use Rattle.plan_reasons.specs.Hints.{IsUnusedBy}
 use Rattle.plan_reasons.proofs.uses.is_unused_in.Goals as goal
 
 pub loop-rule-preserved : goal.loop-rule-preserved
 loop-rule-preserved c =
-    front_more (λ i u. IsUnusedBy c.args.production.now c.args.attribute.0 c.args.attribute.1 u) c.args.production.now.rules
+    prefix_more (λ i u. IsUnusedBy c.args.production.now c.args.attribute.0 c.args.attribute.1 u) c.args.production.now.rules
     c.loop-rule.rule-index c.rule-item.result
     (read_at c.args.production.now.rules c.as_slice-rule-items.result.now c.loop-rule.rule-index c.rule-item.result
     c.as_slice-rule-items.ensures c.loop-rule-test.true c.rule-item.is) c.loop-rule.invariant
@@ -21,6 +21,6 @@ returns-then-not-is_unused_by c =
 pub returns : goal.returns
 returns c =
     says_yes
-    (front_whole (λ i u. IsUnusedBy c.args.production.now c.args.attribute.0 c.args.attribute.1 u) c.args.production.now.rules
+    (prefix_whole (λ i u. IsUnusedBy c.args.production.now c.args.attribute.0 c.args.attribute.1 u) c.args.production.now.rules
     c.loop-rule.rule-index
     (subst (λ xs. length xs ≤ c.loop-rule.rule-index) c.as_slice-rule-items.ensures c.loop-rule-test.false) c.loop-rule.invariant)

@@ -2,7 +2,7 @@ use Rattle.std.proofs.Common.{ap, sym, ◌∙◌, arith}
 use Rattle.std.proofs.lemmas.Option.{slice_get-get_or}
 use Rattle.passcode.specs.Course.{State}
 use Rattle.planchecker.proofs.Completing.{next_state, on_way, too_short, whole, wrong_at}
-use Rattle.planchecker.proofs.Loops.{front_more, is_no, is_yes}
+use Rattle.planchecker.proofs.Loops.{prefix_more, is_no, is_yes}
 use Rattle.planchecker.proofs.following.first_wrong_index.Goals as goal
 
 pub may_run-requires : goal.may_run-requires
@@ -29,7 +29,7 @@ loop-index-preserved c =
     record {
       phase = c.phase_after-phase.ensures ∙ ap (λ (s : State). s.phase) (sym next);
       turn = c.turn_after-turn.ensures ∙ ap (λ (s : State). s.turn) (sym next);
-      may = front_more _ _ _ _ is c.loop-index.invariant.may (is_yes c.if-not-may_run.ensures);
+      may = prefix_more _ _ _ _ is c.loop-index.invariant.may (is_yes c.if-not-may_run.ensures);
     }
 
 pub returns-in-Ended : goal.returns-in-Ended

@@ -4,7 +4,7 @@ use Rattle.std.specs.Global.{Vec}
 use Rattle.passcode.specs.declared.instr.Instr.{Instr}
 use Rattle.planchecker.proofs.Checked.{items_at}
 use Rattle.planchecker.proofs.Lists.{first_list_of}
-use Rattle.planchecker.proofs.Loops.{front_more, front_whole}
+use Rattle.planchecker.proofs.Loops.{prefix_more, prefix_whole}
 use Rattle.planchecker.proofs.following.first_wrong_list.Goals as goal
 
 pub returns-in-Some : goal.returns-in-Some
@@ -14,11 +14,11 @@ returns-in-Some c =
 
 pub loop-index-preserved : goal.loop-index-preserved
 loop-index-preserved c =
-    front_more _ _ _ _ (items_at _ _ _ _ c.loop-index-test.true c.index-lists-index.is c.as_slice.ensures.value)
+    prefix_more _ _ _ _ (items_at _ _ _ _ c.loop-index-test.true c.index-lists-index.is c.as_slice.ensures.value)
     c.loop-index.invariant c.in_default.ensures
 
 pub returns : goal.returns
 returns c =
     let len = length-map c.args.lists.now (λ (w : Vec Instr). w.items) in
     let past = c.loop-index-test.false in
-    front_whole _ _ _ (omega arith) c.loop-index.invariant
+    prefix_whole _ _ _ (omega arith) c.loop-index.invariant

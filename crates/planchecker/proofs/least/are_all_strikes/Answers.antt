@@ -1,13 +1,13 @@
 use Rattle.std.proofs.Common.{ap, ◌∙◌, sym, Some}
 use Rattle.std.proofs.lemmas.Option.{slice_get-get_or}
-use Rattle.planchecker.proofs.Loops.{front_more, front_whole, is_yes, says_yes}
+use Rattle.planchecker.proofs.Loops.{prefix_more, prefix_whole, is_yes, says_yes}
 use Rattle.planchecker.proofs.least.are_all_strikes.Goals as goal
 
 pub loop-index-preserved : goal.loop-index-preserved
 loop-index-preserved c =
-    front_more _ _ _ _
+    prefix_more _ _ _ _
     (slice_get-get_or c.args.lists.now _ _ c.loop-index-test.true ∙ ap Some (sym c.index-lists-index.is ∙ sym c.as_slice.ensures))
     c.loop-index.invariant (is_yes c.if-not-are_strikes_at.ensures)
 
 pub returns : goal.returns
-returns c = says_yes (front_whole _ _ _ c.loop-index-test.false c.loop-index.invariant)
+returns c = says_yes (prefix_whole _ _ _ c.loop-index-test.false c.loop-index.invariant)

@@ -1,7 +1,7 @@
 use Rattle.passcode.proofs.Lawful.{planned}
 use Rattle.passcode.proofs.Slices.{read_at}
 use Rattle.planchecker.proofs.Checked.{lists_at}
-use Rattle.planchecker.proofs.Loops.{first_not, front_more, front_whole}
+use Rattle.planchecker.proofs.Loops.{first_not, prefix_more, prefix_whole}
 use Rattle.planchecker.proofs.plan.first_disagreement.Goals as goal
 
 pub first_wrong_list-requires-clause-planned : goal.first_wrong_list-requires-clause-planned
@@ -33,9 +33,9 @@ loop-index-preserved c =
     let lent = c.productions-production-items.ensures.lent in
     let lists = lists_at _ _ _ _ _ _ _ _ c.requires.shape c.rows-rows.ensures lent c.loop-index-test.true c.index-rows-index.is
     c.as_slice.ensures.value in
-    front_more _ _ _ _ (read_at _ _ _ _ lent c.loop-index-test.true c.production-item.is) c.loop-index.invariant
+    prefix_more _ _ _ _ (read_at _ _ _ _ lent c.loop-index-test.true c.production-item.is) c.loop-index.invariant
     (rw lists.0 at c.in_default.ensures)
 
 pub returns : goal.returns
 returns c =
-    front_whole _ _ _ (rw c.productions-production-items.ensures.lent at c.loop-index-test.false) c.loop-index.invariant
+    prefix_whole _ _ _ (rw c.productions-production-items.ensures.lent at c.loop-index-test.false) c.loop-index.invariant

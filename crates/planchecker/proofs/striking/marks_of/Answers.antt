@@ -1,6 +1,6 @@
 use Rattle.std.proofs.lemmas.Option.{slice_get-get_or}
 use Rattle.passassign.specs.declared.stuck.Strike.{Strike}
-use Rattle.planchecker.proofs.Loops.{front_more, front_whole, is_no, is_yes, says_no, says_yes}
+use Rattle.planchecker.proofs.Loops.{prefix_more, prefix_whole, is_no, is_yes, says_no, says_yes}
 use Rattle.planchecker.proofs.Strikes.{marks_more, next_same, within_limits}
 use Rattle.planchecker.proofs.striking.marks_of.Goals as goal
 
@@ -25,11 +25,11 @@ loop-strike-preserved g c =
     let at = slice_get-get_or c.args.strikes.now c.loop-strike.strike-index none c.loop-strike-test.true in
     let marked = c.loop-strike.invariant.marked in
     record {
-      good = front_more _ _ _ _ at c.loop-strike.invariant.good
+      good = prefix_more _ _ _ _ at c.loop-strike.invariant.good
           ((next_same _ _ _ _ _ _ _ marked).0 (is_yes c.if-not-is_next.ensures));
       full = c.mark.ensures.full;
       marked = marks_more _ _ _ _ _ at marked c.mark.ensures.marked;
     }
 
 pub returns-clause-good : goal.returns-clause-good
-returns-clause-good g c = says_yes (front_whole _ _ _ c.loop-strike-test.false c.loop-strike.invariant.good)
+returns-clause-good g c = says_yes (prefix_whole _ _ _ c.loop-strike-test.false c.loop-strike.invariant.good)

@@ -8,46 +8,46 @@ use Rattle.table_tree.proofs.flat.+take_last.Goals as goal
 pub new-requires-2 : goal.new-requires-2
 new-requires-2 t c =
     let p : Pair = (c.in-Some.key, c.in-Some.value) in
-    let front : List Pair = c.pop.new.self.items in
-    let whole : c.args.pairs.now.items ≡ front ++ p ∷ c.in_ok-right.right =
+    let earlier : List Pair = c.pop.new.self.items in
+    let whole : c.args.pairs.now.items ≡ earlier ++ p ∷ c.in_ok-right.right =
     c.in_ok-right.ensures.parts
     ∙ (ap (λ (ps : List Pair). ps ++ c.in_ok-right.right) c.in-Some.ensures.items
-    ∙ append_assoc front (p ∷ []) c.in_ok-right.right) in
+    ∙ append_assoc earlier (p ∷ []) c.in_ok-right.right) in
     let is =
-    member front p c.in_ok-right.right (subst (λ (ps : List Pair). IsWell (v.Table ps)) whole c.requires.well) in
+    member earlier p c.in_ok-right.right (subst (λ (ps : List Pair). IsWell (v.Table ps)) whole c.requires.well) in
     record { short = is.short; well = is.well; item = is.item }
 
 pub take_last-requires-2 : goal.take_last-requires-2
 take_last-requires-2 t c =
     let p : Pair = (c.in-Some.key, c.in-Some.value) in
-    let front : List Pair = c.pop.new.self.items in
-    let whole : c.args.pairs.now.items ≡ front ++ p ∷ c.in_ok-right.right =
+    let earlier : List Pair = c.pop.new.self.items in
+    let whole : c.args.pairs.now.items ≡ earlier ++ p ∷ c.in_ok-right.right =
     c.in_ok-right.ensures.parts
     ∙ (ap (λ (ps : List Pair). ps ++ c.in_ok-right.right) c.in-Some.ensures.items
-    ∙ append_assoc front (p ∷ []) c.in_ok-right.right) in
+    ∙ append_assoc earlier (p ∷ []) c.in_ok-right.right) in
     let size = ap length whole in
-    let both = length-append front (p ∷ c.in_ok-right.right) in
+    let both = length-append earlier (p ∷ c.in_ok-right.right) in
     let count = c.in_ok-right.ensures.count in
     let within = c.requires.within in
     let start = c.decreases in (
       omega arith,
       (
         omega arith,
-        well_prefix front (p ∷ c.in_ok-right.right) (subst (λ (ps : List Pair). IsWell (v.Table ps)) whole c.requires.well),
+        well_prefix earlier (p ∷ c.in_ok-right.right) (subst (λ (ps : List Pair). IsWell (v.Table ps)) whole c.requires.well),
       ),
     )
 
 pub fork-requires : goal.fork-requires
 fork-requires t c =
     let p : Pair = (c.in-Some.key, c.in-Some.value) in
-    let front : List Pair = c.pop.new.self.items in
+    let earlier : List Pair = c.pop.new.self.items in
     let rest : List Pair = c.take_last-2.new.pairs.items in
     let right : List Pair = c.in_ok-right.right in
     let entry : c.in_ok-entry.entry.value ≡ p = c.in_ok-entry.ensures.ok ∙ c.in_ok-new.ensures in
     let whole : c.args.pairs.now.items ≡ rest ++ (c.in_ok-left.left ++ p ∷ right) =
     c.in_ok-right.ensures.parts
     ∙ (ap (λ (ps : List Pair). ps ++ right) c.in-Some.ensures.items
-    ∙ (append_assoc front (p ∷ []) right
+    ∙ (append_assoc earlier (p ∷ []) right
     ∙ (ap (λ (ps : List Pair). ps ++ p ∷ right) c.in_ok-left.ensures.parts
     ∙ append_assoc rest c.in_ok-left.left (p ∷ right)))) in
     subst (λ (q : Pair). IsWell (v.Table (c.in_ok-left.left ++ q ∷ right))) (sym entry)

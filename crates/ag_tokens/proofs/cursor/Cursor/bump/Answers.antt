@@ -1,6 +1,6 @@
 use Rattle.std.proofs.Common.{sym, ap, ◌∙◌, Err}
 use Rattle.ag_tokens.specs.Parsing.{next}
-use Rattle.ag_tokens.proofs.States.{front_is, next_is, ready}
+use Rattle.ag_tokens.proofs.States.{prefix_is, next_is, ready}
 use Rattle.ag_tokens.proofs.cursor.Cursor.bump.Goals as goal
 
 pub invariant_of-self : goal.invariant_of-self
@@ -32,5 +32,5 @@ returns-in-None c =
 pub returns-in_default : goal.returns-in_default
 returns-in_default c =
     let given = rw c.in_default.is at c.self.invariant.lexed in
-    let none = front_is _ _ (Err c.in_default.field-0) given in
+    let none = prefix_is _ _ (Err c.in_default.field-0) given in
     rw (← c.self.view_is) (none ∙ sym (ap next none))

@@ -3,7 +3,7 @@ use Rattle.std.proofs.lemmas.List.{length-append}
 use Rattle.std.proofs.lemmas.Result.{err_from_is_err_and}
 use Rattle.ag_value.specs.Measure.{max_weight}
 use Rattle.ag_value.specs.Spelling.{spelling_of}
-use Rattle.ag_value.proofs.Codec.{front_is, only_memory, read_is_spelled, read_is_well, read_whole, too_long}
+use Rattle.ag_value.proofs.Codec.{prefix_is, only_memory, read_is_spelled, read_is_well, read_whole, too_long}
 use Rattle.ag_value.proofs.spelling.decoding.decode.Goals as goal
 
 pub overflow_sub-len : goal.overflow_sub-len
@@ -30,7 +30,7 @@ returns-then-len-gt-MAX_WEIGHT-clause-read c = λ value rest well spelled.
 pub returns-clause-spelled : goal.returns-clause-spelled
 returns-clause-spelled c =
     let takes = (read_is_spelled 64 c.args.input.now _ (λ i. omega (arith, c.type_inv.input i)) c.in_ok-value.ensures).takes in
-    front_is c.args.input.now (spelling_of c.in_ok-value.value) c.in_ok-value.rest.now takes.parts
+    prefix_is c.args.input.now (spelling_of c.in_ok-value.value) c.in_ok-value.rest.now takes.parts
 
 pub returns-in_err-value-clause-read : goal.returns-in_err-value-clause-read
 returns-in_err-value-clause-read c = λ value rest well spelled.

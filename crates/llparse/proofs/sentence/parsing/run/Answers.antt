@@ -18,7 +18,7 @@ use Rattle.llparse.specs.sentence.Turns.{IsAtSymbol, IsAtItem, FitsTables, FitsT
 use Rattle.llparse.specs.declared.sentence.parse_fault.ParseFault.{ParseFault}
 use Rattle.llparse.specs.declared.sentence.parse_fault.ParseFault.TheVariants.{Unexpected}
 use Rattle.llparse.specs.declared.sentence.parser.OpenProduction.{OpenProduction}
-use Rattle.llparse.proofs.steps.Fronts.{on_top}
+use Rattle.llparse.proofs.steps.Prefixes.{on_top}
 use Rattle.llparse.proofs.answers.Nexts.{some_left, all_taken}
 use Rattle.llparse.proofs.answers.Putting.{stopped}
 use Rattle.llparse.proofs.answers.Refused.{stuck}

@@ -1,4 +1,4 @@
--- The check of targets has one target for each rule.
+-- The checks of targets are those of N8.
 use Rattle.std.proofs.Common.{IfOk, ◌≡◌, subst}
 use Rattle.normalform.specs.faults.Faults.{first_wrong}
 use Rattle.normalform.proofs.found.Wrong.{defined_checks}

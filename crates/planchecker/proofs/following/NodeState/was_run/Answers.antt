@@ -2,7 +2,7 @@ use Rattle.std.proofs.Common.{inl, inr, arith}
 use Rattle.std.proofs.lemmas.Option.{slice_get-get_or}
 use Rattle.passcode.specs.Course.{start}
 use Rattle.planchecker.proofs.Completing.{prefix_is_run, leading_run}
-use Rattle.planchecker.proofs.Loops.{front_more, is_no, is_yes, says_no, says_yes}
+use Rattle.planchecker.proofs.Loops.{prefix_more, is_no, is_yes, says_no, says_yes}
 use Rattle.planchecker.proofs.following.NodeState.was_run.Goals as goal
 
 pub returns-then-runs_rule : goal.returns-then-runs_rule
@@ -18,7 +18,7 @@ pub loop-index-preserved : goal.loop-index-preserved
 loop-index-preserved c =
     let w = c.requires.within in
     let less = c.loop-index-test.true in
-    front_more _ _ _ _ (slice_get-get_or c.args.self.now.list.now c.loop-index.index _ (omega arith)) c.loop-index.invariant
+    prefix_more _ _ _ _ (slice_get-get_or c.args.self.now.list.now c.loop-index.index _ (omega arith)) c.loop-index.invariant
     (is_no c.if-runs_rule.ensures)
 
 pub returns : goal.returns

@@ -4,7 +4,7 @@ use Rattle.std.proofs.lemmas.Result.{err_from_is_err_and}
 use Rattle.ag_grammar.specs.grammars.Tree.{max_depth, max_nodes}
 use Rattle.llparse.specs.sentence.Parsing.{task_of}
 use Rattle.llparse.specs.sentence.Turns.{output_of}
-use Rattle.llparse.proofs.steps.Fronts.{on_top}
+use Rattle.llparse.proofs.steps.Prefixes.{on_top}
 use Rattle.llparse.proofs.answers.Refused.{full_node, stuck}
 use Rattle.llparse.proofs.steps.Stacks.{fewer_opened}
 use Rattle.llparse.proofs.steps.Starts.{no_rule, on_open}

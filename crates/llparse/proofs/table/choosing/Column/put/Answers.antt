@@ -1,7 +1,7 @@
 use Rattle.std.proofs.Common.{◌≡◌, ◌<◌, Some, None, ap, sym, ◌∙◌, subst, length, set}
 use Rattle.llparse.specs.table.Predicted.{choice_at, AreEarliestFrom}
 use Rattle.std.proofs.lemmas.List.{get_or_default}
-use Rattle.llparse.proofs.look_ahead.Choices.{clashes, put_chosen}
+use Rattle.llparse.proofs.look_ahead.Choices.{pairs_conflict, put_chosen}
 use Rattle.llparse.proofs.table.choosing.Column.put.Goals as goal
 
 pub returns-clause-earliest : goal.returns-clause-earliest
@@ -18,5 +18,5 @@ returns-clause-least c = λ qs marks q is same marked old least.
     let read : c.index.result.now ≡ choice_at choices q.left =
     c.index.ensures ∙ get_or_default choices c.args.symbol c.index.result.now None c.requires.symbol
     ∙ ap (choice_at choices) (sym same) in
-    clashes qs marks c.args.production q is marked choices c.index.result.now c.args.self.now.conflict c.conflict_with-self.result
-    read c.conflict_with-self.ensures.some c.conflict_with-self.ensures.none old least
+    pairs_conflict qs marks c.args.production q is marked choices c.index.result.now c.args.self.now.conflict
+    c.conflict_with-self.result read c.conflict_with-self.ensures.some c.conflict_with-self.ensures.none old least

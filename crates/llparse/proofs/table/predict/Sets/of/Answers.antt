@@ -1,4 +1,4 @@
--- The sets of a grammar.
+-- The nullable symbols and the edges of a grammar.
 use Rattle.closure.specs.Following.{is_marked}
 use Rattle.llparse.proofs.look_ahead.Firsts.{edges_below}
 use Rattle.llparse.proofs.look_ahead.Follows.{follow_edges_below}

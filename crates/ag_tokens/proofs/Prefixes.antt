@@ -19,12 +19,12 @@ prefix_reaches p [] more h = omega arith
 prefix_reaches p (c ∷ word) more h = let so_far = prefix_reaches p word more in grind (arith, so_far)
 
 -- and has the length of `prefix` if the rest begins with no character that passes,
-pub front_is : (p : ℕ → Bool) (prefix rest : List ℕ) → list_all p prefix ≡ true → prefix_len p rest ≡ 0
+pub prefix_is : (p : ℕ → Bool) (prefix rest : List ℕ) → list_all p prefix ≡ true → prefix_len p rest ≡ 0
     → prefix_len p (prefix ++ rest) ≡ length prefix
-front_is p [] rest all none = none
-front_is p (c ∷ prefix) rest all none = let more = front_is p prefix rest in grind (arith, more)
+prefix_is p [] rest all none = none
+prefix_is p (c ∷ prefix) rest all none = let more = prefix_is p prefix rest in grind (arith, more)
 
 -- for example if the next character does not pass
-pub front_ends : (p : ℕ → Bool) (word more : List ℕ) (c : ℕ) → list_all p word ≡ true → p c ≡ false
+pub prefix_ends : (p : ℕ → Bool) (word more : List ℕ) (c : ℕ) → list_all p word ≡ true → p c ≡ false
     → prefix_len p (word ++ c ∷ more) ≡ length word
-front_ends p word more c h ends = front_is p word (c ∷ more) h (grind arith)
+prefix_ends p word more c h ends = prefix_is p word (c ∷ more) h (grind arith)
