@@ -14,7 +14,7 @@ use crate::tree::TableTree;
 use ag_value::NoMemory;
 
 /// The number of bytes before the first pair: the kind of a table, and the number of pairs.
-pub(crate) const HEADER_LEN: usize = 5;
+pub(crate) const HEADER_LENGTH: usize = 5;
 
 impl TableTree {
     /// Appends the encoding of the table. Fails with NoMemory; `out` is then unchanged.
@@ -39,9 +39,9 @@ impl TableTree {
         ensures { out.new ≡ take (length out.old) (drop from (spelling_of (v.Table self.now))) }
     {
         let header = self.header();
-        let mut done = copy_piece(&header[from.min(HEADER_LEN)..], 0, out);
+        let mut done = copy_piece(&header[from.min(HEADER_LENGTH)..], 0, out);
         while done < out.len() {
-            let piece = self.piece_at(from + done - HEADER_LEN);
+            let piece = self.piece_at(from + done - HEADER_LENGTH);
             done = copy_piece(piece, done, out);
         }
     }

@@ -4,7 +4,7 @@ ghost use Rattle.std.specs.Prelude.{◌≡◌, ◌↔◌, length, map, IsTrue};
 ghost use Rattle.ag_value.specs.Spelling.{joined, spelling_of, spelling_of_pair};
 ghost use Rattle.ag_value.specs.declared.value.Value.TheVariants as v;
 
-use crate::encoding::HEADER_LEN;
+use crate::encoding::HEADER_LENGTH;
 use crate::tree::TableTree;
 use ag_value::{Text, Value};
 
@@ -27,7 +27,7 @@ impl TableTree {
         if bytes.len() != self.encoding_len() {
             return false;
         }
-        let (header, pairs) = bytes.split_at(HEADER_LEN);
+        let (header, pairs) = bytes.split_at(HEADER_LENGTH);
         if header != &self.header()[..] {
             return false;
         }
