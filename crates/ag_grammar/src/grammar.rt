@@ -26,7 +26,8 @@ pub enum Terminal {
     Class(u16),
 }
 
-/// An item of the right side of a production (the textbook).
+/// An item of the right side of a production (the textbook). The symbol of the left side is also given as one,
+/// as the item at place 0.
 #[derive(Clone, Copy, Debug, PartialEq, Eq)]
 pub enum Item {
     /// A declared symbol, by its number from 0.

@@ -1,4 +1,4 @@
-//! Laws about the definitions alone: each is the contract of a function with an empty body.
+//! Laws about the definitions alone: each is a function with an empty body, whose contract is the fact.
 
 ghost use Rattle.ag_grammar.specs.grammars.Laws.{ProductiveByTrees, OneSolution, OneTranslation};
 ghost use Rattle.ag_grammar.specs.grammars.Laws.{EquationsKept, PassesSolve, PassesHaveAllRules};

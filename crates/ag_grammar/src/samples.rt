@@ -86,7 +86,7 @@ pub fn sample_unsolved()
     ensures { Solves AnyRule sample sample_tree (sample_values 1) → ⊥ }
 {}
 
-/// States that the translation of the tree of `x x` is 2.
+/// States that the translation by the values with 2 for `out`, those of the tree of `x x`, is 2.
 #[tactic(auto, using(crate::proofs::grammars::samples::NumberSample::translation))]
 pub fn sample_translation()
     ensures { IsTranslation sample (sample_values 2) (Num (pos 2)) }
@@ -105,8 +105,8 @@ pub fn sample_counts()
     ensures second { rules_of_pass sample_passes 2 sample sample_tree ≡ 0 }
 {}
 
-/// States that pass 1 is the last pass of the assignment of pass 1 to all attributes. From any values it
-/// leaves those with 2 for `out`, and these are the solution.
+/// States that no attribute has a later pass than 1 if all have pass 1. That pass leaves the values with 2
+/// for `out`, whatever values it began with, and these are the solution.
 #[tactic(auto, using(crate::proofs::grammars::Running::sample_settled))]
 pub fn sample_ran()
     ensures last { IsLastPass 1 sample_passes }
@@ -175,7 +175,8 @@ pub fn not_productive()
     ensures { IsProductive endless 0 → ⊥ }
 {}
 
-/// States that a symbol is not reached if it occurs on no right side and is not the start symbol.
+/// States that the third symbol of a grammar is not reached: it occurs on no right side, and is not the
+/// start symbol.
 #[tactic(auto, using(crate::proofs::grammars::samples::Refused::not_reached))]
 pub fn not_reached()
     ensures { IsReached with_unreached 2 → ⊥ }
@@ -219,7 +220,8 @@ pub fn token_unsolved()
     ensures { Solves AnyRule token_sample token_tree (token_values []) → ⊥ }
 {}
 
-/// States that the translation of the tree of `iffy if` is the name.
+/// States that the translation by the values with the name for `out`, those of the tree of `iffy if`, is
+/// the name.
 #[tactic(auto, using(crate::proofs::grammars::samples::TokenSample::translation))]
 pub fn token_translation()
     ensures { IsTranslation token_sample (token_values iffy) (Text iffy) }

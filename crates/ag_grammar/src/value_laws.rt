@@ -1,5 +1,5 @@
-//! Laws of the values of expressions, each the contract of a function with an empty body, and
-//! worked examples.
+//! Laws of the values of expressions, each a function with an empty body whose contract is the fact,
+//! and worked examples.
 
 ghost use Rattle.std.specs.Prelude.{◌≡◌, ◌∷◌, [], ℕ, neg_ℤ, negsuc, pos, codes};
 ghost use Rattle.ag_value.specs.declared.value.ErrorCode.TheVariants as code;
@@ -27,8 +27,8 @@ pub fn a_value_beyond_the_limits_is_an_error()
     ensures fits { WhatFitsStays }
 {}
 
-/// States that `==` returns 1 for two well values that are not errors if and only if they are the same
-/// value.
+/// States that the comparison that `==` makes of operands that are not errors is 1 for two well values if
+/// and only if they are the same.
 pub fn equality_distinguishes_values()
     ensures { SameIsOne }
 {}

@@ -27,7 +27,7 @@ pub record IsNumberFor (rules : List Rule) (target : Target) (number : ℕ) : Ty
 
 -- A rule for a target passes on the error of an argument: with other errors in the place of those before it the rule has the same
 -- error, and with another one in its place too it has not.
-pub record Passes (rules : List Rule) (e : Table) (target argument : Target) : Type 0 where
+pub record PassesOn (rules : List Rule) (e : Table) (target argument : Target) : Type 0 where
   pub number : ℕ
   pub rule : Rule
   pub there : slice_get rules number ≡ Some rule
@@ -55,7 +55,7 @@ HasNoErrorAt g p vs target = (q : Production) → IsProduction g p q → HasNoEr
 
 -- what the rule for a target does
 abbrev pub DoesNext : List Rule → Table → Target → Next → Type 0
-DoesNext rules e target (rule_does.Passes argument) = Passes rules e target argument
+DoesNext rules e target (rule_does.Passes argument) = PassesOn rules e target argument
 DoesNext rules e target (rule_does.Arises number) = Arises rules e target number
 
 -- and at a node of the production of a number, with the values of its record
@@ -100,7 +100,8 @@ pub record IsPassedFrom (R : Reading) (places : List ℕ) (target : Target) (the
   pub passes : R places target (rule_does.Passes argument)
   pub goes : GoesTo places argument there from
 
--- What following a rule leads to: to the one whose error it passes on, or nowhere if the error arises in it.
+-- What following a rule leads to: to the rule whose error it passes on; to the rule itself if the error arises in it; `Nothing`
+-- claims nothing.
 abbrev pub Follows : Reading → List ℕ → Target → List ℕ → Step → Type 0
 Follows R places target there (step.To from) = IsPassedFrom R places target there from
 Follows R places target there (step.Arises number) = (there ≡ places) × R places target (rule_does.Arises number)
@@ -109,8 +110,8 @@ Follows R places target there step.Nothing = Unit {0}
 -- A chain of n rules that passed an error on, from the rule for a target at a node back to the rule whose error it was.
 pub data IsChain (R : Reading) (places : List ℕ) (target : Target) : List ℕ → Target → ℕ → Type 0 where
   itself : IsChain R places target places target 0
-  longer : (there : List ℕ) (from : Target) (n : ℕ) (beyond : List ℕ) (origin : Target) → IsChain R places target there from n
-      → IsPassedFrom R there from beyond origin → IsChain R places target beyond origin (suc n)
+  longer : (there : List ℕ) (from : Target) (n : ℕ) (beyond : List ℕ) (next : Target) → IsChain R places target there from n
+      → IsPassedFrom R there from beyond next → IsChain R places target beyond next (suc n)
 
 -- The cause of the error that the rule for a target computes at the node at the end of some places: the rule of a number, at
 -- the node at the end of other places. The error arises in it, and n rules passed it on.

@@ -81,7 +81,8 @@ abbrev pub HasNoRecord : Grammar → TreeIndex → ℕ → Type 0
 HasNoRecord g index number = (p : ℕ) (q : Production) → kind_in index number ≡ Some (kind.Node p) → IsProduction g p q
     → end_of index number ≡ None
 
--- The node at the end of some places has no record in the index.
+-- The index has no record of a node of a production at the end of some places: it is a token, or a node whose production the
+-- grammar lacks, or the index has no end of its record.
 pub record IsWithoutRecord (g : Grammar) (index : TreeIndex) (places : List ℕ) : Type 0 where
   pub number : ℕ
   pub numbered : IsNumberAt g index places number
@@ -98,7 +99,8 @@ pub record IsWithoutError (g : Grammar) (index : TreeIndex) (content places : Li
   pub is_node : IsNode g body production values
   pub none : HasNoErrorAt g production values target
 
--- The node at the end of some places does not have a child at a place.
+-- The node at the end of some places does not have a child at a place, in each tree that `HasNoChild` speaks of: a tree of the
+-- grammar that the index has, with fewer than 2 ^ 32 nodes.
 pub record HasNoChildAt (g : Grammar) (index : TreeIndex) (places : List ℕ) (place : ℕ) : Type 0 where
   pub number : ℕ
   pub numbered : IsNumberAt g index places number
@@ -121,7 +123,7 @@ abbrev pub Stops : Grammar → TreeIndex → List ℕ → List ℕ → Target �
 Stops g index content places target = IsWithoutRecord g index places ⊎ IsWithoutError g index content places target
     ⊎ IsPassedFromNowhere g index content places target
 
--- A chain of rules that passed an error on stops without a cause, or has as many rules as the limit.
+-- A chain of rules that passed an error on stops without a cause, or has at least as many rules as the limit.
 pub record StopsAfter (g : Grammar) (index : TreeIndex) (content places : List ℕ) (target : Target) (limit : ℕ) : Type 0 where
   pub there : List ℕ
   pub from : Target

@@ -1,4 +1,4 @@
-//! The body of a record at a place in a tree file.
+//! The body of the record that ends at an offset of a tree file.
 
 ghost use Rattle.std.specs.Prelude.{◌≡◌, IfOk, IsErrOf, Ok};
 ghost use Rattle.treefile.specs.devices.Device.{LeavesContent, Persists, WhenHonest};

@@ -313,8 +313,8 @@ pub fn find_cause<D: Device>(
     ensures none { IfOk result (λ cause. IfNone cause (WhenHonest (D.is_honest device.new)
         (LeadsNowhere grammar.now index.now start.now.places.now ⊎ StopsAfter grammar.now index.now
         (D.content device.old) start.now.places.now start.now.target (16 * MAX_NODES)))) }
-    // So in a tree of at most MAX_NODES nodes, whose file it is and whose values are a solution, the rule at those
-    // places does not compute an error
+    // So if the index is that of the content, and the content is the file of a tree of at most MAX_NODES nodes with
+    // values that are a solution, the rule at those places does not compute an error
     ensures complete { IfOk result (λ cause. IfNone cause (WhenHonest (D.is_honest device.new)
         (ComputesNoErrorIn grammar.now index.now (D.content device.old) start.now.places.now
         start.now.target))) }

@@ -16,7 +16,8 @@ use Rattle.ag_grammar.specs.declared.limits.TheConstants.{MAX_TEXT_BYTES, NAME, 
 use Rattle.ag_grammar.specs.grammars.AttributeGrammar.{attribute_names, Grammar, stored_items, IsProduction, IsRule, Kind}
 use Rattle.ag_grammar.specs.grammars.AttributeGrammar.{HasKind, RefersTo, defined_kind, used_kind}
 
--- the maximum number of symbols; this and the definitions up to `max_text_bytes` are the limits of a grammar (this project's)
+-- the maximum number of symbols; this and the definitions up to `max_text_bytes`, except `max_rules`, are the limits of a
+-- grammar (this project's)
 abbrev pub max_symbols : ℕ
 max_symbols = MAX_SYMBOLS
 
@@ -36,7 +37,7 @@ max_items = MAX_ITEMS
 abbrev pub max_children : ℕ
 max_children = MAX_CHILDREN
 
--- the maximum number of rules of a production, and of arguments of a rule (an accepted grammar has far fewer)
+-- the number of rules of a production, or of arguments of a rule, that 16 bits can index; an accepted grammar has fewer
 abbrev pub max_rules : ℕ
 max_rules = MAX_RULES
 

@@ -1,4 +1,4 @@
--- A grammar as parsed from a text: its children, and the numbering of its attributes.
+-- A grammar as parsed from a text: the children of a right side, and the names of the attributes of a symbol, in order.
 use Rattle.std.specs.Prelude.{ℕ, List, [], ◌∷◌, ◌++◌, map}
 use Rattle.ag_grammar.specs.declared.raw.Named.{Named}
 use Rattle.ag_grammar.specs.declared.raw.RawItem.{RawItem}

@@ -25,7 +25,7 @@ pub record RanThrough (g : Grammar) (m : Passes) (t : Tree) (u : Valuation) (fir
   pub solved : (k : ℕ) → first ≤ k → k < next → Solves (OfPass m k) g t w
 
 -- The values w are the solution: they satisfy all equations on the tree (Knuth 1968), and any values that do
--- are the same.
+-- are the same for all attributes to which the assignment gives a pass.
 pub record IsTheSolution (g : Grammar) (m : Passes) (t : Tree) (w : Valuation) : Type 0 where
   pub solves : Solves AnyRule g t w
   pub only : (v : Valuation) → Solves AnyRule g t v → Same AnyPass g m t v w

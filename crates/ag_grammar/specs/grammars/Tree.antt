@@ -60,7 +60,7 @@ abbrev mutual
   deepest none = 0
   deepest (more t ts) = max (depth_of t) (deepest ts)
 
--- The number of stored nodes, leaves included (this project's).
+-- The number of nodes, leaves included (this project's).
 abbrev mutual
   pub node_count : Tree → ℕ
   node_count (leaf c x) = 1
