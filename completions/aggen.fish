@@ -89,7 +89,7 @@ complete -c aggen -n "__aggen_is_at 'show'" -l depth -x -d 'Prints only N levels
 complete -c aggen -n "__aggen_is_at 'show'" -l node -x -d 'The node at this path: `/2/1` is the first child of the root\'s second child, `/1*9` nine times the first'
 complete -c aggen -n "__aggen_is_at 'show'" -s q -l quiet -d 'Shows no progress, and prints no message of a refusal'
 complete -c aggen -n "__aggen_is_at 'show'" -l only -x -d 'Prints only this attribute, and only nodes that have it; can be repeated'
-complete -c aggen -n "__aggen_is_at 'show'" -l width -x -d 'Prints at most N characters of a value, 60 without it; 0 prints whole values'
+complete -c aggen -n "__aggen_is_at 'show'" -l width -x -d 'Prints at most N characters of a value, 60 without it; 0 prints whole values. Numbers are printed whole'
 complete -c aggen -n "__aggen_is_at 'show'" -l json -d 'Prints each node as a JSON object in one line, with whole values'
 complete -c aggen -n "__aggen_is_at 'show'" -s h -l help -d 'Print help'
 complete -c aggen -n '__aggen_is_at show 0' -k -a '(__fish_complete_suffix .ag)'

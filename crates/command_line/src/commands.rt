@@ -185,7 +185,7 @@ enum Argument {
     At,
     /// The option that names an attribute that is printed.
     Only,
-    /// The option that limits the characters of a value.
+    /// The option that limits the characters of a value that is not a number.
     Width,
     /// The option that prints nodes as JSON.
     Json,

@@ -12,7 +12,7 @@ pub const NODE: &str = "node";
 /// The option that names an attribute that is printed.
 pub const ONLY: &str = "only";
 
-/// The option that limits the number of characters of a value.
+/// The option that limits the number of characters of a value that is not a number.
 pub const WIDTH: &str = "width";
 
 /// The option that prints nodes as JSON.
@@ -53,10 +53,10 @@ pub fn only<'a>(alloc: Global) -> Arg<'a> {
         .help("Prints only this attribute, and only nodes that have it; can be repeated")
 }
 
-/// Returns the option that limits the characters of a value.
+/// Returns the option that limits the characters of a value that is not a number.
 pub fn width<'a>(alloc: Global) -> Arg<'a> {
     Arg::new(alloc, WIDTH).long(WIDTH).value_name("N").help(
-        "Prints at most N characters of a value, 60 without it; 0 prints whole values",
+        "Prints at most N characters of a value, 60 without it; 0 prints whole values. Numbers are printed whole",
     )
 }
 

@@ -7,7 +7,7 @@ use crate::tree_options::{AT, ATTRIBUTES, DEPTH, ERRORS, JSON, NODE, OF_SENTENCE
 use clap::{ArgMatches, Error};
 use std::alloc::Global;
 
-/// The number of characters of a value without the option that limits them.
+/// The greatest number of characters of a value without the option that limits them.
 const DEFAULT_WIDTH: usize = 60;
 
 /// The words that `show` takes.
@@ -23,7 +23,7 @@ pub struct ShowWords<'a> {
     pub node: Option<&'a str>,
     /// The names of the attributes that are printed. If there are none, all are.
     pub only: Vec<&'a str>,
-    /// The greatest number of characters of a value; 0 for whole values.
+    /// The greatest number of characters of a value that is not a number; 0 for whole values.
     pub width: usize,
     /// Whether nodes are printed as JSON.
     pub json: bool,

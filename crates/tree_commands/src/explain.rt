@@ -20,7 +20,7 @@ use tree_text::ShowFault;
 use treefile::{Device, FileDevice};
 use value_reasons::{ExplainedTree, NodeRequest, write_errors};
 
-/// The greatest number of characters of a value that are printed.
+/// The greatest number of characters that are printed of a value that is not a number.
 const WIDTH: usize = 60;
 
 /// Prints the values of a node of a tree file with the rules that computed them, or the rules in which errors

@@ -38,7 +38,7 @@ pub struct TreeText<'a> {
     pub only: &'a [SelectedAttribute],
     /// The greatest level that is printed; that of the walk's first node is 0.
     pub depth: u32,
-    /// The greatest number of characters of a value; 0 for whole values.
+    /// The greatest number of characters of a value that is not a number; 0 for whole values.
     pub width: usize,
     /// Whether each node is a JSON object.
     pub json: bool,

@@ -6,7 +6,7 @@ use message_texts::display::PlainText;
 use std::alloc::Global;
 
 /// Writes the first `width` characters of a value as text, and `..` after them if there are more; the whole
-/// text if `width` is 0. Fails if memory is refused.
+/// text if `width` is 0 or the value is a number. Fails if memory is refused.
 pub fn write_value(
     alloc: Global,
     out: &mut String,

@@ -23,7 +23,8 @@ pub struct NodeRequest<'a> {
     pub places: &'a [u16],
     /// The names of the attributes; if the list is empty, all are explained.
     pub names: &'a [&'a str],
-    /// The greatest number of characters of a value; 0 for whole values.
+    /// The greatest number of characters of a value that is not a number; 0 for whole values. The line of an
+    /// error's cause has its own limit.
     pub width: usize,
 }
 

@@ -114,8 +114,8 @@ impl<'a> ExplainedTree<'a> {
 }
 
 /// Prints a line for each rule of a tree in which an error arises, in the order of the sentence, and then
-/// their number. The file has to be that of the last pass. Fails with R1 if the file has changed since its index was
-/// made, with D1 if a call of the device fails, with O2 if the output fails, and if memory is refused.
+/// their number. The file has to be that of the last pass. Fails with R1 if a record is
+/// damaged, with D1 if a call of the device fails, with O2 if the output fails, and if memory is refused.
 pub fn write_errors<D: Device, W: Write>(
     tree: &ExplainedTree<'_>,
     device: &mut D,

@@ -23,7 +23,8 @@ pub struct ExplainedTree<'a> {
 }
 
 impl<'a> ExplainedTree<'a> {
-    /// Reads the text of a grammar again, and returns it with a tree file of that grammar. Fails if memory is refused.
+    /// Reads the text of a grammar again, and returns it with a tree file of that grammar. Fails if memory is refused,
+    /// and also if the text is not that of a grammar, which an accepted one is.
     pub fn new(
         alloc: Global,
         source: Source<'a>,

@@ -94,8 +94,8 @@ impl<'a> ExplainedTree<'a> {
         }
     }
 
-    /// Writes the next item if it is a token, with a space before it if `before` other tokens were written. Returns
-    /// whether it is a token whose text is known.
+    /// Writes the next item if it is a token, after a space unless it is the first one. `before` is the number of tokens
+    /// written before. Returns whether it is a token whose text is known.
     fn write_token<D: Device>(
         &self,
         out: &mut String,

@@ -1,4 +1,4 @@
-//! Rules at nodes, with the records of the nodes; the text of the rule in which an error arises.
+//! Rules at nodes, with the records of the nodes; what is printed of the rule in which an error arises.
 
 ghost use Rattle.std.specs.Prelude.{IsErrOf};
 ghost use Rattle.treefile.specs.devices.Device.{LeavesContent, Persists};
@@ -11,7 +11,8 @@ use tree_index::{NodeKind, NodeRecord, TreeFault};
 use tree_text::write_value;
 use treefile::Device;
 
-/// The greatest number of characters of an argument's value in a message.
+/// The greatest number of characters of an argument's value where the cause of an error is described, in a
+/// message or in a line of an explanation. Numbers are whole.
 const MAX_ARGUMENT: usize = 40;
 
 /// A rule at a node, with the record of the node.
