@@ -3,8 +3,8 @@
 ghost use Rattle.origins.specs.Causes.{ErrorsHaveCauses};
 ghost use Rattle.origins.specs.Laws.{CausesHaveOrigins, NoneIsClean, NoneIsCounted};
 
-/// States that each error of a solution has a cause: a chain of rules that pass it on, and a rule in
-/// which it arises. The node of that rule is an origin.
+/// States that each error of a solution has a cause, a rule in which it arises, at the end of a chain of rules
+/// that pass it on. So a tree with an error has an origin, a node with such a rule.
 pub fn errors_have_causes()
     ensures causes { ErrorsHaveCauses }
     ensures origins { CausesHaveOrigins }
