@@ -435,9 +435,10 @@ fn read_file<D: Device>(
 impl TreeIndex {
     /// Reads the tree file that a device contains, as a pass reads it, and makes its index.
     ///
-    /// Fails with R1, P2 or P3 if the file is not that of a tree within the limits, or with R1 at 4 if the file is of a pass that the plan does
-    /// not have; with D1 if a call of the device fails; and if memory is refused. Takes memory for a buffer,
-    /// for 16 bytes a node, and for the rows of the nodes from the root to the current one.
+    /// Fails with R1, P2 or P3 if the file is not that of a tree within the limits, or with R1 at 4 if the file
+    /// is of a pass that the plan does not have; with D1 if a call of the device fails; and if memory is refused.
+    /// Takes memory for a buffer, for 16 bytes a node, and for the rows of the nodes from the root to the current
+    /// one.
     pub fn read<D: Device>(
         alloc: Global,
         grammar: &Grammar,
