@@ -46,6 +46,24 @@ impl fmt::Display for PlainText<'_> {
     }
 }
 
+/// The text of a literal, which prints as a grammar writes it: in quotes, with a backslash before each quote and each
+/// backslash. Otherwise it prints as by `PlainText`.
+#[derive(Clone, Copy)]
+pub struct QuotedText<'a>(pub &'a str);
+
+impl fmt::Display for QuotedText<'_> {
+    fn fmt<W: fmt::Write>(&self, f: &mut fmt::Formatter<W>) -> fmt::Result {
+        f.write_str("\"")?;
+        for character in self.0.chars() {
+            if matches!(character, '"' | '\\') {
+                f.write_str("\\")?;
+            }
+            write_character(f, character)?;
+        }
+        f.write_str("\"")
+    }
+}
+
 /// The text at an offset, or None at the end of the text, which prints as `END`. A text prints in backquotes, as by
 /// `PlainText`; if it has more than `MAX_SHOWN` characters, only these and `..`.
 #[derive(Clone, Copy)]

@@ -1,7 +1,7 @@
 //! Items and productions as they are written in a grammar.
 
 use ag_grammar::{Grammar, Item, Production, Terminal};
-use message_texts::display::PlainText;
+use message_texts::display::{PlainText, QuotedText};
 use message_texts::terminals::class_name;
 use std::fmt;
 
@@ -22,7 +22,7 @@ impl fmt::Display for ItemName<'_> {
             Item::Terminal(Terminal::Class(number)) => f.write_str(class_name(number)),
             Item::Terminal(Terminal::Literal(number)) => {
                 match self.grammar.literals().get(usize::from(number)) {
-                    Some(literal) => write!(f, "\"{}\"", PlainText(literal.as_str())),
+                    Some(literal) => write!(f, "{}", QuotedText(literal.as_str())),
                     None => Ok(()),
                 }
             }

@@ -1,6 +1,6 @@
 //! Conflicts of two productions.
 
-use crate::display::PlainText;
+use crate::display::QuotedText;
 use crate::grammar_text::GrammarText;
 use crate::parts::{Location, Parts};
 use crate::terminals::{class_name, write_ahead};
@@ -201,7 +201,7 @@ fn write_production(out: &mut String, production: &RawProduction) -> Result<(), 
 fn write_item(out: &mut String, item: &RawItem) -> Result<(), AllocError> {
     match item {
         RawItem::Name(name) => out.push_str(name.name.as_str()),
-        RawItem::Literal(text) => write!(out, "\"{}\"", PlainText(text.as_str())),
+        RawItem::Literal(text) => write!(out, "{}", QuotedText(text.as_str())),
         RawItem::Class(number) => out.push_str(class_name(*number)),
     }
 }
