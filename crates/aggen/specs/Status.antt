@@ -8,7 +8,7 @@ IsSourceFault fault.File = Unit {0}
 IsSourceFault fault.NoMemory = Unit {0}
 IsSourceFault _ = ⊥
 
--- a fault of the command line, of printing its error message, or of memory
+-- a fault of the words of the command line, of printing its help or version, or of memory
 abbrev pub IsCommandFault : Fault → Type 0
 IsCommandFault fault.Usage = Unit {0}
 IsCommandFault fault.Write = Unit {0}
