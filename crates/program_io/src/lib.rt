@@ -1,5 +1,5 @@
 //! What the commands of the program have in common: reading their input, the checks that no output replaces a
-//! file that is read or another output, writing output files, and the reports of a refused input or sentence.
+//! file that is read or a tree file of `--work`, writing output files, and the reports of a refused input or sentence.
 #![tactic(auto)]
 
 mod files;
@@ -13,7 +13,7 @@ pub use files::{
     build_translator, read_input, read_translator, report_of_input, report_of_sentence,
 };
 pub use output::write_file;
-pub use overlaps::{WORK_FILES, check_output, check_outputs, check_tree};
+pub use overlaps::{WORK_FILES, check_inputs, check_output, check_outputs, check_tree};
 pub use paths::path_in;
 pub use same_file::FileId;
 pub use system_faults::fault_or;

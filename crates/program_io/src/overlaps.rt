@@ -1,4 +1,5 @@
-//! Files that a command would both read and write, or write twice: a misused command line.
+//! Files that a command would both read and write, or write as a translation and as a tree file: a misused command
+//! line.
 
 use crate::paths::{folder_of, path_in};
 use crate::same_file::FileId;
@@ -16,6 +17,10 @@ pub const WORK_FILES: [&str; 2] = ["a.agt", "b.agt"];
 const TREE_IS_WRITTEN: &str =
     "the tree file would be written by the passes, name another folder for these";
 
+/// The message about a grammar or a sentence that is a work file.
+const INPUT_IS_WRITTEN: &str =
+    "the passes would write a tree file to this input, name another folder for `--work`";
+
 /// The message about an output that is an input.
 const OUTPUT_IS_READ: &str = "the output is one of the inputs, write it to another file";
 
@@ -31,6 +36,20 @@ pub fn check_tree<R: Files>(
 ) -> Result<(), FaultReport> {
     let is_overlap = is_existing_work_file(rt, alloc, tree, folder);
     fail_if(alloc, is_overlap, TREE_IS_WRITTEN, tree.name())
+}
+
+/// Fails if one of the inputs is one of the work files in `folder`, through links too, and if memory is refused.
+pub fn check_inputs<R: Files>(
+    rt: &R,
+    alloc: Global,
+    inputs: &[InputPath<'_>],
+    folder: &str,
+) -> Result<(), FaultReport> {
+    for input in inputs {
+        let is_overlap = is_existing_work_file(rt, alloc, *input, folder);
+        fail_if(alloc, is_overlap, INPUT_IS_WRITTEN, input.name())?;
+    }
+    Ok(())
 }
 
 /// Fails if the translation's file at `path` is one of the inputs, or a work file in the folder `work`, through
@@ -129,7 +148,8 @@ fn is_work_file<R: Files>(
     folder: &str,
 ) -> Result<bool, NoMemory> {
     let id = FileId::at(rt, path)?;
-    let is_in_folder = FileId::of_folder(rt, folder_of(path))? == FileId::of_folder(rt, folder)?;
+    let of_folder = FileId::of_folder(rt, folder)?;
+    let is_in_folder = of_folder.is_some() && FileId::of_folder(rt, folder_of(path))? == of_folder;
     for name in WORK_FILES {
         if is_in_folder && file_name_of(path) == name {
             return Ok(true);

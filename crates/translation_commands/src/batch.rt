@@ -5,7 +5,9 @@ use crate::translations::TranslationRun;
 use aggen::{Fault, status};
 use command_line::{BatchPaths, InputPath, file_name_of};
 use messages::{FaultReport, Source};
-use program_io::{build_translator, check_outputs, fault_or, path_in, read_input};
+use program_io::{
+    build_translator, check_inputs, check_output, check_outputs, fault_or, path_in, read_input,
+};
 use std::alloc::{AllocError, Global};
 use std::fs;
 use std::process::ExitCode;
@@ -70,11 +72,32 @@ fn check_overlaps<R: Files>(
     paths: &BatchPaths<'_>,
     outputs: &[String],
 ) -> Result<(), FaultReport> {
+    if let Some(folder) = paths.work {
+        check_work(rt, alloc, paths, outputs, folder)?;
+    }
     check_outputs(rt, alloc, paths.sentences.as_slice(), outputs)?;
     match paths.grammar {
         InputPath::File(path) => check_outputs(rt, alloc, &[path], outputs),
         InputPath::Standard => Ok(()),
     }
+}
+
+/// Fails if an input, or a translation's file, is one of the tree files in `folder`, and if memory is refused.
+fn check_work<R: Files>(
+    rt: &R,
+    alloc: Global,
+    paths: &BatchPaths<'_>,
+    outputs: &[String],
+    folder: &str,
+) -> Result<(), FaultReport> {
+    check_inputs(rt, alloc, &[paths.grammar], folder)?;
+    for sentence in paths.sentences.iter() {
+        check_inputs(rt, alloc, &[InputPath::File(*sentence)], folder)?;
+    }
+    for output in outputs {
+        check_output(rt, alloc, output.as_str(), &[], Some(folder))?;
+    }
+    Ok(())
 }
 
 /// Fails with F1 if `path` is not a folder, and if memory is refused.

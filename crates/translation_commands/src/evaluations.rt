@@ -11,7 +11,8 @@ use command_line::{EvalPaths, InputPath};
 use messages::{FaultReport, Source};
 use noted_file::CallRecord;
 use program_io::{
-    build_translator, check_output, check_tree, read_input, report_of_input, write_file,
+    build_translator, check_inputs, check_output, check_tree, read_input, report_of_input,
+    write_file,
 };
 use std::alloc::Global;
 use std::io::{self, Write};
@@ -28,6 +29,7 @@ pub fn evaluate<R: Files + Input + Print + Eprint + Clock>(
 ) -> Result<(), FaultReport> {
     if let Some(folder) = paths.work {
         check_tree(rt, alloc, paths.tree, folder)?;
+        check_inputs(rt, alloc, &[paths.grammar], folder)?;
     }
     if let Some(path) = paths.output {
         check_output(rt, alloc, path, &[paths.grammar, paths.tree], paths.work)?;

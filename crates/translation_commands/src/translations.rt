@@ -13,7 +13,9 @@ use agoutput::write_bytes;
 use command_line::RunPaths;
 use messages::{FaultReport, Source};
 use noted_file::CallRecord;
-use program_io::{build_translator, check_output, read_input, report_of_sentence, write_file};
+use program_io::{
+    build_translator, check_inputs, check_output, read_input, report_of_sentence, write_file,
+};
 use std::alloc::Global;
 use std::fs::OpenFile;
 use std::io::{self, Write};
@@ -29,6 +31,9 @@ pub fn run_sentence<R: Files + Input + Print + Eprint + Clock>(
     paths: &RunPaths<'_>,
     screen: Screen,
 ) -> Result<(), FaultReport> {
+    if let Some(folder) = paths.work {
+        check_inputs(rt, alloc, &[paths.grammar, paths.sentence], folder)?;
+    }
     if let Some(path) = paths.output {
         check_output(
             rt,

@@ -60,12 +60,13 @@ fn write_tree<R: Files + Print>(
 }
 
 /// Converts a tree file of version 1 to version 2, and prints the number of its nodes. The grammar is read first,
-/// then the old file is opened, and only then is the new one created.
+/// then the old file is opened, and only then is the new one created. Fails before if the new file is the grammar.
 pub fn convert_file<R: Files + Input + Print>(
     rt: &R,
     alloc: Global,
     paths: &UpgradePaths<'_>,
 ) -> Result<(), FaultReport> {
+    check_output(rt, alloc, paths.tree, &[paths.grammar], None)?;
     let translator = read_translator(rt, alloc, paths.grammar)?;
     convert_file_with(rt, alloc, &translator, paths)
 }
